@@ -1,0 +1,10 @@
+//! Text, positions, tokens and comments of proto3 sources.
+#![tactic(auto)]
+
+mod position;
+mod span;
+mod token;
+
+pub use position::{Encoding, Position};
+pub use span::Span;
+pub use token::{Comment, CommentKind, Token, TokenKind};

@@ -1,0 +1,44 @@
+//! A text of a record.
+
+ghost use Rattle.std.specs.Prelude.{◌≡◌};
+ghost use Rattle.std.specs.String.{string_bytes};
+
+use std::marker::Model;
+
+/// A text in UTF-8, which contracts see as the list of its bytes.
+#[derive(Debug, Drop)]
+pub struct OwnedText {
+    string: String,
+}
+
+impl Model for OwnedText {
+    ghost use Rattle.std.specs.Prelude.{List, ℕ};
+    ghost use Rattle.std.specs.String.{string_bytes};
+
+    ghost Value = { List ℕ };
+
+    ghost view = { λ t. string_bytes t.string };
+}
+
+impl OwnedText {
+    /// The text of a string. Takes no memory.
+    pub fn from_string(string: String) -> OwnedText
+        ensures { result ≡ string_bytes string }
+    {
+        OwnedText { string }
+    }
+
+    /// The text.
+    pub fn as_str(&self) -> &str
+        ensures { result.now ≡ self.now }
+    {
+        self.string.as_str()
+    }
+
+    /// The text. Takes no memory.
+    pub fn into_string(self) -> String
+        ensures { string_bytes result ≡ self }
+    {
+        self.string
+    }
+}

@@ -1,0 +1,2 @@
+//! The Protocol Buffers encoding of SCIP indexes.
+#![tactic(auto)]

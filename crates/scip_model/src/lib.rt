@@ -7,6 +7,6 @@ mod records;
 mod sequence;
 
 pub use owned_text::OwnedText;
-pub use range::Range;
+pub use range::{MAX_RANGE_NUMBER, Range};
 pub use records::{Document, Index, Info, Metadata, Occurrence, ToolInfo};
 pub use sequence::Sequence;

@@ -1,0 +1,16 @@
+-- Where an occurrence stands (`scip.proto`, Occurrence.range).
+use Rattle.std.specs.Prelude.{ℕ, ◌≤◌}
+
+-- from a place up to, and without, another: zero-based lines and columns
+pub record RangeNumbers : Type 0 where
+  pub start_line : ℕ
+  pub start_column : ℕ
+  pub end_line : ℕ
+  pub end_column : ℕ
+
+-- each of the four numbers fits a SCIP int32 that is not negative
+pub record IsRange (r : RangeNumbers) : Type 0 where
+  pub start_line : r.start_line ≤ 2147483647
+  pub start_column : r.start_column ≤ 2147483647
+  pub end_line : r.end_line ≤ 2147483647
+  pub end_column : r.end_column ≤ 2147483647

@@ -1,0 +1,32 @@
+-- The position of an offset: its line and its column.
+use Rattle.std.specs.Prelude.{ℕ, Bool, ◌==◌, nat_lt, if◌then◌else◌, List, take, count_by, sum_by}
+use Rattle.std.specs.List.{after_last}
+use Rattle.proto_lex.specs.declared.position.Encoding.{Encoding}
+use Rattle.proto_lex.specs.declared.position.Encoding.TheVariants.{Utf8, Utf16}
+use Rattle.proto_lex.specs.declared.position.Position.{Position}
+
+-- A line ends at `\n` alone.
+abbrev pub is_line_end : ℕ → Bool
+is_line_end byte = byte == 10
+
+-- The code units that a byte of a text in UTF-8 counts for. In UTF-8 each byte is a unit. In UTF-16 a
+-- character counts at its first byte: two units where it lies past U+FFFF, so that its first byte is
+-- 240 or more, and one where it doesn't; the bytes after the first, 128 to 191, count for nothing.
+-- (Unicode Standard, section 3.9, "Unicode Encoding Forms": UTF-8 and UTF-16)
+abbrev pub code_units : Encoding → ℕ → ℕ
+code_units Utf8 byte = 1
+code_units Utf16 byte =
+    if nat_lt byte 128 then 1 else (if nat_lt byte 192 then 0 else (if nat_lt byte 240 then 1 else 2))
+
+-- What stands before the offset on its line: all since the last line end, or since the text's start.
+abbrev pub line_before : List ℕ → ℕ → List ℕ
+line_before text offset = after_last is_line_end (take offset text)
+
+-- The line is the number of line ends before the offset. The column is the number of code units that
+-- stand before it on its line. Both count from 0, and a byte order mark counts as text.
+-- (`scip.proto`, Occurrence, range; Document, position_encoding)
+abbrev pub position_of : Encoding → List ℕ → ℕ → Position
+position_of encoding text offset = record {
+  line = count_by is_line_end (take offset text);
+  column = sum_by (code_units encoding) (line_before text offset);
+}

@@ -1,1 +1,2 @@
-mod PositionRows
+pub mod PositionRows
+pub mod Positions

@@ -18,15 +18,15 @@ code_units Utf8 byte = 1
 code_units Utf16 byte =
     if nat_lt byte 128 then 1 else (if nat_lt byte 192 then 0 else (if nat_lt byte 240 then 1 else 2))
 
--- What stands before the offset on its line: all since the last line end, or since the text's start.
-abbrev pub line_before : List ℕ → ℕ → List ℕ
-line_before text offset = after_last is_line_end (take offset text)
+-- The position behind a text. Its line is the number of line ends. Its column is the number of code
+-- units since the last of them, or since the text's start. A byte order mark counts as text.
+abbrev pub position_after : Encoding → List ℕ → Position
+position_after encoding text = record {
+  line = count_by is_line_end text;
+  column = sum_by (code_units encoding) (after_last is_line_end text);
+}
 
--- The line is the number of line ends before the offset. The column is the number of code units that
--- stand before it on its line. Both count from 0, and a byte order mark counts as text.
+-- The position of an offset of a text is that behind what stands before it. Both numbers count from 0.
 -- (`scip.proto`, Occurrence, range; Document, position_encoding)
 abbrev pub position_of : Encoding → List ℕ → ℕ → Position
-position_of encoding text offset = record {
-  line = count_by is_line_end (take offset text);
-  column = sum_by (code_units encoding) (line_before text offset);
-}
+position_of encoding text offset = position_after encoding (take offset text)

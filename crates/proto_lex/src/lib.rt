@@ -1,10 +1,14 @@
 //! Text, positions, tokens and comments of proto3 sources.
 #![tactic(auto)]
 
+mod fault;
 mod position;
 mod span;
+mod text;
 mod token;
 
+pub use fault::LexFault;
 pub use position::{Encoding, Position};
 pub use span::Span;
+pub use text::{MAX_TEXT_LENGTH, Text};
 pub use token::{Comment, CommentKind, Token, TokenKind};

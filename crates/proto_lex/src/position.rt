@@ -1,5 +1,8 @@
 //! Lines and columns.
 
+ghost use Rattle.std.specs.Prelude.{◌≡◌, ◌+◌, ◌*◌, ◌^◌, ◌<◌, ◌≤◌, length};
+ghost use Rattle.proto_lex.specs.Position as spec;
+
 /// The unit in which a column is counted.
 #[derive(Clone, Copy, Debug, PartialEq, Eq)]
 pub enum Encoding {
@@ -16,4 +19,37 @@ pub struct Position {
     pub line: u32,
     /// The column, from 0, in units of an `Encoding`.
     pub column: u32,
+}
+
+/// The code units that `byte`, one of a text in UTF-8, counts for in `encoding`.
+fn code_units(encoding: Encoding, byte: u8) -> u32
+    ensures units { result ≡ spec.code_units encoding byte }
+    ensures few { result ≤ 2 }
+{
+    match encoding {
+        Encoding::Utf8 => 1,
+        Encoding::Utf16 => match byte {
+            0..128 => 1,
+            128..192 => 0,
+            192..240 => 1,
+            _ => 2,
+        },
+    }
+}
+
+/// The position behind `text`, of less than 2^30 bytes.
+pub(crate) fn position_after(encoding: Encoding, text: &[u8]) -> Position
+    requires { length text.now < 2 ^ 30 }
+    ensures { result ≡ spec.position_after encoding text.now }
+{
+    let mut position = Position { line: 0, column: 0 };
+    for &byte in text {
+        if byte == b'\n' {
+            position.line += 1;
+            position.column = 0;
+        } else {
+            position.column += code_units(encoding, byte);
+        }
+    }
+    position
 }

@@ -1,0 +1,53 @@
+-- A position one byte on, and how large positions are.
+use Rattle.std.proofs.Common.{◌≡◌, ◌∙◌, sym, ap, refl, ℕ, ◌+◌, ◌-◌, ◌<◌, ◌≤◌, ◌*◌, List, [], ◌∷◌, ◌++◌, length, get_or, take, drop, Bool, true, false, not, cond, arith, length-append, length-drop}
+use Rattle.std.proofs.lemmas.List.{reverse-append, drop-append-le, take_more, length-take}
+use Rattle.std.proofs.lemmas.List.Sums.{sum_by_push, suffix_len-le-length, sum_by-le, count_by-le-length}
+use Rattle.std.specs.List.{after_last, count_by, sum_by, suffix_len, prefix_len, All}
+use Rattle.std.proofs.Math.ListN.{drop_of_length-le}
+use Rattle.std.proofs.lemmas.Bool.Decides.{nat_tests}
+use Rattle.proto_lex.specs.Position.{is_line_end, code_units, position_after}
+use Rattle.proto_lex.specs.declared.position.Encoding.{Encoding}
+use Rattle.proto_lex.specs.declared.position.Position.{Position}
+use Rattle.proto_lex.specs.declared.position.Encoding.TheVariants.{Utf8, Utf16}
+
+pushed_kept : {X : Type 0} (xs : List X) (s : ℕ) (y : X) → s ≤ length xs → drop (length (xs ++ y ∷ []) - (1 + s)) (xs ++ y ∷ []) ≡ drop (length xs - s) xs ++ y ∷ []
+pushed_kept xs s y fits =
+    let k : length (xs ++ y ∷ []) - (1 + s) ≡ length xs - s = omega (arith, length-append xs (y ∷ [])) in
+    rw k (drop-append-le (length xs - s) xs (y ∷ []) (omega arith))
+
+pushed_by : {X : Type 0} (p : X → Bool) (xs : List X) (y : X) (b : Bool) → p y ≡ b → after_last p (xs ++ y ∷ []) ≡ cond b [] (after_last p xs ++ y ∷ [])
+pushed_by p xs y true e = rw (reverse-append xs (y ∷ []), e) (drop_of_length-le (xs ++ y ∷ []) (omega arith))
+pushed_by p xs y false e = rw (reverse-append xs (y ∷ []), e) (pushed_kept xs (suffix_len (λ x. not (p x)) xs) y (suffix_len-le-length (λ x. not (p x)) xs))
+
+pub after_last_push : {X : Type 0} (p : X → Bool) (xs : List X) (y : X) → after_last p (xs ++ y ∷ []) ≡ cond (p y) [] (after_last p xs ++ y ∷ [])
+after_last_push p xs y = pushed_by p xs y (p y) refl
+
+-- the position behind one more byte
+pub after_line_end : (encoding : Encoding) (text : List ℕ) (byte : ℕ) → is_line_end byte ≡ true → position_after encoding (text ++ byte ∷ []) ≡ record { line = (position_after encoding text).line + 1; column = 0 }
+after_line_end encoding text byte e = rw (sum_by_push, after_last_push is_line_end text byte, e) refl
+
+pub after_other : (encoding : Encoding) (text : List ℕ) (byte : ℕ) → is_line_end byte ≡ false → position_after encoding (text ++ byte ∷ []) ≡ record { line = (position_after encoding text).line; column = (position_after encoding text).column + code_units encoding byte }
+after_other encoding text byte e = rw (sum_by_push, after_last_push is_line_end text byte, e) (
+    let lines : count_by is_line_end text + 0 ≡ count_by is_line_end text = omega arith in
+    rw (lines, sum_by_push (code_units encoding) (after_last is_line_end text) byte) refl)
+
+few_units : (encoding : Encoding) (byte : ℕ) → code_units encoding byte ≤ 2
+few_units Utf8 byte = omega arith
+few_units Utf16 byte = grind (arith, nat_tests)
+
+all_few : (encoding : Encoding) (text : List ℕ) → All (λ byte. code_units encoding byte ≤ 2) text
+all_few encoding text k d inside = few_units encoding (get_or text k d)
+
+length-after_last-le : {X : Type 0} (p : X → Bool) (xs : List X) → length (after_last p xs) ≤ length xs
+length-after_last-le p xs = omega (arith, length-drop (length xs - suffix_len (λ x. not (p x)) xs) xs)
+
+pub line-le : (encoding : Encoding) (text : List ℕ) → (position_after encoding text).line ≤ length text
+line-le encoding text = count_by-le-length is_line_end text
+
+pub column-le : (encoding : Encoding) (text : List ℕ) → (position_after encoding text).column ≤ 2 * length text
+column-le encoding text =
+    omega (arith, sum_by-le (code_units encoding) 2 (after_last is_line_end text) (all_few encoding (after_last is_line_end text)), length-after_last-le is_line_end text)
+
+-- the same of a position that was counted as far as i
+pub column_so_far : (position : Position) (encoding : Encoding) (text : List ℕ) (i : ℕ) → position ≡ position_after encoding (take i text) → position.column ≤ 2 * i
+column_so_far position encoding text i e = rw e (omega (arith, column-le encoding (take i text), length-take i text))

@@ -1,2 +1,3 @@
 pub mod PositionRows
 pub mod Positions
+pub mod Rising

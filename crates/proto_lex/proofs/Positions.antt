@@ -35,6 +35,9 @@ few_units : (encoding : Encoding) (byte : ℕ) → code_units encoding byte ≤ 
 few_units Utf8 byte = omega arith
 few_units Utf16 byte = grind (arith, nat_tests)
 
+one_each : (text : List ℕ) → All (λ byte. code_units Utf8 byte ≤ 1) text
+one_each text k d inside = omega arith
+
 all_few : (encoding : Encoding) (text : List ℕ) → All (λ byte. code_units encoding byte ≤ 2) text
 all_few encoding text k d inside = few_units encoding (get_or text k d)
 
@@ -47,6 +50,10 @@ line-le encoding text = count_by-le-length is_line_end text
 pub column-le : (encoding : Encoding) (text : List ℕ) → (position_after encoding text).column ≤ 2 * length text
 column-le encoding text =
     omega (arith, sum_by-le (code_units encoding) 2 (after_last is_line_end text) (all_few encoding (after_last is_line_end text)), length-after_last-le is_line_end text)
+
+pub byte_column-le : (text : List ℕ) → (position_after Utf8 text).column ≤ length text
+byte_column-le text =
+    omega (arith, sum_by-le (code_units Utf8) 1 (after_last is_line_end text) (one_each (after_last is_line_end text)), length-after_last-le is_line_end text)
 
 -- the same of a position that was counted as far as i
 pub column_so_far : (position : Position) (encoding : Encoding) (text : List ℕ) (i : ℕ) → position ≡ position_after encoding (take i text) → position.column ≤ 2 * i

@@ -1,2 +1,3 @@
 pub mod Position
+pub mod PositionLaws
 pub mod Text

@@ -1,5 +1,5 @@
 -- The position of an offset: its line and its column.
-use Rattle.std.specs.Prelude.{ℕ, Bool, ◌==◌, nat_lt, if◌then◌else◌, List, take, count_by, sum_by}
+use Rattle.std.specs.Prelude.{ℕ, ◌≡◌, ◌<◌, ◌≤◌, Bool, ◌==◌, nat_lt, if◌then◌else◌, List, take, count_by, sum_by}
 use Rattle.std.specs.List.{after_last}
 use Rattle.proto_lex.specs.declared.position.Encoding.{Encoding}
 use Rattle.proto_lex.specs.declared.position.Encoding.TheVariants.{Utf8, Utf16}
@@ -30,3 +30,8 @@ position_after encoding text = record {
 -- (`scip.proto`, Occurrence, range; Document, position_encoding)
 abbrev pub position_of : Encoding → List ℕ → ℕ → Position
 position_of encoding text offset = position_after encoding (take offset text)
+
+-- A position stands before another: on no later line, and where the line is the same, at a lesser column.
+pub record IsBefore (p q : Position) : Type 0 where
+  pub line : p.line ≤ q.line
+  pub column : p.line ≡ q.line → p.column < q.column

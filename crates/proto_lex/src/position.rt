@@ -1,7 +1,8 @@
 //! Lines and columns.
 
-ghost use Rattle.std.specs.Prelude.{◌≡◌, ◌+◌, ◌*◌, ◌^◌, ◌<◌, ◌≤◌, length};
+ghost use Rattle.std.specs.Prelude.{◌≡◌, ◌^◌, ◌<◌, ◌≤◌, length};
 ghost use Rattle.proto_lex.specs.Position as spec;
+ghost use Rattle.proto_lex.specs.PositionLaws.{CharactersRise, BytesRise, LinesFit, ColumnsFit, ByteColumnsFit};
 
 /// The unit in which a column is counted.
 #[derive(Clone, Copy, Debug, PartialEq, Eq)]
@@ -53,3 +54,16 @@ pub(crate) fn position_after(encoding: Encoding, text: &[u8]) -> Position
     }
     position
 }
+
+/// A law: positions of one text keep the order of their offsets.
+pub fn positions_rise()
+    ensures characters { CharactersRise }
+    ensures bytes { BytesRise }
+{}
+
+/// A law: lines and columns are no larger than their offsets allow.
+pub fn positions_fit()
+    ensures lines { LinesFit }
+    ensures columns { ColumnsFit }
+    ensures bytes { ByteColumnsFit }
+{}

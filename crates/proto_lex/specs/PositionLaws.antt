@@ -1,0 +1,31 @@
+-- Laws of positions.
+use Rattle.std.specs.Prelude.{ℕ, ◌≡◌, ◌<◌, ◌≤◌, ◌*◌, List, length, IsCharBoundary}
+use Rattle.proto_lex.specs.Position.{position_of, IsBefore}
+use Rattle.proto_lex.specs.declared.position.Encoding.{Encoding}
+use Rattle.proto_lex.specs.declared.position.Encoding.TheVariants.{Utf8}
+
+-- A place between two characters stands before each later offset of its text.
+abbrev pub CharactersRise : Type 0
+CharactersRise =
+    (encoding : Encoding) (text : List ℕ) (a b : ℕ)
+    → IsCharBoundary text a → a < b → b ≤ length text
+    → IsBefore (position_of encoding text a) (position_of encoding text b)
+
+-- Where columns count bytes, each offset stands before each later one.
+abbrev pub BytesRise : Type 0
+BytesRise =
+    (text : List ℕ) (a b : ℕ)
+    → a < b → b ≤ length text
+    → IsBefore (position_of Utf8 text a) (position_of Utf8 text b)
+
+-- The line of an offset is at most the offset.
+abbrev pub LinesFit : Type 0
+LinesFit = (encoding : Encoding) (text : List ℕ) (offset : ℕ) → (position_of encoding text offset).line ≤ offset
+
+-- A column is at most twice the offset,
+abbrev pub ColumnsFit : Type 0
+ColumnsFit = (encoding : Encoding) (text : List ℕ) (offset : ℕ) → (position_of encoding text offset).column ≤ 2 * offset
+
+-- and at most the offset where columns count bytes.
+abbrev pub ByteColumnsFit : Type 0
+ByteColumnsFit = (text : List ℕ) (offset : ℕ) → (position_of Utf8 text offset).column ≤ offset

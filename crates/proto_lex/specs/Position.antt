@@ -35,3 +35,7 @@ position_of encoding text offset = position_after encoding (take offset text)
 pub record IsBefore (p q : Position) : Type 0 where
   pub line : p.line ≤ q.line
   pub column : p.line ≡ q.line → p.column < q.column
+
+-- What stands before an offset on its line.
+abbrev pub line_before : List ℕ → ℕ → List ℕ
+line_before text offset = after_last is_line_end (take offset text)

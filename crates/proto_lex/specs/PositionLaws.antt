@@ -1,8 +1,10 @@
 -- Laws of positions.
-use Rattle.std.specs.Prelude.{ℕ, ◌≡◌, ◌<◌, ◌≤◌, ◌*◌, List, length, IsCharBoundary}
-use Rattle.proto_lex.specs.Position.{position_of, IsBefore}
+use Rattle.std.specs.Prelude.{ℕ, ◌≡◌, ◌<◌, ◌≤◌, ◌*◌, List, length, IsUtf8, IsCharBoundary, chars}
+use Rattle.std.specs.List.{flat_map}
+use Rattle.std.specs.Char.Escape.{encode_utf16}
+use Rattle.proto_lex.specs.Position.{position_of, line_before, IsBefore}
 use Rattle.proto_lex.specs.declared.position.Encoding.{Encoding}
-use Rattle.proto_lex.specs.declared.position.Encoding.TheVariants.{Utf8}
+use Rattle.proto_lex.specs.declared.position.Encoding.TheVariants.{Utf8, Utf16}
 
 -- A place between two characters stands before each later offset of its text.
 abbrev pub CharactersRise : Type 0
@@ -29,3 +31,11 @@ ColumnsFit = (encoding : Encoding) (text : List ℕ) (offset : ℕ) → (positio
 -- and at most the offset where columns count bytes.
 abbrev pub ByteColumnsFit : Type 0
 ByteColumnsFit = (text : List ℕ) (offset : ℕ) → (position_of Utf8 text offset).column ≤ offset
+
+-- A column in UTF-16 is the length of what stands before the offset on its line, in UTF-16.
+-- (Unicode Standard, section 3.9, "Unicode Encoding Forms": UTF-16)
+abbrev pub ColumnsCountUtf16 : Type 0
+ColumnsCountUtf16 =
+    (text : List ℕ) (offset : ℕ)
+    → IsUtf8 text → IsCharBoundary text offset
+    → (position_of Utf16 text offset).column ≡ length (flat_map encode_utf16 (chars (line_before text offset)))

@@ -8,7 +8,7 @@ mod text;
 mod token;
 
 pub use fault::LexFault;
-pub use position::{Encoding, Position, positions_fit, positions_rise};
+pub use position::{Encoding, Position, columns_count_utf16, positions_fit, positions_rise};
 pub use span::Span;
 pub use text::{MAX_TEXT_LENGTH, Text};
 pub use token::{Comment, CommentKind, Token, TokenKind};

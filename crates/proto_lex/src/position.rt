@@ -2,7 +2,7 @@
 
 ghost use Rattle.std.specs.Prelude.{◌≡◌, ◌^◌, ◌<◌, ◌≤◌, length};
 ghost use Rattle.proto_lex.specs.Position as spec;
-ghost use Rattle.proto_lex.specs.PositionLaws.{CharactersRise, BytesRise, LinesFit, ColumnsFit, ByteColumnsFit};
+ghost use Rattle.proto_lex.specs.PositionLaws.{CharactersRise, BytesRise, LinesFit, ColumnsFit, ByteColumnsFit, ColumnsCountUtf16};
 
 /// The unit in which a column is counted.
 #[derive(Clone, Copy, Debug, PartialEq, Eq)]
@@ -66,4 +66,9 @@ pub fn positions_fit()
     ensures lines { LinesFit }
     ensures columns { ColumnsFit }
     ensures bytes { ByteColumnsFit }
+{}
+
+/// A law: a column in UTF-16 is the length that the line's part before it has in UTF-16.
+pub fn columns_count_utf16()
+    ensures { ColumnsCountUtf16 }
 {}

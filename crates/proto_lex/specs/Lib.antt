@@ -1,0 +1,5 @@
+pub mod Bytes
+pub mod Comments
+pub mod Lexes
+pub mod Literals
+pub mod Numbers

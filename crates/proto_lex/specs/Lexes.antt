@@ -1,0 +1,80 @@
+use Rattle.std.specs.Prelude.{◌≡◌, ℕ, ◌+◌, true, false, ◌||◌, cond, Option, Some, None, List, [], ◌∷◌, ◌++◌, length, nat_eq}
+use Rattle.std.specs.List.{list_all}
+use Rattle.proto_lex.specs.Bytes.{is_blank, is_letter, is_digit, is_word, is_quote, starts}
+use Rattle.proto_lex.specs.Numbers.{IsInteger, IsFloat, run_of}
+use Rattle.proto_lex.specs.Literals.{EndsLiteral}
+use Rattle.proto_lex.specs.Comments.{IsComment}
+use Rattle.proto_lex.specs.declared.span.Span.{Span}
+use Rattle.proto_lex.specs.declared.token.Token.{Token}
+use Rattle.proto_lex.specs.declared.token.TokenKind.{TokenKind}
+use Rattle.proto_lex.specs.declared.token.TokenKind.TheVariants as kind
+use Rattle.proto_lex.specs.declared.token.Comment.{Comment}
+use Rattle.proto_lex.specs.declared.token.CommentKind.{CommentKind}
+
+-- The tokens and comments of a text (proto3 specification, Lexical elements).
+
+-- the sign that is this one character
+abbrev pub sign_kind : ℕ → Option TokenKind
+sign_kind b =
+    cond (nat_eq b 59) (Some kind.Semicolon) (
+    cond (nat_eq b 61) (Some kind.Equals) (
+    cond (nat_eq b 123) (Some kind.OpenBrace) (
+    cond (nat_eq b 125) (Some kind.CloseBrace) (
+    cond (nat_eq b 91) (Some kind.OpenBracket) (
+    cond (nat_eq b 93) (Some kind.CloseBracket) (
+    cond (nat_eq b 40) (Some kind.OpenParenthesis) (
+    cond (nat_eq b 41) (Some kind.CloseParenthesis) (
+    cond (nat_eq b 60) (Some kind.Less) (
+    cond (nat_eq b 62) (Some kind.Greater) (
+    cond (nat_eq b 44) (Some kind.Comma) (
+    cond (nat_eq b 46) (Some kind.Dot) (
+    cond (nat_eq b 58) (Some kind.Colon) (
+    cond (nat_eq b 43) (Some kind.Plus) (
+    cond (nat_eq b 45) (Some kind.Minus) (
+    cond (nat_eq b 47) (Some kind.Slash) None)))))))))))))))
+
+-- the bytes spell a token of this kind
+pub data Spells : TokenKind → List ℕ → Type 0 where
+  identifier : {b : ℕ} {others : List ℕ} → is_letter b ≡ true → list_all is_word others ≡ true → Spells kind.Identifier (b ∷ others)
+  integer : {word : List ℕ} → IsInteger word → Spells kind.Integer word
+  float : {word : List ℕ} → IsFloat word → Spells kind.Float word
+  literal : {quote : ℕ} {others : List ℕ} → is_quote quote ≡ true → EndsLiteral quote others → Spells kind.StringLiteral (quote ∷ others)
+  sign : {b : ℕ} {k : TokenKind} → sign_kind b ≡ Some k → Spells k (b ∷ [])
+
+-- such a word is a whole token where this rest of the text follows: an identifier doesn't go on, a number is its
+-- whole run, a `.` begins no number and a `/` no comment
+abbrev pub IsWhole : TokenKind → (word rest : List ℕ) → Type 0
+IsWhole kind.Identifier word rest = starts is_word rest ≡ false
+IsWhole kind.Integer word rest = run_of (word ++ rest) ≡ word
+IsWhole kind.Float word rest = run_of (word ++ rest) ≡ word
+IsWhole kind.Dot word rest = starts is_digit rest ≡ false
+IsWhole kind.Slash word rest = starts (λ b. nat_eq b 47 || nat_eq b 42) rest ≡ false
+IsWhole _ word rest = Unit {0}
+
+-- the token of this kind, before the rest of the text
+pub record IsToken (k : TokenKind) (word rest : List ℕ) : Type 0 where
+  pub spelled : Spells k word
+  pub whole : IsWhole k word rest
+
+-- the part of this many bytes at a place
+abbrev pub part : (at count : ℕ) → Span
+part at count = record { start = at; end = at + count }
+
+-- the bytes behind a place in a text are blanks, comments and tokens in turn, with these tokens and comments
+pub data LexesFrom : (at : ℕ) (bytes : List ℕ) → List Token → List Comment → Type 0 where
+  at_end : {at : ℕ} → LexesFrom at [] [] []
+  blank : {at b : ℕ} {rest : List ℕ} {tokens : List Token} {comments : List Comment}
+      → is_blank b ≡ true → LexesFrom (at + 1) rest tokens comments → LexesFrom at (b ∷ rest) tokens comments
+  comment : {at : ℕ} {k : CommentKind} {word rest : List ℕ} {tokens : List Token} {comments : List Comment}
+      → IsComment k word rest → LexesFrom (at + length word) rest tokens comments
+      → LexesFrom at (word ++ rest) tokens (record { kind = k; span = part at (length word) } ∷ comments)
+  token : {at : ℕ} {k : TokenKind} {word rest : List ℕ} {tokens : List Token} {comments : List Comment}
+      → IsToken k word rest → LexesFrom (at + length word) rest tokens comments
+      → LexesFrom at (word ++ rest) (record { kind = k; span = part at (length word) } ∷ tokens) comments
+
+-- the text is a gap, a token, a gap and so on, where a gap is blanks and comments; a byte order mark at its very
+-- start is a blank
+pub data Lexes : (text : List ℕ) → (tokens : List Token) → (comments : List Comment) → Type 0 where
+  unmarked : {text : List ℕ} {tokens : List Token} {comments : List Comment} → LexesFrom 0 text tokens comments → Lexes text tokens comments
+  marked : {rest : List ℕ} {tokens : List Token} {comments : List Comment}
+      → LexesFrom 3 rest tokens comments → Lexes (239 ∷ (187 ∷ (191 ∷ rest))) tokens comments

@@ -1,7 +1,7 @@
 -- The bytes of an index, written by one rule (Protocol Buffers encoding; field numbers of `scip.proto`):
 -- fields by rising number, each varint the shortest, absent what is 0 or empty but in a repeated field.
 use Rattle.std.specs.Prelude.{ℕ, zero, suc, ◌+◌, ◌-◌, ◌*◌, ◌/◌, ◌%◌, ◌^◌, Bool, ℤ, pos, negsuc, List, [], ◌∷◌, ◌++◌, length, map, flat_map, nat_eq, nat_lt, Option, Some, None, if◌then◌else◌}
-use Rattle.scip_model.specs.declared.range.Range.{Range}
+use Rattle.scip_model.specs.Range.{RangeNumbers}
 use Rattle.scip_model.specs.declared.records.Index.{Index}
 use Rattle.scip_model.specs.declared.records.Metadata.{Metadata}
 use Rattle.scip_model.specs.declared.records.ToolInfo.{ToolInfo}
@@ -80,7 +80,7 @@ optional_message_fields k fields (Some item) = bytes_field k (bytes_of (fields i
 -- ---- the messages of `scip.proto`
 
 -- `Occurrence.range`: three numbers exactly where both ends are on one line
-abbrev pub range_numbers : Range → List ℕ
+abbrev pub range_numbers : RangeNumbers → List ℕ
 range_numbers r =
     if nat_eq r.start_line r.end_line
     then r.start_line ∷ r.start_column ∷ r.end_column ∷ []

@@ -1,2 +1,4 @@
 pub mod Range
 pub mod RangeFields
+pub mod Streams
+pub mod StdStreams

@@ -1,0 +1,17 @@
+use Rattle.std.proofs.Common.{◌≡◌, ◌≤◌, length, take, drop, ◌-◌}
+use Rattle.std.specs.Io.KnownBytes.{Appends}
+use Rattle.scip_model.proofs.sink.write_all.Given as goal
+
+-- what is left is a suffix of the bytes, and all before it went out with no failure
+abbrev pub invariant-writes : goal.invariant-writes
+invariant-writes g l =
+    let sent = length l.bytes - length l.rest in
+    record {
+      fits : length l.rest ≤ length l.bytes;
+      suffix : l.rest ≡ drop sent l.bytes;
+      out : Appends (g.W.Sink.contents l.initial.sink) (g.W.Sink.contents l.sink) (take sent l.bytes);
+      unfailed : g.W.Sink.failures l.sink ≡ g.W.Sink.failures l.initial.sink;
+    }
+
+abbrev pub decreases-writes : goal.decreases-writes
+decreases-writes g l = length l.rest

@@ -1,0 +1,30 @@
+-- What writes and reads do to a sink's and a feed's counts. Counts stop at the last u64, where nothing exact is known.
+use Rattle.std.specs.Prelude.{ℕ, zero, suc, ◌+◌, ◌-◌, ◌^◌, min, List, [], ◌∷◌, Result, Ok, Err}
+
+-- one more, or the last u64
+abbrev pub one_more : ℕ → ℕ
+one_more n = min (n + 1) (2 ^ 64 - 1)
+
+-- of `write(bytes)`: an Err is a failure, and so is `Ok(0)` of bytes that aren't empty
+abbrev pub failures_after_write : {E : Type 0} → ℕ → Result ℕ E → List ℕ → ℕ
+failures_after_write n (Err e) bytes = one_more n
+failures_after_write n (Ok (suc written)) bytes = n
+failures_after_write n (Ok zero) [] = n
+failures_after_write n (Ok zero) (b ∷ bs) = one_more n
+
+-- of `read(room)`: an Err is a failure
+abbrev pub failures_after_read : {E : Type 0} → ℕ → Result ℕ E → ℕ
+failures_after_read n (Err e) = one_more n
+failures_after_read n (Ok bytes_read) = n
+
+-- of `read(room)`: one into room that isn't empty counts
+abbrev pub reads_after_read : ℕ → List ℕ → ℕ
+reads_after_read n [] = n
+reads_after_read n (b ∷ bs) = one_more n
+
+-- of `read(room)`: `Ok(0)` into room that isn't empty is an end
+abbrev pub ends_after_read : {E : Type 0} → ℕ → Result ℕ E → List ℕ → ℕ
+ends_after_read n (Err e) room = n
+ends_after_read n (Ok (suc bytes_read)) room = n
+ends_after_read n (Ok zero) [] = n
+ends_after_read n (Ok zero) (b ∷ bs) = one_more n

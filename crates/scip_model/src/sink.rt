@@ -1,0 +1,58 @@
+//! What bytes are written to.
+
+ghost use Rattle.std.specs.Prelude.{◌≡◌, ℕ, ◌≤◌, ◌<◌, List, length, take, Option, IfOk, IfErr, OnOk};
+ghost use Rattle.std.specs.Io.KnownBytes.{Appends, WriteAppends};
+ghost use Rattle.scip_model.specs.Streams.{one_more, failures_after_write};
+
+use crate::failed::Failed;
+
+/// A writer that counts its failures.
+///
+/// An `Err` is a failure, whatever its cause, and so is `Ok(0)` for bytes that aren't empty. A short
+/// write isn't.
+pub trait Sink {
+    // The bytes that it holds, where they are known.
+    ghost contents: { Self → Option (List ℕ) };
+
+    // How many writes failed, up to `u64::MAX`.
+    ghost failures: { Self → ℕ };
+
+    /// Writes some of the bytes, from the first on, and gives how many. `Failed` writes none.
+    fn write(&mut self, bytes: &[u8]) -> Result<usize, Failed>
+        ensures bound { IfOk result (λ n. n ≤ length bytes.now) }
+        ensures bytes { WriteAppends (contents self.old) (contents self.new) result bytes.now }
+        ensures failures { failures self.new ≡ failures_after_write (failures self.old) result bytes.now };
+}
+
+/// A write failed when a part of the bytes had gone out.
+#[derive(Clone, Copy, Debug, PartialEq, Eq)]
+pub struct CutOff {
+    /// How many bytes had gone out, from the first on.
+    pub written: usize,
+}
+
+/// Writes all of the bytes, in as many writes as the sink takes. The first failure ends it.
+pub fn write_all<W: Sink>(sink: &mut W, bytes: &[u8]) -> Result<(), CutOff>
+    ensures ok { OnOk result (Appends (W.contents sink.old) (W.contents sink.new) bytes.now) }
+    ensures unfailed { OnOk result (W.failures sink.new ≡ W.failures sink.old) }
+    ensures err { IfErr result (λ e. Appends (W.contents sink.old) (W.contents sink.new) (take e.written bytes.now)) }
+    ensures short { IfErr result (λ e. e.written < length bytes.now) }
+    ensures failed { IfErr result (λ _. W.failures sink.new ≡ one_more (W.failures sink.old)) }
+{
+    let mut rest = bytes;
+    'writes: while !rest.is_empty() {
+        let cut_off = CutOff {
+            written: bytes.len() - rest.len(),
+        };
+        match sink.write(rest) {
+            Ok(count) => {
+                if count == 0 {
+                    return Err(cut_off);
+                }
+                rest = rest.split_at(count).1;
+            }
+            Err(Failed) => return Err(cut_off),
+        }
+    }
+    Ok(())
+}

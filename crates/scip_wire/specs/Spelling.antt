@@ -1,0 +1,130 @@
+-- The bytes of an index, written by one rule (Protocol Buffers encoding; field numbers of `scip.proto`):
+-- fields by rising number, each varint the shortest, absent what is 0 or empty but in a repeated field.
+use Rattle.std.specs.Prelude.{ℕ, zero, suc, ◌+◌, ◌-◌, ◌*◌, ◌/◌, ◌%◌, ◌^◌, Bool, ℤ, pos, negsuc, List, [], ◌∷◌, ◌++◌, length, map, flat_map, nat_eq, nat_lt, Option, Some, None, if◌then◌else◌}
+use Rattle.scip_model.specs.Range.{RangeNumbers}
+use Rattle.scip_model.specs.declared.records.Index.{Index}
+use Rattle.scip_model.specs.declared.records.Metadata.{Metadata}
+use Rattle.scip_model.specs.declared.records.ToolInfo.{ToolInfo}
+use Rattle.scip_model.specs.declared.records.Document.{Document}
+use Rattle.scip_model.specs.declared.records.Occurrence.{Occurrence}
+use Rattle.scip_model.specs.declared.records.Info.{Info}
+
+-- The shortest varint of a number of at most `room + 1` groups (Encoding, Base 128 Varints):
+-- seven bits a byte, the lowest first, the top bit set on all but the last.
+unfoldable pub varint_of_groups : ℕ → ℕ → List ℕ
+varint_of_groups zero n = n ∷ []
+varint_of_groups (suc room) n =
+    if nat_lt n 128 then n ∷ [] else ((n % 128 + 128) ∷ varint_of_groups room (n / 128))
+
+-- of a number below 2 ^ 64: ten groups at most
+abbrev pub varint : ℕ → List ℕ
+varint n = varint_of_groups 9 n
+
+-- what a field holds (Encoding, Message Structure): a varint (wire type 0), or bytes behind their length (wire type 2)
+pub data Content : Type 0 where
+  Number : ℕ → Content
+  Bytes : List ℕ → Content
+
+-- a field: its number, and what it holds
+pub record Field : Type 0 where
+  pub number : ℕ
+  pub content : Content
+
+abbrev pub content_bytes : ℕ → Content → List ℕ
+content_bytes number (Number n) = varint (8 * number) ++ varint n
+content_bytes number (Bytes bytes) = varint (8 * number + 2) ++ (varint (length bytes) ++ bytes)
+
+abbrev pub field_bytes : Field → List ℕ
+field_bytes f = content_bytes f.number f.content
+
+abbrev pub bytes_of : List Field → List ℕ
+bytes_of fields = flat_map field_bytes fields
+
+-- a signed number in 64 bits, two's complement (Encoding, Signed Integers)
+abbrev pub in_64_bits : ℤ → ℕ
+in_64_bits (pos n) = n
+in_64_bits (negsuc n) = 2 ^ 64 - 1 - n
+
+-- ---- fields by kind: `k` is the field's number
+
+abbrev pub bytes_field : ℕ → List ℕ → Field
+bytes_field k bytes = record { number = k; content = Bytes bytes }
+
+-- a number: absent where it is 0
+abbrev pub number_fields : ℕ → ℕ → List Field
+number_fields k zero = []
+number_fields k (suc n) = record { number = k; content = Number (suc n) } ∷ []
+
+-- an int32 or an enum
+abbrev pub int_fields : ℕ → ℤ → List Field
+int_fields k z = number_fields k (in_64_bits z)
+
+-- a text: absent where it is empty
+abbrev pub text_fields : ℕ → List ℕ → List Field
+text_fields k [] = []
+text_fields k (b ∷ bs) = bytes_field k (b ∷ bs) ∷ []
+
+-- a repeated text: empty ones too
+abbrev pub repeated_text_fields : ℕ → List (List ℕ) → List Field
+repeated_text_fields k texts = map (bytes_field k) texts
+
+-- a repeated message, each by its own fields
+abbrev pub repeated_message_fields : {A : Type 0} → ℕ → (A → List Field) → List A → List Field
+repeated_message_fields k fields items = map (λ item. bytes_field k (bytes_of (fields item))) items
+
+-- a message that may be absent
+abbrev pub optional_message_fields : {A : Type 0} → ℕ → (A → List Field) → Option A → List Field
+optional_message_fields k fields None = []
+optional_message_fields k fields (Some item) = bytes_field k (bytes_of (fields item)) ∷ []
+
+-- ---- the messages of `scip.proto`
+
+-- `Occurrence.range`: three numbers exactly where both ends are on one line
+abbrev pub range_numbers : RangeNumbers → List ℕ
+range_numbers r =
+    if nat_eq r.start_line r.end_line
+    then r.start_line ∷ r.start_column ∷ r.end_column ∷ []
+    else (r.start_line ∷ r.start_column ∷ r.end_line ∷ r.end_column ∷ [])
+
+abbrev pub occurrence_fields : Occurrence → List Field
+occurrence_fields o =
+    bytes_field 1 (flat_map varint (range_numbers o.range))
+    ∷ (text_fields 2 o.symbol
+    ++ int_fields 3 o.symbol_roles)
+
+abbrev pub info_fields : Info → List Field
+info_fields i =
+    text_fields 1 i.symbol
+    ++ (repeated_text_fields 3 i.documentation
+    ++ text_fields 6 i.display_name)
+
+abbrev pub document_fields : Document → List Field
+document_fields d =
+    text_fields 1 d.relative_path
+    ++ (repeated_message_fields 2 occurrence_fields d.occurrences
+    ++ (repeated_message_fields 3 info_fields d.symbols
+    ++ (text_fields 4 d.language
+    ++ int_fields 6 d.position_encoding)))
+
+abbrev pub tool_info_fields : ToolInfo → List Field
+tool_info_fields t =
+    text_fields 1 t.name
+    ++ (text_fields 2 t.version
+    ++ repeated_text_fields 3 t.arguments)
+
+abbrev pub metadata_fields : Metadata → List Field
+metadata_fields m =
+    int_fields 1 m.version
+    ++ (optional_message_fields 2 tool_info_fields m.tool_info
+    ++ (text_fields 3 m.project_root
+    ++ int_fields 4 m.text_document_encoding))
+
+abbrev pub index_fields : Index → List Field
+index_fields i =
+    optional_message_fields 1 metadata_fields i.metadata
+    ++ (repeated_message_fields 2 document_fields i.documents
+    ++ repeated_message_fields 3 info_fields i.external_symbols)
+
+-- the spelling of an index
+abbrev pub spelling_of : Index → List ℕ
+spelling_of i = bytes_of (index_fields i)

@@ -2,7 +2,7 @@
 -- `scip.proto`). Fields come in any order; the last of a singular number or text wins, and repeated
 -- ones are joined in order. Fields that no line names are left out, and so are those that a line
 -- names but that have another wire type.
-use Rattle.std.specs.Prelude.{◌≡◌, ℕ, ℤ, pos, ◌%◌, ◌^◌, Bool, true, false, cond, nat_eq, List, [], ◌∷◌, ◌++◌, map, Option, Some, None}
+use Rattle.std.specs.Prelude.{◌≡◌, ℕ, ℤ, pos, ◌%◌, ◌^◌, Bool, true, false, cond, nat_eq, List, [], ◌∷◌, ◌++◌, Option, Some, None}
 use Rattle.std.specs.Int.{w32, cast_signed}
 use Rattle.std.specs.Str.{IsUtf8}
 use Rattle.scip_model.specs.Range.{RangeNumbers, IsRange}
@@ -108,16 +108,20 @@ pub record IsMetadata (bytes : List ℕ) (metadata : Metadata) : Type 0 where
   pub project_root : Text 3 fields metadata.project_root
   pub text_document_encoding : Number 4 fields metadata.text_document_encoding
 
--- the varints that bytes hold, one after another (Encoding, Packed Repeated Fields)
+-- an int32 is the low 32 bits of its varint
+abbrev pub low_32_bits : ℕ → ℕ
+low_32_bits value = value % 2 ^ 32
+
+-- the int32s that bytes hold, one varint after another (Encoding, Packed Repeated Fields)
 pub data ArePacked : List ℕ → List ℕ → Type 0 where
   none : ArePacked [] []
-  next : {bytes rest : List ℕ} {value : ℕ} {values : List ℕ}
-    → IsVarint 10 bytes value rest → ArePacked rest values → ArePacked bytes (value ∷ values)
+  next : {bytes rest : List ℕ} {value : ℕ} {numbers : List ℕ}
+    → IsVarint 10 bytes value rest → ArePacked rest numbers → ArePacked bytes (low_32_bits value ∷ numbers)
 
--- repeated numbers, packed or not
+-- repeated int32s, packed or not
 pub data GivesNumbers : Payload → List ℕ → Type 0 where
-  one : {value : ℕ} → GivesNumbers (Varint value) (value ∷ [])
-  packed : {bytes values : List ℕ} → ArePacked bytes values → GivesNumbers (Delimited bytes) values
+  one : {value : ℕ} → GivesNumbers (Varint value) (low_32_bits value ∷ [])
+  packed : {bytes numbers : List ℕ} → ArePacked bytes numbers → GivesNumbers (Delimited bytes) numbers
   other_type : {payload : Payload} → is_varint payload ≡ false → is_delimited payload ≡ false → GivesNumbers payload []
 
 -- `Occurrence.range`: [line, column, end column] on one line, or [line, column, end line, end column]
@@ -127,23 +131,20 @@ pub data AreRangeNumbers : List ℕ → RangeNumbers → Type 0 where
   over_lines : {line column end_line end_column : ℕ}
     → AreRangeNumbers (line ∷ column ∷ end_line ∷ end_column ∷ []) (record { start_line = line; start_column = column; end_line = end_line; end_column = end_column })
 
-abbrev pub low_32_bits : ℕ → ℕ
-low_32_bits n = n % 2 ^ 32
-
--- what an occurrence's bytes hold: the varints of its range, its symbol and its roles
-pub record HoldsOccurrence (bytes varints symbol : List ℕ) (roles : ℤ) : Type 0 where
+-- what an occurrence's bytes hold: the numbers of its range, its symbol and its roles
+pub record HoldsOccurrence (bytes numbers symbol : List ℕ) (roles : ℤ) : Type 0 where
   pub fields : List Field
   pub has_fields : HasFields bytes fields
-  pub range : Joined GivesNumbers (payloads 1 fields) varints
+  pub range : Joined GivesNumbers (payloads 1 fields) numbers
   pub symbol_text : Text 2 fields symbol
   pub symbol_roles : Number 3 fields roles
 
 -- An occurrence has three or four numbers, none of them negative as an int32. One without range
 -- numbers is left out.
 pub data GivesOccurrence : Payload → List Occurrence → Type 0 where
-  occurrence : {bytes varints : List ℕ} {occurrence : Occurrence}
-    → HoldsOccurrence bytes varints occurrence.symbol occurrence.symbol_roles
-    → AreRangeNumbers (map low_32_bits varints) occurrence.range → IsRange occurrence.range
+  occurrence : {bytes numbers : List ℕ} {occurrence : Occurrence}
+    → HoldsOccurrence bytes numbers occurrence.symbol occurrence.symbol_roles
+    → AreRangeNumbers numbers occurrence.range → IsRange occurrence.range
     → GivesOccurrence (Delimited bytes) (occurrence ∷ [])
   without_range : {bytes symbol : List ℕ} {roles : ℤ} → HoldsOccurrence bytes [] symbol roles → GivesOccurrence (Delimited bytes) []
   other_type : {payload : Payload} → is_delimited payload ≡ false → GivesOccurrence payload []

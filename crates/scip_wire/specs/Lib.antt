@@ -1,1 +1,4 @@
 pub mod Spelling
+pub mod Fields
+pub mod Decodes
+pub mod Reading

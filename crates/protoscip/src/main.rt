@@ -47,3 +47,8 @@ fn request(rt: &HostRuntime) -> Result<Request, AllocError> {
         Err(_) => command::refuse_other_text(rt.alloc()),
     }
 }
+pub mod declarations;
+pub mod duplicates;
+pub mod symbols;
+
+fn main() {}

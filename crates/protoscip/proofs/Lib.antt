@@ -1,0 +1,2 @@
+pub mod Backticks
+pub mod ClashLemmas

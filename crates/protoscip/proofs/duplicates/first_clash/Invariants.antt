@@ -1,0 +1,5 @@
+use Rattle.protoscip.proofs.ClashLemmas.{NoClashBelow}
+use Rattle.protoscip.proofs.duplicates.first_clash.Given as goal
+
+abbrev pub invariant-loop-index : goal.invariant-loop-index
+invariant-loop-index l = NoClashBelow l.index l.declarations

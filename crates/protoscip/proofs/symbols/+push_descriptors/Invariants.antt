@@ -1,0 +1,5 @@
+use Rattle.std.proofs.Common.{length}
+use Rattle.protoscip.proofs.symbols.+push_descriptors.Given as goal
+
+abbrev pub decreases-push_descriptors : goal.decreases-push_descriptors
+decreases-push_descriptors l = length l.path.now

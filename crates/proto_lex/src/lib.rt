@@ -9,7 +9,6 @@ mod token;
 
 pub use fault::LexFault;
 pub use position::{Encoding, Position, columns_count_utf16, positions_fit, positions_rise};
-pub use position::{Encoding, Position};
 pub use span::Span;
 pub use text::{MAX_TEXT_LENGTH, Text};
 pub use token::{Comment, CommentKind, Token, TokenKind};

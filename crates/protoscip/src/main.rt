@@ -2,7 +2,10 @@
 #![tactic(auto)]
 
 mod command;
+pub mod declarations;
+pub mod duplicates;
 mod fault;
+pub mod symbols;
 
 use command::Request;
 use fault::Fault;
@@ -47,8 +50,3 @@ fn request(rt: &HostRuntime) -> Result<Request, AllocError> {
         Err(_) => command::refuse_other_text(rt.alloc()),
     }
 }
-pub mod declarations;
-pub mod duplicates;
-pub mod symbols;
-
-fn main() {}

@@ -1,3 +1,4 @@
+pub mod Saturated
 pub mod Spelling
 pub mod Fields
 pub mod Decodes

@@ -1,6 +1,6 @@
 -- The bytes of an index, written by one rule (Protocol Buffers encoding; field numbers of `scip.proto`):
 -- fields by rising number, each varint the shortest, absent what is 0 or empty but in a repeated field.
-use Rattle.std.specs.Prelude.{ℕ, zero, suc, ◌+◌, ◌-◌, ◌*◌, ◌/◌, ◌%◌, ◌^◌, Bool, ℤ, pos, negsuc, List, [], ◌∷◌, ◌++◌, length, map, flat_map, nat_eq, nat_lt, Option, Some, None, if◌then◌else◌}
+use Rattle.std.specs.Prelude.{ℕ, zero, suc, ◌+◌, ◌-◌, ◌*◌, ◌/◌, ◌%◌, ◌^◌, ℤ, pos, negsuc, List, [], ◌∷◌, ◌++◌, length, map, flat_map, nat_eq, nat_lt, Option, Some, None, if◌then◌else◌}
 use Rattle.scip_model.specs.Range.{RangeNumbers}
 use Rattle.scip_model.specs.declared.records.Index.{Index}
 use Rattle.scip_model.specs.declared.records.Metadata.{Metadata}
@@ -21,21 +21,26 @@ abbrev pub varint : ℕ → List ℕ
 varint n = varint_of_groups 9 n
 
 -- what a field holds (Encoding, Message Structure): a varint (wire type 0), or bytes behind their length (wire type 2)
-pub data Content : Type 0 where
-  Number : ℕ → Content
-  Bytes : List ℕ → Content
+pub data Payload : Type 0 where
+  Varint : (value : ℕ) → Payload
+  Fixed64 : (bytes : List ℕ) → Payload
+  Delimited : (bytes : List ℕ) → Payload
+  Fixed32 : (bytes : List ℕ) → Payload
 
 -- a field: its number, and what it holds
 pub record Field : Type 0 where
   pub number : ℕ
-  pub content : Content
+  pub payload : Payload
 
-abbrev pub content_bytes : ℕ → Content → List ℕ
-content_bytes number (Number n) = varint (8 * number) ++ varint n
-content_bytes number (Bytes bytes) = varint (8 * number + 2) ++ (varint (length bytes) ++ bytes)
+-- a field's record (Encoding, Message Structure): its tag, which holds its number and the wire type, then what it holds
+abbrev pub record_bytes : ℕ → Payload → List ℕ
+record_bytes number (Varint value) = varint (8 * number) ++ varint value
+record_bytes number (Fixed64 bytes) = varint (8 * number + 1) ++ bytes
+record_bytes number (Delimited bytes) = varint (8 * number + 2) ++ (varint (length bytes) ++ bytes)
+record_bytes number (Fixed32 bytes) = varint (8 * number + 5) ++ bytes
 
 abbrev pub field_bytes : Field → List ℕ
-field_bytes f = content_bytes f.number f.content
+field_bytes f = record_bytes f.number f.payload
 
 abbrev pub bytes_of : List Field → List ℕ
 bytes_of fields = flat_map field_bytes fields
@@ -48,12 +53,12 @@ in_64_bits (negsuc n) = 2 ^ 64 - 1 - n
 -- ---- fields by kind: `k` is the field's number
 
 abbrev pub bytes_field : ℕ → List ℕ → Field
-bytes_field k bytes = record { number = k; content = Bytes bytes }
+bytes_field k bytes = record { number = k; payload = Delimited bytes }
 
 -- a number: absent where it is 0
 abbrev pub number_fields : ℕ → ℕ → List Field
 number_fields k zero = []
-number_fields k (suc n) = record { number = k; content = Number (suc n) } ∷ []
+number_fields k (suc n) = record { number = k; payload = Varint (suc n) } ∷ []
 
 -- an int32 or an enum
 abbrev pub int_fields : ℕ → ℤ → List Field

@@ -1,2 +1,4 @@
 //! The Protocol Buffers encoding of SCIP indexes.
 #![tactic(auto)]
+
+mod spell;

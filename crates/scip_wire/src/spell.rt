@@ -1,0 +1,4 @@
+//! The spelling of an index.
+
+mod fields;
+mod varint;

@@ -1,5 +1,6 @@
 pub mod Saturated
 pub mod Spelling
+pub mod WellFormed
 pub mod Fields
 pub mod Decodes
 pub mod Reading

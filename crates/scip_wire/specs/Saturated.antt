@@ -1,7 +1,7 @@
 -- Lengths that may be past the last u64.
-use Rattle.std.specs.Prelude.{ℕ, ◌-◌, ◌^◌, min, length}
-use Rattle.scip_wire.specs.Spelling.{Field, bytes_of}
-use Rattle.std.specs.Prelude.{List}
+use Rattle.std.specs.Prelude.{ℕ, ◌-◌, ◌^◌, min, List, length}
+use Rattle.scip_wire.specs.Fields.{Field}
+use Rattle.scip_wire.specs.Spelling.{bytes_of}
 
 -- a length, or the last u64 where it is above
 abbrev pub saturated : ℕ → ℕ

@@ -8,6 +8,7 @@ use Rattle.scip_model.specs.declared.records.ToolInfo.{ToolInfo}
 use Rattle.scip_model.specs.declared.records.Document.{Document}
 use Rattle.scip_model.specs.declared.records.Occurrence.{Occurrence}
 use Rattle.scip_model.specs.declared.records.Info.{Info}
+use Rattle.scip_wire.specs.Fields.{Payload, Varint, Fixed64, Delimited, Fixed32, Field}
 
 -- The shortest varint of a number of at most `room + 1` groups (Encoding, Base 128 Varints):
 -- seven bits a byte, the lowest first, the top bit set on all but the last.
@@ -19,18 +20,6 @@ varint_of_groups (suc room) n =
 -- of a number below 2 ^ 64: ten groups at most
 abbrev pub varint : ℕ → List ℕ
 varint n = varint_of_groups 9 n
-
--- what a field holds (Encoding, Message Structure): a varint (wire type 0), or bytes behind their length (wire type 2)
-pub data Payload : Type 0 where
-  Varint : (value : ℕ) → Payload
-  Fixed64 : (bytes : List ℕ) → Payload
-  Delimited : (bytes : List ℕ) → Payload
-  Fixed32 : (bytes : List ℕ) → Payload
-
--- a field: its number, and what it holds
-pub record Field : Type 0 where
-  pub number : ℕ
-  pub payload : Payload
 
 -- a field's record (Encoding, Message Structure): its tag, which holds its number and the wire type, then what it holds
 abbrev pub record_bytes : ℕ → Payload → List ℕ
@@ -93,42 +82,42 @@ range_numbers r =
 
 abbrev pub occurrence_fields : Occurrence → List Field
 occurrence_fields o =
-    bytes_field 1 (flat_map varint (range_numbers o.range))
-    ∷ (text_fields 2 o.symbol
-    ++ int_fields 3 o.symbol_roles)
+    bytes_field 1 (flat_map varint (range_numbers o.range)) ∷ []
+    ++ text_fields 2 o.symbol
+    ++ int_fields 3 o.symbol_roles
 
 abbrev pub info_fields : Info → List Field
 info_fields i =
     text_fields 1 i.symbol
-    ++ (repeated_text_fields 3 i.documentation
-    ++ text_fields 6 i.display_name)
+    ++ repeated_text_fields 3 i.documentation
+    ++ text_fields 6 i.display_name
 
 abbrev pub document_fields : Document → List Field
 document_fields d =
     text_fields 1 d.relative_path
-    ++ (repeated_message_fields 2 occurrence_fields d.occurrences
-    ++ (repeated_message_fields 3 info_fields d.symbols
-    ++ (text_fields 4 d.language
-    ++ int_fields 6 d.position_encoding)))
+    ++ repeated_message_fields 2 occurrence_fields d.occurrences
+    ++ repeated_message_fields 3 info_fields d.symbols
+    ++ text_fields 4 d.language
+    ++ int_fields 6 d.position_encoding
 
 abbrev pub tool_info_fields : ToolInfo → List Field
 tool_info_fields t =
     text_fields 1 t.name
-    ++ (text_fields 2 t.version
-    ++ repeated_text_fields 3 t.arguments)
+    ++ text_fields 2 t.version
+    ++ repeated_text_fields 3 t.arguments
 
 abbrev pub metadata_fields : Metadata → List Field
 metadata_fields m =
     int_fields 1 m.version
-    ++ (optional_message_fields 2 tool_info_fields m.tool_info
-    ++ (text_fields 3 m.project_root
-    ++ int_fields 4 m.text_document_encoding))
+    ++ optional_message_fields 2 tool_info_fields m.tool_info
+    ++ text_fields 3 m.project_root
+    ++ int_fields 4 m.text_document_encoding
 
 abbrev pub index_fields : Index → List Field
 index_fields i =
     optional_message_fields 1 metadata_fields i.metadata
-    ++ (repeated_message_fields 2 document_fields i.documents
-    ++ repeated_message_fields 3 info_fields i.external_symbols)
+    ++ repeated_message_fields 2 document_fields i.documents
+    ++ repeated_message_fields 3 info_fields i.external_symbols
 
 -- the spelling of an index
 abbrev pub spelling_of : Index → List ℕ

@@ -1,4 +1,7 @@
 //! The spelling of an index.
 
 mod fields;
+mod message;
+mod range;
+mod records;
 mod varint;

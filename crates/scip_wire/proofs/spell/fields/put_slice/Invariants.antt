@@ -1,6 +1,6 @@
 use Rattle.std.proofs.Common.{◌≡◌, ◌++◌, drop}
 use Rattle.scip_wire.specs.Spelling.{bytes_of, repeated_text_fields}
-use Rattle.scip_wire.proofs.spell.fields.put_texts.Given as goal
+use Rattle.scip_wire.proofs.spell.fields.put_slice.Given as goal
 
 abbrev pub invariant-texts : goal.invariant-texts
 invariant-texts l =

@@ -1,0 +1,8 @@
+use Rattle.std.proofs.Common.{◌+◌, ◌++◌, ◌^◌, ◌<◌, ◌≡◌, drop, take, All}
+use Rattle.scip_wire.specs.Spelling.{bytes_of, repeated_message_fields}
+use Rattle.scip_wire.specs.Saturated.{saturated, fields_len}
+use Rattle.scip_wire.proofs.spell.message.put_slice.Given as goal
+
+abbrev pub invariant-messages : goal.invariant-messages
+invariant-messages g l =
+    l.out.items ++ bytes_of (repeated_message_fields l.number g.M.Message.fields (drop l.message-index l.messages)) ≡ l.initial.out.items ++ bytes_of (repeated_message_fields l.number g.M.Message.fields l.messages)

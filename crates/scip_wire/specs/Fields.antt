@@ -1,6 +1,6 @@
 -- The fields that bytes hold (Protocol Buffers encoding). Each relation goes from the bytes
 -- before to the bytes left.
-use Rattle.std.specs.Prelude.{◌≡◌, ℕ, zero, suc, ◌+◌, ◌-◌, ◌*◌, ◌^◌, ◌<◌, ◌≤◌, List, [], ◌∷◌, ◌++◌, length}
+use Rattle.std.specs.Prelude.{◌≡◌, ℕ, suc, ◌+◌, ◌-◌, ◌*◌, ◌^◌, ◌<◌, ◌≤◌, List, [], ◌∷◌, ◌++◌, length}
 
 -- what a field holds, by its wire type (Encoding, Message Structure)
 pub data Payload : Type 0 where

@@ -1,6 +1,6 @@
 -- What the types of an index's records know of it, for laws that speak of every index: each text is
 -- UTF-8, each enum and role an int32, and each number of a range an int32 that is not negative.
-use Rattle.std.specs.Prelude.{List, All, Option, IfSome, FitsSigned}
+use Rattle.std.specs.Prelude.{All, IfSome, FitsSigned}
 use Rattle.std.specs.Int.{w32}
 use Rattle.std.specs.Str.{IsUtf8}
 use Rattle.scip_model.specs.Range.{IsRange}

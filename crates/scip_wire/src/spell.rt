@@ -5,3 +5,5 @@ mod message;
 mod range;
 mod records;
 mod varint;
+
+pub(crate) use message::Message;

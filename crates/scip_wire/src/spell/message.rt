@@ -11,7 +11,7 @@ use scip_model::Sequence;
 use std::alloc::AllocError;
 
 /// A record of an index, as a message of `scip.proto`.
-pub(super) trait Message {
+pub(crate) trait Message {
     // Its fields, by rising number.
     ghost fields: { Self → List Field };
 

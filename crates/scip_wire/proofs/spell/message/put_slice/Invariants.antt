@@ -1,6 +1,5 @@
-use Rattle.std.proofs.Common.{◌+◌, ◌++◌, ◌^◌, ◌<◌, ◌≡◌, drop, take, All}
+use Rattle.std.proofs.Common.{◌++◌, ◌≡◌, drop}
 use Rattle.scip_wire.specs.Spelling.{bytes_of, repeated_message_fields}
-use Rattle.scip_wire.specs.Saturated.{saturated, fields_len}
 use Rattle.scip_wire.proofs.spell.message.put_slice.Given as goal
 
 abbrev pub invariant-messages : goal.invariant-messages

@@ -1,2 +1,9 @@
 //! The Protocol Buffers encoding of SCIP indexes.
 #![tactic(auto)]
+
+mod spell;
+mod write;
+mod write_fault;
+
+pub use write::{MAX_INDEX_LEN, encoded_len, spell_index, write_index};
+pub use write_fault::{SpellFault, TooLarge, WriteFault};

@@ -84,7 +84,7 @@ payload_read (fixed64 {bytes} {inside} {rest} e l) = rw (piece_read 8 bytes insi
 payload_read (delimited {bytes} {inside} {rest} v) = rw (varint_read v, piece_read (length inside) (inside ++ rest) inside rest refl refl) refl
 payload_read (fixed32 {bytes} {inside} {rest} e l) = rw (piece_read 4 bytes inside rest e l) refl
 
-pub payload_length : Payload → ℕ
+unfoldable pub payload_length : Payload → ℕ
 payload_length (Varint value) = 0
 payload_length (Fixed64 bytes) = length bytes
 payload_length (Delimited bytes) = length bytes

@@ -1,5 +1,7 @@
-pub mod Options
+pub mod Columns
+pub mod Faults
 pub mod FieldLaws
 pub mod Folds
-pub mod Columns
+pub mod Loops
 pub mod Messages
+pub mod Options

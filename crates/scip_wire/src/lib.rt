@@ -7,3 +7,7 @@ mod write_fault;
 
 pub use write::{MAX_INDEX_LEN, encoded_len, spell_index, write_index};
 pub use write_fault::{SpellFault, TooLarge, WriteFault};
+mod read;
+mod wire_fault;
+
+pub use wire_fault::WireFault;

@@ -4,8 +4,6 @@ pub mod WellFormed
 pub mod Writing
 pub mod Fields
 pub mod Decodes
-pub mod Fields
 pub mod Gives
 pub mod Reading
-pub mod Spelling
 pub mod Views

@@ -7,3 +7,10 @@ pub mod CommentSteps
 pub mod LiteralSteps
 pub mod NumberSteps
 pub mod Tools
+pub mod ByteClasses
+pub mod Prefixes
+pub mod NumberForms
+pub mod CommentForms
+pub mod LiteralForms
+pub mod LiteralReads
+pub mod PieceForms

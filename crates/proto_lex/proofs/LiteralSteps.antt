@@ -37,7 +37,7 @@ unfolding literal_at
 literal_first quote opening len b others ne = let e : nat_eq b quote ≡ false = grind (arith, nat_tests) in rw e refl
 
 -- a character is read, and then the rest
-literal_step-cons : (quote opening len more b : ℕ) (others : List ℕ) → b ≢ quote → character_at opening (opening + len) b others ≡ Ok more
+pub literal_step-cons : (quote opening len more b : ℕ) (others : List ℕ) → b ≢ quote → character_at opening (opening + len) b others ≡ Ok more
   → literal_at quote opening 0 len (b ∷ others) ≡ literal_at quote opening 0 (len + more) (drop more (b ∷ others))
 literal_step-cons quote opening len zero b others ne e = absurd (omega (arith, character_positive _ _ _ _ _ e))
 literal_step-cons quote opening len (suc k) b others ne e =

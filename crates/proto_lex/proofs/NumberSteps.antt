@@ -16,3 +16,7 @@ pub run_of-take : (bytes : List ℕ) (len : ℕ) → 1 ≤ length bytes
   → take (len + 1) bytes ≡ run_of bytes
 run_of-take [] len h e = absurd (omega arith)
 run_of-take (b ∷ others) len h e = rw (e, behind-cons b others, add-one) (ap (λ xs. b ∷ xs) (run_behind-front _ b others))
+
+pub run_of-front : (bytes : List ℕ) → take (length (run_of bytes)) bytes ≡ run_of bytes
+run_of-front [] = refl
+run_of-front (b ∷ others) = ap (λ xs. b ∷ xs) (run_behind-front (not (begins_hexadecimal (b ∷ others))) b others)

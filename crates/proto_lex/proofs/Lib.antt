@@ -14,3 +14,5 @@ pub mod CommentForms
 pub mod LiteralForms
 pub mod LiteralReads
 pub mod PieceForms
+pub mod PieceReads
+pub mod TextForms

@@ -27,18 +27,25 @@ not_closed b others front rest e (close) h = rw e at h
 not_closed b others front rest e (inside c r) h = rw e at h
 
 pub block_found : (len total : ℕ) (bytes : List ℕ) → block_at len bytes ≡ Some total
-  → (count : ℕ) × (total ≡ len + count) × BlockFront bytes count
+    → (count : ℕ) × (total ≡ len + count) × BlockFront bytes count
 unfolding block_at
 block_found len total [] e = absurd cc
 block_found len total (b ∷ others) e =
     chosen (begins_close (b ∷ others)) e
-        (λ t x. (2, sym (same_some x), close_found b others t))
-        (λ t x.
-          let more = block_found (len + 1) total others x in
-          let f = more.2 in
-          (more.0 + 1, omega (arith, more.1), record {
-            front = b ∷ f.front; rest = f.rest; parts = ap (λ xs. b ∷ xs) f.parts;
-            ends = inside (not_closed b others f.front f.rest f.parts f.ends t) f.ends; counted = omega (arith, f.counted) }))
+    (λ t x. (2, sym (same_some x), close_found b others t))
+    (λ t x.
+    let more = block_found (len + 1) total others x in
+    let f = more.2 in (
+      more.0 + 1,
+      omega (arith, more.1),
+      record {
+        front = b ∷ f.front;
+        rest = f.rest;
+        parts = ap (λ xs. b ∷ xs) f.parts;
+        ends = inside (not_closed b others f.front f.rest f.parts f.ends t) f.ends;
+        counted = omega (arith, f.counted);
+      },
+    ))
 
 still_open : (b : ℕ) (others rest : List ℕ) → EndsBlock others → begins_close (b ∷ others) ≡ false → begins_close (b ∷ (others ++ rest)) ≡ false
 still_open b others rest (close) h = h

@@ -16,3 +16,4 @@ pub mod LiteralReads
 pub mod PieceForms
 pub mod PieceReads
 pub mod TextForms
+pub mod ListSteps

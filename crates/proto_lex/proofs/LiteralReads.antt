@@ -18,16 +18,16 @@ unfolding character_at
 plain_read quote opening at b others p = rw (plain_not_newline quote b p, plain_not_nul quote b p, plain_not_backslash quote b p) refl
 
 literal_plain : (quote opening len b : ℕ) (others : List ℕ) → is_plain quote b ≡ true
-  → literal_at quote opening 0 len (b ∷ others) ≡ literal_at quote opening 0 (len + 1) others
+    → literal_at quote opening 0 len (b ∷ others) ≡ literal_at quote opening 0 (len + 1) others
 literal_plain quote opening len b others p =
     literal_step-cons quote opening len 1 b others (eqb-false b quote (plain_not_quote quote b p)) (plain_read quote opening (opening + len) b others p)
 
 literal_hex : (quote opening len b : ℕ) (others : List ℕ) → is_quote quote ≡ true → is_hex_digit b ≡ true
-  → literal_at quote opening 0 len (b ∷ others) ≡ literal_at quote opening 0 (len + 1) others
+    → literal_at quote opening 0 len (b ∷ others) ≡ literal_at quote opening 0 (len + 1) others
 literal_hex quote opening len b others q h = literal_plain quote opening len b others (hex_is_plain quote b q h)
 
 literal_octal : (quote opening len b : ℕ) (others : List ℕ) → is_quote quote ≡ true → is_octal_digit b ≡ true
-  → literal_at quote opening 0 len (b ∷ others) ≡ literal_at quote opening 0 (len + 1) others
+    → literal_at quote opening 0 len (b ∷ others) ≡ literal_at quote opening 0 (len + 1) others
 literal_octal quote opening len b others q h = literal_plain quote opening len b others (octal_is_plain quote b q h)
 
 -- a `\` is read with what follows it
@@ -36,7 +36,7 @@ unfolding character_at
 backslash_read opening at count others e = rw e refl
 
 literal_escape : (quote opening len count : ℕ) (others : List ℕ) → is_quote quote ≡ true → escape_len others ≡ Some count
-  → literal_at quote opening 0 len (92 ∷ others) ≡ literal_at quote opening 0 (len + (count + 1)) (drop (count + 1) (92 ∷ others))
+    → literal_at quote opening 0 len (92 ∷ others) ≡ literal_at quote opening 0 (len + (count + 1)) (drop (count + 1) (92 ∷ others))
 literal_escape quote opening len count others q e =
     literal_step-cons quote opening len (count + 1) 92 others (quote_not_backslash quote q) (backslash_read opening (opening + len) count others e)
 
@@ -55,18 +55,18 @@ octal_escape : (a : ℕ) (rest : List ℕ) → is_octal_digit a ≡ true → esc
 octal_escape a rest h = rw (or_right (is_escape_letter a) (is_octal_digit a) h) refl
 
 four_read : (a b c d : ℕ) (rest : List ℕ) → list_all is_hex_digit (a ∷ (b ∷ (c ∷ (d ∷ [])))) ≡ true
-  → begins_with_hex 4 (a ∷ (b ∷ (c ∷ (d ∷ rest)))) ≡ true
+    → begins_with_hex 4 (a ∷ (b ∷ (c ∷ (d ∷ rest)))) ≡ true
 four_read a b c d rest h =
     and_true (nat_le 4 (length (a ∷ (b ∷ (c ∷ (d ∷ rest)))))) (list_all is_hex_digit (a ∷ (b ∷ (c ∷ (d ∷ []))))) (grind (arith, nat_tests)) h
 
 five_read : (a b c d e : ℕ) (rest : List ℕ) → list_all is_hex_digit (a ∷ (b ∷ (c ∷ (d ∷ (e ∷ []))))) ≡ true
-  → begins_with_hex 5 (a ∷ (b ∷ (c ∷ (d ∷ (e ∷ rest))))) ≡ true
+    → begins_with_hex 5 (a ∷ (b ∷ (c ∷ (d ∷ (e ∷ rest))))) ≡ true
 five_read a b c d e rest h =
     and_true (nat_le 5 (length (a ∷ (b ∷ (c ∷ (d ∷ (e ∷ rest))))))) (list_all is_hex_digit (a ∷ (b ∷ (c ∷ (d ∷ (e ∷ [])))))) (grind (arith, nat_tests)) h
 
 -- an escape is read, with the digits that follow its first as characters
 escape_read : (quote opening : ℕ) → is_quote quote ≡ true → {letters : List ℕ} → IsEscape letters → (len : ℕ) (rest : List ℕ)
-  → literal_at quote opening 0 len (92 ∷ (letters ++ rest)) ≡ literal_at quote opening 0 (len + 1 + length letters) rest
+    → literal_at quote opening 0 len (92 ∷ (letters ++ rest)) ≡ literal_at quote opening 0 (len + 1 + length letters) rest
 escape_read quote opening q (letter {b} t) len rest =
     let e : escape_len (b ∷ rest) ≡ Some 1 = rw t refl in
     let n : len + (1 + 1) ≡ len + 1 + 1 = omega arith in
@@ -79,7 +79,7 @@ escape_read quote opening q (two_hex {x} {a} {b} t h) len rest =
     both (is_hex_digit a) (is_hex_digit b && true) h (λ ha hs. both (is_hex_digit b) true hs (λ hb _.
     let n : len + (2 + 1) + 1 ≡ len + 1 + 3 = omega arith in
     literal_escape quote opening len 2 (x ∷ (a ∷ (b ∷ rest))) q (hex_read x a (b ∷ rest) t ha)
-        ∙ (literal_hex quote opening (len + (2 + 1)) b rest q hb ∙ rw n refl)))
+    ∙ (literal_hex quote opening (len + (2 + 1)) b rest q hb ∙ rw n refl)))
 escape_read quote opening q (one_octal {a} h) len rest =
     both (is_octal_digit a) true h (λ ha _.
     let n : len + (1 + 1) ≡ len + 1 + 1 = omega arith in
@@ -88,14 +88,14 @@ escape_read quote opening q (two_octal {a} {b} h) len rest =
     both (is_octal_digit a) (is_octal_digit b && true) h (λ ha hs. both (is_octal_digit b) true hs (λ hb _.
     let n : len + (1 + 1) + 1 ≡ len + 1 + 2 = omega arith in
     literal_escape quote opening len 1 (a ∷ (b ∷ rest)) q (octal_escape a (b ∷ rest) ha)
-        ∙ (literal_octal quote opening (len + (1 + 1)) b rest q hb ∙ rw n refl)))
+    ∙ (literal_octal quote opening (len + (1 + 1)) b rest q hb ∙ rw n refl)))
 escape_read quote opening q (three_octal {a} {b} {c} h) len rest =
     both (is_octal_digit a) (is_octal_digit b && (is_octal_digit c && true)) h (λ ha hs.
     both (is_octal_digit b) (is_octal_digit c && true) hs (λ hb ht. both (is_octal_digit c) true ht (λ hc _.
     let n : len + (1 + 1) + 1 + 1 ≡ len + 1 + 3 = omega arith in
     literal_escape quote opening len 1 (a ∷ (b ∷ (c ∷ rest))) q (octal_escape a (b ∷ (c ∷ rest)) ha)
-        ∙ (literal_octal quote opening (len + (1 + 1)) b (c ∷ rest) q hb
-        ∙ (literal_octal quote opening (len + (1 + 1) + 1) c rest q hc ∙ rw n refl)))))
+    ∙ (literal_octal quote opening (len + (1 + 1)) b (c ∷ rest) q hb
+    ∙ (literal_octal quote opening (len + (1 + 1) + 1) c rest q hc ∙ rw n refl)))))
 escape_read quote opening q (short_unicode {a} {b} {c} {d} h) len rest =
     let e : escape_len (117 ∷ (a ∷ (b ∷ (c ∷ (d ∷ rest))))) ≡ Some 5 = rw (four_read a b c d rest h) refl in
     let n : len + (5 + 1) ≡ len + 1 + 5 = omega arith in
@@ -110,7 +110,7 @@ escape_read quote opening q (last_unicode {a} {b} {c} {d} h) len rest =
     literal_escape quote opening len 9 (85 ∷ (48 ∷ (48 ∷ (49 ∷ (48 ∷ (a ∷ (b ∷ (c ∷ (d ∷ rest))))))))) q r ∙ rw n refl
 
 pub literal_read : (quote opening : ℕ) → is_quote quote ≡ true → {bytes : List ℕ} → EndsLiteral quote bytes → (len : ℕ) (rest : List ℕ)
-  → literal_at quote opening 0 len (bytes ++ rest) ≡ Ok (len + length bytes)
+    → literal_at quote opening 0 len (bytes ++ rest) ≡ Ok (len + length bytes)
 literal_read quote opening q close len rest = literal_close quote opening len (quote ∷ rest) (omega arith) refl
 literal_read quote opening q (character {b} {others} p r) len rest =
     let n : len + 1 + length others ≡ len + length (b ∷ others) = omega arith in
@@ -118,5 +118,5 @@ literal_read quote opening q (character {b} {others} p r) len rest =
 literal_read quote opening q (escape {letters} {others} f r) len rest =
     let n : len + 1 + length letters + length others ≡ len + length (92 ∷ (letters ++ others)) = omega (arith, length-append letters others) in
     rw (append_assoc letters others rest)
-        (escape_read quote opening q f len (others ++ rest)
-        ∙ (literal_read quote opening q r (len + 1 + length letters) rest ∙ ap (λ k. Ok k) n))
+    (escape_read quote opening q f len (others ++ rest)
+    ∙ (literal_read quote opening q r (len + 1 + length letters) rest ∙ ap (λ k. Ok k) n))

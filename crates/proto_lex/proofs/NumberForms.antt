@@ -21,8 +21,8 @@ pub integer_found : (run : List ℕ) → is_integer run ≡ true → IsInteger r
 integer_found [] e = absurd cc
 integer_found (d ∷ others) e =
     chosen (nat_eq d 48) e
-        (λ t x. subst (λ (b : ℕ). IsInteger (b ∷ others)) (sym (eqb-true d 48 t)) (zero_found others x))
-        (λ t x. both (is_digit d) (list_all is_digit others) x (λ h hs. decimal (digit_nonzero d h t) hs))
+    (λ t x. subst (λ (b : ℕ). IsInteger (b ∷ others)) (sym (eqb-true d 48 t)) (zero_found others x))
+    (λ t x. both (is_digit d) (list_all is_digit others) x (λ h hs. decimal (digit_nonzero d h t) hs))
 
 octal_read : (ds : List ℕ) → list_all is_octal_digit ds ≡ true → is_zero_integer ds ≡ true
 octal_read [] h = refl
@@ -47,9 +47,9 @@ digits_found : (a : List ℕ) → starts is_digit a ≡ true → Digits a (past 
 digits_found [] e = absurd cc
 digits_found (d ∷ others) e =
     elim (starts is_digit others) as (λ t. starts is_digit others ≡ t → Digits (d ∷ others) (past is_digit (d ∷ others))) [
-      true ↦ λ s. subst (λ (left : List ℕ). Digits (d ∷ others) left) (sym (past-cons is_digit d others e)) (digits e (digits_found others s))
-    | false ↦ λ s. subst (λ (left : List ℕ). Digits (d ∷ others) left)
-        (sym (past-cons is_digit d others e ∙ past-stop is_digit others s)) (digit e)
+      | true ↦ λ s. subst (λ (left : List ℕ). Digits (d ∷ others) left) (sym (past-cons is_digit d others e)) (digits e (digits_found others s))
+      | false ↦ λ s. subst (λ (left : List ℕ). Digits (d ∷ others) left)
+          (sym (past-cons is_digit d others e ∙ past-stop is_digit others s)) (digit e)
     ] refl
 
 all_found : (d : ℕ) (ds : List ℕ) → list_all is_digit (d ∷ ds) ≡ true → Digits (d ∷ ds) []
@@ -74,8 +74,8 @@ mark_found : (e : ℕ) (others : List ℕ) → is_exponent_mark e ≡ true → a
 mark_found e [] h x = absurd cc
 mark_found e (s ∷ ds) h x =
     elim (is_plus_or_minus s) as (λ t. is_plus_or_minus s ≡ t → are_digits (cond t ds (s ∷ ds)) ≡ true → IsExponentOrNone (e ∷ (s ∷ ds))) [
-      true ↦ λ p y. signed h p (are_digits_found ds y)
-    | false ↦ λ p y. unsigned h (are_digits_found (s ∷ ds) y)
+      | true ↦ λ p y. signed h p (are_digits_found ds y)
+      | false ↦ λ p y. unsigned h (are_digits_found (s ∷ ds) y)
     ] refl x
 
 exponent_found : (bytes : List ℕ) → is_exponent_or_none bytes ≡ true → IsExponentOrNone bytes
@@ -106,26 +106,26 @@ exponent_first (signed {e = d} h p r) e others q = let same : d ≡ e = cc in rw
 fraction_found : {bytes : List ℕ} (others : List ℕ) → Digits bytes (46 ∷ others) → ends_fraction others ≡ true → IsFloat bytes
 fraction_found {bytes} others d x =
     elim (starts is_digit others) as (λ t. starts is_digit others ≡ t → IsFloat bytes) [
-      true ↦ λ s. fraction d (digits_found others s) (exponent_found _ x)
-    | false ↦ λ s. whole d (exponent_found others (rw (past-stop is_digit others s) at x))
+      | true ↦ λ s. fraction d (digits_found others s) (exponent_found _ x)
+      | false ↦ λ s. whole d (exponent_found others (rw (past-stop is_digit others s) at x))
     ] refl
 
 ends_found : {bytes : List ℕ} (rest : List ℕ) → Digits bytes rest → ends_whole rest ≡ true → IsFloat bytes
 ends_found [] d e = absurd cc
 ends_found {bytes} (c ∷ others) d e =
     chosen (nat_eq c 46) e
-        (λ t x. fraction_found others (subst (λ (b : ℕ). Digits bytes (b ∷ others)) (eqb-true c 46 t) d) x)
-        (λ t x. power d (exponent_found (c ∷ others) x))
+    (λ t x. fraction_found others (subst (λ (b : ℕ). Digits bytes (b ∷ others)) (eqb-true c 46 t) d) x)
+    (λ t x. power d (exponent_found (c ∷ others) x))
 
 pub float_found : (run : List ℕ) → is_float run ≡ true → IsFloat run
 float_found [] e = absurd cc
 float_found (b ∷ others) e =
     chosen (nat_eq b 46) e
-        (λ t x. both (starts is_digit others) (ends_fraction others) x (λ s f.
-            subst (λ (c : ℕ). IsFloat (c ∷ others)) (sym (eqb-true b 46 t)) (point_first (digits_found others s) (exponent_found _ f))))
-        (λ t x. both (is_digit b) (ends_whole (past is_digit others)) x (λ h w.
-            ends_found (past is_digit others)
-                (subst (λ (left : List ℕ). Digits (b ∷ others) left) (past-cons is_digit b others h) (digits_found (b ∷ others) h)) w))
+    (λ t x. both (starts is_digit others) (ends_fraction others) x (λ s f.
+    subst (λ (c : ℕ). IsFloat (c ∷ others)) (sym (eqb-true b 46 t)) (point_first (digits_found others s) (exponent_found _ f))))
+    (λ t x. both (is_digit b) (ends_whole (past is_digit others)) x (λ h w.
+    ends_found (past is_digit others)
+    (subst (λ (left : List ℕ). Digits (b ∷ others) left) (past-cons is_digit b others h) (digits_found (b ∷ others) h)) w))
 
 digits_read : {bytes rest : List ℕ} → Digits bytes rest → starts is_digit rest ≡ false → ends_whole rest ≡ true → is_float bytes ≡ true
 digits_read (digit {d} {others} h) s w = rw (digit_not_point d h, h, past-stop is_digit others s) w
@@ -158,6 +158,6 @@ integer_no_float (hexadecimal {x} {d} {ds} t h) =
 pub float_no_integer : {run : List ℕ} → IsFloat run → is_integer run ≡ false
 float_no_integer {run} f =
     elim (is_integer run) as (λ t. is_integer run ≡ t → t ≡ false) [
-      true ↦ λ e. let no = integer_no_float (integer_found run e) in let yes = float_read f in cc
-    | false ↦ λ e. refl
+      | true ↦ λ e. let no = integer_no_float (integer_found run e) in let yes = float_read f in cc
+      | false ↦ λ e. refl
     ] refl

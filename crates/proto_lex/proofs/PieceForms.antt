@@ -38,9 +38,9 @@ pub record Begins (p : Piece) (bytes : List ℕ) : Type 0 where
 
 -- the signs, one by one
 pub sign_cases : (P : ℕ → TokenKind → Type 0) (b : ℕ) (k : TokenKind) → sign_kind b ≡ Some k
-  → P 59 kind.Semicolon → P 61 kind.Equals → P 123 kind.OpenBrace → P 125 kind.CloseBrace → P 91 kind.OpenBracket → P 93 kind.CloseBracket
-  → P 40 kind.OpenParenthesis → P 41 kind.CloseParenthesis → P 60 kind.Less → P 62 kind.Greater → P 44 kind.Comma → P 46 kind.Dot
-  → P 58 kind.Colon → P 43 kind.Plus → P 45 kind.Minus → P 47 kind.Slash → P b k
+    → P 59 kind.Semicolon → P 61 kind.Equals → P 123 kind.OpenBrace → P 125 kind.CloseBrace → P 91 kind.OpenBracket → P 93 kind.CloseBracket
+    → P 40 kind.OpenParenthesis → P 41 kind.CloseParenthesis → P 60 kind.Less → P 62 kind.Greater → P 44 kind.Comma → P 46 kind.Dot
+    → P 58 kind.Colon → P 43 kind.Plus → P 45 kind.Minus → P 47 kind.Slash → P b k
 sign_cases P b k e p1 p2 p3 p4 p5 p6 p7 p8 p9 p10 p11 p12 p13 p14 p15 p16 =
     chosen (nat_eq b 59) e (λ t x. is b k 59 kind.Semicolon t x p1) (λ _ e2.
     chosen (nat_eq b 61) e2 (λ t x. is b k 61 kind.Equals t x p2) (λ _ e3.
@@ -59,18 +59,18 @@ sign_cases P b k e p1 p2 p3 p4 p5 p6 p7 p8 p9 p10 p11 p12 p13 p14 p15 p16 =
     chosen (nat_eq b 45) e15 (λ t x. is b k 45 kind.Minus t x p15) (λ _ e16.
     chosen (nat_eq b 47) e16 (λ t x. is b k 47 kind.Slash t x p16) (λ _ x. none_not_some x))))))))))))))))
   where
-  is : (b : ℕ) (k : TokenKind) (c : ℕ) (j : TokenKind) → nat_eq b c ≡ true → Some j ≡ Some k → P c j → P b k
-  is b k c j t x p = subst (λ (i : TokenKind). P b i) (same_some x) (subst (λ (a : ℕ). P a j) (sym (eqb-true b c t)) p)
+    is : (b : ℕ) (k : TokenKind) (c : ℕ) (j : TokenKind) → nat_eq b c ≡ true → Some j ≡ Some k → P c j → P b k
+    is b k c j t x p = subst (λ (i : TokenKind). P b i) (same_some x) (subst (λ (a : ℕ). P a j) (sym (eqb-true b c t)) p)
 
 -- numbers
 
 kind_found : (run rest : List ℕ) (k : TokenKind) → number_kind run ≡ Some k → run_of (run ++ rest) ≡ run → IsToken k run rest
 kind_found run rest k e w =
     chosen (is_integer run) e
-        (λ t x. subst (λ (j : TokenKind). IsToken j run rest) (same_some x) (record { spelled = integer (integer_found run t); whole = w })) (λ _ x.
+    (λ t x. subst (λ (j : TokenKind). IsToken j run rest) (same_some x) (record { spelled = integer (integer_found run t); whole = w })) (λ _ x.
     chosen (is_float run) x
-        (λ t y. subst (λ (j : TokenKind). IsToken j run rest) (same_some y) (record { spelled = float (float_found run t); whole = w }))
-        (λ _ y. none_not_some y))
+    (λ t y. subst (λ (j : TokenKind). IsToken j run rest) (same_some y) (record { spelled = float (float_found run t); whole = w }))
+    (λ _ y. none_not_some y))
 
 numbered_found : (at : ℕ) (o : Option TokenKind) (len : ℕ) (p : Piece) → numbered at o len ≡ Ok p → (k : TokenKind) × (o ≡ Some k) × (token k len ≡ p)
 numbered_found at None len p e = err_not_ok e
@@ -84,30 +84,38 @@ number_found at bytes p e =
     let m = numbered_found at (number_kind run) (length run) p e in
     let parts : run ++ rest ≡ bytes = subst (λ (w : List ℕ). w ++ rest ≡ bytes) (run_of-front bytes) (take-append-drop (length run) bytes) in
     subst (λ (q : Piece). Begins q bytes) m.2 (record {
-      word = run; rest = rest; parts = sym parts; counted = refl;
-      stands = kind_found run rest m.0 m.1 (ap run_of parts) })
+      word = run;
+      rest = rest;
+      parts = sym parts;
+      counted = refl;
+      stands = kind_found run rest m.0 m.1 (ap run_of parts);
+    })
 
 -- comments and the sign `/`
 
 line_found : (others : List ℕ) → starts (nat_eq 47) others ≡ true
-  → Begins (record { kind = piece.Comment comment.Line; len = 1 + prefix_len is_in_line others }) (47 ∷ others)
+    → Begins (record { kind = piece.Comment comment.Line; len = 1 + prefix_len is_in_line others }) (47 ∷ others)
 line_found [] t = absurd cc
 line_found (c ∷ others) t =
     let same : 47 ≡ c = eqb-true 47 c t in
     let n = prefix_len is_in_line others in
     let counted : length (47 ∷ (47 ∷ take n others)) ≡ 1 + (1 + n) = omega (arith, length-prefix_len is_in_line others) in
     rw (← same) (record {
-      word = 47 ∷ (47 ∷ take n others); rest = drop n others; parts = ap (λ xs. 47 ∷ (47 ∷ xs)) (sym (take-append-drop n others));
-      counted = counted; stands = line (prefix_passes is_in_line others) (prefix_stops is_in_line others) })
+      word = 47 ∷ (47 ∷ take n others);
+      rest = drop n others;
+      parts = ap (λ xs. 47 ∷ (47 ∷ xs)) (sym (take-append-drop n others));
+      counted = counted;
+      stands = line (prefix_passes is_in_line others) (prefix_stops is_in_line others);
+    })
 
 blocked_found : (at : ℕ) (o : Option ℕ) (p : Piece) → blocked at o ≡ Ok p
-  → (len : ℕ) × (o ≡ Some len) × (record { kind = piece.Comment comment.Block; len = len } ≡ p)
+    → (len : ℕ) × (o ≡ Some len) × (record { kind = piece.Comment comment.Block; len = len } ≡ p)
 blocked_found at None p e = err_not_ok e
 blocked_found at (Some len) p e =
     let q : Piece = record { kind = piece.Comment comment.Block; len = len } in (len, refl, same_ok q p (Ok q) refl e)
 
 closed_found : (at : ℕ) (others : List ℕ) (p : Piece) → starts (nat_eq 42) others ≡ true → blocked at (block_at 2 (behind_first others)) ≡ Ok p
-  → Begins p (47 ∷ others)
+    → Begins p (47 ∷ others)
 closed_found at [] p t e = absurd cc
 closed_found at (c ∷ others) p t e =
     let same : 42 ≡ c = eqb-true 42 c t in
@@ -116,47 +124,60 @@ closed_found at (c ∷ others) p t e =
     let g = f.2 in
     let counted : length (47 ∷ (42 ∷ g.front)) ≡ m.0 = omega (arith, f.1, g.counted) in
     subst (λ (q : Piece). Begins q (47 ∷ (c ∷ others))) m.2 (rw (← same) (record {
-      word = 47 ∷ (42 ∷ g.front); rest = g.rest; parts = ap (λ xs. 47 ∷ (42 ∷ xs)) g.parts; counted = counted; stands = block g.ends }))
+      word = 47 ∷ (42 ∷ g.front);
+      rest = g.rest;
+      parts = ap (λ xs. 47 ∷ (42 ∷ xs)) g.parts;
+      counted = counted;
+      stands = block g.ends;
+    }))
 
 no_comment : (others : List ℕ) → starts (nat_eq 47) others ≡ false → starts (nat_eq 42) others ≡ false
-  → starts (λ b. nat_eq b 47 || nat_eq b 42) others ≡ false
+    → starts (λ b. nat_eq b 47 || nat_eq b 42) others ≡ false
 no_comment [] h i = refl
 no_comment (c ∷ others) h i = no_mark c h i
   where
-  no_mark : (c : ℕ) → nat_eq 47 c ≡ false → nat_eq 42 c ≡ false → (nat_eq c 47 || nat_eq c 42) ≡ false
-  no_mark c h i = grind (arith, nat_tests)
+    no_mark : (c : ℕ) → nat_eq 47 c ≡ false → nat_eq 42 c ≡ false → (nat_eq c 47 || nat_eq c 42) ≡ false
+    no_mark c h i = grind (arith, nat_tests)
 
 slash_found : (at : ℕ) (others : List ℕ) (p : Piece) → slash_at at others ≡ Ok p → Begins p (47 ∷ others)
 slash_found at others p e =
     let q : Piece = record { kind = piece.Comment comment.Line; len = 1 + prefix_len is_in_line others } in
     chosen (starts (nat_eq 47) others) e
-        (λ t x. subst (λ (r : Piece). Begins r (47 ∷ others)) (same_ok q p (Ok q) refl x) (line_found others t)) (λ n x.
+    (λ t x. subst (λ (r : Piece). Begins r (47 ∷ others)) (same_ok q p (Ok q) refl x) (line_found others t)) (λ n x.
     chosen (starts (nat_eq 42) others) x
-        (λ t y. closed_found at others p t y)
-        (λ m y. subst (λ (r : Piece). Begins r (47 ∷ others)) (same_ok (token kind.Slash 1) p (Ok (token kind.Slash 1)) refl y) (record {
-          word = 47 ∷ []; rest = others; parts = refl; counted = refl;
-          stands = record { spelled = sign {b = 47} refl; whole = no_comment others n m } })))
+    (λ t y. closed_found at others p t y)
+    (λ m y. subst (λ (r : Piece). Begins r (47 ∷ others)) (same_ok (token kind.Slash 1) p (Ok (token kind.Slash 1)) refl y) (record {
+      word = 47 ∷ [];
+      rest = others;
+      parts = refl;
+      counted = refl;
+      stands = record { spelled = sign {b = 47} refl; whole = no_comment others n m };
+    })))
 
 -- the other signs
 
 sign_whole : (b : ℕ) (k : TokenKind) (rest : List ℕ) → sign_kind b ≡ Some k → nat_eq b 47 ≡ false → begins_number (b ∷ rest) ≡ false
-  → IsWhole k (b ∷ []) rest
+    → IsWhole k (b ∷ []) rest
 sign_whole b k rest e =
     sign_cases (λ c j. nat_eq c 47 ≡ false → begins_number (c ∷ rest) ≡ false → IsWhole j (c ∷ []) rest) b k e
-        (λ _ _. tt) (λ _ _. tt) (λ _ _. tt) (λ _ _. tt) (λ _ _. tt) (λ _ _. tt) (λ _ _. tt) (λ _ _. tt) (λ _ _. tt) (λ _ _. tt)
-        (λ _ _. tt) (λ _ h. h) (λ _ _. tt) (λ _ _. tt) (λ _ _. tt) (λ n _. absurd cc)
+    (λ _ _. tt) (λ _ _. tt) (λ _ _. tt) (λ _ _. tt) (λ _ _. tt) (λ _ _. tt) (λ _ _. tt) (λ _ _. tt) (λ _ _. tt) (λ _ _. tt)
+    (λ _ _. tt) (λ _ h. h) (λ _ _. tt) (λ _ _. tt) (λ _ _. tt) (λ n _. absurd cc)
 
 signed_found : (at : ℕ) (o : Option TokenKind) (p : Piece) → signed at o ≡ Ok p → (k : TokenKind) × (o ≡ Some k) × (token k 1 ≡ p)
 signed_found at None p e = err_not_ok e
 signed_found at (Some k) p e = (k, refl, same_ok (token k 1) p (Ok (token k 1)) refl e)
 
 sign_found : (at b : ℕ) (others : List ℕ) (p : Piece) → signed at (sign_kind b) ≡ Ok p → nat_eq b 47 ≡ false → begins_number (b ∷ others) ≡ false
-  → Begins p (b ∷ others)
+    → Begins p (b ∷ others)
 sign_found at b others p e n m =
     let f = signed_found at (sign_kind b) p e in
     subst (λ (r : Piece). Begins r (b ∷ others)) f.2 (record {
-      word = b ∷ []; rest = others; parts = refl; counted = refl;
-      stands = record { spelled = sign f.1; whole = sign_whole b f.0 others f.1 n m } })
+      word = b ∷ [];
+      rest = others;
+      parts = refl;
+      counted = refl;
+      stands = record { spelled = sign f.1; whole = sign_whole b f.0 others f.1 n m };
+    })
 
 -- identifiers and strings
 
@@ -165,11 +186,15 @@ identifier_found b others t =
     let n = prefix_len is_word others in
     let counted : length (b ∷ take n others) ≡ 1 + n = omega (arith, length-prefix_len is_word others) in
     record {
-      word = b ∷ take n others; rest = drop n others; parts = ap (λ xs. b ∷ xs) (sym (take-append-drop n others)); counted = counted;
-      stands = record { spelled = identifier t (prefix_passes is_word others); whole = prefix_stops is_word others } }
+      word = b ∷ take n others;
+      rest = drop n others;
+      parts = ap (λ xs. b ∷ xs) (sym (take-append-drop n others));
+      counted = counted;
+      stands = record { spelled = identifier t (prefix_passes is_word others); whole = prefix_stops is_word others };
+    }
 
 string_found : (at b : ℕ) (others : List ℕ) (p : Piece) → is_quote b ≡ true
-  → (literal_at b at 0 1 others >>= λ len. Ok (token kind.StringLiteral len)) ≡ Ok p → Begins p (b ∷ others)
+    → (literal_at b at 0 1 others >>= λ len. Ok (token kind.StringLiteral len)) ≡ Ok p → Begins p (b ∷ others)
 string_found at b others p t e =
     let m = bind_ok (literal_at b at 0 1 others) (λ len. Ok (token kind.StringLiteral len)) p e in
     let f = literal_found b at 0 1 m.0 others m.1 in
@@ -177,8 +202,12 @@ string_found at b others p t e =
     let counted : length (b ∷ g.front) ≡ m.0 = omega (arith, f.1, g.counted) in
     let q : Piece = token kind.StringLiteral m.0 in
     subst (λ (r : Piece). Begins r (b ∷ others)) (same_ok q p (Ok q) refl m.2) (record {
-      word = b ∷ g.front; rest = g.rest; parts = ap (λ xs. b ∷ xs) g.parts; counted = counted;
-      stands = record { spelled = literal t g.ends; whole = tt } })
+      word = b ∷ g.front;
+      rest = g.rest;
+      parts = ap (λ xs. b ∷ xs) g.parts;
+      counted = counted;
+      stands = record { spelled = literal t g.ends; whole = tt };
+    })
 
 pub piece_found : (at : ℕ) (bytes : List ℕ) (p : Piece) → piece_at at bytes ≡ Ok p → Begins p bytes
 unfolding piece_at
@@ -187,12 +216,17 @@ piece_found at (b ∷ others) p e =
     let q : Piece = record { kind = piece.Blank; len = 1 } in
     let w : Piece = token kind.Identifier (1 + prefix_len is_word others) in
     chosen (is_blank b) e
-        (λ t x. subst (λ (r : Piece). Begins r (b ∷ others)) (same_ok q p (Ok q) refl x) (record {
-          word = b ∷ []; rest = others; parts = refl; counted = refl; stands = (b, refl, t) })) (λ _ x.
+    (λ t x. subst (λ (r : Piece). Begins r (b ∷ others)) (same_ok q p (Ok q) refl x) (record {
+      word = b ∷ [];
+      rest = others;
+      parts = refl;
+      counted = refl;
+      stands = (b, refl, t);
+    })) (λ _ x.
     chosen (is_letter b) x
-        (λ t y. subst (λ (r : Piece). Begins r (b ∷ others)) (same_ok w p (Ok w) refl y) (identifier_found b others t)) (λ _ y.
+    (λ t y. subst (λ (r : Piece). Begins r (b ∷ others)) (same_ok w p (Ok w) refl y) (identifier_found b others t)) (λ _ y.
     chosen (begins_number (b ∷ others)) y (λ _ z. number_found at (b ∷ others) p z) (λ m z.
     chosen (is_quote b) z (λ t v. string_found at b others p t v) (λ _ v.
     chosen (nat_eq b 47) v
-        (λ t u. rw (eqb-true b 47 t) (slash_found at others p u))
-        (λ n u. sign_found at b others p u n m)))))
+    (λ t u. rw (eqb-true b 47 t) (slash_found at others p u))
+    (λ n u. sign_found at b others p u n m)))))

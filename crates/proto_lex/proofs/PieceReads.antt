@@ -54,16 +54,16 @@ unfolding piece_at
 number_place at [] t = absurd cc
 number_place at (b ∷ others) t =
     either (is_digit b) (nat_eq b 46 && starts is_digit others) t
-        (λ h. rw (digit_not_blank b h, digit_not_letter b h, h) refl) (λ _ h.
+    (λ h. rw (digit_not_blank b h, digit_not_letter b h, h) refl) (λ _ h.
     both (nat_eq b 46) (starts is_digit others) h (λ p s. rw (eqb-true b 46 p, s) refl))
 
 integer_at : (at : ℕ) (word rest : List ℕ) → IsInteger word → run_of (word ++ rest) ≡ word
-  → number_at at (word ++ rest) ≡ Ok (token kind.Integer (length word))
+    → number_at at (word ++ rest) ≡ Ok (token kind.Integer (length word))
 unfolding number_at
 integer_at at word rest i w = rw (w, integer_read i) refl
 
 float_at : (at : ℕ) (word rest : List ℕ) → IsFloat word → run_of (word ++ rest) ≡ word
-  → number_at at (word ++ rest) ≡ Ok (token kind.Float (length word))
+    → number_at at (word ++ rest) ≡ Ok (token kind.Float (length word))
 unfolding number_at
 float_at at word rest f w = rw (w, float_no_integer f, float_read f) refl
 
@@ -73,18 +73,19 @@ slash_read : (at : ℕ) (rest : List ℕ) → starts (λ b. nat_eq b 47 || nat_e
 slash_read at [] h = refl
 slash_read at (c ∷ rest) h = rw (not_slash c h, not_star c h) refl
   where
-  not_slash : (c : ℕ) → (nat_eq c 47 || nat_eq c 42) ≡ false → nat_eq 47 c ≡ false
-  not_slash c h = grind (arith, nat_tests)
-  not_star : (c : ℕ) → (nat_eq c 47 || nat_eq c 42) ≡ false → nat_eq 42 c ≡ false
-  not_star c h = grind (arith, nat_tests)
+    not_slash : (c : ℕ) → (nat_eq c 47 || nat_eq c 42) ≡ false → nat_eq 47 c ≡ false
+    not_slash c h = grind (arith, nat_tests)
+
+    not_star : (c : ℕ) → (nat_eq c 47 || nat_eq c 42) ≡ false → nat_eq 42 c ≡ false
+    not_star c h = grind (arith, nat_tests)
 
 sign_read : (at b : ℕ) (k : TokenKind) (rest : List ℕ) → sign_kind b ≡ Some k → IsWhole k (b ∷ []) rest
-  → piece_at at (b ∷ rest) ≡ Ok (token k 1)
+    → piece_at at (b ∷ rest) ≡ Ok (token k 1)
 unfolding piece_at
 sign_read at b k rest e =
     sign_cases (λ c j. IsWhole j (c ∷ []) rest → piece_at at (c ∷ rest) ≡ Ok (token j 1)) b k e
-        (λ _. refl) (λ _. refl) (λ _. refl) (λ _. refl) (λ _. refl) (λ _. refl) (λ _. refl) (λ _. refl) (λ _. refl) (λ _. refl)
-        (λ _. refl) (λ w. rw w refl) (λ _. refl) (λ _. refl) (λ _. refl) (λ w. slash_read at rest w)
+    (λ _. refl) (λ _. refl) (λ _. refl) (λ _. refl) (λ _. refl) (λ _. refl) (λ _. refl) (λ _. refl) (λ _. refl) (λ _. refl)
+    (λ _. refl) (λ w. rw w refl) (λ _. refl) (λ _. refl) (λ _. refl) (λ w. slash_read at rest w)
 
 -- strings
 
@@ -92,7 +93,7 @@ quote_no_number : (b : ℕ) (others : List ℕ) → is_quote b ≡ true → begi
 quote_no_number b others q = rw (quote_not_digit b q, quote_not_point b q) refl
 
 string_read : (at b : ℕ) (others rest : List ℕ) → is_quote b ≡ true → (literal_at b at 0 1 (others ++ rest) ≡ Ok (1 + length others))
-  → piece_at at (b ∷ (others ++ rest)) ≡ Ok (token kind.StringLiteral (suc (length others)))
+    → piece_at at (b ∷ (others ++ rest)) ≡ Ok (token kind.StringLiteral (suc (length others)))
 unfolding piece_at
 string_read at b others rest q e =
     rw (quote_not_blank b q, quote_not_letter b q, quote_no_number b (others ++ rest) q, q, e, one_more (length others)) refl
@@ -100,7 +101,7 @@ string_read at b others rest q e =
 -- all tokens
 
 token_read : (at : ℕ) {k : TokenKind} {word : List ℕ} (rest : List ℕ) → Spells k word → IsWhole k word rest
-  → piece_at at (word ++ rest) ≡ Ok (token k (length word))
+    → piece_at at (word ++ rest) ≡ Ok (token k (length word))
 unfolding piece_at
 token_read at rest (identifier {b} {others} t h) w =
     rw (letter_not_blank b t, t, prefix_exact is_word others rest h w, one_more (length others)) refl
@@ -113,7 +114,7 @@ token_read at rest (literal {quote} {others} q r) w =
 token_read at rest (sign {b} {k} e) w = sign_read at b k rest e w
 
 comment_read : (at : ℕ) {k : CommentKind} {word rest : List ℕ} → IsComment k word rest
-  → piece_at at (word ++ rest) ≡ Ok (record { kind = piece.Comment k; len = length word })
+    → piece_at at (word ++ rest) ≡ Ok (record { kind = piece.Comment k; len = length word })
 unfolding piece_at
 comment_read at (line {inside} {rest} h s) =
     let n : 1 + (1 + length inside) ≡ length (47 ∷ (47 ∷ inside)) = omega arith in
@@ -123,7 +124,7 @@ comment_read at (block {inside} {rest} r) =
     rw (block_read 2 rest r, n) refl
 
 pub piece_read : (at : ℕ) (k : PieceKind) (word rest : List ℕ) → Stands k word rest
-  → piece_at at (word ++ rest) ≡ Ok (record { kind = k; len = length word })
+    → piece_at at (word ++ rest) ≡ Ok (record { kind = k; len = length word })
 unfolding piece_at
 piece_read at piece.Blank word rest s = rw (s.1, s.2) refl
 piece_read at (piece.Comment k) word rest s = comment_read at s

@@ -17,20 +17,20 @@ pub prefix_passes : (p : ℕ → Bool) (bytes : List ℕ) → list_all p (take (
 prefix_passes p [] = refl
 prefix_passes p (b ∷ others) =
     elim (p b) as (λ t. p b ≡ t → list_all p (take (cond t (1 + prefix_len p others) 0) (b ∷ others)) ≡ true) [
-      true ↦ λ e. rw (one_add (prefix_len p others), add-one, e) (prefix_passes p others)
-    | false ↦ λ e. refl
+      | true ↦ λ e. rw (one_add (prefix_len p others), add-one, e) (prefix_passes p others)
+      | false ↦ λ e. refl
     ] refl
 
 pub prefix_stops : (p : ℕ → Bool) (bytes : List ℕ) → starts p (drop (prefix_len p bytes) bytes) ≡ false
 prefix_stops p [] = refl
 prefix_stops p (b ∷ others) =
     elim (p b) as (λ t. p b ≡ t → starts p (drop (cond t (1 + prefix_len p others) 0) (b ∷ others)) ≡ false) [
-      true ↦ λ e. rw (one_add (prefix_len p others), add-one) (prefix_stops p others)
-    | false ↦ λ e. e
+      | true ↦ λ e. rw (one_add (prefix_len p others), add-one) (prefix_stops p others)
+      | false ↦ λ e. e
     ] refl
 
 pub prefix_exact : (p : ℕ → Bool) (word rest : List ℕ) → list_all p word ≡ true → starts p rest ≡ false
-  → prefix_len p (word ++ rest) ≡ length word
+    → prefix_len p (word ++ rest) ≡ length word
 prefix_exact p [] [] h s = refl
 prefix_exact p [] (c ∷ rest) h s = rw s refl
 prefix_exact p (b ∷ word) rest h s =

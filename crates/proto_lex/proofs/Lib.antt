@@ -17,3 +17,4 @@ pub mod PieceForms
 pub mod PieceReads
 pub mod TextForms
 pub mod ListSteps
+pub mod Places

@@ -28,12 +28,12 @@ digit_begins : (bytes : List ℕ) → starts is_digit bytes ≡ true → begins_
 digit_begins [] t = t
 digit_begins (b ∷ others) t = rw t refl
 
-integer_begins : {word : List ℕ} → IsInteger word → begins_number word ≡ true
+pub integer_begins : {word : List ℕ} → IsInteger word → begins_number word ≡ true
 integer_begins (decimal {d} h hs) = rw (nonzero_is_digit d h) refl
 integer_begins (octal h) = refl
 integer_begins (hexadecimal t h) = refl
 
-float_begins : {word : List ℕ} → IsFloat word → begins_number word ≡ true
+pub float_begins : {word : List ℕ} → IsFloat word → begins_number word ≡ true
 float_begins (whole {bytes} d x) = digit_begins bytes (digits_start d)
 float_begins (fraction {bytes} d e x) = digit_begins bytes (digits_start d)
 float_begins (power {bytes} d x) = digit_begins bytes (digits_start d)

@@ -109,7 +109,7 @@ in_64_bits-zero : (z : ℤ) → FitsSigned w32 z → in_64_bits z ≡ 0 → z �
 in_64_bits-zero (pos n) fits e = ap pos e
 in_64_bits-zero (negsuc n) fits e = absurd (omega arith)
 
-in_64_bits-lt : (z : ℤ) → FitsSigned w32 z → in_64_bits z < 2 ^ 64
+pub in_64_bits-lt : (z : ℤ) → FitsSigned w32 z → in_64_bits z < 2 ^ 64
 in_64_bits-lt (pos n) fits = omega arith
 in_64_bits-lt (negsuc n) fits = omega arith
 

@@ -1,5 +1,5 @@
 -- A spelled message is what its bytes decode to.
-use Rattle.std.proofs.Common.{◌≡◌, ℕ, ℤ, zero, suc, ◌+◌, ◌*◌, ◌^◌, ◌<◌, ◌≤◌, Bool, true, false, cond, nat_eq, List, [], ◌∷◌, ◌++◌, map, length, Option, Some, None, refl, sym, ap, ◌∙◌, subst, arith, append-nil, length-append, FitsSigned, All, IsUtf8, IfSome, w32}
+use Rattle.std.proofs.Common.{◌≡◌, ℕ, ℤ, zero, suc, ◌+◌, ◌^◌, ◌<◌, ◌≤◌, Bool, true, false, cond, nat_eq, List, [], ◌∷◌, ◌++◌, map, length, Option, Some, None, refl, sym, ap, ◌∙◌, subst, arith, append-nil, length-append, FitsSigned, All, IfSome, w32}
 use Rattle.std.specs.List.{flat_map}
 use Rattle.std.proofs.lemmas.Bool.Decides.{nat_tests}
 use Rattle.std.proofs.lemmas.List.Elements.{All-head, All-tail}
@@ -10,14 +10,14 @@ use Rattle.scip_model.specs.declared.records.ToolInfo.{ToolInfo}
 use Rattle.scip_model.specs.declared.records.Document.{Document}
 use Rattle.scip_model.specs.declared.records.Occurrence.{Occurrence}
 use Rattle.scip_model.specs.declared.records.Info.{Info}
-use Rattle.scip_wire.specs.Fields.{Payload, Varint, Delimited, Field, HasFields}
-use Rattle.scip_wire.specs.Decodes.{payloads, Joined, none, next, IsOnly, absent, only, GivesMessage, message, Text, Texts, Number, OneMessage, Messages, IsInfo, IsToolInfo, IsMetadata, IsDocument, Decodes, low_32_bits, ArePacked, none as no_number, next as next_number, GivesNumbers, packed, AreRangeNumbers, on_one_line, over_lines, HoldsOccurrence, GivesOccurrence, occurrence}
+use Rattle.scip_wire.specs.Fields.{Payload, Delimited, Field}
+use Rattle.scip_wire.specs.Decodes.{payloads, Joined, none, next, absent, only, GivesMessage, message, OneMessage, IsInfo, IsToolInfo, IsMetadata, IsDocument, Decodes, low_32_bits, ArePacked, none as no_number, next as next_number, GivesNumbers, packed, AreRangeNumbers, on_one_line, over_lines, HoldsOccurrence, GivesOccurrence, occurrence}
 use Rattle.scip_wire.specs.Spelling.{varint, bytes_of, bytes_field, text_fields, int_fields, number_fields, in_64_bits, repeated_text_fields, repeated_message_fields, optional_message_fields, range_numbers, occurrence_fields, info_fields, document_fields, tool_info_fields, metadata_fields, index_fields, spelling_of}
 use Rattle.scip_wire.specs.Saturated.{fields_len}
 use Rattle.scip_wire.specs.WellFormed.{IsFitOccurrence, IsFitInfo, IsFitDocument, IsFitToolInfo, IsFitMetadata, IsWellFormed}
 use Rattle.scip_wire.proofs.Joins.{bytes_of-append}
 use Rattle.scip_wire.proofs.Lengths.{fields_len_more, message_le}
-use Rattle.scip_wire.proofs.SpelledFields.{varint_is, IsKnown, AreKnown, AreKnown-append, fields_are}
+use Rattle.scip_wire.proofs.SpelledFields.{varint_is, AreKnown, AreKnown-append, fields_are}
 use Rattle.scip_wire.proofs.SpelledMessages.{payloads-append, other_text, other_texts, other_int, other_messages, other_message, same_text, same_texts, same_int, same_messages, text_given, texts_given, int_given, in_64_bits-lt, text_payloads, number_payloads}
 
 -- ---- the fields of a message are known

@@ -10,3 +10,4 @@ pub mod Folds
 pub mod Loops
 pub mod Messages
 pub mod Options
+pub mod SpelledIndex

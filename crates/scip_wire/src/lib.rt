@@ -2,11 +2,13 @@
 #![tactic(auto)]
 
 mod read;
+mod round_trip;
 mod spell;
 mod wire_fault;
 mod write;
 mod write_fault;
 
+pub use round_trip::spelling_decodes_to_its_index;
 pub use wire_fault::WireFault;
 pub use write::{MAX_INDEX_LEN, encoded_len, spell_index, write_index};
 pub use write_fault::{SpellFault, TooLarge, WriteFault};

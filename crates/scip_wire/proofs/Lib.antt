@@ -5,3 +5,4 @@ pub mod Folds
 pub mod Loops
 pub mod Messages
 pub mod Options
+pub mod Texts

@@ -2,6 +2,8 @@
 
 mod cause;
 mod field;
+mod info;
 mod message;
 
+mod text;
 mod varint;

@@ -1,6 +1,6 @@
 -- What the fields of a message do to one of its parts, against the values of a field number.
 use Rattle.std.proofs.Common.{◌≡◌, refl, ap, sym, ◌∙◌, subst, ℕ, ℤ, pos, Bool, true, false, cond, List, [], ◌∷◌, ◌++◌, Option, Some, None}
-use Rattle.std.specs.Prelude.{nat_eq}
+use Rattle.std.specs.Prelude.{nat_eq, is_some}
 use Rattle.std.specs.Str.{is_utf8, IsUtf8}
 use Rattle.std.proofs.lemmas.Str.{IsUtf8-from_is_utf8, is_utf8-from_IsUtf8}
 use Rattle.std.proofs.lemmas.List.{append-nil, append_assoc}
@@ -210,3 +210,21 @@ module _ {A : Type 0} (read : List ℕ → Option A) (IsMessage : List ℕ → A
   one_message_read o h =
       let v = only_read h in
       column_read add_only (message_in read) (GivesMessage IsMessage) only_nothing only_joins (message_in_found read IsMessage found) (message_in_read read IsMessage back) number fields v.0 None o v.1 v.2
+
+-- a second one is refused, whatever it holds
+pub only_taken : {A : Type 0} (read : List ℕ → Option A) (earlier : Option A) (bytes : List ℕ) → is_some earlier ≡ true
+  → (message_in read (Delimited bytes) >>= add_only earlier) ≡ None
+only_taken read None bytes h = absurd (cc)
+only_taken {A = A} read (Some y) bytes h = taken (read bytes) where
+  taken : (x : Option A) → ((x >>= λ v. Some (v ∷ [])) >>= add_only (Some y)) ≡ None
+  taken None = refl
+  taken (Some v) = refl
+
+-- the first one is what is read
+pub only_first : {A : Type 0} (read : List ℕ → Option A) (earlier : Option A) (bytes : List ℕ) → is_some earlier ≡ false
+  → (message_in read (Delimited bytes) >>= add_only earlier) ≡ (read bytes >>= λ v. Some (Some v))
+only_first read (Some y) bytes h = absurd (cc)
+only_first {A = A} read None bytes h = first (read bytes) where
+  first : (x : Option A) → ((x >>= λ v. Some (v ∷ [])) >>= add_only None) ≡ (x >>= λ v. Some (Some v))
+  first None = refl
+  first (Some v) = refl

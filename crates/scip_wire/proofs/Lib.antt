@@ -2,6 +2,7 @@ pub mod Columns
 pub mod Faults
 pub mod FieldLaws
 pub mod Folds
+pub mod Indexes
 pub mod Loops
 pub mod Messages
 pub mod Options

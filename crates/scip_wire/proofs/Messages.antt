@@ -1,6 +1,6 @@
 -- What the reader computes of each message is what its bytes decode to, and nothing else is.
 use Rattle.std.proofs.Common.{◌≡◌, refl, ap, sym, ◌∙◌, subst, ℕ, zero, suc, ℤ, pos, ◌+◌, ◌<◌, ◌≤◌, Bool, true, false, cond, List, [], ◌∷◌, ◌++◌, length, Option, Some, None, arith}
-use Rattle.std.specs.Prelude.{nat_le, ◌&&◌}
+use Rattle.std.specs.Prelude.{nat_le, ◌&&◌, SomeIff}
 use Rattle.std.proofs.lemmas.Bool.{le-leb, leb-true}
 use Rattle.std.proofs.lemmas.List.{append-nil, append_assoc}
 use Rattle.scip_model.specs.Range.{RangeNumbers, IsRange}
@@ -10,10 +10,11 @@ use Rattle.scip_model.specs.declared.records.ToolInfo.{ToolInfo}
 use Rattle.scip_model.specs.declared.records.Document.{Document}
 use Rattle.scip_model.specs.declared.records.Occurrence.{Occurrence}
 use Rattle.scip_model.specs.declared.records.Info.{Info}
+use Rattle.scip_wire.specs.declared.read.occurrence.OccurrenceParts.{OccurrenceParts}
 use Rattle.scip_wire.specs.Fields.{Payload, Varint, Fixed64, Delimited, Fixed32, Field}
 use Rattle.scip_wire.specs.Decodes.{low_32_bits, ArePacked, GivesNumbers, one, packed, AreRangeNumbers, on_one_line, over_lines, HoldsOccurrence, GivesOccurrence, occurrence, without_range, IsInfo, IsToolInfo, IsMetadata, IsDocument, Decodes}
-use Rattle.scip_wire.specs.Reading.{◌>>=◌, changed, both, parted, fold_in, fold_at, field_at, varint_at, column, add_more, text_column, texts_column, number_column, only_column, messages_column, info_step, no_info, info_at, tool_info_step, no_tool_info, tool_info_at, metadata_step, no_metadata, metadata_at, packed_step, packed_at, numbers_in, fits, checked_range, range_at, OccurrenceParts, occurrence_step, no_parts, parts_at, occurrence_of, occurrence_at, occurrence_in, document_step, no_document, document_at, index_step, no_index, index_at}
-use Rattle.scip_wire.proofs.Options.{same_some, bind_some, bind_at, guard_some, if_true}
+use Rattle.scip_wire.specs.Reading.{◌>>=◌, changed, both, parted, fold_in, fold_at, field_at, varint_at, column, add_more, text_column, texts_column, number_column, only_column, messages_column, info_step, no_info, info_at, tool_info_step, no_tool_info, tool_info_at, metadata_step, no_metadata, metadata_at, packed_step, packed_at, numbers_in, fits, checked_range, range_at, occurrence_step, no_parts, parts_at, occurrence_of, occurrence_at, occurrence_in, document_step, no_document, document_at, index_step, no_index, index_at}
+use Rattle.scip_wire.proofs.Options.{same_some, bind_some, bind_at, guard_some, if_true, if_false, split, bind_same, bind_assoc}
 use Rattle.scip_wire.proofs.FieldLaws.{varint_found, varint_read, varint_falls}
 use Rattle.scip_wire.proofs.Folds.{fold_done, fold_goes_on, fields_found, fields_read, both_found, both_read, parted_found, parted_read}
 use Rattle.scip_wire.proofs.Columns.{text_found, text_read, texts_found, texts_read, number_found, number_read, repeated_found, repeated_read, messages_found, messages_read, one_message_found, one_message_read}
@@ -258,3 +259,26 @@ index_read {bytes} {i} d =
 -- bytes decode to at most one index
 pub same_index : {bytes : List ℕ} {i j : Index} → Decodes bytes i → Decodes bytes j → i ≡ j
 same_index {i = i} {j = j} d e = same_some i j (sym (index_read d) ∙ index_read e)
+
+-- a range that is made exactly where its numbers fit
+pub checked_of : (o : Option RangeNumbers) (r : RangeNumbers) → SomeIff o (IsRange r) r → o ≡ checked_range r
+unfolding checked_range
+checked_of None r h = split (fits r) (λ t. absurd (h (checked_found r r (if_true (fits r) _ _ t)).1)) (λ f. sym (if_false (fits r) _ _ f))
+checked_of (Some x) r h = ap Some h.1 ∙ sym (checked_read r h.0)
+
+-- packed numbers that are added to others
+packed_in_after : (room : ℕ) (bytes s t : List ℕ) → fold_in (varint_at 10) packed_step room bytes (s ++ t) ≡ (fold_in (varint_at 10) packed_step room bytes t >>= add_more s)
+unfolding fold_in packed_step
+packed_in_after zero [] s t = refl
+packed_in_after zero (byte ∷ bytes) s t = refl
+packed_in_after (suc room) [] s t = refl
+packed_in_after (suc room) (byte ∷ bytes) s t =
+    bind_same (varint_at 10 (byte ∷ bytes)) _ _ (λ x _.
+      ap (fold_in (varint_at 10) packed_step room x.1) (append_assoc s t (low_32_bits x.0 ∷ []))
+        ∙ packed_in_after room x.1 s (t ++ low_32_bits x.0 ∷ []))
+      ∙ sym (bind_assoc (varint_at 10 (byte ∷ bytes)) _ (add_more s))
+
+pub fold_of_packed : (bytes numbers : List ℕ) → fold_at (varint_at 10) packed_step bytes numbers ≡ (packed_at bytes >>= add_more numbers)
+unfolding packed_at fold_at
+fold_of_packed bytes numbers =
+    ap (fold_in (varint_at 10) packed_step (length bytes) bytes) (sym (append-nil numbers)) ∙ packed_in_after (length bytes) bytes numbers []

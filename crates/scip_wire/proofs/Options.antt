@@ -43,3 +43,7 @@ bind_same (Some x) f g h = h x refl
 pub split : {P : Type 0} (b : Bool) → (b ≡ true → P) → (b ≡ false → P) → P
 split true on_true on_false = on_true refl
 split false on_true on_false = on_false refl
+
+pub bind_assoc : {A B C : Type 0} (o : Option A) (f : A → Option B) (g : B → Option C) → ((o >>= f) >>= g) ≡ (o >>= λ x. f x >>= g)
+bind_assoc None f g = refl
+bind_assoc (Some x) f g = refl

@@ -2,7 +2,7 @@
 
 ghost use Rattle.std.specs.Prelude.{◌≡◌, ◌≤◌, length};
 ghost use Rattle.scip_wire.specs.Gives.{Gives};
-ghost use Rattle.scip_wire.specs.Reading.{fold_at, field_at};
+ghost use Rattle.scip_wire.specs.Reading.{fold_at, field_at, only_after};
 
 use std::alloc::Global;
 
@@ -45,4 +45,19 @@ pub fn read_message<M: Message>(alloc: Global, bytes: &[u8], end: usize) -> Resu
         rest = after;
     }
     Ok(message)
+}
+
+/// The message of a field that comes at most once, of which `earlier` is what came before. The
+/// bytes end at `end` in the input, and their record is at `start`.
+///
+/// `Repeated` where there is an earlier one, whatever the bytes hold.
+#[tactic(auto, using(crate::proofs::Columns::only_taken, crate::proofs::Columns::only_first))]
+pub fn read_only<M: Message>(alloc: Global, earlier: &Option<M>, bytes: &[u8], start: usize, end: usize) -> Result<Option<M>, WireFault>
+    requires { length bytes.now ≤ end }
+    ensures { Gives (λ o. o) result (only_after (λ b. fold_at field_at M.step b M.none) earlier.now bytes.now) }
+{
+    if earlier.is_some() {
+        return Err(WireFault::Repeated(start));
+    }
+    Ok(Some(read_message(alloc, bytes, end)?))
 }

@@ -1,5 +1,5 @@
 -- What the reader of an index says of what its bytes decode to.
-use Rattle.std.proofs.Common.{◌≡◌, refl, sym, ◌∙◌, ℕ, List, Option, Some, None, Result, Ok, Err}
+use Rattle.std.proofs.Common.{◌≡◌, refl, sym, ◌∙◌, ℕ, List, Option, Some, Result, Ok, Err}
 use Rattle.std.specs.Prelude.{IfOk, MatchResult}
 use Rattle.scip_model.specs.declared.records.Index.{Index}
 use Rattle.scip_wire.specs.declared.wire_fault.WireFault.{WireFault}
@@ -27,6 +27,6 @@ is_memory (Utf8 n) read y h e = absurd (cc)
 is_memory (BadRange n) read y h e = absurd (cc)
 
 pub only_of : (r : Result Index WireFault) (bytes : List ℕ) → Gives (λ i. i) r (index_at bytes) → (index : Index) → Decodes bytes index
-  → MatchResult r (λ i. i ≡ index) (λ e. e ≡ Memory)
+    → MatchResult r (λ i. i ≡ index) (λ e. e ≡ Memory)
 only_of (Ok i) bytes h index d = same_some i index (sym h ∙ index_read d)
 only_of (Err e) bytes h index d = is_memory e (index_at bytes) index h (index_read d)

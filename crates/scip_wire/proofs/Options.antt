@@ -1,5 +1,5 @@
 -- What an option or a test that came out so says of its parts.
-use Rattle.std.proofs.Common.{◌≡◌, refl, ap, sym, ◌∙◌, Bool, true, false, cond, Option, Some, None}
+use Rattle.std.proofs.Common.{◌≡◌, refl, ap, Bool, true, false, cond, Option, Some, None}
 use Rattle.scip_wire.specs.Reading.{◌>>=◌}
 
 pub same_some : {A : Type 0} (x y : A) → Some x ≡ Some y → x ≡ y

@@ -1,8 +1,8 @@
 -- The test of UTF-8, as the reader of texts uses it.
-use Rattle.std.proofs.Common.{◌≡◌, refl, ℕ, Bool, true, false, cond, List, Option, Some, None}
+use Rattle.std.proofs.Common.{◌≡◌, ℕ, true, false, List}
 use Rattle.std.specs.Str.{is_utf8, IsUtf8}
 use Rattle.std.proofs.lemmas.Str.{IsUtf8-from_is_utf8, is_utf8-from_IsUtf8}
-use Rattle.scip_wire.proofs.Options.{if_true, if_false, split}
+use Rattle.scip_wire.proofs.Options.{split}
 
 pub text_of_utf8 : (bytes : List ℕ) → IsUtf8 bytes → is_utf8 bytes ≡ true
 text_of_utf8 bytes h = is_utf8-from_IsUtf8 bytes h

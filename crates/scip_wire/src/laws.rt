@@ -8,11 +8,9 @@ ghost use Rattle.scip_wire.specs.Decodes.{Decodes};
 /// Bytes have at most one field list (Protocol Buffers encoding).
 pub fn bytes_have_one_field_list()
     ensures { (bytes : List ℕ) (fields others : List Field) → HasFields bytes fields → HasFields bytes others → fields ≡ others }
-{
-}
+{}
 
 /// Bytes decode to at most one index.
 pub fn bytes_decode_to_one_index()
     ensures { (bytes : List ℕ) (index other : Index) → Decodes bytes index → Decodes bytes other → index ≡ other }
-{
-}
+{}

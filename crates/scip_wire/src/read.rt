@@ -19,11 +19,10 @@ mod text;
 mod tool_info;
 mod varint;
 
-use scip_model::Index;
-use std::alloc::Global;
-
 use crate::read::message::read_message;
 use crate::wire_fault::WireFault;
+use scip_model::Index;
+use std::alloc::Global;
 
 /// The index that bytes decode to (Protocol Buffers encoding, with the field numbers of
 /// `scip.proto`).

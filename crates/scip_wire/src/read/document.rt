@@ -2,14 +2,13 @@
 
 ghost use Rattle.scip_wire.specs.Reading.{no_document, document_step};
 
-use scip_model::Document;
-use std::alloc::Global;
-
 use crate::read::field::{Field, Payload};
 use crate::read::message::{Message, read_message};
 use crate::read::occurrence::add_occurrence;
 use crate::read::text::{append, empty_sequence, empty_text, number_of, text_of};
 use crate::wire_fault::WireFault;
+use scip_model::Document;
+use std::alloc::Global;
 
 impl Message for Document {
     ghost none = { no_document };
@@ -27,7 +26,13 @@ impl Message for Document {
     }
 
     #[tactic(auto, unfolding(crate::specs::Reading::document_step, crate::specs::Reading::info_at, crate::specs::Reading::parted, crate::specs::Reading::both, crate::specs::Reading::column))]
-    fn take_in(&mut self, alloc: Global, field: Field<'_>, start: usize, end: usize) -> Result<(), WireFault> {
+    fn take_in(
+        &mut self,
+        alloc: Global,
+        field: Field<'_>,
+        start: usize,
+        end: usize,
+    ) -> Result<(), WireFault> {
         match (field.number, field.payload) {
             (1, Payload::Delimited(bytes)) => self.relative_path = text_of(alloc, bytes, start)?,
             (2, Payload::Delimited(bytes)) => {

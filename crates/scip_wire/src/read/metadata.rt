@@ -2,13 +2,12 @@
 
 ghost use Rattle.scip_wire.specs.Reading.{no_metadata, metadata_step};
 
-use scip_model::Metadata;
-use std::alloc::Global;
-
 use crate::read::field::{Field, Payload};
 use crate::read::message::{Message, read_only};
 use crate::read::text::{empty_text, number_of, text_of};
 use crate::wire_fault::WireFault;
+use scip_model::Metadata;
+use std::alloc::Global;
 
 impl Message for Metadata {
     ghost none = { no_metadata };
@@ -25,7 +24,13 @@ impl Message for Metadata {
     }
 
     #[tactic(auto, unfolding(crate::specs::Reading::metadata_step, crate::specs::Reading::tool_info_at, crate::specs::Reading::parted, crate::specs::Reading::both, crate::specs::Reading::column))]
-    fn take_in(&mut self, alloc: Global, field: Field<'_>, start: usize, end: usize) -> Result<(), WireFault> {
+    fn take_in(
+        &mut self,
+        alloc: Global,
+        field: Field<'_>,
+        start: usize,
+        end: usize,
+    ) -> Result<(), WireFault> {
         match (field.number, field.payload) {
             (1, Payload::Varint(value)) => self.version = number_of(value),
             (2, Payload::Delimited(bytes)) => {

@@ -5,12 +5,10 @@ ghost use Rattle.scip_wire.specs.Gives.{Gives};
 ghost use Rattle.scip_wire.specs.Decodes.{low_32_bits};
 ghost use Rattle.scip_wire.specs.Reading.{text_at, number_at};
 
+use crate::wire_fault::WireFault;
 use scip_model::{OwnedText, Sequence};
 use std::alloc::{AllocError, Global};
-use std::mem;
-use std::str;
-
-use crate::wire_fault::WireFault;
+use std::{mem, str};
 
 /// A text without bytes. Takes no memory.
 pub fn empty_text(alloc: Global) -> OwnedText

@@ -3,7 +3,10 @@ pub mod Faults
 pub mod FieldLaws
 pub mod Folds
 pub mod Indexes
+pub mod Joins
+pub mod Lengths
 pub mod Loops
 pub mod Messages
 pub mod Options
 pub mod Texts
+pub mod Varints

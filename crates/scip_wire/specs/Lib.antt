@@ -2,5 +2,8 @@ pub mod Decodes
 pub mod Fields
 pub mod Gives
 pub mod Reading
+pub mod Saturated
 pub mod Spelling
 pub mod Views
+pub mod WellFormed
+pub mod Writing

@@ -8,7 +8,7 @@ use Rattle.scip_wire.specs.Fields.{Field}
 use Rattle.scip_wire.specs.Spelling.{field_bytes, bytes_of, bytes_field, varint, repeated_message_fields}
 use Rattle.scip_wire.specs.Saturated.{saturated, fields_len}
 
-fields_len_more : (f : Field) (fs : List Field) → fields_len (f ∷ fs) ≡ fields_len (f ∷ []) + fields_len fs
+pub fields_len_more : (f : Field) (fs : List Field) → fields_len (f ∷ fs) ≡ fields_len (f ∷ []) + fields_len fs
 fields_len_more f fs = omega (arith, length-append (field_bytes f) (bytes_of fs), length-append (field_bytes f) [])
 
 -- one record further
@@ -41,7 +41,7 @@ fit_done P xs i past all = All-same P xs (take i xs) (sym (take_all i xs past)) 
 
 -- ---- a message is no longer than the records of all
 
-message_le : (k : ℕ) (bytes : List ℕ) → length bytes ≤ fields_len (bytes_field k bytes ∷ [])
+pub message_le : (k : ℕ) (bytes : List ℕ) → length bytes ≤ fields_len (bytes_field k bytes ∷ [])
 message_le k bytes =
     omega (arith, length-append (field_bytes (bytes_field k bytes)) [], length-append (varint (8 * k + 2)) (varint (length bytes) ++ bytes), length-append (varint (length bytes)) bytes)
 

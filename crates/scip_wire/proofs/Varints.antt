@@ -12,13 +12,13 @@ not_below : (n : ℕ) → 128 ≤ n → nat_lt n 128 ≡ false
 not_below n h = grind (arith, nat_tests)
 
 -- one group is left
-group_last : (room n : ℕ) → n < 128 → varint_of_groups room n ≡ n ∷ []
+pub group_last : (room n : ℕ) → n < 128 → varint_of_groups room n ≡ n ∷ []
 unfolding varint_of_groups
 group_last zero n h = refl
 group_last (suc room) n h = rw (below n h) refl
 
 -- more than one group is left
-group_more : (room n : ℕ) → 128 ≤ n → varint_of_groups (suc room) n ≡ (n % 128 + 128) ∷ varint_of_groups room (n / 128)
+pub group_more : (room n : ℕ) → 128 ≤ n → varint_of_groups (suc room) n ≡ (n % 128 + 128) ∷ varint_of_groups room (n / 128)
 unfolding varint_of_groups
 group_more room n h = rw (not_below n h) refl
 

@@ -1,18 +1,18 @@
 -- What the fields of a message do to one of its parts, against the values of a field number.
-use Rattle.std.proofs.Common.{◌≡◌, refl, ap, sym, ◌∙◌, subst, ℕ, ℤ, pos, Bool, true, false, cond, List, [], ◌∷◌, ◌++◌, Option, Some, None}
-use Rattle.std.specs.Prelude.{nat_eq}
-use Rattle.std.specs.Str.{is_utf8, IsUtf8}
+use Rattle.std.proofs.Common.{◌≡◌, refl, ap, sym, ◌∙◌, subst, ℕ, ℤ, pos, true, false, List, [], ◌∷◌, ◌++◌, Option, Some, None}
+use Rattle.std.specs.Prelude.{nat_eq, is_some}
+use Rattle.std.specs.Str.{is_utf8}
 use Rattle.std.proofs.lemmas.Str.{IsUtf8-from_is_utf8, is_utf8-from_IsUtf8}
 use Rattle.std.proofs.lemmas.List.{append-nil, append_assoc}
 use Rattle.scip_wire.specs.Fields.{Payload, Varint, Fixed64, Delimited, Fixed32, Field}
-use Rattle.scip_wire.specs.Decodes.{payloads, Joined, none, next, last_or, IsLast, IsOnly, absent, only, GivesText, text, GivesNumber, signed, GivesMessage, message, Text, Texts, Number, OneMessage, Messages}
+use Rattle.scip_wire.specs.Decodes.{payloads, Joined, none, next, last_or, IsOnly, absent, only, GivesText, text, GivesNumber, signed, GivesMessage, message, Text, Texts, Number, OneMessage, Messages}
 use Rattle.scip_wire.specs.Reading.{◌>>=◌, changed, column, add_more, add_last, add_only, text_at, number_at, message_in, number_in, text_column, texts_column, number_column, only_column, messages_column}
 use Rattle.scip_wire.proofs.Options.{same_some, bind_some, bind_at, chosen, guard_some, if_true, if_false, split}
 
 -- ---- any column
 
 joined_next : {A : Type 0} {Gives : Payload → List A → Type 0} {payload : Payload} {others : List Payload} {xs : List A}
-  → Joined Gives (payload ∷ others) xs → (few : List A) × (more : List A) × (Gives payload few) × (Joined Gives others more) × (xs ≡ few ++ more)
+    → Joined Gives (payload ∷ others) xs → (few : List A) × (more : List A) × (Gives payload few) × (Joined Gives others more) × (xs ≡ few ++ more)
 joined_next (next {values = values} {more = more} g j) = (values, more, g, j, refl)
 
 joined_none : {A : Type 0} {Gives : Payload → List A → Type 0} {xs : List A} → Joined Gives [] xs → xs ≡ []
@@ -24,9 +24,8 @@ module _ {S A : Type 0} (add : S → List A → Option S) (values : Payload → 
     (found : (payload : Payload) (xs : List A) → values payload ≡ Some xs → Gives payload xs)
     (read : (payload : Payload) (xs : List A) → Gives payload xs → values payload ≡ Some xs)
     (number : ℕ) where
-
   pub column_found : (fields : List Field) (s t : S) → changed (column add values number) fields s ≡ Some t
-    → (xs : List A) × (Joined Gives (payloads number fields) xs) × (add s xs ≡ Some t)
+      → (xs : List A) × (Joined Gives (payloads number fields) xs) × (add s xs ≡ Some t)
   unfolding column
   column_found [] s t e = ([], none, nothing s ∙ e)
   column_found (field ∷ fields) s t e =
@@ -34,28 +33,30 @@ module _ {S A : Type 0} (add : S → List A → Option S) (values : Payload → 
       let h = column_found fields u.0 t u.2 in
       let P : List A → List Payload → Type 0 = λ xs ps. Joined Gives ps xs in
       chosen (nat_eq field.number number) _ _ _ u.1
-        (λ is has.
-          let few = bind_some (values field.payload) _ u.0 has in
-          (few.0 ++ h.0, subst (P (few.0 ++ h.0)) (sym (if_true _ _ _ is)) (next (found field.payload few.0 few.1) h.1),
-            joins s few.0 h.0 ∙ (bind_at (add s few.0) _ u.0 few.2 ∙ h.2)))
-        (λ is_not same.
-          (h.0, subst (P h.0) (sym (if_false _ _ _ is_not)) h.1, ap (λ v. add v h.0) (same_some s u.0 same) ∙ h.2))
+      (λ is has.
+      let few = bind_some (values field.payload) _ u.0 has in (
+        few.0 ++ h.0,
+        subst (P (few.0 ++ h.0)) (sym (if_true _ _ _ is)) (next (found field.payload few.0 few.1) h.1),
+        joins s few.0 h.0 ∙ (bind_at (add s few.0) _ u.0 few.2 ∙ h.2),
+      ))
+      (λ is_not same.
+      (h.0, subst (P h.0) (sym (if_false _ _ _ is_not)) h.1, ap (λ v. add v h.0) (same_some s u.0 same) ∙ h.2))
 
   pub column_read : (fields : List Field) (xs : List A) (s t : S) → Joined Gives (payloads number fields) xs → add s xs ≡ Some t
-    → changed (column add values number) fields s ≡ Some t
+      → changed (column add values number) fields s ≡ Some t
   unfolding column
   column_read [] xs s t j e = sym (nothing s) ∙ (ap (add s) (sym (joined_none j)) ∙ e)
   column_read (field ∷ fields) xs s t j e =
       split (nat_eq field.number number)
-        (λ is.
-          let n = joined_next (subst (λ ps. Joined Gives ps xs) (if_true (nat_eq field.number number) _ _ is) j) in
-          let u = bind_some (add s n.0) (λ v. add v n.1) t (sym (joins s n.0 n.1) ∙ (ap (add s) (sym n.4) ∙ e)) in
-          bind_at (column add values number s field) _ u.0
-            (if_true (nat_eq field.number number) _ _ is ∙ (bind_at (values field.payload) (add s) n.0 (read field.payload n.0 n.2) ∙ u.1))
-            ∙ column_read fields n.1 u.0 t n.3 u.2)
-        (λ is_not.
-          bind_at (column add values number s field) _ s (if_false (nat_eq field.number number) _ _ is_not)
-            ∙ column_read fields xs s t (subst (λ ps. Joined Gives ps xs) (if_false (nat_eq field.number number) _ _ is_not) j) e)
+      (λ is.
+      let n = joined_next (subst (λ ps. Joined Gives ps xs) (if_true (nat_eq field.number number) _ _ is) j) in
+      let u = bind_some (add s n.0) (λ v. add v n.1) t (sym (joins s n.0 n.1) ∙ (ap (add s) (sym n.4) ∙ e)) in
+      bind_at (column add values number s field) _ u.0
+      (if_true (nat_eq field.number number) _ _ is ∙ (bind_at (values field.payload) (add s) n.0 (read field.payload n.0 n.2) ∙ u.1))
+      ∙ column_read fields n.1 u.0 t n.3 u.2)
+      (λ is_not.
+      bind_at (column add values number s field) _ s (if_false (nat_eq field.number number) _ _ is_not)
+      ∙ column_read fields xs s t (subst (λ ps. Joined Gives ps xs) (if_false (nat_eq field.number number) _ _ is_not) j) e)
 
 -- ---- the three ways to add values
 
@@ -129,9 +130,8 @@ number_in_read (Fixed64 bytes) xs (GivesNumber.other_type h) = refl
 number_in_read (Fixed32 bytes) xs (GivesNumber.other_type h) = refl
 
 module _ {A : Type 0} (read : List ℕ → Option A) (IsMessage : List ℕ → A → Type 0) where
-
   message_in_found : ((bytes : List ℕ) (x : A) → read bytes ≡ Some x → IsMessage bytes x)
-    → (payload : Payload) (xs : List A) → message_in read payload ≡ Some xs → GivesMessage IsMessage payload xs
+      → (payload : Payload) (xs : List A) → message_in read payload ≡ Some xs → GivesMessage IsMessage payload xs
   message_in_found found (Delimited bytes) xs e =
       let x = bind_some (read bytes) _ xs e in
       subst (GivesMessage IsMessage (Delimited bytes)) (same_some (x.0 ∷ []) xs x.2) (message (found bytes x.0 x.1))
@@ -140,7 +140,7 @@ module _ {A : Type 0} (read : List ℕ → Option A) (IsMessage : List ℕ → A
   message_in_found found (Fixed32 bytes) xs e = subst (GivesMessage IsMessage (Fixed32 bytes)) (same_some [] xs e) (GivesMessage.other_type refl)
 
   message_in_read : ((bytes : List ℕ) (x : A) → IsMessage bytes x → read bytes ≡ Some x)
-    → (payload : Payload) (xs : List A) → GivesMessage IsMessage payload xs → message_in read payload ≡ Some xs
+      → (payload : Payload) (xs : List A) → GivesMessage IsMessage payload xs → message_in read payload ≡ Some xs
   message_in_read back (Delimited bytes) xs (message {value = x} h) = bind_at (read bytes) _ x (back bytes x h)
   message_in_read back (Delimited bytes) xs (GivesMessage.other_type h) = absurd (cc)
   message_in_read back (Varint value) xs (GivesMessage.other_type h) = refl
@@ -180,7 +180,6 @@ number_read number fields z h =
 module _ {A : Type 0} (values : Payload → Option (List A)) (Gives : Payload → List A → Type 0)
     (found : (payload : Payload) (xs : List A) → values payload ≡ Some xs → Gives payload xs)
     (read : (payload : Payload) (xs : List A) → Gives payload xs → values payload ≡ Some xs) (number : ℕ) where
-
   pub repeated_found : (fields : List Field) (xs : List A) → changed (column add_more values number) fields [] ≡ Some xs → Joined Gives (payloads number fields) xs
   repeated_found fields xs e =
       let c = column_found add_more values Gives more_nothing more_joins found read number fields [] xs e in
@@ -192,7 +191,6 @@ module _ {A : Type 0} (values : Payload → Option (List A)) (Gives : Payload �
 module _ {A : Type 0} (read : List ℕ → Option A) (IsMessage : List ℕ → A → Type 0)
     (found : (bytes : List ℕ) (x : A) → read bytes ≡ Some x → IsMessage bytes x)
     (back : (bytes : List ℕ) (x : A) → IsMessage bytes x → read bytes ≡ Some x) (number : ℕ) (fields : List Field) where
-
   pub messages_found : (xs : List A) → changed (messages_column read number) fields [] ≡ Some xs → Messages IsMessage number fields xs
   messages_found xs e =
       repeated_found (message_in read) (GivesMessage IsMessage) (message_in_found read IsMessage found) (message_in_read read IsMessage back) number fields xs e
@@ -210,3 +208,21 @@ module _ {A : Type 0} (read : List ℕ → Option A) (IsMessage : List ℕ → A
   one_message_read o h =
       let v = only_read h in
       column_read add_only (message_in read) (GivesMessage IsMessage) only_nothing only_joins (message_in_found read IsMessage found) (message_in_read read IsMessage back) number fields v.0 None o v.1 v.2
+
+-- a second one is refused, whatever it holds
+pub only_taken : {A : Type 0} (read : List ℕ → Option A) (earlier : Option A) (bytes : List ℕ) → is_some earlier ≡ true
+    → (message_in read (Delimited bytes) >>= add_only earlier) ≡ None
+only_taken read None bytes h = absurd (cc)
+only_taken {A = A} read (Some y) bytes h = taken (read bytes) where
+  taken : (x : Option A) → ((x >>= λ v. Some (v ∷ [])) >>= add_only (Some y)) ≡ None
+  taken None = refl
+  taken (Some v) = refl
+
+-- the first one is what is read
+pub only_first : {A : Type 0} (read : List ℕ → Option A) (earlier : Option A) (bytes : List ℕ) → is_some earlier ≡ false
+    → (message_in read (Delimited bytes) >>= add_only earlier) ≡ (read bytes >>= λ v. Some (Some v))
+only_first read (Some y) bytes h = absurd (cc)
+only_first {A = A} read None bytes h = first (read bytes) where
+  first : (x : Option A) → ((x >>= λ v. Some (v ∷ [])) >>= add_only None) ≡ (x >>= λ v. Some (Some v))
+  first None = refl
+  first (Some v) = refl

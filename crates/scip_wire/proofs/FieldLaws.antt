@@ -1,12 +1,12 @@
 -- The reader of fields finds those that the bytes hold, and no others.
-use Rattle.std.proofs.Common.{◌≡◌, refl, ap, sym, ◌∙◌, subst, ℕ, zero, suc, ◌+◌, ◌-◌, ◌*◌, ◌/◌, ◌%◌, ◌^◌, ◌<◌, ◌≤◌, Bool, true, false, cond, List, [], ◌∷◌, ◌++◌, length, take, drop, Option, Some, None, arith, length-append, length-drop}
+use Rattle.std.proofs.Common.{◌≡◌, refl, ap, sym, subst, ℕ, zero, suc, ◌+◌, ◌*◌, ◌/◌, ◌%◌, ◌^◌, ◌<◌, ◌≤◌, List, [], ◌∷◌, ◌++◌, length, Some, arith, length-append}
 use Rattle.std.specs.Prelude.{nat_eq, nat_lt, nat_le}
-use Rattle.std.proofs.lemmas.Bool.{lt-ltb, ltb-true, le-ltb, ltb-false, eq-eqb, eqb-true, eqb-false, le-leb, leb-true}
+use Rattle.std.proofs.lemmas.Bool.{lt-ltb, ltb-true, le-ltb, ltb-false, eqb-true, le-leb, leb-true}
 use Rattle.std.proofs.lemmas.List.{take-append-drop, length-take}
 use Rattle.std.proofs.Math.Seq.{take-append_seam, drop-append_seam}
-use Rattle.scip_wire.specs.Fields.{Payload, Varint, Fixed64, Delimited, Fixed32, Field, IsVarint, last, more, IsPayload, varint, fixed64, delimited, fixed32, IsField, field, HasFields}
-use Rattle.scip_wire.specs.Reading.{◌>>=◌, varint_at, piece_at, payload_at, field_at}
-use Rattle.scip_wire.proofs.Options.{same_some, bind_some, chosen, guard_some, guard_none, if_true, if_false}
+use Rattle.scip_wire.specs.Fields.{Payload, Varint, Fixed64, Delimited, Fixed32, Field, IsVarint, last, more, IsPayload, varint, fixed64, delimited, fixed32, IsField, field}
+use Rattle.scip_wire.specs.Reading.{varint_at, piece_at, payload_at, field_at}
+use Rattle.scip_wire.proofs.Options.{same_some, bind_some, chosen, guard_some, guard_none}
 
 -- ---- varints
 
@@ -17,11 +17,11 @@ varint_found (suc room) [] x e = absurd (cc)
 varint_found (suc room) (byte ∷ bytes) x e =
     let P : ℕ × List ℕ → Type 0 = λ y. IsVarint (suc room) (byte ∷ bytes) y.0 y.1 in
     chosen (nat_lt byte 128) _ _ _ e
-      (λ small same. subst P (same_some _ x same) (last (ltb-true byte 128 small)))
-      (λ large rest.
-        let h = bind_some (varint_at room bytes) _ x rest in
-        let g = guard_some (nat_lt h.0.0 (2 ^ 57)) _ x h.2 in
-        subst P (same_some _ x g.1) (more (ltb-false byte 128 large) (ltb-true h.0.0 (2 ^ 57) g.0) (varint_found room bytes h.0 h.1)))
+    (λ small same. subst P (same_some _ x same) (last (ltb-true byte 128 small)))
+    (λ large rest.
+    let h = bind_some (varint_at room bytes) _ x rest in
+    let g = guard_some (nat_lt h.0.0 (2 ^ 57)) _ x h.2 in
+    subst P (same_some _ x g.1) (more (ltb-false byte 128 large) (ltb-true h.0.0 (2 ^ 57) g.0) (varint_found room bytes h.0 h.1)))
 
 pub varint_read : {room value : ℕ} {bytes rest : List ℕ} → IsVarint room bytes value rest → varint_at room bytes ≡ Some (value, rest)
 unfolding varint_at
@@ -54,28 +54,28 @@ unfolding payload_at
 payload_found type bytes x e =
     let P : Payload × List ℕ → Type 0 = λ y. IsPayload type bytes y.0 y.1 in
     chosen (nat_eq type 0) _ _ _ e
-      (λ is rest.
-        let v = bind_some (varint_at 10 bytes) _ x rest in
-        subst P (same_some _ x v.2) (subst (λ t. IsPayload t bytes (Varint v.0.0) v.0.1) (sym (eqb-true type 0 is)) (varint (varint_found 10 bytes v.0 v.1))))
-      (λ _ e1. chosen (nat_eq type 1) _ _ _ e1
-        (λ is rest.
-          let p = bind_some (piece_at 8 bytes) _ x rest in
-          let h = piece_found 8 bytes p.0 p.1 in
-          subst P (same_some _ x p.2) (subst (λ t. IsPayload t bytes (Fixed64 p.0.0) p.0.1) (sym (eqb-true type 1 is)) (fixed64 h.0 h.1)))
-        (λ _ e2. chosen (nat_eq type 2) _ _ _ e2
-          (λ is rest.
-            let v = bind_some (varint_at 10 bytes) _ x rest in
-            let p = bind_some (piece_at v.0.0 v.0.1) _ x v.2 in
-            let h = piece_found v.0.0 v.0.1 p.0 p.1 in
-            let size = varint_found 10 bytes v.0 v.1 in
-            let size_of_inside = subst (λ n. IsVarint 10 bytes n v.0.1) (sym h.1) size in
-            subst P (same_some _ x p.2) (subst (λ t. IsPayload t bytes (Delimited p.0.0) p.0.1) (sym (eqb-true type 2 is))
-              (delimited (subst (λ l. IsVarint 10 bytes (length p.0.0) l) h.0 size_of_inside))))
-          (λ _ e3.
-            let g = guard_some (nat_eq type 5) _ x e3 in
-            let p = bind_some (piece_at 4 bytes) _ x g.1 in
-            let h = piece_found 4 bytes p.0 p.1 in
-            subst P (same_some _ x p.2) (subst (λ t. IsPayload t bytes (Fixed32 p.0.0) p.0.1) (sym (eqb-true type 5 g.0)) (fixed32 h.0 h.1)))))
+    (λ is rest.
+    let v = bind_some (varint_at 10 bytes) _ x rest in
+    subst P (same_some _ x v.2) (subst (λ t. IsPayload t bytes (Varint v.0.0) v.0.1) (sym (eqb-true type 0 is)) (varint (varint_found 10 bytes v.0 v.1))))
+    (λ _ e1. chosen (nat_eq type 1) _ _ _ e1
+    (λ is rest.
+    let p = bind_some (piece_at 8 bytes) _ x rest in
+    let h = piece_found 8 bytes p.0 p.1 in
+    subst P (same_some _ x p.2) (subst (λ t. IsPayload t bytes (Fixed64 p.0.0) p.0.1) (sym (eqb-true type 1 is)) (fixed64 h.0 h.1)))
+    (λ _ e2. chosen (nat_eq type 2) _ _ _ e2
+    (λ is rest.
+    let v = bind_some (varint_at 10 bytes) _ x rest in
+    let p = bind_some (piece_at v.0.0 v.0.1) _ x v.2 in
+    let h = piece_found v.0.0 v.0.1 p.0 p.1 in
+    let size = varint_found 10 bytes v.0 v.1 in
+    let size_of_inside = subst (λ n. IsVarint 10 bytes n v.0.1) (sym h.1) size in
+    subst P (same_some _ x p.2) (subst (λ t. IsPayload t bytes (Delimited p.0.0) p.0.1) (sym (eqb-true type 2 is))
+    (delimited (subst (λ l. IsVarint 10 bytes (length p.0.0) l) h.0 size_of_inside))))
+    (λ _ e3.
+    let g = guard_some (nat_eq type 5) _ x e3 in
+    let p = bind_some (piece_at 4 bytes) _ x g.1 in
+    let h = piece_found 4 bytes p.0 p.1 in
+    subst P (same_some _ x p.2) (subst (λ t. IsPayload t bytes (Fixed32 p.0.0) p.0.1) (sym (eqb-true type 5 g.0)) (fixed32 h.0 h.1)))))
 
 pub payload_read : {type : ℕ} {bytes rest : List ℕ} {payload : Payload} → IsPayload type bytes payload rest → payload_at type bytes ≡ Some (payload, rest)
 unfolding payload_at

@@ -1,6 +1,6 @@
 -- What the reader computes of each message is what its bytes decode to, and nothing else is.
-use Rattle.std.proofs.Common.{◌≡◌, refl, ap, sym, ◌∙◌, subst, ℕ, zero, suc, ℤ, pos, ◌+◌, ◌<◌, ◌≤◌, Bool, true, false, cond, List, [], ◌∷◌, ◌++◌, length, Option, Some, None, arith}
-use Rattle.std.specs.Prelude.{nat_le, ◌&&◌}
+use Rattle.std.proofs.Common.{◌≡◌, refl, ap, sym, ◌∙◌, subst, ℕ, zero, suc, ℤ, ◌<◌, List, [], ◌∷◌, ◌++◌, length, Option, Some, None, arith}
+use Rattle.std.specs.Prelude.{SomeIff}
 use Rattle.std.proofs.lemmas.Bool.{le-leb, leb-true}
 use Rattle.std.proofs.lemmas.List.{append-nil, append_assoc}
 use Rattle.scip_model.specs.Range.{RangeNumbers, IsRange}
@@ -10,10 +10,11 @@ use Rattle.scip_model.specs.declared.records.ToolInfo.{ToolInfo}
 use Rattle.scip_model.specs.declared.records.Document.{Document}
 use Rattle.scip_model.specs.declared.records.Occurrence.{Occurrence}
 use Rattle.scip_model.specs.declared.records.Info.{Info}
-use Rattle.scip_wire.specs.Fields.{Payload, Varint, Fixed64, Delimited, Fixed32, Field}
+use Rattle.scip_wire.specs.declared.read.occurrence.OccurrenceParts.{OccurrenceParts}
+use Rattle.scip_wire.specs.Fields.{Payload, Varint, Fixed64, Delimited, Fixed32}
 use Rattle.scip_wire.specs.Decodes.{low_32_bits, ArePacked, GivesNumbers, one, packed, AreRangeNumbers, on_one_line, over_lines, HoldsOccurrence, GivesOccurrence, occurrence, without_range, IsInfo, IsToolInfo, IsMetadata, IsDocument, Decodes}
-use Rattle.scip_wire.specs.Reading.{◌>>=◌, changed, both, parted, fold_in, fold_at, field_at, varint_at, column, add_more, text_column, texts_column, number_column, only_column, messages_column, info_step, no_info, info_at, tool_info_step, no_tool_info, tool_info_at, metadata_step, no_metadata, metadata_at, packed_step, packed_at, numbers_in, fits, checked_range, range_at, OccurrenceParts, occurrence_step, no_parts, parts_at, occurrence_of, occurrence_at, occurrence_in, document_step, no_document, document_at, index_step, no_index, index_at}
-use Rattle.scip_wire.proofs.Options.{same_some, bind_some, bind_at, guard_some, if_true}
+use Rattle.scip_wire.specs.Reading.{◌>>=◌, fold_in, fold_at, varint_at, add_more, info_step, no_info, info_at, tool_info_step, no_tool_info, tool_info_at, metadata_step, no_metadata, metadata_at, packed_step, packed_at, numbers_in, fits, checked_range, range_at, occurrence_step, no_parts, parts_at, occurrence_of, occurrence_at, occurrence_in, document_step, no_document, document_at, index_step, no_index, index_at}
+use Rattle.scip_wire.proofs.Options.{same_some, bind_some, bind_at, guard_some, if_true, if_false, split, bind_same, bind_assoc}
 use Rattle.scip_wire.proofs.FieldLaws.{varint_found, varint_read, varint_falls}
 use Rattle.scip_wire.proofs.Folds.{fold_done, fold_goes_on, fields_found, fields_read, both_found, both_read, parted_found, parted_read}
 use Rattle.scip_wire.proofs.Columns.{text_found, text_read, texts_found, texts_read, number_found, number_read, repeated_found, repeated_read, messages_found, messages_read, one_message_found, one_message_read}
@@ -32,8 +33,8 @@ pub info_read : (bytes : List ℕ) (i : Info) → IsInfo bytes i → info_at byt
 unfolding info_at info_step
 info_read bytes i d =
     fields_read info_step d.has_fields no_info i (parted_read _ _ _ (λ t. refl) (λ s. refl) d.fields no_info i
-      (both_read _ _ d.fields _ _ _ _ (text_read 1 d.fields i.symbol d.symbol)
-        (both_read _ _ d.fields _ _ _ _ (texts_read 3 d.fields i.documentation d.documentation) (text_read 6 d.fields i.display_name d.display_name))))
+    (both_read _ _ d.fields _ _ _ _ (text_read 1 d.fields i.symbol d.symbol)
+    (both_read _ _ d.fields _ _ _ _ (texts_read 3 d.fields i.documentation d.documentation) (text_read 6 d.fields i.display_name d.display_name))))
 
 -- ---- tool information
 
@@ -49,8 +50,8 @@ pub tool_info_read : (bytes : List ℕ) (t : ToolInfo) → IsToolInfo bytes t �
 unfolding tool_info_at tool_info_step
 tool_info_read bytes t d =
     fields_read tool_info_step d.has_fields no_tool_info t (parted_read _ _ _ (λ t. refl) (λ s. refl) d.fields no_tool_info t
-      (both_read _ _ d.fields _ _ _ _ (text_read 1 d.fields t.name d.name)
-        (both_read _ _ d.fields _ _ _ _ (text_read 2 d.fields t.version d.version) (texts_read 3 d.fields t.arguments d.arguments))))
+    (both_read _ _ d.fields _ _ _ _ (text_read 1 d.fields t.name d.name)
+    (both_read _ _ d.fields _ _ _ _ (text_read 2 d.fields t.version d.version) (texts_read 3 d.fields t.arguments d.arguments))))
 
 -- ---- metadata
 
@@ -62,18 +63,21 @@ metadata_found bytes m e =
     let b = both_found _ _ f.0 _ _ a.1 in
     let c = both_found _ _ f.0 _ _ b.1 in
     record {
-      fields = f.0; has_fields = f.1; version = number_found 1 f.0 m.version a.0;
+      fields = f.0;
+      has_fields = f.1;
+      version = number_found 1 f.0 m.version a.0;
       tool_info = one_message_found tool_info_at IsToolInfo tool_info_found tool_info_read 2 f.0 m.tool_info b.0;
-      project_root = text_found 3 f.0 m.project_root c.0; text_document_encoding = number_found 4 f.0 m.text_document_encoding c.1
+      project_root = text_found 3 f.0 m.project_root c.0;
+      text_document_encoding = number_found 4 f.0 m.text_document_encoding c.1;
     }
 
 pub metadata_read : (bytes : List ℕ) (m : Metadata) → IsMetadata bytes m → metadata_at bytes ≡ Some m
 unfolding metadata_at metadata_step
 metadata_read bytes m d =
     fields_read metadata_step d.has_fields no_metadata m (parted_read _ _ _ (λ t. refl) (λ s. refl) d.fields no_metadata m
-      (both_read _ _ d.fields _ _ _ _ (number_read 1 d.fields m.version d.version)
-        (both_read _ _ d.fields _ _ _ _ (one_message_read tool_info_at IsToolInfo tool_info_found tool_info_read 2 d.fields m.tool_info d.tool_info)
-          (both_read _ _ d.fields _ _ _ _ (text_read 3 d.fields m.project_root d.project_root) (number_read 4 d.fields m.text_document_encoding d.text_document_encoding)))))
+    (both_read _ _ d.fields _ _ _ _ (number_read 1 d.fields m.version d.version)
+    (both_read _ _ d.fields _ _ _ _ (one_message_read tool_info_at IsToolInfo tool_info_found tool_info_read 2 d.fields m.tool_info d.tool_info)
+    (both_read _ _ d.fields _ _ _ _ (text_read 3 d.fields m.project_root d.project_root) (number_read 4 d.fields m.text_document_encoding d.text_document_encoding)))))
 
 -- ---- the numbers of a range
 
@@ -96,7 +100,7 @@ packed_read_on ArePacked.none s = fold_done (varint_at 10) packed_step s ∙ ap 
 packed_read_on (ArePacked.next {bytes = []} v vs) s = absurd (omega (arith, varint_falls v))
 packed_read_on (ArePacked.next {bytes = byte ∷ bytes} {rest = rest} {value = value} {numbers = ns} v vs) s =
     sym (fold_goes_on (varint_at 10) packed_step varint_shortens byte bytes s (s ++ low_32_bits value ∷ []) (value, rest) (varint_read v) refl)
-      ∙ (packed_read_on vs (s ++ low_32_bits value ∷ []) ∙ ap Some (append_assoc s (low_32_bits value ∷ []) ns))
+    ∙ (packed_read_on vs (s ++ low_32_bits value ∷ []) ∙ ap Some (append_assoc s (low_32_bits value ∷ []) ns))
 
 packed_found : (bytes ns : List ℕ) → packed_at bytes ≡ Some ns → ArePacked bytes ns
 unfolding packed_at fold_at
@@ -160,21 +164,24 @@ parts_found bytes o e =
     let a = both_found _ _ f.0 _ _ (parted_found _ _ _ (λ t. refl) f.0 no_parts o f.2) in
     let b = both_found _ _ f.0 _ _ a.1 in
     record {
-      fields = f.0; has_fields = f.1; range = repeated_found numbers_in GivesNumbers numbers_in_found numbers_in_read 1 f.0 o.numbers a.0;
-      symbol_text = text_found 2 f.0 o.symbol b.0; symbol_roles = number_found 3 f.0 o.symbol_roles b.1
+      fields = f.0;
+      has_fields = f.1;
+      range = repeated_found numbers_in GivesNumbers numbers_in_found numbers_in_read 1 f.0 o.numbers a.0;
+      symbol_text = text_found 2 f.0 o.symbol b.0;
+      symbol_roles = number_found 3 f.0 o.symbol_roles b.1;
     }
 
 parts_read : (bytes ns symbol : List ℕ) (roles : ℤ) → HoldsOccurrence bytes ns symbol roles
-  → parts_at bytes ≡ Some (record { numbers = ns; symbol = symbol; symbol_roles = roles })
+    → parts_at bytes ≡ Some (record { numbers = ns; symbol = symbol; symbol_roles = roles })
 unfolding parts_at occurrence_step
 parts_read bytes ns symbol roles d =
     let o : OccurrenceParts = record { numbers = ns; symbol = symbol; symbol_roles = roles } in
     fields_read occurrence_step d.has_fields no_parts o (parted_read _ _ _ (λ t. refl) (λ s. refl) d.fields no_parts o
-      (both_read _ _ d.fields _ _ _ _ (repeated_read numbers_in GivesNumbers numbers_in_found numbers_in_read 1 d.fields ns d.range)
-        (both_read _ _ d.fields _ _ _ _ (text_read 2 d.fields symbol d.symbol_text) (number_read 3 d.fields roles d.symbol_roles))))
+    (both_read _ _ d.fields _ _ _ _ (repeated_read numbers_in GivesNumbers numbers_in_found numbers_in_read 1 d.fields ns d.range)
+    (both_read _ _ d.fields _ _ _ _ (text_read 2 d.fields symbol d.symbol_text) (number_read 3 d.fields roles d.symbol_roles))))
 
 occurrence_found_of : (bytes ns symbol : List ℕ) (roles : ℤ) (os : List Occurrence) → HoldsOccurrence bytes ns symbol roles
-  → occurrence_of (record { numbers = ns; symbol = symbol; symbol_roles = roles }) ≡ Some os → GivesOccurrence (Delimited bytes) os
+    → occurrence_of (record { numbers = ns; symbol = symbol; symbol_roles = roles }) ≡ Some os → GivesOccurrence (Delimited bytes) os
 unfolding occurrence_of
 occurrence_found_of bytes [] symbol roles os h e = subst (GivesOccurrence (Delimited bytes)) (same_some [] os e) (without_range h)
 occurrence_found_of bytes (n ∷ ns) symbol roles os h e =
@@ -192,7 +199,7 @@ occurrence_in_found (Fixed64 bytes) os e = subst (GivesOccurrence (Fixed64 bytes
 occurrence_in_found (Fixed32 bytes) os e = subst (GivesOccurrence (Fixed32 bytes)) (same_some [] os e) (GivesOccurrence.other_type refl)
 
 occurrence_read_of : {ns : List ℕ} {range : RangeNumbers} (symbol : List ℕ) (roles : ℤ) → AreRangeNumbers ns range → IsRange range
-  → occurrence_of (record { numbers = ns; symbol = symbol; symbol_roles = roles }) ≡ Some (record { range = range; symbol = symbol; symbol_roles = roles } ∷ [])
+    → occurrence_of (record { numbers = ns; symbol = symbol; symbol_roles = roles }) ≡ Some (record { range = range; symbol = symbol; symbol_roles = roles } ∷ [])
 unfolding occurrence_of
 occurrence_read_of symbol roles on_one_line h = bind_at _ _ _ (range_read on_one_line h)
 occurrence_read_of symbol roles over_lines h = bind_at _ _ _ (range_read over_lines h)
@@ -218,20 +225,23 @@ document_found bytes d e =
     let c = both_found _ _ f.0 _ _ b.1 in
     let g = both_found _ _ f.0 _ _ c.1 in
     record {
-      fields = f.0; has_fields = f.1; relative_path = text_found 1 f.0 d.relative_path a.0;
+      fields = f.0;
+      has_fields = f.1;
+      relative_path = text_found 1 f.0 d.relative_path a.0;
       occurrences = repeated_found occurrence_in GivesOccurrence occurrence_in_found occurrence_in_read 2 f.0 d.occurrences b.0;
       symbols = messages_found info_at IsInfo info_found info_read 3 f.0 d.symbols c.0;
-      language = text_found 4 f.0 d.language g.0; position_encoding = number_found 6 f.0 d.position_encoding g.1
+      language = text_found 4 f.0 d.language g.0;
+      position_encoding = number_found 6 f.0 d.position_encoding g.1;
     }
 
 pub document_read : (bytes : List ℕ) (d : Document) → IsDocument bytes d → document_at bytes ≡ Some d
 unfolding document_at document_step
 document_read bytes d h =
     fields_read document_step h.has_fields no_document d (parted_read _ _ _ (λ t. refl) (λ s. refl) h.fields no_document d
-      (both_read _ _ h.fields _ _ _ _ (text_read 1 h.fields d.relative_path h.relative_path)
-        (both_read _ _ h.fields _ _ _ _ (repeated_read occurrence_in GivesOccurrence occurrence_in_found occurrence_in_read 2 h.fields d.occurrences h.occurrences)
-          (both_read _ _ h.fields _ _ _ _ (messages_read info_at IsInfo info_found info_read 3 h.fields d.symbols h.symbols)
-            (both_read _ _ h.fields _ _ _ _ (text_read 4 h.fields d.language h.language) (number_read 6 h.fields d.position_encoding h.position_encoding))))))
+    (both_read _ _ h.fields _ _ _ _ (text_read 1 h.fields d.relative_path h.relative_path)
+    (both_read _ _ h.fields _ _ _ _ (repeated_read occurrence_in GivesOccurrence occurrence_in_found occurrence_in_read 2 h.fields d.occurrences h.occurrences)
+    (both_read _ _ h.fields _ _ _ _ (messages_read info_at IsInfo info_found info_read 3 h.fields d.symbols h.symbols)
+    (both_read _ _ h.fields _ _ _ _ (text_read 4 h.fields d.language h.language) (number_read 6 h.fields d.position_encoding h.position_encoding))))))
 
 -- ---- the index
 
@@ -242,19 +252,44 @@ index_found bytes i e =
     let a = both_found _ _ f.0 _ _ (parted_found _ _ _ (λ t. refl) f.0 no_index i f.2) in
     let b = both_found _ _ f.0 _ _ a.1 in
     record {
-      fields = f.0; has_fields = f.1; metadata = one_message_found metadata_at IsMetadata metadata_found metadata_read 1 f.0 i.metadata a.0;
+      fields = f.0;
+      has_fields = f.1;
+      metadata = one_message_found metadata_at IsMetadata metadata_found metadata_read 1 f.0 i.metadata a.0;
       documents = messages_found document_at IsDocument document_found document_read 2 f.0 i.documents b.0;
-      external_symbols = messages_found info_at IsInfo info_found info_read 3 f.0 i.external_symbols b.1
+      external_symbols = messages_found info_at IsInfo info_found info_read 3 f.0 i.external_symbols b.1;
     }
 
 pub index_read : {bytes : List ℕ} {i : Index} → Decodes bytes i → index_at bytes ≡ Some i
 unfolding index_at index_step
 index_read {bytes} {i} d =
     fields_read index_step d.has_fields no_index i (parted_read _ _ _ (λ t. refl) (λ s. refl) d.fields no_index i
-      (both_read _ _ d.fields _ _ _ _ (one_message_read metadata_at IsMetadata metadata_found metadata_read 1 d.fields i.metadata d.metadata)
-        (both_read _ _ d.fields _ _ _ _ (messages_read document_at IsDocument document_found document_read 2 d.fields i.documents d.documents)
-          (messages_read info_at IsInfo info_found info_read 3 d.fields i.external_symbols d.external_symbols))))
+    (both_read _ _ d.fields _ _ _ _ (one_message_read metadata_at IsMetadata metadata_found metadata_read 1 d.fields i.metadata d.metadata)
+    (both_read _ _ d.fields _ _ _ _ (messages_read document_at IsDocument document_found document_read 2 d.fields i.documents d.documents)
+    (messages_read info_at IsInfo info_found info_read 3 d.fields i.external_symbols d.external_symbols))))
 
 -- bytes decode to at most one index
 pub same_index : {bytes : List ℕ} {i j : Index} → Decodes bytes i → Decodes bytes j → i ≡ j
 same_index {i = i} {j = j} d e = same_some i j (sym (index_read d) ∙ index_read e)
+
+-- a range that is made exactly where its numbers fit
+pub checked_of : (o : Option RangeNumbers) (r : RangeNumbers) → SomeIff o (IsRange r) r → o ≡ checked_range r
+unfolding checked_range
+checked_of None r h = split (fits r) (λ t. absurd (h (checked_found r r (if_true (fits r) _ _ t)).1)) (λ f. sym (if_false (fits r) _ _ f))
+checked_of (Some x) r h = ap Some h.1 ∙ sym (checked_read r h.0)
+
+-- packed numbers that are added to others
+packed_in_after : (room : ℕ) (bytes s t : List ℕ) → fold_in (varint_at 10) packed_step room bytes (s ++ t) ≡ (fold_in (varint_at 10) packed_step room bytes t >>= add_more s)
+unfolding fold_in packed_step
+packed_in_after zero [] s t = refl
+packed_in_after zero (byte ∷ bytes) s t = refl
+packed_in_after (suc room) [] s t = refl
+packed_in_after (suc room) (byte ∷ bytes) s t =
+    bind_same (varint_at 10 (byte ∷ bytes)) _ _ (λ x _.
+    ap (fold_in (varint_at 10) packed_step room x.1) (append_assoc s t (low_32_bits x.0 ∷ []))
+    ∙ packed_in_after room x.1 s (t ++ low_32_bits x.0 ∷ []))
+    ∙ sym (bind_assoc (varint_at 10 (byte ∷ bytes)) _ (add_more s))
+
+pub fold_of_packed : (bytes numbers : List ℕ) → fold_at (varint_at 10) packed_step bytes numbers ≡ (packed_at bytes >>= add_more numbers)
+unfolding packed_at fold_at
+fold_of_packed bytes numbers =
+    ap (fold_in (varint_at 10) packed_step (length bytes) bytes) (sym (append-nil numbers)) ∙ packed_in_after (length bytes) bytes numbers []

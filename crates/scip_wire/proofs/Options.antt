@@ -1,5 +1,5 @@
 -- What an option or a test that came out so says of its parts.
-use Rattle.std.proofs.Common.{◌≡◌, refl, ap, sym, ◌∙◌, Bool, true, false, cond, Option, Some, None}
+use Rattle.std.proofs.Common.{◌≡◌, refl, ap, Bool, true, false, cond, Option, Some, None}
 use Rattle.scip_wire.specs.Reading.{◌>>=◌}
 
 pub same_some : {A : Type 0} (x y : A) → Some x ≡ Some y → x ≡ y
@@ -43,3 +43,7 @@ bind_same (Some x) f g h = h x refl
 pub split : {P : Type 0} (b : Bool) → (b ≡ true → P) → (b ≡ false → P) → P
 split true on_true on_false = on_true refl
 split false on_true on_false = on_false refl
+
+pub bind_assoc : {A B C : Type 0} (o : Option A) (f : A → Option B) (g : B → Option C) → ((o >>= f) >>= g) ≡ (o >>= λ x. f x >>= g)
+bind_assoc None f g = refl
+bind_assoc (Some x) f g = refl

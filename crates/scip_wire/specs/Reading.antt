@@ -9,6 +9,7 @@ use Rattle.scip_model.specs.declared.records.ToolInfo.{ToolInfo}
 use Rattle.scip_model.specs.declared.records.Document.{Document}
 use Rattle.scip_model.specs.declared.records.Occurrence.{Occurrence}
 use Rattle.scip_model.specs.declared.records.Info.{Info}
+use Rattle.scip_wire.specs.declared.read.occurrence.OccurrenceParts.{OccurrenceParts}
 use Rattle.scip_wire.specs.Fields.{Payload, Varint, Fixed64, Delimited, Fixed32, Field}
 use Rattle.scip_wire.specs.Decodes.{last_or, low_32_bits}
 
@@ -117,6 +118,10 @@ number_column = column add_last number_in
 abbrev pub only_column : {A : Type 0} → (List ℕ → Option A) → ℕ → Option A → Field → Option (Option A)
 only_column read = column add_only (message_in read)
 
+-- a message that comes at most once, after what came before
+abbrev pub only_after : {A : Type 0} → (List ℕ → Option A) → Option A → List ℕ → Option (Option A)
+only_after read earlier bytes = message_in read (Delimited bytes) >>= add_only earlier
+
 abbrev pub messages_column : {A : Type 0} → (List ℕ → Option A) → ℕ → List A → Field → Option (List A)
 messages_column read = column add_more (message_in read)
 
@@ -181,10 +186,6 @@ range_at (a ∷ b ∷ c ∷ d ∷ []) = checked_range (record { start_line = a; 
 range_at _ = None
 
 -- an occurrence's parts, before its range is made of its numbers
-pub record OccurrenceParts : Type 0 where
-  pub numbers : List ℕ
-  pub symbol : List ℕ
-  pub symbol_roles : ℤ
 
 unfoldable pub occurrence_step : OccurrenceParts → Field → Option OccurrenceParts
 occurrence_step = parted (λ o. (o.numbers, (o.symbol, o.symbol_roles)))
@@ -206,6 +207,9 @@ occurrence_of parts = made parts.numbers parts.symbol parts.symbol_roles where
 
 unfoldable pub occurrence_at : List ℕ → Option (List Occurrence)
 occurrence_at bytes = parts_at bytes >>= occurrence_of
+
+abbrev pub occurrence_after : List Occurrence → List ℕ → Option (List Occurrence)
+occurrence_after occurrences bytes = occurrence_at bytes >>= add_more occurrences
 
 abbrev pub occurrence_in : Payload → Option (List Occurrence)
 occurrence_in (Delimited bytes) = occurrence_at bytes

@@ -1,7 +1,49 @@
 //! Reading an index from bytes.
 
-mod cause;
-mod field;
-mod message;
+ghost use Rattle.std.specs.Prelude.{◌≡◌, IfOk, MatchResult};
+ghost use Rattle.scip_model.specs.declared.records.Index.{Index};
+ghost use Rattle.scip_wire.specs.Decodes.{Decodes};
+ghost use Rattle.scip_wire.specs.Gives.{Gives};
+ghost use Rattle.scip_wire.specs.Reading.{index_at};
 
+mod cause;
+mod document;
+mod field;
+mod index;
+mod info;
+mod message;
+mod metadata;
+mod occurrence;
+mod range;
+mod text;
+mod tool_info;
 mod varint;
+
+use crate::read::message::read_message;
+use crate::wire_fault::WireFault;
+use scip_model::Index;
+use std::alloc::Global;
+
+/// The index that bytes decode to (Protocol Buffers encoding, with the field numbers of
+/// `scip.proto`).
+///
+/// Fields come in any order, unknown ones are skipped, and varints may be longer than needed. The
+/// last of a singular number or text wins. Absent numbers are 0 and absent texts empty. An
+/// occurrence without range numbers is left out. Symbols aren't checked against the grammar of
+/// symbols. The time is linear in the bytes, and nothing is sized by a length that the bytes only
+/// claim.
+///
+/// Each `WireFault` but `Memory` comes only where the bytes decode to no index.
+pub fn read_index(alloc: Global, bytes: &[u8]) -> Result<Index, WireFault>
+    ensures found { IfOk result (λ index. Decodes bytes.now index) }
+    ensures only { (index : Index) → Decodes bytes.now index → MatchResult result (λ i. i ≡ index) (λ e. e ≡ WireFault.Memory) }
+{
+    read_whole(alloc, bytes)
+}
+
+#[tactic(auto, unfolding(crate::specs::Reading::index_at))]
+fn read_whole(alloc: Global, bytes: &[u8]) -> Result<Index, WireFault>
+    ensures { Gives (λ i. i) result (index_at bytes.now) }
+{
+    read_message(alloc, bytes, bytes.len())
+}

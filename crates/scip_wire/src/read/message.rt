@@ -2,12 +2,11 @@
 
 ghost use Rattle.std.specs.Prelude.{◌≡◌, ◌≤◌, length};
 ghost use Rattle.scip_wire.specs.Gives.{Gives};
-ghost use Rattle.scip_wire.specs.Reading.{fold_at, field_at};
-
-use std::alloc::Global;
+ghost use Rattle.scip_wire.specs.Reading.{fold_at, field_at, only_after};
 
 use crate::read::field::{Field, read_field};
 use crate::wire_fault::WireFault;
+use std::alloc::Global;
 
 /// A message, which starts without fields and takes in record after record.
 pub trait Message: Drop + Sized {
@@ -26,7 +25,13 @@ pub trait Message: Drop + Sized {
 
     /// Takes in a record of the input, from `start` up to `end`. A field that isn't known, or that
     /// has another wire type, changes nothing. After an error the message is of no use.
-    fn take_in(&mut self, alloc: Global, field: Field<'_>, start: usize, end: usize) -> Result<(), WireFault>
+    fn take_in(
+        &mut self,
+        alloc: Global,
+        field: Field<'_>,
+        start: usize,
+        end: usize,
+    ) -> Result<(), WireFault>
         requires { payload_len field.payload ≤ end }
         ensures { Gives (λ _. self.new) result (step self.old (field_view field.entry)) };
 }
@@ -45,4 +50,25 @@ pub fn read_message<M: Message>(alloc: Global, bytes: &[u8], end: usize) -> Resu
         rest = after;
     }
     Ok(message)
+}
+
+/// The message of a field that comes at most once, of which `earlier` is what came before. The
+/// bytes end at `end` in the input, and their record is at `start`.
+///
+/// `Repeated` where there is an earlier one, whatever the bytes hold.
+#[tactic(auto, using(crate::proofs::Columns::only_taken, crate::proofs::Columns::only_first))]
+pub fn read_only<M: Message>(
+    alloc: Global,
+    earlier: &Option<M>,
+    bytes: &[u8],
+    start: usize,
+    end: usize,
+) -> Result<Option<M>, WireFault>
+    requires { length bytes.now ≤ end }
+    ensures { Gives (λ o. o) result (only_after (λ b. fold_at field_at M.step b M.none) earlier.now bytes.now) }
+{
+    if earlier.is_some() {
+        return Err(WireFault::Repeated(start));
+    }
+    Ok(Some(read_message(alloc, bytes, end)?))
 }

@@ -22,7 +22,7 @@ pub returns-in_err-take_in : goal.returns-in_err-take_in
 returns-in_err-take_in g c =
     let p = err_from_is_err_and c.from_residual-in_err-take_in.result c.from_residual-in_err-take_in.ensures.1 in
     rw (p.1, p.2) (failed field_at g.M.Message.step c.records.rest.now c.records.message c.is_empty.result c.is_empty.ensures c.records-test.true _ _
-      (field_view c.in_ok-field.field) c.in_ok-field.after.now c.records.invariant.reads c.in_ok-field.ensures c.in_err-take_in.ensures)
+    (field_view c.in_ok-field.field) c.in_ok-field.after.now c.records.invariant.reads c.in_ok-field.ensures c.in_err-take_in.ensures)
 
 pub records-smaller : goal.records-smaller
 records-smaller g c = field_shortens c.records.rest.now (field_view c.in_ok-field.field, c.in_ok-field.after.now) c.in_ok-field.ensures
@@ -32,8 +32,8 @@ records-preserved g c =
     let shorter : length c.in_ok-field.after.now < length c.records.rest.now = field_shortens c.records.rest.now (field_view c.in_ok-field.field, c.in_ok-field.after.now) c.in_ok-field.ensures in
     record {
       reads = goes_on field_at g.M.Message.step c.records.rest.now c.records.message c.is_empty.result c.is_empty.ensures field_shortens c.records-test.true
-        (field_view c.in_ok-field.field) c.in_ok-field.after.now c.take_in.new.self c.in_ok-field.ensures c.in_ok-take_in.ensures ∙ c.records.invariant.reads;
-      ends = omega (arith, c.records.invariant.ends)
+          (field_view c.in_ok-field.field) c.in_ok-field.after.now c.take_in.new.self c.in_ok-field.ensures c.in_ok-take_in.ensures ∙ c.records.invariant.reads;
+      ends = omega (arith, c.records.invariant.ends);
     }
 
 pub returns : goal.returns

@@ -1,4 +1,3 @@
-use Rattle.std.proofs.Common.{ℕ}
 use Rattle.scip_wire.proofs.read.varint.+varint_of.Given as goal
 
 abbrev pub decreases-varint_of : goal.decreases-varint_of

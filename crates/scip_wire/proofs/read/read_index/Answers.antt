@@ -1,0 +1,8 @@
+use Rattle.scip_wire.proofs.Indexes.{found_of, only_of}
+use Rattle.scip_wire.proofs.read.read_index.Goals as goal
+
+pub returns-clause-found : goal.returns-clause-found
+returns-clause-found c = found_of c.read_whole.result c.args.bytes.now c.read_whole.ensures
+
+pub returns-clause-only : goal.returns-clause-only
+returns-clause-only c = λ index decodes. only_of c.read_whole.result c.args.bytes.now c.read_whole.ensures index decodes

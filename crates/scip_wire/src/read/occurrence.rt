@@ -1,0 +1,93 @@
+//! Occurrences.
+
+ghost use Rattle.std.specs.Prelude.{◌≡◌, ◌≤◌, length};
+ghost use Rattle.scip_wire.specs.Gives.{Gives};
+ghost use Rattle.scip_wire.specs.Reading.{occurrence_after};
+
+use crate::read::field::{Field, Payload};
+use crate::read::message::{Message, read_message};
+use crate::read::range::{add_packed, range_of};
+use crate::read::text::{append, empty_sequence, empty_text, low_bits, number_of, text_of};
+use crate::wire_fault::WireFault;
+use scip_model::{Occurrence, OwnedText, Sequence};
+use std::alloc::Global;
+
+/// An occurrence's parts, before its range is made of its numbers.
+#[derive(Drop)]
+pub struct OccurrenceParts {
+    pub numbers: Sequence<u32>,
+    pub symbol: OwnedText,
+    pub symbol_roles: i32,
+}
+
+impl Message for OccurrenceParts {
+    ghost use Rattle.scip_wire.specs.Reading.{no_parts, occurrence_step};
+
+    ghost none = { no_parts };
+
+    ghost step = { occurrence_step };
+
+    fn empty(alloc: Global) -> OccurrenceParts {
+        OccurrenceParts {
+            numbers: empty_sequence(alloc),
+            symbol: empty_text(alloc),
+            symbol_roles: 0,
+        }
+    }
+
+    #[tactic(auto, unfolding(crate::specs::Reading::occurrence_step, crate::specs::Reading::parted, crate::specs::Reading::both, crate::specs::Reading::column), using(crate::proofs::Messages::fold_of_packed))]
+    fn take_in(
+        &mut self,
+        alloc: Global,
+        field: Field<'_>,
+        start: usize,
+        _end: usize,
+    ) -> Result<(), WireFault> {
+        match (field.number, field.payload) {
+            (1, Payload::Varint(value)) => append(alloc, &mut self.numbers, low_bits(value))?,
+            (1, Payload::Delimited(bytes)) => add_packed(alloc, &mut self.numbers, bytes, start)?,
+            (2, Payload::Delimited(bytes)) => self.symbol = text_of(alloc, bytes, start)?,
+            (3, Payload::Varint(value)) => self.symbol_roles = number_of(value),
+            _ => {}
+        }
+        Ok(())
+    }
+}
+
+/// Adds the occurrence that the bytes hold, which end at `end` in the input; its record is at
+/// `start`. One without range numbers isn't added. After an error the occurrences are of no use.
+#[tactic(auto, unfolding(crate::specs::Reading::occurrence_at, crate::specs::Reading::occurrence_of, crate::specs::Reading::parts_at))]
+pub fn add_occurrence(
+    alloc: Global,
+    occurrences: &mut Sequence<Occurrence>,
+    bytes: &[u8],
+    start: usize,
+    end: usize,
+) -> Result<(), WireFault>
+    requires { length bytes.now ≤ end }
+    ensures { Gives (λ _. occurrences.new) result (occurrence_after occurrences.old bytes.now) }
+{
+    let parts: OccurrenceParts = read_message(alloc, bytes, end)?;
+    let OccurrenceParts {
+        numbers,
+        symbol,
+        symbol_roles,
+    } = parts;
+    let numbers = numbers.into_vec();
+    if numbers.is_empty() {
+        return Ok(());
+    }
+    let Some(range) = range_of(&numbers) else {
+        return Err(WireFault::BadRange(start));
+    };
+    append(
+        alloc,
+        occurrences,
+        Occurrence {
+            range,
+            symbol,
+            symbol_roles,
+        },
+    )?;
+    Ok(())
+}

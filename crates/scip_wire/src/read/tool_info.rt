@@ -1,0 +1,43 @@
+//! Tool information.
+
+ghost use Rattle.scip_wire.specs.Reading.{no_tool_info, tool_info_step};
+
+use crate::read::field::{Field, Payload};
+use crate::read::message::Message;
+use crate::read::text::{append, empty_sequence, empty_text, text_of};
+use crate::wire_fault::WireFault;
+use scip_model::ToolInfo;
+use std::alloc::Global;
+
+impl Message for ToolInfo {
+    ghost none = { no_tool_info };
+
+    ghost step = { tool_info_step };
+
+    fn empty(alloc: Global) -> ToolInfo {
+        ToolInfo {
+            name: empty_text(alloc),
+            version: empty_text(alloc),
+            arguments: empty_sequence(alloc),
+        }
+    }
+
+    #[tactic(auto, unfolding(crate::specs::Reading::tool_info_step, crate::specs::Reading::parted, crate::specs::Reading::both, crate::specs::Reading::column))]
+    fn take_in(
+        &mut self,
+        alloc: Global,
+        field: Field<'_>,
+        start: usize,
+        _end: usize,
+    ) -> Result<(), WireFault> {
+        match (field.number, field.payload) {
+            (1, Payload::Delimited(bytes)) => self.name = text_of(alloc, bytes, start)?,
+            (2, Payload::Delimited(bytes)) => self.version = text_of(alloc, bytes, start)?,
+            (3, Payload::Delimited(bytes)) => {
+                append(alloc, &mut self.arguments, text_of(alloc, bytes, start)?)?;
+            }
+            _ => {}
+        }
+        Ok(())
+    }
+}

@@ -3,3 +3,7 @@ pub mod Positions
 pub mod Rising
 pub mod Utf16
 pub mod LineParts
+pub mod CommentSteps
+pub mod LiteralSteps
+pub mod NumberSteps
+pub mod Tools

@@ -6,3 +6,4 @@ pub mod Comments
 pub mod Lexes
 pub mod Literals
 pub mod Numbers
+pub mod Reading

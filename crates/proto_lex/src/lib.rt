@@ -2,6 +2,7 @@
 #![tactic(auto)]
 
 mod fault;
+mod lexer;
 mod position;
 mod span;
 mod text;

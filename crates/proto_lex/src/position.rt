@@ -22,6 +22,13 @@ pub struct Position {
     pub column: u32,
 }
 
+/// Whether `byte` ends a line.
+fn is_line_end(byte: u8) -> bool
+    ensures { result ≡ spec.is_line_end byte }
+{
+    byte == b'\n'
+}
+
 /// The code units that `byte`, one of a text in UTF-8, counts for in `encoding`.
 fn code_units(encoding: Encoding, byte: u8) -> u32
     ensures units { result ≡ spec.code_units encoding byte }
@@ -45,7 +52,7 @@ pub(crate) fn position_after(encoding: Encoding, text: &[u8]) -> Position
 {
     let mut position = Position { line: 0, column: 0 };
     for &byte in text {
-        if byte == b'\n' {
+        if is_line_end(byte) {
             position.line += 1;
             position.column = 0;
         } else {

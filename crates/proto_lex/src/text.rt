@@ -76,3 +76,6 @@ impl<'a> Text<'a> {
         position_after(encoding, &self.text.as_bytes()[..offset])
     }
 }
+
+#[cfg(test)]
+mod tests;

@@ -1,28 +1,112 @@
 //! Why the program stops short of its answer.
+ghost use Rattle.std.specs.Prelude.{◌≡◌, IfOk, string_bytes};
+ghost use Rattle.protoscip.specs.Faults.{fault_line, line_of, lex_name, lex_offset, status_of};
+
+use proto_lex::{LexFault, Span};
+use std::alloc::{AllocError, Global};
+use thiserror::Error;
 
 /// Why the program stops short of its answer.
-#[derive(Clone, Copy, Debug, Drop, PartialEq, Eq)]
+#[derive(Clone, Copy, Debug, Drop, PartialEq, Eq, Error)]
 pub enum Fault {
     /// Memory ran out.
+    #[error("Memory")]
     Memory,
-    /// Standard output takes no more bytes.
-    Write,
+    /// A read failed, or 16,777,216 reads gave no end.
+    #[error("Read")]
+    Read,
+    /// The source is no text, or has no lexing.
+    #[error("{0}")]
+    Lex(LexFault),
+    /// Two declarations have one full name: the places of their names.
+    #[error("Duplicate")]
+    Duplicate {
+        /// The name of the earlier declaration.
+        first: Span,
+        /// The name of the later one.
+        second: Span,
+    },
+    /// The index would have more than 2,147,483,647 bytes.
+    #[error("TooLarge")]
+    TooLarge,
+    /// A write failed after this many bytes.
+    #[error("Write({0})")]
+    Write(u64),
 }
 
 impl Fault {
-    /// The line on standard error, without its line end.
-    pub fn line(&self) -> &'static str {
+    /// The line, without its end, that says this of the source with this path.
+    pub fn line(&self, alloc: Global, path: &str) -> Result<String, AllocError>
+        ensures { IfOk result (λ line. string_bytes line ≡ fault_line path.now self.now) }
+    {
         match self {
-            Fault::Memory => "protoscip: Memory",
-            Fault::Write => "protoscip: Write",
+            Fault::Memory => format!(in alloc; "protoscip: Memory"),
+            Fault::Read => format!(in alloc; "protoscip: Read"),
+            Fault::Lex(fault) => line_at(alloc, path, offset_of_lex(fault), name_of_lex(fault)),
+            Fault::Duplicate { first, second } => {
+                let (first, second) = (first.start, second.start);
+                format!(in alloc; "protoscip: {path}@{second}: Duplicate of {path}@{first}")
+            }
+            Fault::TooLarge => format!(in alloc; "protoscip: TooLarge"),
+            Fault::Write(_) => format!(in alloc; "protoscip: Write"),
         }
     }
 
-    /// The exit status.
-    pub fn status(&self) -> u8 {
+    /// The exit status that the program then ends with.
+    pub fn status(&self) -> u8
+        ensures { result ≡ status_of self.now }
+    {
         match self {
-            Fault::Write => 3,
-            Fault::Memory => 4,
+            Fault::Memory | Fault::Lex(LexFault::Memory) => 4,
+            Fault::Read | Fault::TooLarge | Fault::Write(_) => 3,
+            Fault::Lex(_) | Fault::Duplicate { .. } => 1,
         }
+    }
+}
+
+/// The line of a fault with this name, at this offset of the source or at none.
+fn line_at(
+    alloc: Global,
+    path: &str,
+    offset: Option<usize>,
+    name: &str,
+) -> Result<String, AllocError>
+    ensures { IfOk result (λ line. string_bytes line ≡ line_of path.now offset name.now) }
+{
+    match offset {
+        Some(offset) => format!(in alloc; "protoscip: {path}@{offset}: {name}"),
+        None => format!(in alloc; "protoscip: {name}"),
+    }
+}
+
+/// The offset that a fault of the text or its lexing names.
+fn offset_of_lex(fault: &LexFault) -> Option<usize>
+    ensures { result ≡ lex_offset fault.now }
+{
+    match *fault {
+        LexFault::TooLong => Some(67_108_864),
+        LexFault::NotUtf8(offset)
+        | LexFault::BadByte(offset)
+        | LexFault::OpenString(offset)
+        | LexFault::OpenComment(offset)
+        | LexFault::BadEscape(offset)
+        | LexFault::BadNumber(offset) => Some(offset),
+        LexFault::Memory => None,
+    }
+}
+
+/// The name of a fault of the text or its lexing.
+fn name_of_lex(fault: &LexFault) -> &'static str
+    ensures { result.now ≡ lex_name fault.now }
+{
+    match fault {
+        LexFault::TooLong => "TooLong",
+        LexFault::NotUtf8(_) => "NotUtf8",
+        LexFault::BadByte(_) => "BadByte",
+        LexFault::OpenString(_) => "OpenString",
+        LexFault::OpenComment(_) => "OpenComment",
+        LexFault::BadEscape(_) => "BadEscape",
+        LexFault::BadNumber(_) => "BadNumber",
+        LexFault::Memory => "Memory",
     }
 }

@@ -9,34 +9,18 @@ pub mod symbols;
 
 use command::Request;
 use fault::Fault;
+use scip_model::{Std, write_all};
 use std::alloc::AllocError;
 use std::io;
 use std::process::ExitCode;
 
-/// Reads the command line, does what it asks for, and ends with its status. A text that standard
-/// error doesn't take is lost, and the status stays.
+/// Reads the command line, does what it asks for, and ends with its status.
 fn main(rt: HostRuntime) -> ExitCode {
-    match run(&rt) {
-        Ok(status) => ExitCode::from(status),
-        Err(fault) => {
-            let _ = rt.eprintln(fault.line());
-            ExitCode::from(fault.status())
-        }
-    }
-}
-
-/// Does what the command line asks for.
-fn run(rt: &HostRuntime) -> Result<u8, Fault> {
-    match request(rt).map_err(|_| Fault::Memory)? {
-        Request::Print(text) => match rt.print(text.as_str()) {
-            Ok(()) => Ok(0),
-            Err(_) => Err(Fault::Write),
-        },
-        Request::Refuse(text) => {
-            let _ = rt.eprint(text.as_str());
-            Ok(2)
-        }
-    }
+    let status = match request(&rt) {
+        Ok(request) => run(&rt, request),
+        Err(_) => report(&rt, &Fault::Memory),
+    };
+    ExitCode::from(status)
 }
 
 /// Reads the program's own command line.
@@ -48,5 +32,37 @@ fn request(rt: &HostRuntime) -> Result<Request, AllocError> {
         }
         Err(error) if error.kind() == io::ErrorKind::OutOfMemory => Err(AllocError),
         Err(_) => command::refuse_other_text(rt.alloc()),
+    }
+}
+
+/// Does what was asked for, and gives the exit status.
+fn run(rt: &HostRuntime, request: Request) -> u8 {
+    match request {
+        Request::Print(text) => {
+            let mut out = Std::new(io::writer(rt));
+            match write_all(&mut out, text.as_bytes()) {
+                Ok(()) => 0,
+                Err(cut_off) => report(rt, &Fault::Write(cut_off.written as u64)),
+            }
+        }
+        Request::Refuse(text) => {
+            let _ = rt.eprint(text.as_str());
+            2
+        }
+    }
+}
+
+/// Says on standard error why the program stops, and gives the exit status. What standard error
+/// doesn't take is lost.
+fn report(rt: &HostRuntime, fault: &Fault) -> u8 {
+    match fault.line(rt.alloc(), "input.proto") {
+        Ok(line) => {
+            let _ = rt.eprintln(line.as_str());
+            fault.status()
+        }
+        Err(_) => {
+            let _ = rt.eprintln("protoscip: Memory");
+            Fault::Memory.status()
+        }
     }
 }

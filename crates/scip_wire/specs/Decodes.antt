@@ -25,7 +25,7 @@ payloads number (field ∷ fields) = cond (nat_eq field.number number) (field.pa
 pub data Joined {A : Type 0} (Gives : Payload → List A → Type 0) : List Payload → List A → Type 0 where
   none : Joined Gives [] []
   next : {payload : Payload} {values : List A} {others : List Payload} {more : List A}
-    → Gives payload values → Joined Gives others more → Joined Gives (payload ∷ others) (values ++ more)
+      → Gives payload values → Joined Gives others more → Joined Gives (payload ∷ others) (values ++ more)
 
 -- the last, or what stands for an absent one
 abbrev pub last_or : {A : Type 0} → A → List A → A
@@ -116,7 +116,7 @@ low_32_bits value = value % 2 ^ 32
 pub data ArePacked : List ℕ → List ℕ → Type 0 where
   none : ArePacked [] []
   next : {bytes rest : List ℕ} {value : ℕ} {numbers : List ℕ}
-    → IsVarint 10 bytes value rest → ArePacked rest numbers → ArePacked bytes (low_32_bits value ∷ numbers)
+      → IsVarint 10 bytes value rest → ArePacked rest numbers → ArePacked bytes (low_32_bits value ∷ numbers)
 
 -- repeated int32s, packed or not
 pub data GivesNumbers : Payload → List ℕ → Type 0 where
@@ -127,9 +127,9 @@ pub data GivesNumbers : Payload → List ℕ → Type 0 where
 -- `Occurrence.range`: [line, column, end column] on one line, or [line, column, end line, end column]
 pub data AreRangeNumbers : List ℕ → RangeNumbers → Type 0 where
   on_one_line : {line column end_column : ℕ}
-    → AreRangeNumbers (line ∷ column ∷ end_column ∷ []) (record { start_line = line; start_column = column; end_line = line; end_column = end_column })
+      → AreRangeNumbers (line ∷ column ∷ end_column ∷ []) (record { start_line = line; start_column = column; end_line = line; end_column = end_column })
   over_lines : {line column end_line end_column : ℕ}
-    → AreRangeNumbers (line ∷ column ∷ end_line ∷ end_column ∷ []) (record { start_line = line; start_column = column; end_line = end_line; end_column = end_column })
+      → AreRangeNumbers (line ∷ column ∷ end_line ∷ end_column ∷ []) (record { start_line = line; start_column = column; end_line = end_line; end_column = end_column })
 
 -- what an occurrence's bytes hold: the numbers of its range, its symbol and its roles
 pub record HoldsOccurrence (bytes numbers symbol : List ℕ) (roles : ℤ) : Type 0 where
@@ -143,9 +143,9 @@ pub record HoldsOccurrence (bytes numbers symbol : List ℕ) (roles : ℤ) : Typ
 -- numbers is left out.
 pub data GivesOccurrence : Payload → List Occurrence → Type 0 where
   occurrence : {bytes numbers : List ℕ} {occurrence : Occurrence}
-    → HoldsOccurrence bytes numbers occurrence.symbol occurrence.symbol_roles
-    → AreRangeNumbers numbers occurrence.range → IsRange occurrence.range
-    → GivesOccurrence (Delimited bytes) (occurrence ∷ [])
+      → HoldsOccurrence bytes numbers occurrence.symbol occurrence.symbol_roles
+      → AreRangeNumbers numbers occurrence.range → IsRange occurrence.range
+      → GivesOccurrence (Delimited bytes) (occurrence ∷ [])
   without_range : {bytes symbol : List ℕ} {roles : ℤ} → HoldsOccurrence bytes [] symbol roles → GivesOccurrence (Delimited bytes) []
   other_type : {payload : Payload} → is_delimited payload ≡ false → GivesOccurrence payload []
 

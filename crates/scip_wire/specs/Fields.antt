@@ -1,6 +1,6 @@
 -- The fields that bytes hold (Protocol Buffers encoding). Each relation goes from the bytes
 -- before to the bytes left.
-use Rattle.std.specs.Prelude.{◌≡◌, ℕ, zero, suc, ◌+◌, ◌-◌, ◌*◌, ◌^◌, ◌<◌, ◌≤◌, List, [], ◌∷◌, ◌++◌, length}
+use Rattle.std.specs.Prelude.{◌≡◌, ℕ, suc, ◌+◌, ◌-◌, ◌*◌, ◌^◌, ◌<◌, ◌≤◌, List, [], ◌∷◌, ◌++◌, length}
 
 -- what a field holds, by its wire type (Encoding, Message Structure)
 pub data Payload : Type 0 where
@@ -20,8 +20,8 @@ pub record Field : Type 0 where
 pub data IsVarint : ℕ → List ℕ → ℕ → List ℕ → Type 0 where
   last : {room byte : ℕ} {rest : List ℕ} → byte < 128 → IsVarint (suc room) (byte ∷ rest) byte rest
   more : {room byte high : ℕ} {bytes rest : List ℕ}
-    → 128 ≤ byte → high < 2 ^ 57 → IsVarint room bytes high rest
-    → IsVarint (suc room) (byte ∷ bytes) (byte - 128 + 128 * high) rest
+      → 128 ≤ byte → high < 2 ^ 57 → IsVarint room bytes high rest
+      → IsVarint (suc room) (byte ∷ bytes) (byte - 128 + 128 * high) rest
 
 -- A payload of a wire type: a varint, eight bytes, bytes behind their length, or four bytes.
 -- Of the other types, groups (3 and 4) among them, there is none.
@@ -35,11 +35,11 @@ pub data IsPayload : ℕ → List ℕ → Payload → List ℕ → Type 0 where
 -- type, and its payload. Numbers are 1 to 536,870,911.
 pub data IsField : List ℕ → Field → List ℕ → Type 0 where
   field : {number type : ℕ} {payload : Payload} {a b c : List ℕ}
-    → IsVarint 10 a (8 * number + type) b → 0 < number → number < 2 ^ 29 → IsPayload type b payload c
-    → IsField a (record { number = number; payload = payload }) c
+      → IsVarint 10 a (8 * number + type) b → 0 < number → number < 2 ^ 29 → IsPayload type b payload c
+      → IsField a (record { number = number; payload = payload }) c
 
 -- the bytes are the records of these fields, in order
 pub data HasFields : List ℕ → List Field → Type 0 where
   none : HasFields [] []
   next : {bytes rest : List ℕ} {field : Field} {fields : List Field}
-    → IsField bytes field rest → HasFields rest fields → HasFields bytes (field ∷ fields)
+      → IsField bytes field rest → HasFields rest fields → HasFields bytes (field ∷ fields)

@@ -1,4 +1,9 @@
+pub mod Saturated
 pub mod Spelling
+pub mod WellFormed
+pub mod Writing
 pub mod Fields
 pub mod Decodes
+pub mod Gives
 pub mod Reading
+pub mod Views

@@ -23,7 +23,7 @@ varint_at zero bytes = None
 varint_at (suc room) [] = None
 varint_at (suc room) (byte ∷ bytes) =
     cond (nat_lt byte 128) (Some (byte, bytes))
-      (varint_at room bytes >>= λ high. cond (nat_lt high.0 (2 ^ 57)) (Some (byte - 128 + 128 * high.0, high.1)) None)
+    (varint_at room bytes >>= λ high. cond (nat_lt high.0 (2 ^ 57)) (Some (byte - 128 + 128 * high.0, high.1)) None)
 
 unfoldable pub piece_at : ℕ → List ℕ → Option (List ℕ × List ℕ)
 piece_at size bytes = cond (nat_le size (length bytes)) (Some (take size bytes, drop size bytes)) None
@@ -31,16 +31,16 @@ piece_at size bytes = cond (nat_le size (length bytes)) (Some (take size bytes, 
 unfoldable pub payload_at : ℕ → List ℕ → Option (Payload × List ℕ)
 payload_at type bytes =
     cond (nat_eq type 0) (varint_at 10 bytes >>= λ value. Some (Varint value.0, value.1))
-      (cond (nat_eq type 1) (piece_at 8 bytes >>= λ piece. Some (Fixed64 piece.0, piece.1))
-        (cond (nat_eq type 2) (varint_at 10 bytes >>= λ size. piece_at size.0 size.1 >>= λ piece. Some (Delimited piece.0, piece.1))
-          (cond (nat_eq type 5) (piece_at 4 bytes >>= λ piece. Some (Fixed32 piece.0, piece.1)) None)))
+    (cond (nat_eq type 1) (piece_at 8 bytes >>= λ piece. Some (Fixed64 piece.0, piece.1))
+    (cond (nat_eq type 2) (varint_at 10 bytes >>= λ size. piece_at size.0 size.1 >>= λ piece. Some (Delimited piece.0, piece.1))
+    (cond (nat_eq type 5) (piece_at 4 bytes >>= λ piece. Some (Fixed32 piece.0, piece.1)) None)))
 
 unfoldable pub field_at : List ℕ → Option (Field × List ℕ)
 field_at bytes =
     varint_at 10 bytes >>= λ tag. cond (nat_lt tag.0 (2 ^ 32))
-      (cond (nat_lt tag.0 8) None
-        (payload_at (tag.0 % 8) tag.1 >>= λ payload. Some (record { number = tag.0 / 8; payload = payload.0 }, payload.1)))
-      None
+    (cond (nat_lt tag.0 8) None
+    (payload_at (tag.0 % 8) tag.1 >>= λ payload. Some (record { number = tag.0 / 8; payload = payload.0 }, payload.1)))
+    None
 
 -- ---- folds that may fail
 

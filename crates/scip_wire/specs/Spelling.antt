@@ -1,6 +1,6 @@
 -- The bytes of an index, written by one rule (Protocol Buffers encoding; field numbers of `scip.proto`):
 -- fields by rising number, each varint the shortest, absent what is 0 or empty but in a repeated field.
-use Rattle.std.specs.Prelude.{ℕ, zero, suc, ◌+◌, ◌-◌, ◌*◌, ◌/◌, ◌%◌, ◌^◌, Bool, ℤ, pos, negsuc, List, [], ◌∷◌, ◌++◌, length, map, flat_map, nat_eq, nat_lt, Option, Some, None, if◌then◌else◌}
+use Rattle.std.specs.Prelude.{ℕ, zero, suc, ◌+◌, ◌-◌, ◌*◌, ◌/◌, ◌%◌, ◌^◌, ℤ, pos, negsuc, List, [], ◌∷◌, ◌++◌, length, map, flat_map, nat_eq, nat_lt, Option, Some, None, if◌then◌else◌}
 use Rattle.scip_model.specs.Range.{RangeNumbers}
 use Rattle.scip_model.specs.declared.records.Index.{Index}
 use Rattle.scip_model.specs.declared.records.Metadata.{Metadata}
@@ -8,6 +8,7 @@ use Rattle.scip_model.specs.declared.records.ToolInfo.{ToolInfo}
 use Rattle.scip_model.specs.declared.records.Document.{Document}
 use Rattle.scip_model.specs.declared.records.Occurrence.{Occurrence}
 use Rattle.scip_model.specs.declared.records.Info.{Info}
+use Rattle.scip_wire.specs.Fields.{Payload, Varint, Fixed64, Delimited, Fixed32, Field}
 
 -- The shortest varint of a number of at most `room + 1` groups (Encoding, Base 128 Varints):
 -- seven bits a byte, the lowest first, the top bit set on all but the last.
@@ -20,22 +21,15 @@ varint_of_groups (suc room) n =
 abbrev pub varint : ℕ → List ℕ
 varint n = varint_of_groups 9 n
 
--- what a field holds (Encoding, Message Structure): a varint (wire type 0), or bytes behind their length (wire type 2)
-pub data Content : Type 0 where
-  Number : ℕ → Content
-  Bytes : List ℕ → Content
-
--- a field: its number, and what it holds
-pub record Field : Type 0 where
-  pub number : ℕ
-  pub content : Content
-
-abbrev pub content_bytes : ℕ → Content → List ℕ
-content_bytes number (Number n) = varint (8 * number) ++ varint n
-content_bytes number (Bytes bytes) = varint (8 * number + 2) ++ (varint (length bytes) ++ bytes)
+-- a field's record (Encoding, Message Structure): its tag, which holds its number and the wire type, then what it holds
+abbrev pub record_bytes : ℕ → Payload → List ℕ
+record_bytes number (Varint value) = varint (8 * number) ++ varint value
+record_bytes number (Fixed64 bytes) = varint (8 * number + 1) ++ bytes
+record_bytes number (Delimited bytes) = varint (8 * number + 2) ++ (varint (length bytes) ++ bytes)
+record_bytes number (Fixed32 bytes) = varint (8 * number + 5) ++ bytes
 
 abbrev pub field_bytes : Field → List ℕ
-field_bytes f = content_bytes f.number f.content
+field_bytes f = record_bytes f.number f.payload
 
 abbrev pub bytes_of : List Field → List ℕ
 bytes_of fields = flat_map field_bytes fields
@@ -48,12 +42,12 @@ in_64_bits (negsuc n) = 2 ^ 64 - 1 - n
 -- ---- fields by kind: `k` is the field's number
 
 abbrev pub bytes_field : ℕ → List ℕ → Field
-bytes_field k bytes = record { number = k; content = Bytes bytes }
+bytes_field k bytes = record { number = k; payload = Delimited bytes }
 
 -- a number: absent where it is 0
 abbrev pub number_fields : ℕ → ℕ → List Field
 number_fields k zero = []
-number_fields k (suc n) = record { number = k; content = Number (suc n) } ∷ []
+number_fields k (suc n) = record { number = k; payload = Varint (suc n) } ∷ []
 
 -- an int32 or an enum
 abbrev pub int_fields : ℕ → ℤ → List Field
@@ -88,42 +82,42 @@ range_numbers r =
 
 abbrev pub occurrence_fields : Occurrence → List Field
 occurrence_fields o =
-    bytes_field 1 (flat_map varint (range_numbers o.range))
-    ∷ (text_fields 2 o.symbol
-    ++ int_fields 3 o.symbol_roles)
+    bytes_field 1 (flat_map varint (range_numbers o.range)) ∷ []
+    ++ text_fields 2 o.symbol
+    ++ int_fields 3 o.symbol_roles
 
 abbrev pub info_fields : Info → List Field
 info_fields i =
     text_fields 1 i.symbol
-    ++ (repeated_text_fields 3 i.documentation
-    ++ text_fields 6 i.display_name)
+    ++ repeated_text_fields 3 i.documentation
+    ++ text_fields 6 i.display_name
 
 abbrev pub document_fields : Document → List Field
 document_fields d =
     text_fields 1 d.relative_path
-    ++ (repeated_message_fields 2 occurrence_fields d.occurrences
-    ++ (repeated_message_fields 3 info_fields d.symbols
-    ++ (text_fields 4 d.language
-    ++ int_fields 6 d.position_encoding)))
+    ++ repeated_message_fields 2 occurrence_fields d.occurrences
+    ++ repeated_message_fields 3 info_fields d.symbols
+    ++ text_fields 4 d.language
+    ++ int_fields 6 d.position_encoding
 
 abbrev pub tool_info_fields : ToolInfo → List Field
 tool_info_fields t =
     text_fields 1 t.name
-    ++ (text_fields 2 t.version
-    ++ repeated_text_fields 3 t.arguments)
+    ++ text_fields 2 t.version
+    ++ repeated_text_fields 3 t.arguments
 
 abbrev pub metadata_fields : Metadata → List Field
 metadata_fields m =
     int_fields 1 m.version
-    ++ (optional_message_fields 2 tool_info_fields m.tool_info
-    ++ (text_fields 3 m.project_root
-    ++ int_fields 4 m.text_document_encoding))
+    ++ optional_message_fields 2 tool_info_fields m.tool_info
+    ++ text_fields 3 m.project_root
+    ++ int_fields 4 m.text_document_encoding
 
 abbrev pub index_fields : Index → List Field
 index_fields i =
     optional_message_fields 1 metadata_fields i.metadata
-    ++ (repeated_message_fields 2 document_fields i.documents
-    ++ repeated_message_fields 3 info_fields i.external_symbols)
+    ++ repeated_message_fields 2 document_fields i.documents
+    ++ repeated_message_fields 3 info_fields i.external_symbols
 
 -- the spelling of an index
 abbrev pub spelling_of : Index → List ℕ

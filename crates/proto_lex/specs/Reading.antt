@@ -1,0 +1,192 @@
+use Rattle.std.specs.Prelude.{◌≡◌, ℕ, zero, suc, ◌+◌, ◌-◌, Bool, true, false, ◌||◌, ◌&&◌, not, cond, Option, Some, None, Result, Ok, Err, List, [], ◌∷◌, ◌++◌, length, take, drop, nat_eq, nat_le}
+use Rattle.std.specs.List.{list_all, prefix_len}
+use Rattle.proto_lex.specs.Bytes.{is_blank, is_letter, is_digit, is_octal_digit, is_hex_digit, is_word, is_plus_or_minus, is_exponent_mark, is_hex_mark, is_quote, starts}
+use Rattle.proto_lex.specs.Numbers.{run_of}
+use Rattle.proto_lex.specs.Literals.{is_escape_letter}
+use Rattle.proto_lex.specs.Comments.{begins_close}
+use Rattle.proto_lex.specs.Lexes.{sign_kind, part}
+use Rattle.proto_lex.specs.declared.fault.LexFault.{LexFault}
+use Rattle.proto_lex.specs.declared.fault.LexFault.TheVariants.{BadByte, OpenString, OpenComment, BadEscape, BadNumber}
+use Rattle.proto_lex.specs.declared.lexer.piece.Piece.{Piece}
+use Rattle.proto_lex.specs.declared.lexer.piece.PieceKind.{PieceKind}
+use Rattle.proto_lex.specs.declared.lexer.piece.PieceKind.TheVariants as piece
+use Rattle.proto_lex.specs.declared.token.Token.{Token}
+use Rattle.proto_lex.specs.declared.token.TokenKind.{TokenKind}
+use Rattle.proto_lex.specs.declared.token.TokenKind.TheVariants as kind
+use Rattle.proto_lex.specs.declared.token.Comment.{Comment}
+use Rattle.proto_lex.specs.declared.token.CommentKind.TheVariants as comment
+
+-- What the lexer's private functions give, with the fault that comes first. Public contracts speak of `Lexes`.
+
+abbrev pub Read : Type 0 → Type 0
+Read A = Result A LexFault
+
+infixl 10 ◌>>=◌
+abbrev pub ◌>>=◌ : {A B : Type 0} → Read A → (A → Read B) → Read B
+Ok x >>= next = next x
+Err fault >>= next = Err fault
+
+-- the bytes behind those at the front that pass
+abbrev pub past : (ℕ → Bool) → List ℕ → List ℕ
+past test bytes = drop (prefix_len test bytes) bytes
+
+abbrev pub is_in_line : ℕ → Bool
+is_in_line b = not (nat_eq b 10)
+
+-- numbers
+
+abbrev pub begins_number : List ℕ → Bool
+begins_number [] = false
+begins_number (b ∷ others) = is_digit b || nat_eq b 46 && starts is_digit others
+
+abbrev pub are_digits : List ℕ → Bool
+are_digits [] = false
+are_digits (d ∷ others) = list_all is_digit (d ∷ others)
+
+abbrev pub are_hex_digits : List ℕ → Bool
+are_hex_digits [] = false
+are_hex_digits (d ∷ others) = list_all is_hex_digit (d ∷ others)
+
+abbrev pub is_zero_integer : List ℕ → Bool
+is_zero_integer [] = true
+is_zero_integer (x ∷ others) = cond (is_hex_mark x) (are_hex_digits others) (list_all is_octal_digit (x ∷ others))
+
+abbrev pub is_integer : List ℕ → Bool
+is_integer [] = false
+is_integer (d ∷ others) = cond (nat_eq d 48) (is_zero_integer others) (is_digit d && list_all is_digit others)
+
+abbrev pub past_sign : List ℕ → List ℕ
+past_sign [] = []
+past_sign (s ∷ others) = cond (is_plus_or_minus s) others (s ∷ others)
+
+abbrev pub is_exponent_or_none : List ℕ → Bool
+is_exponent_or_none [] = true
+is_exponent_or_none (e ∷ others) = is_exponent_mark e && are_digits (past_sign others)
+
+abbrev pub ends_fraction : List ℕ → Bool
+ends_fraction bytes = is_exponent_or_none (past is_digit bytes)
+
+abbrev pub ends_whole : List ℕ → Bool
+ends_whole [] = false
+ends_whole (b ∷ others) = cond (nat_eq b 46) (ends_fraction others) (is_exponent_or_none (b ∷ others))
+
+abbrev pub is_float : List ℕ → Bool
+is_float [] = false
+is_float (b ∷ others) =
+    cond (nat_eq b 46) (starts is_digit others && ends_fraction others) (is_digit b && ends_whole (past is_digit others))
+
+abbrev pub number_kind : List ℕ → Option TokenKind
+number_kind run = cond (is_integer run) (Some kind.Integer) (cond (is_float run) (Some kind.Float) None)
+
+abbrev pub token : TokenKind → ℕ → Piece
+token k len = record { kind = piece.Token k; len = len }
+
+abbrev pub numbered : ℕ → Option TokenKind → ℕ → Read Piece
+numbered at None len = Err (BadNumber at)
+numbered at (Some k) len = Ok (token k len)
+
+unfoldable pub number_at : ℕ → List ℕ → Read Piece
+number_at at bytes = numbered at (number_kind (run_of bytes)) (length (run_of bytes))
+
+-- strings
+
+abbrev pub begins_with_hex : ℕ → List ℕ → Bool
+begins_with_hex count bytes = nat_le count (length bytes) && list_all is_hex_digit (take count bytes)
+
+abbrev pub begins_last_unicode : List ℕ → Bool
+begins_last_unicode [] = false
+begins_last_unicode (d ∷ others) = nat_eq d 48 && begins_with_hex 4 others
+
+abbrev pub begins_long_unicode : List ℕ → Bool
+begins_long_unicode (a ∷ (b ∷ (c ∷ others))) =
+    nat_eq a 48 && nat_eq b 48 && cond (nat_eq c 48) (begins_with_hex 5 others) (nat_eq c 49 && begins_last_unicode others)
+begins_long_unicode _ = false
+
+-- how many bytes an escape takes behind its `\`; a second hexadecimal digit, and a second and third octal one, are
+-- read as characters
+abbrev pub escape_len : List ℕ → Option ℕ
+escape_len [] = None
+escape_len (b ∷ others) =
+    cond (is_escape_letter b || is_octal_digit b) (Some 1) (
+    cond (is_hex_mark b) (cond (begins_with_hex 1 others) (Some 2) None) (
+    cond (nat_eq b 117) (cond (begins_with_hex 4 others) (Some 5) None) (
+    cond (nat_eq b 85) (cond (begins_long_unicode others) (Some 9) None) None)))
+
+abbrev pub escaped : ℕ → Option ℕ → Read ℕ
+escaped at None = Err (BadEscape at)
+escaped at (Some len) = Ok (len + 1)
+
+-- how many bytes the character b, or the escape that it begins, takes in a string that opens at a place
+unfoldable pub character_at : (opening at b : ℕ) → List ℕ → Read ℕ
+character_at opening at b others =
+    cond (nat_eq b 10) (Err (OpenString opening)) (
+    cond (nat_eq b 0) (Err (BadByte at)) (
+    cond (nat_eq b 92) (escaped at (escape_len others)) (Ok 1)))
+
+-- how many bytes a string takes, of which so many were read and the next `skip` are known to be in it
+unfoldable pub literal_at : (quote opening skip len : ℕ) → List ℕ → Read ℕ
+literal_at quote opening skip len [] = Err (OpenString opening)
+literal_at quote opening (suc skip) len (b ∷ others) = literal_at quote opening skip (len + 1) others
+literal_at quote opening zero len (b ∷ others) =
+    cond (nat_eq b quote) (Ok (len + 1))
+    (character_at opening (opening + len) b others >>= λ more. literal_at quote opening (more - 1) (len + 1) others)
+
+-- comments
+
+unfoldable pub block_at : ℕ → List ℕ → Option ℕ
+block_at len [] = None
+block_at len (b ∷ others) = cond (begins_close (b ∷ others)) (Some (len + 2)) (block_at (len + 1) others)
+
+abbrev pub blocked : ℕ → Option ℕ → Read Piece
+blocked at None = Err (OpenComment at)
+blocked at (Some len) = Ok (record { kind = piece.Comment comment.Block; len = len })
+
+-- what stands at a place
+
+abbrev pub behind_first : List ℕ → List ℕ
+behind_first [] = []
+behind_first (b ∷ others) = others
+
+abbrev pub slash_at : ℕ → List ℕ → Read Piece
+slash_at at others =
+    cond (starts (nat_eq 47) others) (Ok (record { kind = piece.Comment comment.Line; len = 1 + prefix_len is_in_line others })) (
+    cond (starts (nat_eq 42) others) (blocked at (block_at 2 (behind_first others))) (Ok (token kind.Slash 1)))
+
+abbrev pub signed : ℕ → Option TokenKind → Read Piece
+signed at None = Err (BadByte at)
+signed at (Some k) = Ok (token k 1)
+
+unfoldable pub piece_at : ℕ → List ℕ → Read Piece
+piece_at at [] = Err (BadByte at)
+piece_at at (b ∷ others) =
+    cond (is_blank b) (Ok (record { kind = piece.Blank; len = 1 })) (
+    cond (is_letter b) (Ok (token kind.Identifier (1 + prefix_len is_word others))) (
+    cond (begins_number (b ∷ others)) (number_at at (b ∷ others)) (
+    cond (is_quote b) (literal_at b at 0 1 others >>= λ len. Ok (token kind.StringLiteral len)) (
+    cond (nat_eq b 47) (slash_at at others) (
+    signed at (sign_kind b))))))
+
+-- the whole text
+
+pub record Listed : Type 0 where
+  pub tokens : List Token
+  pub comments : List Comment
+
+abbrev pub kept : PieceKind → ℕ → ℕ → Listed → Listed
+kept piece.Blank at len listed = listed
+kept (piece.Comment k) at len listed = record listed { comments = record { kind = k; span = part at len } ∷ listed.comments }
+kept (piece.Token k) at len listed = record listed { tokens = record { kind = k; span = part at len } ∷ listed.tokens }
+
+-- what is listed from a place on, where the next `skip` bytes belong to what was listed before
+unfoldable pub listed_at : (skip at : ℕ) → List ℕ → Read Listed
+listed_at skip at [] = Ok (record { tokens = []; comments = [] })
+listed_at (suc skip) at (b ∷ others) = listed_at skip (at + 1) others
+listed_at zero at (b ∷ others) =
+    piece_at at (b ∷ others) >>= λ p. listed_at (p.len - 1) (at + 1) others >>= λ listed. Ok (kept p.kind at p.len listed)
+
+abbrev pub mark_len : List ℕ → ℕ
+mark_len (a ∷ (b ∷ (c ∷ rest))) = cond (nat_eq a 239 && nat_eq b 187 && nat_eq c 191) 3 0
+mark_len _ = 0
+
+unfoldable pub listed_of : List ℕ → Read Listed
+listed_of text = listed_at 0 (mark_len text) (drop (mark_len text) text)

@@ -1,0 +1,61 @@
+-- What the program says of a fault on standard error, and the status that it then ends with.
+use Rattle.std.specs.Prelude.{ℕ, List, ◌++◌, Option, Some, None, codes}
+use Rattle.std.specs.Fmt.{decimal}
+use Rattle.proto_lex.specs.declared.fault.LexFault.{LexFault}
+use Rattle.proto_lex.specs.declared.fault.LexFault.TheVariants as lexing
+use Rattle.protoscip.specs.declared.fault.Fault.{Fault}
+use Rattle.protoscip.specs.declared.fault.Fault.TheVariants as fault
+
+-- the name of a fault
+abbrev pub lex_name : LexFault → List ℕ
+lex_name lexing.TooLong = codes "TooLong"
+lex_name (lexing.NotUtf8 at) = codes "NotUtf8"
+lex_name (lexing.BadByte at) = codes "BadByte"
+lex_name (lexing.OpenString at) = codes "OpenString"
+lex_name (lexing.OpenComment at) = codes "OpenComment"
+lex_name (lexing.BadEscape at) = codes "BadEscape"
+lex_name (lexing.BadNumber at) = codes "BadNumber"
+lex_name lexing.Memory = codes "Memory"
+
+-- where the fault stands in its source, if it stands there; a source that is too long is too long
+-- from the first byte past the limit on
+abbrev pub lex_offset : LexFault → Option ℕ
+lex_offset lexing.TooLong = Some 67108864
+lex_offset (lexing.NotUtf8 at) = Some at
+lex_offset (lexing.BadByte at) = Some at
+lex_offset (lexing.OpenString at) = Some at
+lex_offset (lexing.OpenComment at) = Some at
+lex_offset (lexing.BadEscape at) = Some at
+lex_offset (lexing.BadNumber at) = Some at
+lex_offset lexing.Memory = None
+
+-- `protoscip: NAME`, and with a place `protoscip: PATH@OFFSET: NAME`
+abbrev pub line_of : List ℕ → Option ℕ → List ℕ → List ℕ
+line_of path None name = codes "protoscip: " ++ name
+line_of path (Some at) name =
+    codes "protoscip: " ++ path ++ codes "@" ++ decimal at ++ codes ": " ++ name
+
+-- the line of a fault in the source with this path
+abbrev pub fault_line : List ℕ → Fault → List ℕ
+fault_line path fault.Memory = line_of path None (codes "Memory")
+fault_line path fault.Read = line_of path None (codes "Read")
+fault_line path (fault.Lex e) = line_of path (lex_offset e) (lex_name e)
+fault_line path (fault.Duplicate first second) =
+    codes "protoscip: " ++ path ++ codes "@" ++ decimal second.start
+    ++ codes ": Duplicate of " ++ path ++ codes "@" ++ decimal first.start
+fault_line path fault.TooLarge = line_of path None (codes "TooLarge")
+fault_line path (fault.Write count) = line_of path None (codes "Write")
+
+abbrev pub lex_status : LexFault → ℕ
+lex_status lexing.Memory = 4
+lex_status _ = 1
+
+-- the exit status: 1 where the source is refused, 3 where reading, writing or the index's size
+-- fails, 4 for want of memory
+abbrev pub status_of : Fault → ℕ
+status_of fault.Memory = 4
+status_of fault.Read = 3
+status_of (fault.Lex e) = lex_status e
+status_of (fault.Duplicate first second) = 1
+status_of fault.TooLarge = 3
+status_of (fault.Write count) = 3

@@ -1,0 +1,12 @@
+pub mod Varints
+pub mod Lengths
+pub mod Joins
+pub mod SpelledFields
+pub mod SpelledMessages
+pub mod Columns
+pub mod Faults
+pub mod FieldLaws
+pub mod Folds
+pub mod Loops
+pub mod Messages
+pub mod Options

@@ -1,0 +1,5 @@
+use Rattle.std.proofs.Common.{ℕ}
+use Rattle.scip_wire.proofs.read.varint.+varint_of.Given as goal
+
+abbrev pub decreases-varint_of : goal.decreases-varint_of
+decreases-varint_of l = l.room

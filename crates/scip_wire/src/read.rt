@@ -1,0 +1,7 @@
+//! Reading an index from bytes.
+
+mod cause;
+mod field;
+mod message;
+
+mod varint;

@@ -1,0 +1,97 @@
+//! Records: a field's number and what it holds.
+
+ghost use Rattle.std.specs.Prelude.{◌≡◌};
+ghost use Rattle.scip_wire.specs.Gives.{Gives, Reads};
+ghost use Rattle.scip_wire.specs.Reading.{piece_at, payload_at, field_at};
+ghost use Rattle.scip_wire.specs.Views.{payload_view, field_view};
+
+use crate::read::cause::Cause;
+use crate::read::varint::{VARINT_BYTES, varint_of};
+use crate::wire_fault::WireFault;
+
+/// What a record holds, by its wire type (Protocol Buffers encoding, Message Structure).
+#[derive(Clone, Copy, Debug)]
+pub enum Payload<'a> {
+    Varint(u64),
+    Fixed64(&'a [u8]),
+    Delimited(&'a [u8]),
+    Fixed32(&'a [u8]),
+}
+
+/// A record: its field's number, 1 to 536,870,911, and what it holds.
+#[derive(Clone, Copy, Debug)]
+pub struct Field<'a> {
+    pub number: u32,
+    pub payload: Payload<'a>,
+}
+
+/// The first `size` bytes, and those behind them.
+#[tactic(auto, unfolding(crate::specs::Reading::piece_at))]
+fn piece_of(bytes: &[u8], size: u64) -> Result<(&[u8], &[u8]), Cause>
+    ensures { Reads (λ x. (x.0.now, x.1.now)) result (piece_at size bytes.now) }
+{
+    if size > bytes.len() as u64 {
+        return Err(Cause::Truncated);
+    }
+    Ok(bytes.split_at(size as usize))
+}
+
+/// The payload of a wire type that the bytes begin with, and the bytes behind it.
+#[tactic(auto, unfolding(crate::specs::Reading::payload_at))]
+fn payload_of(bytes: &[u8], wire_type: u64) -> Result<(Payload<'_>, &[u8]), Cause>
+    ensures { Reads (λ x. (payload_view x.0, x.1.now)) result (payload_at wire_type bytes.now) }
+{
+    match wire_type {
+        0 => {
+            let (value, rest) = varint_of(bytes, VARINT_BYTES)?;
+            Ok((Payload::Varint(value), rest))
+        }
+        1 => {
+            let (inside, rest) = piece_of(bytes, 8)?;
+            Ok((Payload::Fixed64(inside), rest))
+        }
+        2 => {
+            let (size, rest) = varint_of(bytes, VARINT_BYTES)?;
+            let (inside, rest) = piece_of(rest, size)?;
+            Ok((Payload::Delimited(inside), rest))
+        }
+        5 => {
+            let (inside, rest) = piece_of(bytes, 4)?;
+            Ok((Payload::Fixed32(inside), rest))
+        }
+        3 | 4 => Err(Cause::Group),
+        _ => Err(Cause::WireType),
+    }
+}
+
+/// The record that the bytes begin with, and the bytes behind it (Protocol Buffers encoding,
+/// Message Structure).
+#[tactic(auto, unfolding(crate::specs::Reading::field_at))]
+fn field_of(bytes: &[u8]) -> Result<(Field<'_>, &[u8]), Cause>
+    ensures { Reads (λ x. (field_view x.0, x.1.now)) result (field_at bytes.now) }
+{
+    let (tag, rest) = varint_of(bytes, VARINT_BYTES)?;
+    if tag >= 1 << 32 {
+        return Err(Cause::Varint);
+    }
+    if tag < 8 {
+        return Err(Cause::FieldZero);
+    }
+    let (payload, rest) = payload_of(rest, tag % 8)?;
+    let field = Field {
+        number: (tag / 8) as u32,
+        payload,
+    };
+    Ok((field, rest))
+}
+
+/// The record that the bytes begin with, which is at `start` in the input, and the bytes behind it.
+#[tactic(auto, using(crate::proofs::Faults::of_bytes))]
+pub fn read_field(bytes: &[u8], start: usize) -> Result<(Field<'_>, &[u8]), WireFault>
+    ensures { Gives (λ x. (field_view x.0, x.1.now)) result (field_at bytes.now) }
+{
+    match field_of(bytes) {
+        Ok(read) => Ok(read),
+        Err(cause) => Err(cause.at(start)),
+    }
+}

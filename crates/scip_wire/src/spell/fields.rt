@@ -1,0 +1,137 @@
+//! The records of fields: of bytes, of texts and of numbers.
+
+ghost use Rattle.std.specs.Prelude.{◌≡◌, ◌++◌, ◌+◌, ◌*◌, ◌^◌, ◌<◌, List, ℕ, [], ◌∷◌, length, All, OnOk, IsUtf8};
+ghost use Rattle.scip_wire.specs.Spelling.{bytes_of, bytes_field, text_fields, int_fields, repeated_text_fields, in_64_bits};
+ghost use Rattle.scip_wire.specs.Saturated.{saturated, fields_len};
+
+use super::varint::{put_varint, varint_len};
+use scip_model::{OwnedText, Sequence};
+use std::alloc::AllocError;
+
+/// The length of a record of so many bytes, tag and length in front included.
+pub(super) fn record_len(number: u64, len: u64) -> u64
+    requires { number < 2 ^ 29 }
+    ensures { (bytes : List ℕ) → len ≡ saturated (length bytes) → result ≡ saturated (fields_len (bytes_field number bytes ∷ [])) }
+{
+    let front = varint_len(8 * number + 2) + varint_len(len);
+    len.saturating_add(front)
+}
+
+/// The length of a record of this text, which may be empty.
+fn element_len(number: u64, text: &str) -> u64
+    requires { number < 2 ^ 29 }
+    ensures value { result ≡ saturated (fields_len (bytes_field number text.now ∷ [])) }
+    ensures fit { IsUtf8 text.now }
+{
+    record_len(number, text.len() as u64)
+}
+
+/// Appends a record of these bytes.
+pub(super) fn put_record(out: &mut Vec<u8>, number: u64, bytes: &[u8]) -> Result<(), AllocError>
+    requires { number < 2 ^ 29 }
+    ensures { OnOk result (out.new.items ≡ out.old.items ++ bytes_of (bytes_field number bytes.now ∷ [])) }
+{
+    put_varint(out, 8 * number + 2)?;
+    put_varint(out, bytes.len() as u64)?;
+    out.extend_from_slice(bytes)?;
+    Ok(())
+}
+
+/// The length of a text's record, which an empty text doesn't have.
+pub(super) fn text_len(number: u64, text: &OwnedText) -> u64
+    requires { number < 2 ^ 29 }
+    ensures value { result ≡ saturated (fields_len (text_fields number text.now)) }
+    ensures fit { IsUtf8 text.now }
+{
+    let text = text.as_str();
+    let len = element_len(number, text);
+    if text.is_empty() { 0 } else { len }
+}
+
+/// Appends a text's record, which an empty text doesn't have.
+pub(super) fn put_text(out: &mut Vec<u8>, number: u64, text: &OwnedText) -> Result<(), AllocError>
+    requires { number < 2 ^ 29 }
+    ensures { OnOk result (out.new.items ≡ out.old.items ++ bytes_of (text_fields number text.now)) }
+{
+    let bytes = text.as_str().as_bytes();
+    if !bytes.is_empty() {
+        put_record(out, number, bytes)?;
+    }
+    Ok(())
+}
+
+/// The length of the records of a repeated text.
+pub(super) fn texts_len(number: u64, texts: &Sequence<OwnedText>) -> u64
+    requires { number < 2 ^ 29 }
+    ensures value { result ≡ saturated (fields_len (repeated_text_fields number texts.now)) }
+    ensures fit { All IsUtf8 texts.now }
+{
+    slice_len(number, texts.as_slice())
+}
+
+/// The length of the records of texts.
+fn slice_len(number: u64, texts: &[OwnedText]) -> u64
+    requires { number < 2 ^ 29 }
+    ensures value { result ≡ saturated (fields_len (repeated_text_fields number texts.now)) }
+    ensures fit { All IsUtf8 texts.now }
+{
+    let mut len = 0u64;
+    'texts: for text in texts {
+        len = len.saturating_add(element_len(number, text.as_str()));
+    }
+    len
+}
+
+/// Appends the records of a repeated text.
+pub(super) fn put_texts(
+    out: &mut Vec<u8>,
+    number: u64,
+    texts: &Sequence<OwnedText>,
+) -> Result<(), AllocError>
+    requires { number < 2 ^ 29 }
+    ensures { OnOk result (out.new.items ≡ out.old.items ++ bytes_of (repeated_text_fields number texts.now)) }
+{
+    put_slice(out, number, texts.as_slice())
+}
+
+/// Appends the records of texts.
+fn put_slice(out: &mut Vec<u8>, number: u64, texts: &[OwnedText]) -> Result<(), AllocError>
+    requires { number < 2 ^ 29 }
+    ensures { OnOk result (out.new.items ≡ out.old.items ++ bytes_of (repeated_text_fields number texts.now)) }
+{
+    'texts: for text in texts {
+        put_record(out, number, text.as_str().as_bytes())?;
+    }
+    Ok(())
+}
+
+/// An int32 or an enum in 64 bits, as its varint has it.
+fn in_64_bits(value: i32) -> u64
+    ensures { result ≡ in_64_bits value }
+{
+    i64::from(value).cast_unsigned()
+}
+
+/// The length of a number's record, which 0 doesn't have.
+pub(super) fn int_len(number: u64, value: i32) -> u64
+    requires { number < 2 ^ 29 }
+    ensures { result ≡ saturated (fields_len (int_fields number value)) }
+{
+    if value == 0 {
+        0
+    } else {
+        varint_len(8 * number) + varint_len(in_64_bits(value))
+    }
+}
+
+/// Appends a number's record, which 0 doesn't have.
+pub(super) fn put_int(out: &mut Vec<u8>, number: u64, value: i32) -> Result<(), AllocError>
+    requires { number < 2 ^ 29 }
+    ensures { OnOk result (out.new.items ≡ out.old.items ++ bytes_of (int_fields number value)) }
+{
+    if value != 0 {
+        put_varint(out, 8 * number)?;
+        put_varint(out, in_64_bits(value))?;
+    }
+    Ok(())
+}

@@ -1,0 +1,53 @@
+//! Writing an index.
+
+ghost use Rattle.std.specs.Prelude.{◌≡◌, ◌<◌, ◌≤◌, ◌↔◌, length, IfOk, IfErr, OnOk, OkIff, Err};
+ghost use Rattle.std.specs.Io.KnownBytes.{Appends};
+ghost use Rattle.scip_wire.specs.Spelling.{spelling_of};
+ghost use Rattle.scip_wire.specs.WellFormed.{IsWellFormed};
+ghost use Rattle.scip_wire.specs.Writing.{Leaves};
+
+use crate::spell::Message;
+use crate::write_fault::{SpellFault, TooLarge, WriteFault};
+use scip_model::{Index, Sink, write_all};
+use std::alloc::Global;
+
+/// The most bytes that an index may have: the Protocol Buffers libraries' own limit.
+pub const MAX_INDEX_LEN: u32 = 2147483647;
+
+/// How many bytes the spelling of an index has. Takes no memory.
+pub fn encoded_len(index: &Index) -> Result<u32, TooLarge>
+    ensures len { OkIff result (length (spelling_of index.now) ≤ MAX_INDEX_LEN) (length (spelling_of index.now)) }
+    ensures known { IsWellFormed index.now }
+{
+    let len = index.spelled_len();
+    if len > u64::from(MAX_INDEX_LEN) {
+        return Err(TooLarge);
+    }
+    Ok(len as u32)
+}
+
+/// The spelling of an index, whole in memory.
+pub fn spell_index(alloc: Global, index: &Index) -> Result<Vec<u8>, SpellFault>
+    ensures bytes { IfOk result (λ bytes. bytes.items ≡ spelling_of index.now) }
+    ensures too_large { (result ≡ Err SpellFault.TooLarge) ↔ (MAX_INDEX_LEN < length (spelling_of index.now)) }
+    ensures known { IsWellFormed index.now }
+{
+    let len = encoded_len(index)?;
+    let mut bytes = Vec::with_capacity(alloc, len as usize)?;
+    index.put(&mut bytes)?;
+    Ok(bytes)
+}
+
+/// Writes the spelling of an index.
+pub fn write_index<W: Sink>(alloc: Global, index: &Index, sink: &mut W) -> Result<(), WriteFault>
+    ensures ok { OnOk result (Appends (W.contents sink.old) (W.contents sink.new) (spelling_of index.now)) }
+    ensures unfailed { OnOk result (W.failures sink.new ≡ W.failures sink.old) }
+    ensures too_large { (result ≡ Err WriteFault.TooLarge) ↔ (MAX_INDEX_LEN < length (spelling_of index.now)) }
+    ensures refused { IfErr result (Leaves W.contents W.failures sink.old sink.new (spelling_of index.now)) }
+{
+    let bytes = spell_index(alloc, index)?;
+    match write_all(sink, &bytes) {
+        Ok(()) => Ok(()),
+        Err(cut_off) => Err(WriteFault::Write(cut_off.written)),
+    }
+}

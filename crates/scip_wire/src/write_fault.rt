@@ -1,0 +1,81 @@
+//! Why an index isn't written.
+
+use std::alloc::{AllocError, AllocFailed};
+use thiserror::Error;
+
+/// The spelling of an index is longer than `MAX_INDEX_LEN` bytes.
+#[derive(Clone, Copy, Debug, Drop, PartialEq, Eq, Error)]
+#[error("TooLarge")]
+pub struct TooLarge;
+
+/// Why an index isn't spelled.
+#[derive(Clone, Copy, Debug, Drop, PartialEq, Eq, Error)]
+pub enum SpellFault {
+    /// The spelling is longer than `MAX_INDEX_LEN` bytes.
+    #[error("TooLarge")]
+    TooLarge,
+    /// Memory ran out.
+    #[error("Memory")]
+    Memory,
+}
+
+/// Why an index isn't written.
+#[derive(Clone, Copy, Debug, Drop, PartialEq, Eq, Error)]
+pub enum WriteFault {
+    /// The spelling is longer than `MAX_INDEX_LEN` bytes. Nothing was written.
+    #[error("TooLarge")]
+    TooLarge,
+    /// A write failed when so many bytes of the spelling, from the first on, had gone out.
+    #[error("Write({0})")]
+    Write(usize),
+    /// Memory ran out. Nothing was written.
+    #[error("Memory")]
+    Memory,
+}
+
+impl From<AllocError> for SpellFault {
+    ghost use Rattle.std.specs.Prelude.{◌≡◌};
+    ghost use Rattle.scip_wire.specs.declared.write_fault.SpellFault.TheVariants.{Memory};
+
+    ghost from_gives = { λ _ e. e ≡ Memory };
+
+    fn from(_refused: AllocError) -> SpellFault {
+        SpellFault::Memory
+    }
+}
+
+impl<T: Drop> From<AllocFailed<T>> for SpellFault {
+    ghost use Rattle.std.specs.Prelude.{◌≡◌};
+    ghost use Rattle.scip_wire.specs.declared.write_fault.SpellFault.TheVariants.{Memory};
+
+    ghost from_gives = { λ _ e. e ≡ Memory };
+
+    fn from(_refused: AllocFailed<T>) -> SpellFault {
+        SpellFault::Memory
+    }
+}
+
+impl From<TooLarge> for SpellFault {
+    ghost use Rattle.std.specs.Prelude.{◌≡◌};
+    ghost use Rattle.scip_wire.specs.declared.write_fault.SpellFault.TheVariants.{TooLarge};
+
+    ghost from_gives = { λ _ e. e ≡ TooLarge };
+
+    fn from(_refused: TooLarge) -> SpellFault {
+        SpellFault::TooLarge
+    }
+}
+
+impl From<SpellFault> for WriteFault {
+    ghost use Rattle.scip_wire.specs.Writing.{write_fault_of};
+    ghost use Rattle.std.specs.Prelude.{◌≡◌};
+
+    ghost from_gives = { λ fault e. e ≡ write_fault_of fault };
+
+    fn from(fault: SpellFault) -> WriteFault {
+        match fault {
+            SpellFault::TooLarge => WriteFault::TooLarge,
+            SpellFault::Memory => WriteFault::Memory,
+        }
+    }
+}

@@ -1,2 +1,4 @@
 pub mod Backticks
 pub mod ClashLemmas
+pub mod Options
+pub mod Parsing

@@ -1,3 +1,4 @@
 pub mod Faults
 pub mod Symbols
 pub mod Duplicates
+pub mod Syntax

@@ -6,6 +6,7 @@ pub mod declarations;
 pub mod duplicates;
 mod fault;
 pub mod symbols;
+pub mod syntax;
 
 use command::Request;
 use fault::Fault;

@@ -1,2 +1,3 @@
 pub mod Backticks
 pub mod ClashLemmas
+pub mod Orders

@@ -2,3 +2,4 @@ pub mod Backticks
 pub mod ClashLemmas
 pub mod Options
 pub mod Parsing
+pub mod Orders

@@ -2,3 +2,4 @@ pub mod Faults
 pub mod Symbols
 pub mod Duplicates
 pub mod Syntax
+pub mod Document

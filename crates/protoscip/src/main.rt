@@ -3,6 +3,7 @@
 
 mod command;
 pub mod declarations;
+pub mod document;
 pub mod duplicates;
 mod fault;
 pub mod symbols;

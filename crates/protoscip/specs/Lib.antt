@@ -3,3 +3,4 @@ pub mod Symbols
 pub mod Duplicates
 pub mod Syntax
 pub mod Document
+pub mod Declarations

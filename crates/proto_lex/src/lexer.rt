@@ -92,3 +92,6 @@ pub fn lex<'a>(alloc: Global, text: &Text<'a>) -> Result<Tokens<'a>, LexFault>
     let found = listed(alloc, text.as_bytes())?;
     Ok(Tokens::new(text, found.tokens, found.comments))
 }
+
+#[cfg(test)]
+mod tests;

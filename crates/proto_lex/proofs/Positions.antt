@@ -41,7 +41,7 @@ one_each text k d inside = omega arith
 all_few : (encoding : Encoding) (text : List ℕ) → All (λ byte. code_units encoding byte ≤ 2) text
 all_few encoding text k d inside = few_units encoding (get_or text k d)
 
-length-after_last-le : {X : Type 0} (p : X → Bool) (xs : List X) → length (after_last p xs) ≤ length xs
+pub length-after_last-le : {X : Type 0} (p : X → Bool) (xs : List X) → length (after_last p xs) ≤ length xs
 length-after_last-le p xs = omega (arith, length-drop (length xs - suffix_len (λ x. not (p x)) xs) xs)
 
 pub line-le : (encoding : Encoding) (text : List ℕ) → (position_after encoding text).line ≤ length text

@@ -3,3 +3,4 @@ pub mod ClashLemmas
 pub mod Options
 pub mod Parsing
 pub mod Orders
+pub mod Walks

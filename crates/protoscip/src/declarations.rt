@@ -6,7 +6,7 @@ ghost use Rattle.std.specs.String.{string_bytes};
 ghost use Rattle.protoscip.specs.Syntax.Tree.{names_in, names_of};
 ghost use Rattle.protoscip.specs.Declarations.{IsSpanOf, spelling_at, dotted, within, declaration_at, declared_by, declarations_of};
 
-use crate::syntax::tree::{File, Message, MessageItem};
+use crate::syntax::{File, Message, MessageItem};
 use proto_lex::Span;
 use scip_model::{OwnedText, Sequence};
 use std::alloc::{AllocError, Global};

@@ -4,3 +4,5 @@ pub mod Options
 pub mod Parsing
 pub mod Orders
 pub mod Walks
+pub mod Naming
+pub mod Kept

@@ -19,3 +19,4 @@ pub mod TextForms
 pub mod ListSteps
 pub mod Places
 pub mod Longest
+pub mod Faults

@@ -83,23 +83,5 @@ pub gives_fault : {X : Type 0} (view : X → Listed) (result : Result X LexFault
 gives_fault {X} view result fault other read e f g =
     subst (λ (r : Result X LexFault). GivesList view r read) (sym (e ∙ ap Err f)) (fault_given view fault read g)
 
--- the same fault, whatever an answer would be
-same_fault : {X Y : Type 0} (view : X → Listed) (other : Y → Listed) (fault : LexFault) (read : Read Listed)
-    → GivesList view (Err fault) read → GivesList other (Err fault) read
-same_fault view other TooLong read g = g
-same_fault view other (NotUtf8 n) read g = g
-same_fault view other (BadByte n) read g = g
-same_fault view other (OpenString n) read g = g
-same_fault view other (OpenComment n) read g = g
-same_fault view other (BadEscape n) read g = g
-same_fault view other (BadNumber n) read g = g
-same_fault view other Memory read g = tt
-
-pub passes_fault : {X Y : Type 0} (view : X → Listed) (other : Y → Listed) (result : Result Y LexFault) (passed fault : LexFault) (read again : Read Listed)
-    → result ≡ Err passed → passed ≡ fault → read ≡ again → GivesList view (Err fault) read → GivesList other result again
-passes_fault {X} {Y} view other result passed fault read again e f same g =
-    subst (λ (r : Result Y LexFault). GivesList other r again) (sym (e ∙ ap Err f))
-    (same_fault view other fault again (subst (λ (r : Read Listed). GivesList view (Err fault) r) same g))
-
 pub some_left : (n : ℕ) → nat_eq n 0 ≡ false → 0 < n
 some_left n e = grind (arith, nat_tests)

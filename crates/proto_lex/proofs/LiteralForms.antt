@@ -86,7 +86,7 @@ long_found (x ∷ (y ∷ (z ∷ others))) e =
     (λ _ f. both (nat_eq z 49) (begins_last_unicode others) f (λ tz g.
     rw (eqb-true x 48 tx, eqb-true y 48 ty, eqb-true z 49 tz) (last_found others g)))))
 
-escape_found : (bytes : List ℕ) (count : ℕ) → escape_len bytes ≡ Some count → EscapeFront bytes count
+pub escape_found : (bytes : List ℕ) (count : ℕ) → escape_len bytes ≡ Some count → EscapeFront bytes count
 escape_found [] count e = none_not_some e
 escape_found (b ∷ others) count e =
     chosen (is_escape_letter b || is_octal_digit b) e
@@ -110,7 +110,7 @@ pub record LiteralFront (quote : ℕ) (bytes : List ℕ) (count : ℕ) : Type 0 
   pub ends : EndsLiteral quote front
   pub counted : count ≡ length front
 
-escaped_found : (at : ℕ) (len : Option ℕ) (more : ℕ) → escaped at len ≡ Ok more → (count : ℕ) × (len ≡ Some count) × (more ≡ count + 1)
+pub escaped_found : (at : ℕ) (len : Option ℕ) (more : ℕ) → escaped at len ≡ Ok more → (count : ℕ) × (len ≡ Some count) × (more ≡ count + 1)
 escaped_found at None more e = err_not_ok e
 escaped_found at (Some count) more e = (count, refl, sym (same_ok (count + 1) more (Ok (count + 1)) refl e))
 

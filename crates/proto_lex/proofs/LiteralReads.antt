@@ -64,6 +64,19 @@ five_read : (a b c d e : ℕ) (rest : List ℕ) → list_all is_hex_digit (a ∷
 five_read a b c d e rest h =
     and_true (nat_le 5 (length (a ∷ (b ∷ (c ∷ (d ∷ (e ∷ rest))))))) (list_all is_hex_digit (a ∷ (b ∷ (c ∷ (d ∷ (e ∷ [])))))) (grind (arith, nat_tests)) h
 
+-- something is read wherever an escape stands
+pub escape_some : {letters : List ℕ} → IsEscape letters → (rest : List ℕ) → (count : ℕ) × (escape_len (letters ++ rest) ≡ Some count)
+escape_some (letter t) rest = (1, rw t refl)
+escape_some (one_hex {x} {a} t h) rest = both (is_hex_digit a) true h (λ ha _. (2, hex_read x a rest t ha))
+escape_some (two_hex {x} {a} {b} t h) rest = both (is_hex_digit a) (is_hex_digit b && true) h (λ ha _. (2, hex_read x a (b ∷ rest) t ha))
+escape_some (one_octal {a} h) rest = both (is_octal_digit a) true h (λ ha _. (1, octal_escape a rest ha))
+escape_some (two_octal {a} {b} h) rest = both (is_octal_digit a) (is_octal_digit b && true) h (λ ha _. (1, octal_escape a (b ∷ rest) ha))
+escape_some (three_octal {a} {b} {c} h) rest =
+    both (is_octal_digit a) (is_octal_digit b && (is_octal_digit c && true)) h (λ ha _. (1, octal_escape a (b ∷ (c ∷ rest)) ha))
+escape_some (short_unicode {a} {b} {c} {d} h) rest = (5, rw (four_read a b c d rest h) refl)
+escape_some (long_unicode {a} {b} {c} {d} {e} h) rest = (9, rw (five_read a b c d e rest h) refl)
+escape_some (last_unicode {a} {b} {c} {d} h) rest = (9, rw (four_read a b c d rest h) refl)
+
 -- an escape is read, with the digits that follow its first as characters
 escape_read : (quote opening : ℕ) → is_quote quote ≡ true → {letters : List ℕ} → IsEscape letters → (len : ℕ) (rest : List ℕ)
     → literal_at quote opening 0 len (92 ∷ (letters ++ rest)) ≡ literal_at quote opening 0 (len + 1 + length letters) rest

@@ -3,9 +3,9 @@ use Rattle.std.proofs.lemmas.Bool.Decides.{nat_tests}
 use Rattle.std.proofs.lemmas.List.{length-append}
 use Rattle.std.specs.List.{list_all, prefix_len}
 use Rattle.proto_lex.specs.Bytes.{is_letter, is_digit, is_octal_digit, is_hex_digit, is_word, is_plus_or_minus, is_exponent_mark, is_hex_mark, starts}
-use Rattle.proto_lex.specs.Numbers.{IsInteger, decimal, octal, hexadecimal, Digits, digit, digits, IsExponentOrNone, no_exponent, unsigned, signed, IsFloat, whole, fraction, power, point_first, begins_hexadecimal, goes_on, run_behind, run_of}
+use Rattle.proto_lex.specs.Numbers.{IsInteger, decimal, octal, hexadecimal, Digits, digit, digits, IsExponentOrNone, no_exponent, unsigned, signed, IsFloat, whole, fraction, power, point_first, begins_hexadecimal, goes_on, run_behind, run_of, begins_number}
 use Rattle.proto_lex.specs.Lexes.{Spells, identifier, integer, float, literal, sign, IsToken}
-use Rattle.proto_lex.specs.Reading.{begins_number, number_kind, token, numbered, number_at, piece_at}
+use Rattle.proto_lex.specs.Reading.{number_kind, token, numbered, number_at, piece_at}
 use Rattle.proto_lex.specs.declared.lexer.piece.Piece.{Piece}
 use Rattle.proto_lex.specs.declared.lexer.piece.PieceKind.TheVariants as piece
 use Rattle.proto_lex.specs.declared.token.TokenKind.{TokenKind}

@@ -4,10 +4,10 @@ use Rattle.std.proofs.lemmas.List.{take-append-drop}
 use Rattle.std.proofs.lemmas.List.Folds.{length-prefix_len}
 use Rattle.std.specs.List.{list_all, prefix_len}
 use Rattle.proto_lex.specs.Bytes.{is_blank, is_letter, is_digit, is_word, is_quote, starts}
-use Rattle.proto_lex.specs.Numbers.{run_of}
+use Rattle.proto_lex.specs.Numbers.{run_of, begins_number}
 use Rattle.proto_lex.specs.Comments.{IsComment, line, block}
 use Rattle.proto_lex.specs.Lexes.{sign_kind, Spells, identifier, integer, float, literal, sign, IsWhole, IsToken}
-use Rattle.proto_lex.specs.Reading.{◌>>=◌, is_in_line, begins_number, is_integer, is_float, number_kind, token, numbered, number_at, literal_at, block_at, blocked, behind_first, slash_at, signed, piece_at}
+use Rattle.proto_lex.specs.Reading.{◌>>=◌, is_in_line, is_integer, is_float, number_kind, token, numbered, number_at, literal_at, block_at, blocked, behind_first, slash_at, signed, piece_at}
 use Rattle.proto_lex.specs.declared.lexer.piece.Piece.{Piece}
 use Rattle.proto_lex.specs.declared.lexer.piece.PieceKind.{PieceKind}
 use Rattle.proto_lex.specs.declared.lexer.piece.PieceKind.TheVariants as piece

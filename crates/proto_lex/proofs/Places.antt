@@ -8,13 +8,12 @@ use Rattle.std.proofs.Math.Seq.{get_or-append_seam}
 use Rattle.std.specs.Prelude.{IsUtf8, IsCharBoundary, All}
 use Rattle.std.specs.List.{list_all, AllByRecursion}
 use Rattle.proto_lex.specs.Bytes.{is_blank, is_letter, is_word, is_quote, is_digit, starts}
-use Rattle.proto_lex.specs.Numbers.{goes_on, run_behind, run_of, begins_hexadecimal}
+use Rattle.proto_lex.specs.Numbers.{goes_on, run_behind, run_of, begins_hexadecimal, begins_number}
 use Rattle.proto_lex.specs.Literals.{EndsLiteral, close, character, escape}
 use Rattle.proto_lex.specs.Comments.{IsComment, line, block, EndsBlock}
 use Rattle.proto_lex.specs.Comments as comments
 use Rattle.proto_lex.specs.Lexes.{sign_kind, Spells, identifier, integer, float, literal, sign, IsWhole, IsToken, part, LexesFrom, at_end, blank, comment, token, Lexes, unmarked, marked}
 use Rattle.proto_lex.specs.Lexed.{IsPart, AreInOrder, IsLexed}
-use Rattle.proto_lex.specs.Reading.{begins_number}
 use Rattle.proto_lex.specs.declared.token.Token.{Token}
 use Rattle.proto_lex.specs.declared.token.TokenKind.{TokenKind}
 use Rattle.proto_lex.specs.declared.token.Comment.{Comment}

@@ -30,7 +30,7 @@ listed_first : (at b : ℕ) (others : List ℕ)
 unfolding listed_at
 listed_first at b others = refl
 
-drop_behind : (n b : ℕ) (others : List ℕ) → 0 < n → drop (n - 1) others ≡ drop n (b ∷ others)
+pub drop_behind : (n b : ℕ) (others : List ℕ) → 0 < n → drop (n - 1) others ≡ drop n (b ∷ others)
 drop_behind zero b others h = absurd (omega arith)
 drop_behind (suc k) b others h = let e : suc k - 1 ≡ k = omega arith in rw e refl
 
@@ -120,7 +120,7 @@ listed_read (token {at} {k} {word} {rest} {tokens} {comments} s r) =
 
 -- the byte order mark
 
-mark_cases : (text : List ℕ) {P : Type 0} → (mark_len text ≡ 0 → P) → ((rest : List ℕ) → text ≡ 239 ∷ (187 ∷ (191 ∷ rest)) → P) → P
+pub mark_cases : (text : List ℕ) {P : Type 0} → (mark_len text ≡ 0 → P) → ((rest : List ℕ) → text ≡ 239 ∷ (187 ∷ (191 ∷ rest)) → P) → P
 mark_cases [] p q = p refl
 mark_cases (a ∷ []) p q = p refl
 mark_cases (a ∷ (b ∷ [])) p q = p refl

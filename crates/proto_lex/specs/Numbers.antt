@@ -28,6 +28,11 @@ pub data IsFloat : List ℕ → Type 0 where
   power : {bytes exponent : List ℕ} {e : ℕ} → Digits bytes (e ∷ exponent) → IsExponentOrNone (e ∷ exponent) → IsFloat bytes
   point_first : {ds exponent : List ℕ} → Digits ds exponent → IsExponentOrNone exponent → IsFloat (46 ∷ ds)
 
+-- a number begins with a digit, or with a `.` directly before a digit
+abbrev pub begins_number : List ℕ → Bool
+begins_number [] = false
+begins_number (b ∷ others) = is_digit b || nat_eq b 46 && starts is_digit others
+
 -- a number that begins with `0x` or `0X` holds no sign
 abbrev pub begins_hexadecimal : List ℕ → Bool
 begins_hexadecimal [] = false

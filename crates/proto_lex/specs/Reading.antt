@@ -1,7 +1,7 @@
 use Rattle.std.specs.Prelude.{◌≡◌, ℕ, zero, suc, ◌+◌, ◌-◌, Bool, true, false, ◌||◌, ◌&&◌, not, cond, Option, Some, None, Result, Ok, Err, List, [], ◌∷◌, ◌++◌, length, take, drop, nat_eq, nat_le}
 use Rattle.std.specs.List.{list_all, prefix_len}
 use Rattle.proto_lex.specs.Bytes.{is_blank, is_letter, is_digit, is_octal_digit, is_hex_digit, is_word, is_plus_or_minus, is_exponent_mark, is_hex_mark, is_quote, starts}
-use Rattle.proto_lex.specs.Numbers.{run_of}
+use Rattle.proto_lex.specs.Numbers.{begins_number, run_of}
 use Rattle.proto_lex.specs.Literals.{is_escape_letter}
 use Rattle.proto_lex.specs.Comments.{begins_close}
 use Rattle.proto_lex.specs.Lexes.{sign_kind, part}
@@ -35,10 +35,6 @@ abbrev pub is_in_line : ℕ → Bool
 is_in_line b = not (nat_eq b 10)
 
 -- numbers
-
-abbrev pub begins_number : List ℕ → Bool
-begins_number [] = false
-begins_number (b ∷ others) = is_digit b || nat_eq b 46 && starts is_digit others
 
 abbrev pub are_digits : List ℕ → Bool
 are_digits [] = false

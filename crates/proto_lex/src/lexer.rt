@@ -1,9 +1,10 @@
 //! From a text to its tokens and comments.
 
-ghost use Rattle.std.specs.Prelude.{◌≡◌, ℕ, ◌<◌, ◌^◌, ◌++◌, [], List, Ok, length, IfOk, IfErr, OnOk};
+ghost use Rattle.std.specs.Prelude.{◌≡◌, ℕ, ◌<◌, ◌^◌, ◌++◌, [], List, length, IfOk, IfErr, OnOk, IsOkUnless};
 ghost use Rattle.proto_lex.specs.declared.token.Token.{Token};
 ghost use Rattle.proto_lex.specs.declared.token.Comment.{Comment};
 ghost use Rattle.proto_lex.specs.declared.token.TokenKind.{TokenKind};
+ghost use Rattle.proto_lex.specs.Faults.{IsFaultOf};
 ghost use Rattle.proto_lex.specs.Lexes.{Lexes, IsToken, Spells};
 ghost use Rattle.proto_lex.specs.Reading.{list_of, also, mark_len, listed_of, GivesList};
 
@@ -87,7 +88,13 @@ fn listed(alloc: Global, bytes: &[u8]) -> Result<Found, LexFault>
 pub fn lex<'a>(alloc: Global, text: &Text<'a>) -> Result<Tokens<'a>, LexFault>
     ensures text { IfOk result (λ found. found.text ≡ text.now) }
     ensures found { IfOk result (λ found. Lexes text.now found.tokens found.comments) }
-    ensures only { (tokens : List Token) → (comments : List Comment) → Lexes text.now tokens comments → GivesList (λ found. list_of found.tokens found.comments) result (Ok (list_of tokens comments)) }
+
+    // A text that lexes is accepted, with the tokens and comments of its lexing.
+    ensures accepted { (tokens : List Token) → (comments : List Comment) → Lexes text.now tokens comments
+        → IsOkUnless result LexFault.Memory }
+    ensures only { (tokens : List Token) → (comments : List Comment) → Lexes text.now tokens comments
+        → IfOk result (λ found. found ≡ record { text = text.now; tokens = tokens; comments = comments }) }
+    ensures fault { IfErr result (λ fault. IsFaultOf text.now fault) }
 {
     let text = text.as_str();
     let found = listed(alloc, text.as_bytes())?;
@@ -96,13 +103,19 @@ pub fn lex<'a>(alloc: Global, text: &Text<'a>) -> Result<Tokens<'a>, LexFault>
 
 /// A text has at most one lexing.
 pub fn one_lexing()
-    ensures tokens { (text : List ℕ) → (tokens : List Token) → (others : List Token) → (comments : List Comment) → (remarks : List Comment) → Lexes text tokens comments → Lexes text others remarks → tokens ≡ others }
-    ensures comments { (text : List ℕ) → (tokens : List Token) → (others : List Token) → (comments : List Comment) → (remarks : List Comment) → Lexes text tokens comments → Lexes text others remarks → comments ≡ remarks }
+    ensures tokens { (text : List ℕ) → (tokens : List Token) → (others : List Token)
+        → (comments : List Comment) → (remarks : List Comment)
+        → Lexes text tokens comments → Lexes text others remarks → tokens ≡ others }
+    ensures comments { (text : List ℕ) → (tokens : List Token) → (others : List Token)
+        → (comments : List Comment) → (remarks : List Comment)
+        → Lexes text tokens comments → Lexes text others remarks → comments ≡ remarks }
 {}
 
 /// Where a token stands, no longer spelling of a token stands.
 pub fn longest_token()
-    ensures { (kind : TokenKind) → (other : TokenKind) → (word : List ℕ) → (rest : List ℕ) → (more : List ℕ) → (tail : List ℕ) → IsToken kind word rest → rest ≡ more ++ tail → Spells other (word ++ more) → more ≡ [] }
+    ensures { (kind : TokenKind) → (other : TokenKind)
+        → (word : List ℕ) → (rest : List ℕ) → (more : List ℕ) → (tail : List ℕ)
+        → IsToken kind word rest → rest ≡ more ++ tail → Spells other (word ++ more) → more ≡ [] }
 {}
 
 #[cfg(test)]

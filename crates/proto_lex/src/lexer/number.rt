@@ -3,8 +3,8 @@
 ghost use Rattle.std.specs.Prelude.{◌≡◌, ℕ, ◌+◌, ◌<◌, ◌≤◌, ◌^◌, length, take};
 ghost use Rattle.std.specs.List.{list_all};
 ghost use Rattle.proto_lex.specs.Bytes.{is_digit, is_octal_digit, is_hex_digit};
-ghost use Rattle.proto_lex.specs.Numbers.{begins_hexadecimal, goes_on, run_behind, run_of};
-ghost use Rattle.proto_lex.specs.Reading.{begins_number, are_digits, are_hex_digits, is_zero_integer, is_integer, past_sign, is_exponent_or_none, ends_fraction, ends_whole, is_float, number_kind, number_at};
+ghost use Rattle.proto_lex.specs.Numbers.{begins_hexadecimal, goes_on, run_behind, run_of, begins_number};
+ghost use Rattle.proto_lex.specs.Reading.{are_digits, are_hex_digits, is_zero_integer, is_integer, past_sign, is_exponent_or_none, ends_fraction, ends_whole, is_float, number_kind, number_at};
 
 use crate::fault::LexFault;
 use crate::lexer::bytes::{

@@ -1,0 +1,266 @@
+use Rattle.std.proofs.Common.{◌≡◌, ℕ, zero, suc, ◌+◌, ◌-◌, ◌<◌, ◌≤◌, Bool, true, false, not, cond, ◌||◌, ◌&&◌, nat_eq, Option, Some, None, Ok, Err, List, [], ◌∷◌, ◌++◌, length, drop, refl, sym, ◌∙◌, ap, subst, arith, eqb-true, add-zero}
+use Rattle.std.proofs.lemmas.List.{drop_at}
+use Rattle.std.specs.List.{prefix_len}
+use Rattle.proto_lex.specs.Bytes.{is_blank, is_letter, is_digit, is_word, is_quote, is_octal_digit, starts}
+use Rattle.proto_lex.specs.Numbers.{begins_number, run_of}
+use Rattle.proto_lex.specs.Literals.{is_plain, is_escape_letter, IsEscape, letter, one_hex, two_hex, one_octal, two_octal, three_octal, short_unicode, long_unicode, last_unicode}
+use Rattle.proto_lex.specs.Lexes.{sign_kind}
+use Rattle.proto_lex.specs.Faults.{Holds, here, character, escape, IsStringFault, cut, nul, no_escape, IsFaultAt, unknown, no_number, no_close, no_string, Meets, fault, blank, comment, token, begins_mark, IsFirstFault, unmarked, marked, IsFaultOf}
+use Rattle.proto_lex.specs.Reading.{Read, ◌>>=◌, is_in_line, is_integer, is_float, number_kind, numbered, number_at, escape_len, escaped, character_at, literal_at, block_at, blocked, behind_first, slash_at, signed, piece_at, Listed, kept, listed_at, mark_len, listed_of, GivesList}
+use Rattle.proto_lex.specs.Reading as reading
+use Rattle.proto_lex.specs.declared.fault.LexFault.{LexFault}
+use Rattle.proto_lex.specs.declared.fault.LexFault.TheVariants.{TooLong, NotUtf8, Memory, BadByte, OpenString, OpenComment, BadEscape, BadNumber}
+use Rattle.proto_lex.specs.declared.lexer.piece.Piece.{Piece}
+use Rattle.proto_lex.specs.declared.lexer.piece.PieceKind.{PieceKind}
+use Rattle.proto_lex.specs.declared.lexer.piece.PieceKind.TheVariants as piece
+use Rattle.proto_lex.specs.declared.token.TokenKind.{TokenKind}
+use Rattle.proto_lex.specs.declared.token.TokenKind.TheVariants as kind
+use Rattle.proto_lex.specs.declared.token.CommentKind.TheVariants as remark
+use Rattle.proto_lex.proofs.Tools.{chosen, none_not_some, same_ok, err_not_ok}
+use Rattle.proto_lex.proofs.ByteClasses.{is_plain_from}
+use Rattle.proto_lex.proofs.NumberForms.{integer_read, float_read}
+use Rattle.proto_lex.proofs.LiteralSteps.{character_positive}
+use Rattle.proto_lex.proofs.LiteralForms.{EscapeFront, escape_found, escaped_found}
+use Rattle.proto_lex.proofs.LiteralReads.{escape_some}
+use Rattle.proto_lex.proofs.CommentForms.{block_read}
+use Rattle.proto_lex.proofs.PieceForms.{Stands, Begins, piece_found}
+use Rattle.proto_lex.proofs.PieceReads.{stands_some}
+use Rattle.proto_lex.proofs.TextForms.{drop_behind, mark_cases}
+
+-- The fault that is read is the one that the text meets first.
+
+ok_not_err : {A P : Type 0} {d : LexFault} {x : A} → Ok x ≡ Err d → P
+ok_not_err e = absurd cc
+
+same_err : {A : Type 0} (c d : LexFault) (r : Read A) → r ≡ Err c → r ≡ Err d → c ≡ d
+same_err c d r e f = cc
+
+abbrev failed : LexFault → Read ℕ
+failed f = Err f
+
+-- a chain that fails, fails at its first step or behind it
+bind_err : {A B P : Type 0} (r : Read A) (f : A → Read B) (d : LexFault) → (r >>= f) ≡ Err d
+    → (r ≡ Err d → P) → ((x : A) → r ≡ Ok x → f x ≡ Err d → P) → P
+bind_err (Ok x) f d e p q = q x refl e
+bind_err (Err c) f d e p q = let same : c ≡ d = cc in p (ap Err same)
+
+-- strings
+
+-- a character or an escape before a fault
+plain_before : (quote opening place b : ℕ) (others : List ℕ) (f : LexFault) → is_plain quote b ≡ true
+    → IsStringFault quote opening (place + 1) others f → IsStringFault quote opening place (b ∷ others) f
+plain_before quote opening place b others f p (cut h s) = cut (character p h) s
+plain_before quote opening place b others f p (nul h) = nul (character p h)
+plain_before quote opening place b others f p (no_escape h n) = no_escape (character p h) n
+
+escape_before : (quote opening place : ℕ) (letters others : List ℕ) (f : LexFault) → IsEscape letters
+    → IsStringFault quote opening (place + (1 + length letters)) others f → IsStringFault quote opening place (92 ∷ (letters ++ others)) f
+escape_before quote opening place letters others f p (cut h s) = cut (escape p h) s
+escape_before quote opening place letters others f p (nul h) = nul (escape p h)
+escape_before quote opening place letters others f p (no_escape h n) = no_escape (escape p h) n
+
+escaped_fault : (at : ℕ) (len : Option ℕ) (f : LexFault) → escaped at len ≡ Err f → (len ≡ None) × (BadEscape at ≡ f)
+escaped_fault at None f e = (refl, same_err (BadEscape at) f (escaped at None) refl e)
+escaped_fault at (Some len) f e = ok_not_err e
+
+character_fault : (quote opening at b : ℕ) (others : List ℕ) (f : LexFault) → character_at opening at b others ≡ Err f
+    → IsStringFault quote opening at (b ∷ others) f
+unfolding character_at
+character_fault quote opening at b others f e =
+    chosen (nat_eq b 10) e
+    (λ t x. rw (eqb-true b 10 t) (subst (λ (d : LexFault). IsStringFault quote opening at (10 ∷ others) d)
+    (same_err (OpenString opening) f (failed (OpenString opening)) refl x) (cut here refl))) (λ _ x.
+    chosen (nat_eq b 0) x
+    (λ t y. rw (eqb-true b 0 t) (subst (λ (d : LexFault). IsStringFault quote opening at (0 ∷ others) d)
+    (same_err (BadByte at) f (failed (BadByte at)) refl y) (nul here))) (λ _ y.
+    chosen (nat_eq b 92) y
+    (λ t z. let g = escaped_fault at (escape_len others) f z in
+    rw (eqb-true b 92 t) (subst (λ (d : LexFault). IsStringFault quote opening at (92 ∷ others) d) g.1
+    (no_escape here (λ letters rest form parts.
+    none_not_some (sym g.0 ∙ (ap escape_len parts ∙ (escape_some form rest).1))))))
+    (λ _ z. ok_not_err z)))
+
+backslash_before : (quote opening at more count : ℕ) (others : List ℕ) (f : LexFault) → EscapeFront others count → more ≡ count + 1
+    → IsStringFault quote opening (at + more) (drop (more - 1) others) f → IsStringFault quote opening at (92 ∷ others) f
+backslash_before quote opening at more count others f h n g =
+    let less : more - 1 ≡ count = omega arith in
+    let back : drop (more - 1) others ≡ h.rest = rw (less, h.parts) (drop_at h.front h.rest count (sym h.counted)) in
+    let place : at + more ≡ at + (1 + length h.front) = omega (arith, h.counted) in
+    let from : IsStringFault quote opening (at + (1 + length h.front)) h.rest f =
+    subst (λ (k : ℕ). IsStringFault quote opening k h.rest f) place
+    (subst (λ (xs : List ℕ). IsStringFault quote opening (at + more) xs f) back g) in
+    subst (λ (xs : List ℕ). IsStringFault quote opening at (92 ∷ xs) f) (sym h.parts)
+    (escape_before quote opening at h.front h.rest f h.form from)
+
+-- a character that is read, before a fault
+character_before : (quote opening at b more : ℕ) (others : List ℕ) (f : LexFault) → nat_eq b quote ≡ false
+    → character_at opening at b others ≡ Ok more → IsStringFault quote opening (at + more) (drop (more - 1) others) f
+    → IsStringFault quote opening at (b ∷ others) f
+unfolding character_at
+character_before quote opening at b more others f nq e g =
+    chosen (nat_eq b 10) e (λ _ x. err_not_ok x) (λ n10 x.
+    chosen (nat_eq b 0) x (λ _ y. err_not_ok y) (λ n0 y.
+    chosen (nat_eq b 92) y
+    (λ t z. let m = escaped_found at (escape_len others) more z in
+    rw (eqb-true b 92 t) (backslash_before quote opening at more m.0 others f (escape_found others m.0 m.1) m.2 g))
+    (λ n92 z. let one : 1 ≡ more = same_ok 1 more (Ok 1) refl z in
+    plain_before quote opening at b others f (is_plain_from quote b nq n10 n0 n92)
+    (subst (λ (k : ℕ). IsStringFault quote opening (at + k) (drop (k - 1) others) f) (sym one) g))))
+
+literal_fault_found : (quote opening skip len : ℕ) (bytes : List ℕ) (f : LexFault) → literal_at quote opening skip len bytes ≡ Err f
+    → IsStringFault quote opening (opening + len + skip) (drop skip bytes) f
+unfolding literal_at
+literal_fault_found quote opening zero len [] f e =
+    subst (λ (d : LexFault). IsStringFault quote opening (opening + len + 0) [] d) (same_err (OpenString opening) f (failed (OpenString opening)) refl e) (cut here refl)
+literal_fault_found quote opening (suc skip) len [] f e =
+    subst (λ (d : LexFault). IsStringFault quote opening (opening + len + suc skip) [] d) (same_err (OpenString opening) f (failed (OpenString opening)) refl e) (cut here refl)
+literal_fault_found quote opening (suc skip) len (b ∷ others) f e =
+    let n : opening + (len + 1) + skip ≡ opening + len + suc skip = omega arith in
+    rw n at (literal_fault_found quote opening skip (len + 1) others f e)
+literal_fault_found quote opening zero len (b ∷ others) f e =
+    chosen (nat_eq b quote) e (λ _ x. ok_not_err x) (λ n x.
+    rw add-zero (bind_err (character_at opening (opening + len) b others) (λ more. literal_at quote opening (more - 1) (len + 1) others) f x
+    (λ y. character_fault quote opening (opening + len) b others f y)
+    (λ more y z.
+    let some = character_positive opening (opening + len) b more others y in
+    let place : opening + (len + 1) + (more - 1) ≡ opening + len + more = omega (arith, some) in
+    character_before quote opening (opening + len) b more others f n y
+    (rw place at (literal_fault_found quote opening (more - 1) (len + 1) others f z)))))
+
+-- what stands at a place
+
+numbered_fault : (at : ℕ) (o : Option TokenKind) (len : ℕ) (f : LexFault) → numbered at o len ≡ Err f → (o ≡ None) × (BadNumber at ≡ f)
+numbered_fault at None len f e = (refl, same_err (BadNumber at) f (numbered at None len) refl e)
+numbered_fault at (Some k) len f e = ok_not_err e
+
+no_kind : (run : List ℕ) → number_kind run ≡ None → (is_integer run ≡ false) × (is_float run ≡ false)
+no_kind run e =
+    chosen (is_integer run) e (λ _ x. none_not_some (sym x)) (λ i x.
+    chosen (is_float run) x (λ _ y. none_not_some (sym y)) (λ f _. (i, f)))
+
+number_fault : (at : ℕ) (bytes : List ℕ) (f : LexFault) → begins_number bytes ≡ true → number_at at bytes ≡ Err f → IsFaultAt at bytes f
+unfolding number_at
+number_fault at bytes f t e =
+    let m = numbered_fault at (number_kind (run_of bytes)) (length (run_of bytes)) f e in
+    let k = no_kind (run_of bytes) m.0 in
+    subst (λ (d : LexFault). IsFaultAt at bytes d) m.1
+    (no_number t (λ i. let yes = integer_read i in let no = k.0 in cc) (λ i. let yes = float_read i in let no = k.1 in cc))
+
+blocked_fault : (at : ℕ) (o : Option ℕ) (f : LexFault) → blocked at o ≡ Err f → (o ≡ None) × (OpenComment at ≡ f)
+blocked_fault at None f e = (refl, same_err (OpenComment at) f (blocked at None) refl e)
+blocked_fault at (Some len) f e = ok_not_err e
+
+open_fault : (at : ℕ) (others : List ℕ) (f : LexFault) → starts (nat_eq 42) others ≡ true → blocked at (block_at 2 (behind_first others)) ≡ Err f
+    → IsFaultAt at (47 ∷ others) f
+open_fault at [] f t e = absurd cc
+open_fault at (c ∷ others) f t e =
+    let same : 42 ≡ c = eqb-true 42 c t in
+    let m = blocked_fault at (block_at 2 others) f e in
+    subst (λ (d : LexFault). IsFaultAt at (47 ∷ (c ∷ others)) d) m.1 (rw (← same) (no_close (λ inside rest r parts.
+    none_not_some (sym m.0 ∙ (ap (block_at 2) parts ∙ block_read 2 rest r)))))
+
+slash_fault : (at : ℕ) (others : List ℕ) (f : LexFault) → slash_at at others ≡ Err f → IsFaultAt at (47 ∷ others) f
+slash_fault at others f e =
+    chosen (starts (nat_eq 47) others) e (λ _ x. ok_not_err x) (λ _ x.
+    chosen (starts (nat_eq 42) others) x (λ t y. open_fault at others f t y) (λ _ y. ok_not_err y))
+
+signed_fault : (at : ℕ) (o : Option TokenKind) (f : LexFault) → signed at o ≡ Err f → (o ≡ None) × (BadByte at ≡ f)
+signed_fault at None f e = (refl, same_err (BadByte at) f (signed at None) refl e)
+signed_fault at (Some k) f e = ok_not_err e
+
+or_false : (a b : Bool) → (a || b) ≡ false → a ≡ false
+or_false true b e = e
+or_false false b e = refl
+
+string_fault : (at b : ℕ) (others : List ℕ) (f : LexFault) → is_quote b ≡ true
+    → (literal_at b at 0 1 others >>= λ len. Ok (reading.token kind.StringLiteral len)) ≡ Err f → IsFaultAt at (b ∷ others) f
+string_fault at b others f t e =
+    bind_err (literal_at b at 0 1 others) (λ len. Ok (reading.token kind.StringLiteral len)) f e
+    (λ x. no_string t (rw add-zero at (literal_fault_found b at 0 1 others f x)))
+    (λ _ _ x. ok_not_err x)
+
+piece_fault : (at b : ℕ) (others : List ℕ) (f : LexFault) → piece_at at (b ∷ others) ≡ Err f → IsFaultAt at (b ∷ others) f
+unfolding piece_at
+piece_fault at b others f e =
+    chosen (is_blank b) e (λ _ x. ok_not_err x) (λ nb x.
+    chosen (is_letter b) x (λ _ y. ok_not_err y) (λ nl y.
+    chosen (begins_number (b ∷ others)) y (λ t z. number_fault at (b ∷ others) f t z) (λ nn z.
+    chosen (is_quote b) z (λ t v. string_fault at b others f t v) (λ nq v.
+    chosen (nat_eq b 47) v
+    (λ t u. rw (eqb-true b 47 t) (slash_fault at others f u))
+    (λ _ u. let m = signed_fault at (sign_kind b) f u in
+    subst (λ (d : LexFault). IsFaultAt at (b ∷ others) d) m.1
+    (unknown nb nl (or_false (is_digit b) (nat_eq b 46 && starts is_digit others) nn) nq m.0))))))
+
+-- the text
+
+placed : (at : ℕ) (k : PieceKind) (word rest : List ℕ) (f : LexFault) → Stands k word rest → Meets (at + length word) rest f → Meets at (word ++ rest) f
+placed at piece.Blank word rest f s r =
+    let from : Meets (at + 1) rest f = subst (λ (w : List ℕ). Meets (at + length w) rest f) s.1 r in
+    subst (λ (w : List ℕ). Meets at (w ++ rest) f) (sym s.1) (blank s.2 from)
+placed at (piece.Comment k) word rest f s r = comment s r
+placed at (piece.Token k) word rest f s r = token s r
+
+piece_before : (at b : ℕ) (others : List ℕ) (p : Piece) (f : LexFault) → Begins p (b ∷ others) → 0 < p.len
+    → Meets (at + 1 + (p.len - 1)) (drop (p.len - 1) others) f → Meets at (b ∷ others) f
+piece_before at b others p f h some r =
+    let n : at + 1 + (p.len - 1) ≡ at + length h.word = omega (arith, h.counted) in
+    let left : drop (p.len - 1) others ≡ h.rest = drop_behind p.len b others some ∙ (ap (λ xs. drop p.len xs) h.parts ∙ drop_at h.word h.rest p.len h.counted) in
+    let from : Meets (at + length h.word) h.rest f = rw (n, left) at r in
+    subst (λ (xs : List ℕ). Meets at xs f) (sym h.parts) (placed at p.kind h.word h.rest f h.stands from)
+
+listed_fault_found : (skip at : ℕ) (bytes : List ℕ) (f : LexFault) → listed_at skip at bytes ≡ Err f → Meets (at + skip) (drop skip bytes) f
+unfolding listed_at
+listed_fault_found zero at [] f e = ok_not_err e
+listed_fault_found (suc skip) at [] f e = ok_not_err e
+listed_fault_found (suc skip) at (b ∷ others) f e =
+    let n : at + 1 + skip ≡ at + suc skip = omega arith in
+    rw n at (listed_fault_found skip (at + 1) others f e)
+listed_fault_found zero at (b ∷ others) f e =
+    rw add-zero (bind_err (piece_at at (b ∷ others)) (λ p. listed_at (p.len - 1) (at + 1) others >>= λ listed. Ok (kept p.kind at p.len listed)) f e
+    (λ x. fault (piece_fault at b others f x))
+    (λ p x y. bind_err (listed_at (p.len - 1) (at + 1) others) (λ listed. Ok (kept p.kind at p.len listed)) f y
+    (λ z.
+    let h = piece_found at (b ∷ others) p x in
+    let some : 0 < p.len = omega (arith, h.counted, stands_some p.kind h.word h.rest h.stands) in
+    piece_before at b others p f h some (listed_fault_found (p.len - 1) (at + 1) others f z))
+    (λ _ _ z. ok_not_err z)))
+
+no_mark : (text : List ℕ) → mark_len text ≡ 0 → begins_mark text ≡ false
+no_mark [] e = refl
+no_mark (a ∷ []) e = refl
+no_mark (a ∷ (b ∷ [])) e = refl
+no_mark (a ∷ (b ∷ (c ∷ rest))) e =
+    elim (nat_eq a 239 && nat_eq b 187 && nat_eq c 191) as (λ t. cond {A = ℕ} t 3 0 ≡ 0 → t ≡ false) [
+      | true ↦ λ three. absurd (omega (arith, three))
+      | false ↦ λ _. refl
+    ] e
+
+pub first_fault : (text : List ℕ) (f : LexFault) → listed_of text ≡ Err f → IsFirstFault text f
+unfolding listed_of
+first_fault text f e =
+    mark_cases text
+    (λ m. unmarked (no_mark text m) (listed_fault_found 0 0 text f (rw m at e)))
+    (λ rest m. subst (λ (t : List ℕ). IsFirstFault t f) (sym m) (marked (listed_fault_found 0 3 rest f (rw m at e))))
+
+-- what a failed reading tells of the text
+pub given_fault : {X : Type 0} (view : X → Listed) (text : List ℕ) (f : LexFault) → GivesList view (Err f) (listed_of text) → IsFaultOf text f
+given_fault view text TooLong e = first_fault text TooLong e
+given_fault view text (NotUtf8 n) e = first_fault text (NotUtf8 n) e
+given_fault view text (BadByte n) e = first_fault text (BadByte n) e
+given_fault view text (OpenString n) e = first_fault text (OpenString n) e
+given_fault view text (OpenComment n) e = first_fault text (OpenComment n) e
+given_fault view text (BadEscape n) e = first_fault text (BadEscape n) e
+given_fault view text (BadNumber n) e = first_fault text (BadNumber n) e
+given_fault view text Memory e = tt
+
+-- a text that lexes fails for want of memory alone
+pub only_memory : {X : Type 0} (view : X → Listed) (f : LexFault) (read : Read Listed) (l : Listed) → GivesList view (Err f) read → read ≡ Ok l → f ≡ Memory
+only_memory view TooLong read l g e = ok_not_err (sym e ∙ g)
+only_memory view (NotUtf8 n) read l g e = ok_not_err (sym e ∙ g)
+only_memory view (BadByte n) read l g e = ok_not_err (sym e ∙ g)
+only_memory view (OpenString n) read l g e = ok_not_err (sym e ∙ g)
+only_memory view (OpenComment n) read l g e = ok_not_err (sym e ∙ g)
+only_memory view (BadEscape n) read l g e = ok_not_err (sym e ∙ g)
+only_memory view (BadNumber n) read l g e = ok_not_err (sym e ∙ g)
+only_memory view Memory read l g e = refl

@@ -1,6 +1,6 @@
 use Rattle.std.proofs.Common.{◌≡◌, ℕ, ◌+◌, ◌-◌, ◌<◌, ◌≤◌, Bool, true, false, not, cond, ◌||◌, ◌&&◌, nat_eq, nat_le, Option, Some, None, List, [], ◌∷◌, ◌++◌, length, drop, map, get_or, refl, sym, ◌∙◌, ap, subst, arith, append_assoc}
 use Rattle.std.proofs.lemmas.Bool.Decides.{nat_tests}
-use Rattle.std.proofs.lemmas.List.{drop_at, length-append}
+use Rattle.std.proofs.lemmas.List.{drop_at, take_at, length-append}
 use Rattle.std.proofs.lemmas.List.Elements.{All-from_recursion}
 use Rattle.std.proofs.lemmas.Str.{IsUtf8-drop, IsCharBoundary-end, IsCharBoundary-before_ascii, IsCharBoundary-after_ascii, IsCharBoundary-at_seam, IsUtf8-past_char}
 use Rattle.std.proofs.Math.Utf8.{encode}
@@ -13,7 +13,7 @@ use Rattle.proto_lex.specs.Literals.{EndsLiteral, close, character, escape}
 use Rattle.proto_lex.specs.Comments.{IsComment, line, block, EndsBlock}
 use Rattle.proto_lex.specs.Comments as comments
 use Rattle.proto_lex.specs.Lexes.{sign_kind, Spells, identifier, integer, float, literal, sign, IsWhole, IsToken, part, LexesFrom, at_end, blank, comment, token, Lexes, unmarked, marked}
-use Rattle.proto_lex.specs.Lexed.{IsPart, AreInOrder, IsLexed}
+use Rattle.proto_lex.specs.Lexed.{part_of, IsPart, AreInOrder, IsLexed}
 use Rattle.proto_lex.specs.declared.token.Token.{Token}
 use Rattle.proto_lex.specs.declared.token.TokenKind.{TokenKind}
 use Rattle.proto_lex.specs.declared.token.Comment.{Comment}
@@ -165,8 +165,16 @@ in_order_before : (place later : ℕ) (spans : List Span) → place ≤ later �
 in_order_before place later [] h o = tt
 in_order_before place later (span ∷ spans) h o = (omega (arith, o.0), o.1, o.2)
 
+-- the bytes of a piece are its part of the text
+part_word : (text front word rest : List ℕ) (at : ℕ) → text ≡ front ++ (word ++ rest) → at ≡ length front → part_of text (part at (length word)) ≡ word
+part_word text front word rest at e n =
+    let left : drop at text ≡ word ++ rest = ap (λ xs. drop at xs) e ∙ drop_at front (word ++ rest) at (sym n) in
+    let count : at + length word - at ≡ length word = omega arith in
+    rw (left, count) (take_at word rest (length word) refl)
+
 record ArePlaced (text : List ℕ) (place : ℕ) (tokens : List Token) (comments : List Comment) : Type 0 where
   tokens_in : AllByRecursion (λ t. IsPart text t.span) tokens
+  spelled_in : AllByRecursion (λ t. Spells t.kind (part_of text t.span)) tokens
   comments_in : AllByRecursion (λ c. IsPart text c.span) comments
   token_order : AreInOrder place (map (λ t. t.span) tokens)
   comment_order : AreInOrder place (map (λ c. c.span) comments)
@@ -175,6 +183,7 @@ placed_before : (text : List ℕ) (place later : ℕ) (tokens : List Token) (com
     → ArePlaced text later tokens comments → ArePlaced text place tokens comments
 placed_before text place later tokens comments h p = record {
   tokens_in = p.tokens_in;
+  spelled_in = p.spelled_in;
   comments_in = p.comments_in;
   token_order = in_order_before place later (map (λ t. t.span) tokens) h p.token_order;
   comment_order = in_order_before place later (map (λ c. c.span) comments) h p.comment_order;
@@ -182,7 +191,7 @@ placed_before text place later tokens comments h p = record {
 
 placed_from : (text front : List ℕ) {at : ℕ} {bytes : List ℕ} {tokens : List Token} {comments : List Comment} → text ≡ front ++ bytes → at ≡ length front
     → IsUtf8 bytes → LexesFrom at bytes tokens comments → ArePlaced text at tokens comments
-placed_from text front e n u at_end = record { tokens_in = tt; comments_in = tt; token_order = tt; comment_order = tt }
+placed_from text front e n u at_end = record { tokens_in = tt; spelled_in = tt; comments_in = tt; token_order = tt; comment_order = tt }
 placed_from text front e n u (blank {at} {b} {rest} {tokens} {comments} t r) =
     let v = utf8_behind piece.Blank (b ∷ []) rest (b, refl, t) u in
     let split : text ≡ (front ++ b ∷ []) ++ rest = e ∙ sym (append_assoc front (b ∷ []) rest) in
@@ -197,6 +206,7 @@ placed_from text front e n u (comment {at} {k} {word} {rest} {tokens} {comments}
     let part_of_text = part_is text front word rest at e n some u v in
     record {
       tokens_in = p.tokens_in;
+      spelled_in = p.spelled_in;
       comments_in = (part_of_text, p.comments_in);
       token_order = in_order_before at (at + length word) (map (λ t. t.span) tokens) (omega arith) p.token_order;
       comment_order = (omega arith, part_of_text.some, p.comment_order);
@@ -210,6 +220,7 @@ placed_from text front e n u (token {at} {k} {word} {rest} {tokens} {comments} s
     let part_of_text = part_is text front word rest at e n some u v in
     record {
       tokens_in = (part_of_text, p.tokens_in);
+      spelled_in = (subst (λ (w : List ℕ). Spells k w) (sym (part_word text front word rest at e n)) s.spelled, p.spelled_in);
       comments_in = p.comments_in;
       token_order = (omega arith, part_of_text.some, p.token_order);
       comment_order = in_order_before at (at + length word) (map (λ c. c.span) comments) (omega arith) p.comment_order;
@@ -234,6 +245,7 @@ is_lexed {text} {tokens} {comments} u d =
     record {
       lexes = d;
       token_parts = All-from_recursion (λ t. IsPart text t.span) tokens p.tokens_in;
+      spelled = All-from_recursion (λ t. Spells t.kind (part_of text t.span)) tokens p.spelled_in;
       comment_parts = All-from_recursion (λ c. IsPart text c.span) comments p.comments_in;
       tokens_in_order = p.token_order;
       comments_in_order = p.comment_order;

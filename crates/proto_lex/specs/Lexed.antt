@@ -1,7 +1,7 @@
 -- A text with its tokens and comments, and what is known of their places.
 use Rattle.std.specs.Prelude.{ℕ, ◌<◌, ◌≤◌, List, [], ◌∷◌, length, map, All, IsCharBoundary}
 use Rattle.std.specs.List.{slice_range}
-use Rattle.proto_lex.specs.Lexes.{Lexes}
+use Rattle.proto_lex.specs.Lexes.{Spells, Lexes}
 use Rattle.proto_lex.specs.declared.span.Span.{Span}
 use Rattle.proto_lex.specs.declared.token.Token.{Token}
 use Rattle.proto_lex.specs.declared.token.Comment.{Comment}
@@ -31,6 +31,7 @@ AreInOrder place (span ∷ spans) = (place ≤ span.start) × (span.start < span
 pub record IsLexed (text : List ℕ) (tokens : List Token) (comments : List Comment) : Type 0 where
   pub lexes : Lexes text tokens comments
   pub token_parts : All (λ t. IsPart text t.span) tokens
+  pub spelled : All (λ t. Spells t.kind (part_of text t.span)) tokens
   pub comment_parts : All (λ c. IsPart text c.span) comments
   pub tokens_in_order : AreInOrder 0 (map (λ t. t.span) tokens)
   pub comments_in_order : AreInOrder 0 (map (λ c. c.span) comments)

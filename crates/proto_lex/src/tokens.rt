@@ -1,7 +1,7 @@
 //! A text with its tokens and comments.
 
 ghost use Rattle.std.specs.Prelude.{◌≡◌, ℕ, ◌<◌, length, map, All, IfSome, slice_get};
-ghost use Rattle.proto_lex.specs.Lexes.{Lexes};
+ghost use Rattle.proto_lex.specs.Lexes.{Spells, Lexes};
 ghost use Rattle.proto_lex.specs.Lexed.{IsPart, AreInOrder, IsLexed, part_of};
 
 use crate::token::{Comment, Token};
@@ -69,7 +69,8 @@ impl<'a> Tokens<'a> {
     /// The spelling of the token with this index, from 0.
     pub fn slice(&self, index: usize) -> &'a str
         requires { index < length self.now.tokens }
-        ensures { IfSome (slice_get self.now.tokens index) (λ t. result.now ≡ part_of self.now.text t.span) }
+        ensures part { IfSome (slice_get self.now.tokens index) (λ t. result.now ≡ part_of self.now.text t.span) }
+        ensures spelled { IfSome (slice_get self.now.tokens index) (λ t. Spells t.kind result.now) }
     {
         let span = self.tokens[index].span;
         &self.text[span.start..span.end]

@@ -98,7 +98,7 @@ info_is i fit short =
       has_fields = fields_are (info_fields i) known short;
       symbol = rw in_symbol (text_given i.symbol fit.symbol);
       documentation = rw in_documentation (texts_given i.documentation fit.documentation);
-      display_name = rw in_display_name (text_given i.display_name fit.display_name)
+      display_name = rw in_display_name (text_given i.display_name fit.display_name);
     }
 
 tool_info_is : (t : ToolInfo) → IsFitToolInfo t → fields_len (tool_info_fields t) < 2 ^ 64 → IsToolInfo (bytes_of (tool_info_fields t)) t
@@ -119,7 +119,7 @@ tool_info_is t fit short =
       has_fields = fields_are (tool_info_fields t) known short;
       name = rw in_name (text_given t.name fit.name);
       version = rw in_version (text_given t.version fit.version);
-      arguments = rw in_arguments (texts_given t.arguments fit.arguments)
+      arguments = rw in_arguments (texts_given t.arguments fit.arguments);
     }
 
 metadata_is : (m : Metadata) → IsFitMetadata m → fields_len (metadata_fields m) < 2 ^ 64 → IsMetadata (bytes_of (metadata_fields m)) m
@@ -156,7 +156,7 @@ metadata_is m fit short =
       version = rw in_version (int_given m.version fit.version);
       tool_info = rw in_tool_info (message_given IsToolInfo IsFitToolInfo tool_info_fields 2 2 tool_info_is refl m.tool_info fit.tool_info inner);
       project_root = rw in_project_root (text_given m.project_root fit.project_root);
-      text_document_encoding = rw in_encoding (int_given m.text_document_encoding fit.text_document_encoding)
+      text_document_encoding = rw in_encoding (int_given m.text_document_encoding fit.text_document_encoding);
     }
 
 -- ---- occurrences
@@ -170,8 +170,8 @@ range_packed : (r : RangeNumbers) → IsRange r → ArePacked (flat_map varint (
 range_packed r fits =
     let last = packed_more r.end_column [] fits.end_column no_number in
     elim (nat_eq r.start_line r.end_line) as (λ b. let ns = cond b (r.start_line ∷ r.start_column ∷ r.end_column ∷ []) (r.start_line ∷ r.start_column ∷ r.end_line ∷ r.end_column ∷ []) in ArePacked (flat_map varint ns) ns) [
-      true ↦ packed_more _ _ fits.start_line (packed_more _ _ fits.start_column last)
-    | false ↦ packed_more _ _ fits.start_line (packed_more _ _ fits.start_column (packed_more _ _ fits.end_line last))
+      | true ↦ packed_more _ _ fits.start_line (packed_more _ _ fits.start_column last)
+      | false ↦ packed_more _ _ fits.start_line (packed_more _ _ fits.start_column (packed_more _ _ fits.end_line last))
     ]
 
 same_line : (a b : ℕ) → nat_eq a b ≡ true → a ≡ b
@@ -206,7 +206,7 @@ occurrence_is o fit short =
       has_fields = fields_are (occurrence_fields o) known short;
       range = given;
       symbol_text = rw in_symbol (text_given o.symbol fit.symbol);
-      symbol_roles = rw in_roles (int_given o.symbol_roles fit.symbol_roles)
+      symbol_roles = rw in_roles (int_given o.symbol_roles fit.symbol_roles);
     } in
     occurrence holds (range_of o.range (nat_eq o.range.start_line o.range.end_line) refl) fit.range
 
@@ -251,7 +251,7 @@ document_is d fit short =
       occurrences = rw in_occurrences (messages_given GivesOccurrence IsFitOccurrence occurrence_fields 2 occurrence_is d.occurrences fit.occurrences short_occurrences);
       symbols = rw in_symbols (messages_given (GivesMessage IsInfo) IsFitInfo info_fields 3 (λ i fit short. message (info_is i fit short)) d.symbols fit.symbols short_symbols);
       language = rw in_language (text_given d.language fit.language);
-      position_encoding = rw in_encoding (int_given d.position_encoding fit.position_encoding)
+      position_encoding = rw in_encoding (int_given d.position_encoding fit.position_encoding);
     }
 
 -- ---- the index
@@ -277,5 +277,5 @@ spelling_decodes i fit short =
       has_fields = fields_are (index_fields i) known (omega arith);
       metadata = rw in_metadata (message_given IsMetadata IsFitMetadata metadata_fields 1 1 metadata_is refl i.metadata fit.metadata short_metadata);
       documents = rw in_documents (messages_given (GivesMessage IsDocument) IsFitDocument document_fields 2 (λ d fit short. message (document_is d fit short)) i.documents fit.documents short_documents);
-      external_symbols = rw in_symbols (messages_given (GivesMessage IsInfo) IsFitInfo info_fields 3 (λ s fit short. message (info_is s fit short)) i.external_symbols fit.external_symbols short_symbols)
+      external_symbols = rw in_symbols (messages_given (GivesMessage IsInfo) IsFitInfo info_fields 3 (λ s fit short. message (info_is s fit short)) i.external_symbols fit.external_symbols short_symbols);
     }

@@ -1,4 +1,4 @@
--- A spelled message is what its bytes decode to.
+-- What the payloads of spelled fields are, and what they give.
 use Rattle.std.proofs.Common.{◌≡◌, ℕ, ℤ, pos, negsuc, zero, suc, ◌%◌, ◌^◌, ◌<◌, true, false, cond, nat_eq, List, [], ◌∷◌, ◌++◌, map, Option, Some, None, refl, sym, ap, ◌∙◌, arith, FitsSigned, All, IsUtf8}
 use Rattle.std.specs.Int.{w32, cast_signed}
 use Rattle.std.proofs.Common.{to_z, of_z}
@@ -14,8 +14,8 @@ pub payloads-append : (n : ℕ) (fs gs : List Field) → payloads n (fs ++ gs) �
 payloads-append n [] gs = refl
 payloads-append n (f ∷ fs) gs =
     elim (nat_eq f.number n) as (λ b. cond b (f.payload ∷ payloads n (fs ++ gs)) (payloads n (fs ++ gs)) ≡ cond b (f.payload ∷ payloads n fs) (payloads n fs) ++ payloads n gs) [
-      true ↦ ap (λ l. f.payload ∷ l) (payloads-append n fs gs)
-    | false ↦ payloads-append n fs gs
+      | true ↦ ap (λ l. f.payload ∷ l) (payloads-append n fs gs)
+      | false ↦ payloads-append n fs gs
     ]
 
 -- those of another number

@@ -12,5 +12,4 @@ ghost use Rattle.scip_wire.specs.WellFormed.{IsWellFormed};
 /// the index that it is given.
 pub fn spelling_decodes_to_its_index()
     ensures { (i : Index) → IsWellFormed i → length (spelling_of i) ≤ 2147483647 → Decodes (spelling_of i) i }
-{
-}
+{}

@@ -9,6 +9,12 @@ ghost use Rattle.scip_wire.specs.Writing.{Leaves};
 use crate::spell::Message;
 use crate::write_fault::{SpellFault, TooLarge, WriteFault};
 use scip_model::{Index, Sink, write_all};
+
+#[cfg(test)]
+mod samples;
+#[cfg(test)]
+mod tests;
+
 use std::alloc::Global;
 
 /// The most bytes that an index may have: the Protocol Buffers libraries' own limit.
@@ -44,6 +50,7 @@ pub fn write_index<W: Sink>(alloc: Global, index: &Index, sink: &mut W) -> Resul
     ensures unfailed { OnOk result (W.failures sink.new ≡ W.failures sink.old) }
     ensures too_large { (result ≡ Err WriteFault.TooLarge) ↔ (MAX_INDEX_LEN < length (spelling_of index.now)) }
     ensures refused { IfErr result (Leaves W.contents W.failures sink.old sink.new (spelling_of index.now)) }
+    ensures known { IsWellFormed index.now }
 {
     let bytes = spell_index(alloc, index)?;
     match write_all(sink, &bytes) {

@@ -15,15 +15,15 @@ groups_are zero n rest fits small =
     subst (λ bytes. IsVarint 1 (bytes ++ rest) n rest) (sym (group_last 0 n (omega arith))) here
 groups_are (suc room) n rest fits small =
     elim (cases_lt n 128) [
-      inl h ↦ subst (λ bytes. IsVarint (suc (suc room)) (bytes ++ rest) n rest) (sym (group_last (suc room) n h)) (last h)
-    | inr h ↦
-        let high : n / 128 < 2 * 128 ^ room = omega (arith, pow-suc 128 room) in
-        let inner = groups_are room (n / 128) rest high (omega arith) in
-        let step : IsVarint (suc (suc room)) ((n % 128 + 128) ∷ (varint_of_groups room (n / 128) ++ rest)) (n % 128 + 128 - 128 + 128 * (n / 128)) rest =
-        more (omega arith) (omega arith) inner in
-        let value : n % 128 + 128 - 128 + 128 * (n / 128) ≡ n = omega arith in
-        let at_value = subst (λ v. IsVarint (suc (suc room)) ((n % 128 + 128) ∷ (varint_of_groups room (n / 128) ++ rest)) v rest) value step in
-        subst (λ bytes. IsVarint (suc (suc room)) (bytes ++ rest) n rest) (sym (group_more room n h)) at_value
+      | inl h ↦ subst (λ bytes. IsVarint (suc (suc room)) (bytes ++ rest) n rest) (sym (group_last (suc room) n h)) (last h)
+      | inr h ↦
+          let high : n / 128 < 2 * 128 ^ room = omega (arith, pow-suc 128 room) in
+          let inner = groups_are room (n / 128) rest high (omega arith) in
+          let step : IsVarint (suc (suc room)) ((n % 128 + 128) ∷ (varint_of_groups room (n / 128) ++ rest)) (n % 128 + 128 - 128 + 128 * (n / 128)) rest =
+          more (omega arith) (omega arith) inner in
+          let value : n % 128 + 128 - 128 + 128 * (n / 128) ≡ n = omega arith in
+          let at_value = subst (λ v. IsVarint (suc (suc room)) ((n % 128 + 128) ∷ (varint_of_groups room (n / 128) ++ rest)) v rest) value step in
+          subst (λ bytes. IsVarint (suc (suc room)) (bytes ++ rest) n rest) (sym (group_more room n h)) at_value
     ]
 
 pub varint_is : (n : ℕ) (rest : List ℕ) → n < 2 ^ 64 → IsVarint 10 (varint n ++ rest) n rest

@@ -27,8 +27,8 @@ pub payloads-append : (n : ℕ) (fs gs : List Field) → payloads n (fs ++ gs) �
 payloads-append n [] gs = refl
 payloads-append n (f ∷ fs) gs =
     elim (nat_eq f.number n) as (λ b. cond b (f.payload ∷ payloads n (fs ++ gs)) (payloads n (fs ++ gs)) ≡ cond b (f.payload ∷ payloads n fs) (payloads n fs) ++ payloads n gs) [
-      true ↦ ap (λ l. f.payload ∷ l) (payloads-append n fs gs)
-    | false ↦ payloads-append n fs gs
+      | true ↦ ap (λ l. f.payload ∷ l) (payloads-append n fs gs)
+      | false ↦ payloads-append n fs gs
     ]
 
 -- those of another number

@@ -5,7 +5,7 @@ use Rattle.proto_lex.proofs.Tools.{behind-cons}
 
 -- one more byte of a block comment
 pub block_step : (len : ℕ) (bytes : List ℕ) → 1 ≤ length bytes → begins_close bytes ≡ false
-  → block_at len bytes ≡ block_at (len + 1) (take (length bytes - 1) (drop 1 bytes))
+    → block_at len bytes ≡ block_at (len + 1) (take (length bytes - 1) (drop 1 bytes))
 unfolding block_at
 block_step len [] h e = absurd (omega arith)
 block_step len (b ∷ others) h e = rw (behind-cons b others, e) refl

@@ -7,3 +7,14 @@ pub mod CommentSteps
 pub mod LiteralSteps
 pub mod NumberSteps
 pub mod Tools
+pub mod ByteClasses
+pub mod Prefixes
+pub mod NumberForms
+pub mod CommentForms
+pub mod LiteralForms
+pub mod LiteralReads
+pub mod PieceForms
+pub mod PieceReads
+pub mod TextForms
+pub mod ListSteps
+pub mod Places

@@ -1,4 +1,4 @@
-use Rattle.std.proofs.Common.{◌≡◌, ℕ, ◌+◌, ◌-◌, ◌≤◌, Bool, true, false, cond, Option, Some, None, Result, Ok, Err, List, [], ◌∷◌, length, drop, take, get_or, refl, sym, ◌∙◌, ap, subst, arith}
+use Rattle.std.proofs.Common.{◌≡◌, ℕ, ◌+◌, ◌-◌, ◌≤◌, Bool, true, false, ◌||◌, ◌&&◌, cond, Option, Some, None, Result, Ok, Err, List, [], ◌∷◌, length, drop, take, get_or, refl, sym, ◌∙◌, ap, subst, arith}
 use Rattle.std.proofs.lemmas.List.{take_all}
 use Rattle.proto_lex.specs.Reading.{Read, ◌>>=◌}
 
@@ -9,7 +9,33 @@ pub chosen : {A P : Type 0} (b : Bool) {x y z : A} → cond b x y ≡ z → (b �
 chosen true e p q = p refl e
 chosen false e p q = q refl e
 
+-- two tests at once
+pub both : {P : Type 0} (a b : Bool) → (a && b) ≡ true → (a ≡ true → b ≡ true → P) → P
+both true b e p = p refl e
+both false b e p = absurd cc
+
+pub either : {P : Type 0} (a b : Bool) → (a || b) ≡ true → (a ≡ true → P) → (a ≡ false → b ≡ true → P) → P
+either true b e p q = p refl
+either false b e p q = q refl e
+
+pub same_some : {A : Type 0} {x y : A} → Some x ≡ Some y → x ≡ y
+same_some e = cc
+
+pub none_not_some : {A P : Type 0} {x : A} → None ≡ Some x → P
+none_not_some e = absurd cc
+
+pub same_ok : {A : Type 0} (x y : A) (r : Read A) → r ≡ Ok x → r ≡ Ok y → x ≡ y
+same_ok x y r e f = cc
+
 -- a chain that succeeds has a first step that succeeds
+-- a test that holds by its second part
+pub or_right : (a b : Bool) → b ≡ true → (a || b) ≡ true
+or_right true b e = refl
+or_right false b e = e
+
+pub and_true : (a b : Bool) → a ≡ true → b ≡ true → (a && b) ≡ true
+and_true a b e f = rw (e, f) refl
+
 pub bind_ok : {A B : Type 0} (r : Read A) (f : A → Read B) (y : B) → (r >>= f) ≡ Ok y → (x : A) × (r ≡ Ok x) × (f x ≡ Ok y)
 bind_ok (Ok x) f y e = (x, refl, e)
 bind_ok (Err d) f y e = cc

@@ -3,6 +3,7 @@ pub mod PositionLaws
 pub mod Text
 pub mod Bytes
 pub mod Comments
+pub mod Lexed
 pub mod Lexes
 pub mod Literals
 pub mod Numbers

@@ -6,10 +6,11 @@ use Rattle.proto_lex.specs.Literals.{is_escape_letter}
 use Rattle.proto_lex.specs.Comments.{begins_close}
 use Rattle.proto_lex.specs.Lexes.{sign_kind, part}
 use Rattle.proto_lex.specs.declared.fault.LexFault.{LexFault}
-use Rattle.proto_lex.specs.declared.fault.LexFault.TheVariants.{BadByte, OpenString, OpenComment, BadEscape, BadNumber}
+use Rattle.proto_lex.specs.declared.fault.LexFault.TheVariants.{Memory, BadByte, OpenString, OpenComment, BadEscape, BadNumber}
 use Rattle.proto_lex.specs.declared.lexer.piece.Piece.{Piece}
 use Rattle.proto_lex.specs.declared.lexer.piece.PieceKind.{PieceKind}
 use Rattle.proto_lex.specs.declared.lexer.piece.PieceKind.TheVariants as piece
+use Rattle.proto_lex.specs.declared.span.Span.{Span}
 use Rattle.proto_lex.specs.declared.token.Token.{Token}
 use Rattle.proto_lex.specs.declared.token.TokenKind.{TokenKind}
 use Rattle.proto_lex.specs.declared.token.TokenKind.TheVariants as kind
@@ -172,6 +173,20 @@ pub record Listed : Type 0 where
   pub tokens : List Token
   pub comments : List Comment
 
+abbrev pub list_of : List Token → List Comment → Listed
+list_of tokens comments = record { tokens = tokens; comments = comments }
+
+-- what was listed before, and what comes behind it
+abbrev pub behind : Listed → Read Listed → Read Listed
+behind front (Err fault) = Err fault
+behind front (Ok listed) = Ok (list_of (front.tokens ++ listed.tokens) (front.comments ++ listed.comments))
+
+-- what was listed before, and the piece at a span
+abbrev pub also : Listed → PieceKind → Span → Listed
+also front piece.Blank span = front
+also front (piece.Comment k) span = record front { comments = front.comments ++ record { kind = k; span = span } ∷ [] }
+also front (piece.Token k) span = record front { tokens = front.tokens ++ record { kind = k; span = span } ∷ [] }
+
 abbrev pub kept : PieceKind → ℕ → ℕ → Listed → Listed
 kept piece.Blank at len listed = listed
 kept (piece.Comment k) at len listed = record listed { comments = record { kind = k; span = part at len } ∷ listed.comments }
@@ -179,7 +194,7 @@ kept (piece.Token k) at len listed = record listed { tokens = record { kind = k;
 
 -- what is listed from a place on, where the next `skip` bytes belong to what was listed before
 unfoldable pub listed_at : (skip at : ℕ) → List ℕ → Read Listed
-listed_at skip at [] = Ok (record { tokens = []; comments = [] })
+listed_at skip at [] = Ok (list_of [] [])
 listed_at (suc skip) at (b ∷ others) = listed_at skip (at + 1) others
 listed_at zero at (b ∷ others) =
     piece_at at (b ∷ others) >>= λ p. listed_at (p.len - 1) (at + 1) others >>= λ listed. Ok (kept p.kind at p.len listed)
@@ -190,3 +205,9 @@ mark_len _ = 0
 
 unfoldable pub listed_of : List ℕ → Read Listed
 listed_of text = listed_at 0 (mark_len text) (drop (mark_len text) text)
+
+-- memory ran out, or the answer is what is read
+abbrev pub GivesList : {X : Type 0} → (X → Listed) → Result X LexFault → Read Listed → Type 0
+GivesList view (Ok x) read = read ≡ Ok (view x)
+GivesList view (Err Memory) read = Unit {0}
+GivesList view (Err fault) read = read ≡ Err fault

@@ -1,13 +1,46 @@
 //! From a text to its tokens and comments.
 
-ghost use Rattle.std.specs.Prelude.{◌≡◌, ◌<◌, ◌≤◌, ◌^◌, length};
-ghost use Rattle.proto_lex.specs.Reading.{mark_len};
+ghost use Rattle.std.specs.Prelude.{◌≡◌, ◌<◌, ◌^◌, List, length, IfOk, IfErr, OnOk};
+ghost use Rattle.proto_lex.specs.declared.token.Token.{Token};
+ghost use Rattle.proto_lex.specs.declared.token.Comment.{Comment};
+ghost use Rattle.proto_lex.specs.Lexes.{Lexes};
+ghost use Rattle.proto_lex.specs.Reading.{list_of, also, mark_len, listed_of, GivesList};
 
 mod bytes;
 mod literal;
 mod number;
 mod piece;
 
+use crate::fault::LexFault;
+use crate::lexer::bytes::tail;
+use crate::lexer::piece::{PieceKind, piece_at};
+use crate::span::Span;
+use crate::text::Text;
+use crate::token::{Comment, Token};
+use crate::tokens::Tokens;
+use std::alloc::Global;
+
+/// The tokens and comments of the front of a text.
+#[derive(Drop)]
+struct Found {
+    tokens: Vec<Token>,
+    comments: Vec<Comment>,
+}
+
+/// Adds what stands at `span`, if it is a token or a comment.
+fn keep(found: &mut Found, kind: PieceKind, span: Span) -> Result<(), LexFault>
+    ensures kept { OnOk result (list_of found.new.tokens.items found.new.comments.items ≡ also (list_of found.old.tokens.items found.old.comments.items) kind span) }
+    ensures memory { IfErr result (λ fault. fault ≡ LexFault.Memory) }
+{
+    match kind {
+        PieceKind::Blank => {}
+        PieceKind::Comment(kind) => found.comments.push(Comment { kind, span })?,
+        PieceKind::Token(kind) => found.tokens.push(Token { kind, span })?,
+    }
+    Ok(())
+}
+
+/// How many bytes a byte order mark takes at the very start of a text: three, or none.
 fn mark_len(bytes: &[u8]) -> usize
     ensures { result ≡ mark_len bytes.now }
 {
@@ -15,4 +48,47 @@ fn mark_len(bytes: &[u8]) -> usize
         [0xEF, 0xBB, 0xBF, ..] => 3,
         _ => 0,
     }
+}
+
+/// The tokens and comments of a text, or the fault that reading from left to right meets first.
+fn listed(alloc: Global, bytes: &[u8]) -> Result<Found, LexFault>
+    requires { length bytes.now < 2 ^ 63 }
+    ensures { GivesList (λ found. list_of found.tokens.items found.comments.items) result (listed_of bytes.now) }
+{
+    let mut found = Found {
+        tokens: Vec::new(alloc),
+        comments: Vec::new(alloc),
+    };
+    let mut at = mark_len(bytes);
+    let mut rest = tail(bytes, at);
+    while !rest.is_empty() {
+        let piece = piece_at(rest, at)?;
+        let end = at + piece.len;
+        keep(&mut found, piece.kind, Span { start: at, end })?;
+        rest = tail(rest, piece.len);
+        at = end;
+    }
+    Ok(found)
+}
+
+/// The tokens and comments of a text (proto3 specification, "Lexical elements").
+///
+/// A text has at most one lexing, and it is found where there is one. Otherwise the fault is the
+/// one that reading from left to right meets first:
+///
+/// - `BadByte`: a character that begins no token, blank or comment, or a NUL in a string.
+/// - `OpenString`: a string that a `\n` or the text's end cuts off, with its opening quote.
+/// - `OpenComment`: a block comment without its `*/`, with its `/*`.
+/// - `BadEscape`: a `\` in a string that begins no escape.
+/// - `BadNumber`: a number's run that has none of the forms of numbers, with its start.
+///
+/// `Memory` comes where memory runs out, for any text.
+pub fn lex<'a>(alloc: Global, text: &Text<'a>) -> Result<Tokens<'a>, LexFault>
+    ensures text { IfOk result (λ found. found.text ≡ text.now) }
+    ensures found { IfOk result (λ found. Lexes text.now found.tokens found.comments) }
+    ensures only { (tokens : List Token) → (comments : List Comment) → Lexes text.now tokens comments → GivesList (λ found. list_of found.tokens found.comments) result (Ok (list_of tokens comments)) }
+{
+    let text = text.as_str();
+    let found = listed(alloc, text.as_bytes())?;
+    Ok(Tokens::new(text, found.tokens, found.comments))
 }

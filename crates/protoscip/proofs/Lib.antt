@@ -1,2 +1,5 @@
 pub mod Backticks
 pub mod ClashLemmas
+pub mod Options
+pub mod Parsing
+pub mod Orders

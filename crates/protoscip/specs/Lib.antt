@@ -1,3 +1,6 @@
 pub mod Faults
 pub mod Symbols
 pub mod Duplicates
+pub mod Syntax
+pub mod Document
+pub mod Declarations

@@ -3,9 +3,11 @@
 
 mod command;
 pub mod declarations;
+pub mod document;
 pub mod duplicates;
 mod fault;
 pub mod symbols;
+pub mod syntax;
 
 use command::Request;
 use fault::Fault;

@@ -8,6 +8,7 @@ pub mod Lengths
 pub mod Loops
 pub mod Messages
 pub mod Options
+pub mod SpelledIndex
 pub mod SpelledFields
 pub mod SpelledMessages
 pub mod Texts

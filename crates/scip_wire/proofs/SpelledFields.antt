@@ -1,12 +1,11 @@
 -- Spelled fields are the fields of their bytes.
-use Rattle.std.proofs.Common.{◌≡◌, ℕ, zero, suc, ◌+◌, ◌-◌, ◌*◌, ◌/◌, ◌%◌, ◌^◌, ◌<◌, ◌≤◌, List, [], ◌∷◌, ◌++◌, length, refl, sym, ap, ◌∙◌, subst, arith, pow-suc, append_assoc, append-nil, length-append}
+use Rattle.std.proofs.Common.{◌≡◌, ℕ, zero, suc, ◌+◌, ◌-◌, ◌*◌, ◌/◌, ◌%◌, ◌^◌, ◌<◌, List, [], ◌∷◌, ◌++◌, length, sym, ap, ◌∙◌, subst, arith, pow-suc, append_assoc, length-append}
 use Rattle.std.proofs.lemmas.Bool.{cases_lt}
 use Rattle.std.proofs.Common.{inl, inr}
-use Rattle.scip_wire.specs.Fields.{Payload, Varint, Fixed64, Delimited, Fixed32, Field, IsVarint, last, more, IsPayload, varint as varint_payload, delimited, IsField, field, HasFields, none, next}
+use Rattle.scip_wire.specs.Fields.{Payload, Varint, Fixed64, Delimited, Fixed32, Field, IsVarint, last, more, varint as varint_payload, delimited, IsField, field, HasFields, none, next}
 use Rattle.scip_wire.specs.Spelling.{varint, varint_of_groups, bytes_of, field_bytes, record_bytes}
 use Rattle.scip_wire.specs.Saturated.{fields_len}
 use Rattle.scip_wire.proofs.Varints.{group_last, group_more}
-use Rattle.scip_wire.proofs.Lengths.{fields_len_more}
 
 -- a number is the value of its shortest varint, whatever follows
 groups_are : (room n : ℕ) (rest : List ℕ) → n < 2 * 128 ^ room → n < 2 ^ 64 → IsVarint (suc room) (varint_of_groups room n ++ rest) n rest

@@ -1,25 +1,12 @@
 -- A spelled message is what its bytes decode to.
-use Rattle.std.proofs.Common.{◌≡◌, ℕ, ℤ, pos, negsuc, zero, suc, ◌+◌, ◌-◌, ◌*◌, ◌/◌, ◌%◌, ◌^◌, ◌<◌, ◌≤◌, Bool, true, false, cond, nat_eq, List, [], ◌∷◌, ◌++◌, map, length, Option, Some, None, refl, sym, ap, ◌∙◌, subst, arith, append-nil, length-append, FitsSigned, All, IsUtf8, IfSome}
+use Rattle.std.proofs.Common.{◌≡◌, ℕ, ℤ, pos, negsuc, zero, suc, ◌%◌, ◌^◌, ◌<◌, true, false, cond, nat_eq, List, [], ◌∷◌, ◌++◌, map, Option, Some, None, refl, sym, ap, ◌∙◌, arith, FitsSigned, All, IsUtf8}
 use Rattle.std.specs.Int.{w32, cast_signed}
-use Rattle.std.specs.List.{flat_map}
 use Rattle.std.proofs.Common.{to_z, of_z}
 use Rattle.std.proofs.lemmas.Int.{to_z-of_z}
 use Rattle.std.proofs.lemmas.List.Elements.{All-head, All-tail}
-use Rattle.scip_model.specs.Range.{RangeNumbers, IsRange}
-use Rattle.scip_model.specs.declared.records.Index.{Index}
-use Rattle.scip_model.specs.declared.records.Metadata.{Metadata}
-use Rattle.scip_model.specs.declared.records.ToolInfo.{ToolInfo}
-use Rattle.scip_model.specs.declared.records.Document.{Document}
-use Rattle.scip_model.specs.declared.records.Occurrence.{Occurrence}
-use Rattle.scip_model.specs.declared.records.Info.{Info}
-use Rattle.scip_wire.specs.Fields.{Payload, Varint, Delimited, Field, HasFields}
-use Rattle.scip_wire.specs.Decodes.{payloads, Joined, none, next, last_or, IsLast, IsOnly, absent, only, GivesText, text, GivesNumber, signed, GivesMessage, message, Text, Texts, Number, OneMessage, Messages, IsInfo, IsToolInfo}
-use Rattle.scip_wire.specs.Spelling.{bytes_of, bytes_field, text_fields, int_fields, number_fields, in_64_bits, repeated_text_fields, repeated_message_fields, optional_message_fields, info_fields, tool_info_fields}
-use Rattle.scip_wire.specs.Saturated.{fields_len}
-use Rattle.scip_wire.specs.WellFormed.{IsFitInfo, IsFitToolInfo}
-use Rattle.scip_wire.proofs.Joins.{bytes_of-append}
-use Rattle.scip_wire.proofs.Lengths.{fields_len_more, message_le}
-use Rattle.scip_wire.proofs.SpelledFields.{IsKnown, AreKnown, AreKnown-append, fields_are}
+use Rattle.scip_wire.specs.Fields.{Payload, Varint, Delimited, Field}
+use Rattle.scip_wire.specs.Decodes.{payloads, Joined, none, next, IsLast, GivesText, text, GivesNumber, signed}
+use Rattle.scip_wire.specs.Spelling.{bytes_of, text_fields, int_fields, number_fields, in_64_bits, repeated_text_fields, repeated_message_fields, optional_message_fields}
 
 -- ---- the payloads of spelled fields
 
@@ -109,7 +96,7 @@ in_64_bits-zero : (z : ℤ) → FitsSigned w32 z → in_64_bits z ≡ 0 → z �
 in_64_bits-zero (pos n) fits e = ap pos e
 in_64_bits-zero (negsuc n) fits e = absurd (omega arith)
 
-in_64_bits-lt : (z : ℤ) → FitsSigned w32 z → in_64_bits z < 2 ^ 64
+pub in_64_bits-lt : (z : ℤ) → FitsSigned w32 z → in_64_bits z < 2 ^ 64
 in_64_bits-lt (pos n) fits = omega arith
 in_64_bits-lt (negsuc n) fits = omega arith
 

@@ -11,7 +11,7 @@ pub loop-rest-preserved : goal.loop-rest-preserved
 loop-rest-preserved c = record {
   read =
       sym (block_step _ _ c.in-len1-up.len_at_least (sym c.begins_close.ensures ∙ c.if-begins_close.false))
-          ∙ c.loop-rest.invariant.read;
+      ∙ c.loop-rest.invariant.read;
   counted = omega (arith, length-behind c.loop-rest.rest.now c.in-len1-up.len_at_least);
 }
 

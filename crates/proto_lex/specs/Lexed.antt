@@ -1,0 +1,36 @@
+-- A text with its tokens and comments, and what is known of their places.
+use Rattle.std.specs.Prelude.{ℕ, ◌<◌, ◌≤◌, List, [], ◌∷◌, length, map, All, IsCharBoundary}
+use Rattle.std.specs.List.{slice_range}
+use Rattle.proto_lex.specs.Lexes.{Lexes}
+use Rattle.proto_lex.specs.declared.span.Span.{Span}
+use Rattle.proto_lex.specs.declared.token.Token.{Token}
+use Rattle.proto_lex.specs.declared.token.Comment.{Comment}
+
+pub record Lexed : Type 0 where
+  pub text : List ℕ
+  pub tokens : List Token
+  pub comments : List Comment
+
+-- the bytes of a part of a text
+abbrev pub part_of : List ℕ → Span → List ℕ
+part_of text span = slice_range text span.start span.end
+
+-- a part of the text that isn't empty, and begins and ends between two characters or at the text's ends
+pub record IsPart (text : List ℕ) (span : Span) : Type 0 where
+  pub some : span.start < span.end
+  pub within : span.end ≤ length text
+  pub starts_whole : IsCharBoundary text span.start
+  pub ends_whole : IsCharBoundary text span.end
+
+-- none of the spans is empty, and each begins at the place or behind it, and not before the end of the one before
+abbrev pub AreInOrder : (place : ℕ) → List Span → Type 0
+AreInOrder place [] = Unit {0}
+AreInOrder place (span ∷ spans) = (place ≤ span.start) × (span.start < span.end) × AreInOrder span.end spans
+
+-- the tokens and comments are those of the text
+pub record IsLexed (text : List ℕ) (tokens : List Token) (comments : List Comment) : Type 0 where
+  pub lexes : Lexes text tokens comments
+  pub token_parts : All (λ t. IsPart text t.span) tokens
+  pub comment_parts : All (λ c. IsPart text c.span) comments
+  pub tokens_in_order : AreInOrder 0 (map (λ t. t.span) tokens)
+  pub comments_in_order : AreInOrder 0 (map (λ c. c.span) comments)

@@ -1,0 +1,77 @@
+//! A text with its tokens and comments.
+
+ghost use Rattle.std.specs.Prelude.{◌≡◌, ℕ, ◌<◌, length, map, All, IfSome, slice_get};
+ghost use Rattle.proto_lex.specs.Lexes.{Lexes};
+ghost use Rattle.proto_lex.specs.Lexed.{IsPart, AreInOrder, IsLexed, part_of};
+
+use crate::token::{Comment, Token};
+use std::marker::Model;
+
+/// A text with its tokens and comments, which are the text's only lexing.
+///
+/// It borrows the text. Contracts see the bytes of the text, the list of tokens and the list of
+/// comments, both in the order in which they stand.
+#[derive(Drop)]
+pub struct Tokens<'a> {
+    text: &'a str,
+    tokens: Vec<Token>,
+    comments: Vec<Comment>,
+}
+
+impl<'a> Model for Tokens<'a> {
+    ghost use Rattle.proto_lex.specs.Lexed.{Lexed, IsLexed};
+
+    ghost Value = { Lexed };
+
+    ghost view = { λ inside. record { text = inside.text.now; tokens = inside.tokens.items; comments = inside.comments.items } };
+
+    ghost invariant = { λ inside. IsLexed inside.text.now inside.tokens.items inside.comments.items };
+}
+
+impl<'a> Tokens<'a> {
+    pub(crate) fn new(text: &'a str, tokens: Vec<Token>, comments: Vec<Comment>) -> Tokens<'a>
+        requires { IsLexed text.now tokens.items comments.items }
+        ensures { result ≡ record { text = text.now; tokens = tokens.items; comments = comments.items } }
+    {
+        Tokens {
+            text,
+            tokens,
+            comments,
+        }
+    }
+
+    /// The text that was lexed.
+    pub fn text(&self) -> &'a str
+        ensures { result.now ≡ self.now.text }
+    {
+        self.text
+    }
+
+    /// The tokens, in the order in which they stand.
+    pub fn tokens(&self) -> &[Token]
+        ensures value { result.now ≡ self.now.tokens }
+        ensures lexed { Lexes self.now.text self.now.tokens self.now.comments }
+        ensures parts { All (λ t. IsPart self.now.text t.span) self.now.tokens }
+        ensures in_order { AreInOrder 0 (map (λ t. t.span) self.now.tokens) }
+    {
+        &self.tokens
+    }
+
+    /// The comments, in the order in which they stand.
+    pub fn comments(&self) -> &[Comment]
+        ensures value { result.now ≡ self.now.comments }
+        ensures parts { All (λ c. IsPart self.now.text c.span) self.now.comments }
+        ensures in_order { AreInOrder 0 (map (λ c. c.span) self.now.comments) }
+    {
+        &self.comments
+    }
+
+    /// The spelling of the token with this index, from 0.
+    pub fn slice(&self, index: usize) -> &'a str
+        requires { index < length self.now.tokens }
+        ensures { IfSome (slice_get self.now.tokens index) (λ t. result.now ≡ part_of self.now.text t.span) }
+    {
+        let span = self.tokens[index].span;
+        &self.text[span.start..span.end]
+    }
+}

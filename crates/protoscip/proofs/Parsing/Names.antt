@@ -1,0 +1,86 @@
+-- The names of a tree are identifiers, in their order.
+use Rattle.std.proofs.Common.{◌≡◌, Option, ℕ, zero, suc, ◌<◌, List, [], ◌∷◌, ◌++◌, map, All, AllPairs, append_assoc, arith}
+use Rattle.std.proofs.lemmas.List.Elements.{All-cons, All-head, All-tail}
+use Rattle.std.proofs.lemmas.List.Kept.{AllPairs-cons}
+use Rattle.proto_lex.specs.declared.span.Span.{Span}
+use Rattle.proto_lex.specs.declared.token.TokenKind.{TokenKind}
+use Rattle.proto_lex.specs.declared.token.TokenKind.TheVariants.{Identifier}
+use Rattle.protoscip.specs.declared.syntax.tree.Field.{Field}
+use Rattle.protoscip.specs.Syntax.Lexeme.{Lexeme}
+use Rattle.protoscip.specs.Syntax.Tree.{Body, MessageTree, names_in, names_of}
+use Rattle.protoscip.specs.Syntax.Names.{Among}
+use Rattle.protoscip.specs.Syntax.Names.Among.{none, skip, name}
+use Rattle.protoscip.specs.Syntax.Derives.{IsToken, IsWord, IsText, IsSyntax, IsLabel, IsType, IsField, IsMessage, IsBody, AreStatements, IsFile}
+use Rattle.protoscip.specs.Syntax.Derives.IsToken.{token}
+use Rattle.protoscip.specs.Syntax.Derives.IsWord.{word}
+use Rattle.protoscip.specs.Syntax.Derives.IsText.{last as last_literal, more as more_literals}
+use Rattle.protoscip.specs.Syntax.Derives.IsSyntax.{syntax as a_syntax}
+use Rattle.protoscip.specs.Syntax.Derives.IsLabel.{repeated, optional, no_label}
+use Rattle.protoscip.specs.Syntax.Derives.IsType.{scalar as a_scalar}
+use Rattle.protoscip.specs.Syntax.Derives.IsField.{field as a_field}
+use Rattle.protoscip.specs.Syntax.Derives.IsMessage.{message as a_message}
+use Rattle.protoscip.specs.Syntax.Derives.IsBody.{at_close, semicolon as a_semicolon, plain, nested}
+use Rattle.protoscip.specs.Syntax.Derives.AreStatements.{at_end as no_statements, semicolon as file_semicolon, message as file_message}
+use Rattle.protoscip.specs.Syntax.Derives.IsFile.{file as a_file}
+
+past_token : {kind : TokenKind} {a b : List Lexeme} {span : Span} {spans : List Span} → IsToken kind a span b → Among spans b → Among spans a
+past_token (token e) behind = skip behind
+
+named : {a b : List Lexeme} {span : Span} {spans : List Span} → IsToken Identifier a span b → Among spans b → Among (span ∷ spans) a
+named (token e) behind = name e behind
+
+past_word : {spelling : List ℕ} {a b : List Lexeme} {span : Span} {spans : List Span} → IsWord spelling a span b → Among spans b → Among spans a
+past_word (word k s) behind = skip behind
+
+past_text : {a b : List Lexeme} {text : List ℕ} {spans : List Span} → IsText a text b → Among spans b → Among spans a
+past_text (last_literal k n) behind = skip behind
+past_text (more_literals k rest) behind = skip (past_text rest behind)
+
+past_syntax : {a b : List Lexeme} {spans : List Span} → IsSyntax a b → Among spans b → Among spans a
+past_syntax (a_syntax k q t spelled s) behind = past_word k (past_token q (past_text t (past_token s behind)))
+
+past_label : {a b : List Lexeme} {label : Option Span} {spans : List Span} → IsLabel a label b → Among spans b → Among spans a
+past_label (repeated w) behind = past_word w behind
+past_label (optional w) behind = past_word w behind
+past_label (no_label p q) behind = behind
+
+past_type : {a b : List Lexeme} {span : Span} {spans : List Span} → IsType a span b → Among spans b → Among spans a
+past_type (a_scalar k scalar n) behind = skip behind
+
+field_named : {a b : List Lexeme} {field : Field} {spans : List Span} → IsField a field b → Among spans b → Among (field.name ∷ spans) a
+field_named (a_field l t n q i s) behind = past_label l (past_type t (named n (past_token q (past_token i (past_token s behind)))))
+
+mutual
+  message_named : {room : ℕ} {a b : List Lexeme} {message : MessageTree} → IsMessage room a message b → {spans : List Span} → Among spans b
+      → Among (message.heading.name ∷ (names_in message.body ++ spans)) a
+  message_named (a_message k n o b c) behind = past_word k (named n (past_token o (body_named b (past_token c behind))))
+
+  body_named : {room : ℕ} {a b : List Lexeme} {body : Body} → IsBody room a body b → {spans : List Span} → Among spans b → Among (names_in body ++ spans) a
+  body_named (at_close k) behind = behind
+  body_named (a_semicolon s rest) behind = past_token s (body_named rest behind)
+  body_named (plain f rest) behind = field_named f (body_named rest behind)
+  body_named (nested m rest) behind = rw append_assoc (message_named m (body_named rest behind))
+
+statements_named : {a : List Lexeme} {messages : List MessageTree} → AreStatements a messages → Among (names_of messages) a
+statements_named no_statements = none
+statements_named (file_semicolon s rest) = past_token s (statements_named rest)
+statements_named (file_message m rest) = message_named m (statements_named rest)
+
+pub file_named : {a : List Lexeme} {messages : List MessageTree} → IsFile a messages → Among (names_of messages) a
+file_named (a_file s rest) = past_syntax s (statements_named rest)
+
+-- what holds of every token's span holds of each name
+pub Among-All : (P : Span → Type 0) {spans : List Span} {tokens : List Lexeme} → Among spans tokens → All P (map (λ t. t.span) tokens) → All P spans
+Among-All P none all = λ k d h. absurd (omega arith)
+Among-All P (skip {t = t} {rest} behind) all = Among-All P behind (All-tail P t.span (map (λ u. u.span) rest) all)
+Among-All P (name {spans} {t} {rest} k behind) all =
+    All-cons P t.span spans (All-head P t.span (map (λ u. u.span) rest) all) (Among-All P behind (All-tail P t.span (map (λ u. u.span) rest) all))
+
+-- what holds of each two tokens' spans in order holds of each two names
+pub Among-AllPairs : (R : Span → Span → Type 0) {spans : List Span} {tokens : List Lexeme} → Among spans tokens → AllPairs R (map (λ t. t.span) tokens) → AllPairs R spans
+Among-AllPairs R none pairs = λ i j d h k. absurd (omega arith)
+Among-AllPairs R (skip behind) pairs = Among-AllPairs R behind (λ i j d h k. pairs (suc i) (suc j) d (omega arith) (omega arith))
+Among-AllPairs R (name {spans} {t} {rest} k behind) pairs =
+    AllPairs-cons R t.span spans
+    (Among-All (R t.span) behind (λ j d h. pairs zero (suc j) d (omega arith) (omega arith)))
+    (Among-AllPairs R behind (λ i j d h l. pairs (suc i) (suc j) d (omega arith) (omega arith)))

@@ -1,0 +1,11 @@
+pub mod Lexeme
+pub mod Terminal
+pub mod Tree
+pub mod Code
+pub mod Items
+pub mod Falls
+pub mod Derives
+pub mod Names
+pub mod Gives
+pub mod View
+pub mod Reading

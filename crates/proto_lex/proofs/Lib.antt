@@ -18,3 +18,4 @@ pub mod PieceReads
 pub mod TextForms
 pub mod ListSteps
 pub mod Places
+pub mod Longest

@@ -43,13 +43,13 @@ starts-append : (word rest : List ℕ) → starts is_digit word ≡ true → sta
 starts-append [] rest t = absurd cc
 starts-append (b ∷ others) rest t = t
 
-begins_number-append : (word rest : List ℕ) → begins_number word ≡ true → begins_number (word ++ rest) ≡ true
+pub begins_number-append : (word rest : List ℕ) → begins_number word ≡ true → begins_number (word ++ rest) ≡ true
 begins_number-append [] rest t = absurd cc
 begins_number-append (b ∷ others) rest t =
     either (is_digit b) (nat_eq b 46 && starts is_digit others) t (λ h. rw h refl) (λ n h.
     both (nat_eq b 46) (starts is_digit others) h (λ p s. rw (n, p, starts-append others rest s) refl))
 
-number_place : (at : ℕ) (bytes : List ℕ) → begins_number bytes ≡ true → piece_at at bytes ≡ number_at at bytes
+pub number_place : (at : ℕ) (bytes : List ℕ) → begins_number bytes ≡ true → piece_at at bytes ≡ number_at at bytes
 unfolding piece_at
 number_place at [] t = absurd cc
 number_place at (b ∷ others) t =
@@ -92,7 +92,7 @@ sign_read at b k rest e =
 quote_no_number : (b : ℕ) (others : List ℕ) → is_quote b ≡ true → begins_number (b ∷ others) ≡ false
 quote_no_number b others q = rw (quote_not_digit b q, quote_not_point b q) refl
 
-string_read : (at b : ℕ) (others rest : List ℕ) → is_quote b ≡ true → (literal_at b at 0 1 (others ++ rest) ≡ Ok (1 + length others))
+pub string_read : (at b : ℕ) (others rest : List ℕ) → is_quote b ≡ true → (literal_at b at 0 1 (others ++ rest) ≡ Ok (1 + length others))
     → piece_at at (b ∷ (others ++ rest)) ≡ Ok (token kind.StringLiteral (suc (length others)))
 unfolding piece_at
 string_read at b others rest q e =

@@ -1,8 +1,8 @@
 -- A position one byte on, and how large positions are.
-use Rattle.std.proofs.Common.{◌≡◌, ◌∙◌, sym, ap, refl, ℕ, ◌+◌, ◌-◌, ◌<◌, ◌≤◌, ◌*◌, List, [], ◌∷◌, ◌++◌, length, get_or, take, drop, Bool, true, false, not, cond, arith, length-append, length-drop}
-use Rattle.std.proofs.lemmas.List.{reverse-append, drop-append-le, take_more, length-take}
+use Rattle.std.proofs.Common.{◌≡◌, refl, ℕ, ◌+◌, ◌-◌, ◌≤◌, ◌*◌, List, [], ◌∷◌, ◌++◌, length, get_or, take, drop, Bool, true, false, not, cond, arith, length-append, length-drop}
+use Rattle.std.proofs.lemmas.List.{reverse-append, drop-append-le, length-take}
 use Rattle.std.proofs.lemmas.List.Sums.{sum_by_push, suffix_len-le-length, sum_by-le, count_by-le-length}
-use Rattle.std.specs.List.{after_last, count_by, sum_by, suffix_len, prefix_len, All}
+use Rattle.std.specs.List.{after_last, count_by, suffix_len, All}
 use Rattle.std.proofs.Math.ListN.{drop_of_length-le}
 use Rattle.std.proofs.lemmas.Bool.Decides.{nat_tests}
 use Rattle.proto_lex.specs.Position.{is_line_end, code_units, position_after}
@@ -41,7 +41,7 @@ one_each text k d inside = omega arith
 all_few : (encoding : Encoding) (text : List ℕ) → All (λ byte. code_units encoding byte ≤ 2) text
 all_few encoding text k d inside = few_units encoding (get_or text k d)
 
-length-after_last-le : {X : Type 0} (p : X → Bool) (xs : List X) → length (after_last p xs) ≤ length xs
+pub length-after_last-le : {X : Type 0} (p : X → Bool) (xs : List X) → length (after_last p xs) ≤ length xs
 length-after_last-le p xs = omega (arith, length-drop (length xs - suffix_len (λ x. not (p x)) xs) xs)
 
 pub line-le : (encoding : Encoding) (text : List ℕ) → (position_after encoding text).line ≤ length text

@@ -1,13 +1,13 @@
 -- The code units of a text in UTF-16, counted by its bytes in UTF-8.
-use Rattle.std.proofs.Common.{◌≡◌, ◌∙◌, sym, ap, refl, subst, ℕ, ◌+◌, ◌-◌, ◌/◌, ◌%◌, ◌<◌, ◌≤◌, List, [], ◌∷◌, ◌++◌, length, Bool, true, false, ◌⊎◌, inl, inr, arith, length-append}
+use Rattle.std.proofs.Common.{◌≡◌, ◌∙◌, sym, refl, subst, ℕ, ◌+◌, ◌/◌, ◌<◌, ◌≤◌, List, [], ◌∷◌, length, ◌⊎◌, inl, inr, arith, length-append}
 use Rattle.std.specs.Prelude.{IsUtf8}
 use Rattle.std.specs.List.{sum_by, flat_map}
 use Rattle.std.specs.Str.{chars}
 use Rattle.std.specs.Char.Escape.{encode_utf16}
-use Rattle.std.proofs.Math.Utf8.{encode, encodes, scalar, scalars}
+use Rattle.std.proofs.Math.Utf8.{encode, encodes}
 use lib.Utf8.{next}
 use Rattle.std.proofs.lemmas.List.Sums.{sum_by-append}
-use Rattle.std.proofs.lemmas.Str.{chars-encodes}
+use Rattle.std.proofs.lemmas.Str.{chars-encodes, length-encode, len_utf8_bounds}
 use Rattle.std.proofs.lemmas.Bool.{lt-ltb, le-ltb, cases_lt}
 use Rattle.std.proofs.lemmas.Bool.Decides.{nat_tests}
 use Rattle.proto_lex.specs.Position.{code_units}
@@ -66,3 +66,15 @@ units_of_all (c ∷ cs) = sum_by-append units (encode c) (encodes cs) ∙ rw (un
 pub units_of_text : (text : List ℕ) → IsUtf8 text → sum_by (code_units Utf16) text ≡ length (flat_map encode_utf16 (chars text))
 units_of_text text utf8 = subst (λ (bytes : List ℕ). sum_by (code_units Utf16) bytes ≡ length (flat_map encode_utf16 (chars bytes))) utf8.1.1
     (rw (chars-encodes utf8.0 utf8.1.0) (units_of_all utf8.0))
+
+-- a character takes no more units in UTF-16 than bytes in UTF-8
+few_by : (c : ℕ) → (c < 65536) ⊎ (65536 ≤ c) → length (encode_utf16 c) ≤ length (encode c)
+few_by c (inl small) = rw (lt-ltb c 65536 small) (omega (arith, length-encode c, len_utf8_bounds c))
+few_by c (inr large) = rw (le-ltb c 65536 large, length-encode c, le-ltb c 128 (omega arith), le-ltb c 2048 (omega arith), le-ltb c 65536 large) (omega arith)
+
+few_of_all : (cs : List ℕ) → sum_by units (encodes cs) ≤ length (encodes cs)
+few_of_all [] = omega arith
+few_of_all (c ∷ cs) = omega (arith, sum_by-append units (encode c) (encodes cs), length-append (encode c) (encodes cs), units_of c, few_by c (cases_lt c 65536), few_of_all cs)
+
+pub few_of_text : (text : List ℕ) → IsUtf8 text → sum_by (code_units Utf16) text ≤ length text
+few_of_text text utf8 = subst (λ (bytes : List ℕ). sum_by (code_units Utf16) bytes ≤ length bytes) utf8.1.1 (few_of_all utf8.0)

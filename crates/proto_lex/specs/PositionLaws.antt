@@ -39,3 +39,10 @@ ColumnsCountUtf16 =
     (text : List ℕ) (offset : ℕ)
     → IsUtf8 text → IsCharBoundary text offset
     → (position_of Utf16 text offset).column ≡ length (flat_map encode_utf16 (chars (line_before text offset)))
+
+-- So it is at most the offset.
+abbrev pub Utf16ColumnsFit : Type 0
+Utf16ColumnsFit =
+    (text : List ℕ) (offset : ℕ)
+    → IsUtf8 text → IsCharBoundary text offset
+    → (position_of Utf16 text offset).column ≤ offset

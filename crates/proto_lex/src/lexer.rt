@@ -1,9 +1,10 @@
 //! From a text to its tokens and comments.
 
-ghost use Rattle.std.specs.Prelude.{◌≡◌, ◌<◌, ◌^◌, List, length, IfOk, IfErr, OnOk};
+ghost use Rattle.std.specs.Prelude.{◌≡◌, ℕ, ◌<◌, ◌^◌, ◌++◌, [], List, Ok, length, IfOk, IfErr, OnOk};
 ghost use Rattle.proto_lex.specs.declared.token.Token.{Token};
 ghost use Rattle.proto_lex.specs.declared.token.Comment.{Comment};
-ghost use Rattle.proto_lex.specs.Lexes.{Lexes};
+ghost use Rattle.proto_lex.specs.declared.token.TokenKind.{TokenKind};
+ghost use Rattle.proto_lex.specs.Lexes.{Lexes, IsToken, Spells};
 ghost use Rattle.proto_lex.specs.Reading.{list_of, also, mark_len, listed_of, GivesList};
 
 mod bytes;
@@ -92,3 +93,17 @@ pub fn lex<'a>(alloc: Global, text: &Text<'a>) -> Result<Tokens<'a>, LexFault>
     let found = listed(alloc, text.as_bytes())?;
     Ok(Tokens::new(text, found.tokens, found.comments))
 }
+
+/// A text has at most one lexing.
+pub fn one_lexing()
+    ensures tokens { (text : List ℕ) → (tokens : List Token) → (others : List Token) → (comments : List Comment) → (remarks : List Comment) → Lexes text tokens comments → Lexes text others remarks → tokens ≡ others }
+    ensures comments { (text : List ℕ) → (tokens : List Token) → (others : List Token) → (comments : List Comment) → (remarks : List Comment) → Lexes text tokens comments → Lexes text others remarks → comments ≡ remarks }
+{}
+
+/// Where a token stands, no longer spelling of a token stands.
+pub fn longest_token()
+    ensures { (kind : TokenKind) → (other : TokenKind) → (word : List ℕ) → (rest : List ℕ) → (more : List ℕ) → (tail : List ℕ) → IsToken kind word rest → rest ≡ more ++ tail → Spells other (word ++ more) → more ≡ [] }
+{}
+
+#[cfg(test)]
+mod tests;

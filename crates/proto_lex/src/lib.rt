@@ -10,7 +10,7 @@ mod token;
 mod tokens;
 
 pub use fault::LexFault;
-pub use lexer::lex;
+pub use lexer::{lex, longest_token, one_lexing};
 pub use position::{Encoding, Position, columns_count_utf16, positions_fit, positions_rise};
 pub use span::Span;
 pub use text::{MAX_TEXT_LENGTH, Text};

@@ -2,7 +2,7 @@
 
 ghost use Rattle.std.specs.Prelude.{◌≡◌, ◌^◌, ◌<◌, ◌≤◌, length};
 ghost use Rattle.proto_lex.specs.Position as spec;
-ghost use Rattle.proto_lex.specs.PositionLaws.{CharactersRise, BytesRise, LinesFit, ColumnsFit, ByteColumnsFit, ColumnsCountUtf16};
+ghost use Rattle.proto_lex.specs.PositionLaws.{CharactersRise, BytesRise, LinesFit, ColumnsFit, ByteColumnsFit, ColumnsCountUtf16, Utf16ColumnsFit};
 
 /// The unit in which a column is counted.
 #[derive(Clone, Copy, Debug, PartialEq, Eq)]
@@ -77,5 +77,6 @@ pub fn positions_fit()
 
 /// A law: a column in UTF-16 is the length that the line's part before it has in UTF-16.
 pub fn columns_count_utf16()
-    ensures { ColumnsCountUtf16 }
+    ensures count { ColumnsCountUtf16 }
+    ensures fit { Utf16ColumnsFit }
 {}

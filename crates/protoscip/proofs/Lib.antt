@@ -3,3 +3,6 @@ pub mod ClashLemmas
 pub mod Options
 pub mod Parsing
 pub mod Orders
+pub mod Walks
+pub mod Naming
+pub mod Kept

@@ -3,6 +3,8 @@ use Rattle.std.specs.Prelude.{ℕ, List, ◌++◌, Option, Some, None, codes}
 use Rattle.std.specs.Fmt.{decimal}
 use Rattle.proto_lex.specs.declared.fault.LexFault.{LexFault}
 use Rattle.proto_lex.specs.declared.fault.LexFault.TheVariants as lexing
+use Rattle.protoscip.specs.declared.syntax.fault.SyntaxFault.{SyntaxFault}
+use Rattle.protoscip.specs.declared.syntax.fault.SyntaxFault.TheVariants as syntax
 use Rattle.protoscip.specs.declared.fault.Fault.{Fault}
 use Rattle.protoscip.specs.declared.fault.Fault.TheVariants as fault
 
@@ -17,6 +19,12 @@ lex_name (lexing.BadEscape at) = codes "BadEscape"
 lex_name (lexing.BadNumber at) = codes "BadNumber"
 lex_name lexing.Memory = codes "Memory"
 
+abbrev pub syntax_name : SyntaxFault → List ℕ
+syntax_name (syntax.NotProto3 at) = codes "NotProto3"
+syntax_name (syntax.TooDeep at) = codes "TooDeep"
+syntax_name (syntax.Grammar at) = codes "Grammar"
+syntax_name syntax.Memory = codes "Memory"
+
 -- where the fault stands in its source, if it stands there; a source that is too long is too long
 -- from the first byte past the limit on
 abbrev pub lex_offset : LexFault → Option ℕ
@@ -29,6 +37,12 @@ lex_offset (lexing.BadEscape at) = Some at
 lex_offset (lexing.BadNumber at) = Some at
 lex_offset lexing.Memory = None
 
+abbrev pub syntax_offset : SyntaxFault → Option ℕ
+syntax_offset (syntax.NotProto3 at) = Some at
+syntax_offset (syntax.TooDeep at) = Some at
+syntax_offset (syntax.Grammar at) = Some at
+syntax_offset syntax.Memory = None
+
 -- `protoscip: NAME`, and with a place `protoscip: PATH@OFFSET: NAME`
 abbrev pub line_of : List ℕ → Option ℕ → List ℕ → List ℕ
 line_of path None name = codes "protoscip: " ++ name
@@ -40,15 +54,29 @@ abbrev pub fault_line : List ℕ → Fault → List ℕ
 fault_line path fault.Memory = line_of path None (codes "Memory")
 fault_line path fault.Read = line_of path None (codes "Read")
 fault_line path (fault.Lex e) = line_of path (lex_offset e) (lex_name e)
+fault_line path (fault.Syntax e) = line_of path (syntax_offset e) (syntax_name e)
 fault_line path (fault.Duplicate first second) =
     codes "protoscip: " ++ path ++ codes "@" ++ decimal second.start
     ++ codes ": Duplicate of " ++ path ++ codes "@" ++ decimal first.start
 fault_line path fault.TooLarge = line_of path None (codes "TooLarge")
 fault_line path (fault.Write count) = line_of path None (codes "Write")
 
+-- want of memory is one refusal, whichever step it comes in
+abbrev pub refusal_of_lex : LexFault → Fault
+refusal_of_lex lexing.Memory = fault.Memory
+refusal_of_lex e = fault.Lex e
+
+abbrev pub refusal_of_syntax : SyntaxFault → Fault
+refusal_of_syntax syntax.Memory = fault.Memory
+refusal_of_syntax e = fault.Syntax e
+
 abbrev pub lex_status : LexFault → ℕ
 lex_status lexing.Memory = 4
 lex_status _ = 1
+
+abbrev pub syntax_status : SyntaxFault → ℕ
+syntax_status syntax.Memory = 4
+syntax_status _ = 1
 
 -- the exit status: 1 where the source is refused, 3 where reading, writing or the index's size
 -- fails, 4 for want of memory
@@ -56,6 +84,7 @@ abbrev pub status_of : Fault → ℕ
 status_of fault.Memory = 4
 status_of fault.Read = 3
 status_of (fault.Lex e) = lex_status e
+status_of (fault.Syntax e) = syntax_status e
 status_of (fault.Duplicate first second) = 1
 status_of fault.TooLarge = 3
 status_of (fault.Write count) = 3

@@ -4,3 +4,5 @@ pub mod Duplicates
 pub mod Syntax
 pub mod Document
 pub mod Declarations
+pub mod DumpText
+pub mod Source

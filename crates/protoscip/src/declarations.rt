@@ -1,7 +1,15 @@
 //! What a file declares.
 
+ghost use Rattle.std.specs.Prelude.{◌≡◌, ◌++◌, ◌∷◌, [], OnOk, IfOk};
+ghost use Rattle.std.specs.List.{AllByRecursion};
+ghost use Rattle.std.specs.String.{string_bytes};
+ghost use Rattle.protoscip.specs.Syntax.Tree.{names_in, names_of};
+ghost use Rattle.protoscip.specs.Declarations.{IsSpanOf, spelling_at, dotted, within, declaration_at, declared_by, declarations_of};
+
+use crate::syntax::{File, Message, MessageItem};
 use proto_lex::Span;
 use scip_model::{OwnedText, Sequence};
+use std::alloc::{AllocError, Global};
 
 /// The kind of a declaration.
 #[derive(Clone, Copy, Debug, PartialEq, Eq)]
@@ -20,4 +28,111 @@ pub struct Declaration {
     pub path: Sequence<OwnedText>,
     /// Where its own name stands.
     pub name: Span,
+}
+
+/// What a span of the text spells.
+fn spelling_at<'a>(text: &'a str, span: Span) -> &'a str
+    requires { IsSpanOf text.now span }
+    ensures { result.now ≡ spelling_at text.now span }
+{
+    &text[span.start..span.end]
+}
+
+/// Appends names joined by dots.
+fn push_dotted(out: &mut String, path: &[OwnedText]) -> Result<(), AllocError>
+    ensures { OnOk result (string_bytes out.new ≡ string_bytes out.old ++ dotted path.now) }
+{
+    match path {
+        [] => Ok(()),
+        [name] => out.push_str(name.as_str()),
+        [outer, names @ ..] => {
+            out.push_str(outer.as_str())?;
+            out.push_str(".")?;
+            push_dotted(out, names)
+        }
+    }
+}
+
+/// A path of names with one more.
+fn within(
+    alloc: Global,
+    text: &str,
+    scope: &[OwnedText],
+    name: Span,
+) -> Result<Sequence<OwnedText>, AllocError>
+    requires { IsSpanOf text.now name }
+    ensures { IfOk result (λ path. path ≡ within text.now scope.now name) }
+{
+    let mut path = Vec::new(alloc);
+    for outer in scope {
+        path.push(OwnedText::copy_of(alloc, outer.as_str())?)?;
+    }
+    path.push(OwnedText::copy_of(alloc, spelling_at(text, name))?)?;
+    Ok(Sequence::from_vec(path))
+}
+
+/// The declaration of a name in a scope.
+fn declaration_at(
+    alloc: Global,
+    text: &str,
+    kind: DeclarationKind,
+    scope: &[OwnedText],
+    name: Span,
+) -> Result<Declaration, AllocError>
+    requires { IsSpanOf text.now name }
+    ensures { IfOk result (λ declared. declared ≡ declaration_at text.now kind scope.now name) }
+{
+    let path = within(alloc, text, scope, name)?;
+    let mut full_name = String::new(alloc);
+    push_dotted(&mut full_name, path.as_slice())?;
+    Ok(Declaration {
+        kind,
+        full_name: OwnedText::from_string(full_name),
+        path,
+        name,
+    })
+}
+
+/// Appends what a message declares: itself, and what stands in it.
+fn declare_message(
+    alloc: Global,
+    text: &str,
+    scope: &[OwnedText],
+    message: &Message,
+    declarations: &mut Vec<Declaration>,
+) -> Result<(), AllocError>
+    requires { AllByRecursion (IsSpanOf text.now) (message.now.heading.name ∷ names_in message.now.body) }
+    ensures { OnOk result (declarations.new.items ≡ declarations.old.items ++ declared_by text.now scope.now message.now) }
+{
+    declarations.push(declaration_at(alloc, text, DeclarationKind::Message, scope, message.name)?)?;
+    let path = within(alloc, text, scope, message.name)?;
+    let inner = path.as_slice();
+    for item in &message.items {
+        match item {
+            MessageItem::Message(nested) => {
+                declare_message(alloc, text, inner, nested, declarations)?;
+            }
+            MessageItem::Field(field) => {
+                let kind = DeclarationKind::Field;
+                declarations.push(declaration_at(alloc, text, kind, inner, field.name)?)?;
+            }
+        }
+    }
+    Ok(())
+}
+
+/// What a file declares, in order of the names' places.
+pub fn declarations_of(
+    alloc: Global,
+    text: &str,
+    file: &File,
+) -> Result<Vec<Declaration>, AllocError>
+    requires { AllByRecursion (IsSpanOf text.now) (names_of file.now) }
+    ensures { IfOk result (λ declared. declared.items ≡ declarations_of text.now file.now) }
+{
+    let mut declarations = Vec::new(alloc);
+    for message in &file.messages {
+        declare_message(alloc, text, &[], message, &mut declarations)?;
+    }
+    Ok(declarations)
 }

@@ -16,12 +16,6 @@ use std::cmp::Ordering;
 /// The role of a definition.
 const DEFINITION: i32 = 1;
 
-fn owned(alloc: Global, text: &str) -> Result<OwnedText, AllocError>
-    ensures { IfOk result (λ owned. owned ≡ text.now) }
-{
-    Ok(OwnedText::from_string(String::from_str(alloc, text)?))
-}
-
 /// The range from where a span begins to where it ends.
 fn range_over(text: &Text<'_>, span: Span) -> Range
     requires start { IsCharBoundary text.now span.start }
@@ -104,7 +98,7 @@ fn file_info(alloc: Global, path: &str) -> Result<Info, AllocError>
     Ok(Info {
         symbol: symbols::file_symbol(alloc, path)?,
         documentation: Sequence::from_vec(Vec::new(alloc)),
-        display_name: owned(alloc, path)?,
+        display_name: OwnedText::copy_of(alloc, path)?,
     })
 }
 
@@ -115,7 +109,7 @@ fn declaration_info(alloc: Global, declaration: &Declaration) -> Result<Info, Al
     Ok(Info {
         symbol: symbols::symbol_of(alloc, declaration.kind, path)?,
         documentation: Sequence::from_vec(Vec::new(alloc)),
-        display_name: owned(alloc, simple_name(path))?,
+        display_name: OwnedText::copy_of(alloc, simple_name(path))?,
     })
 }
 
@@ -153,10 +147,10 @@ pub fn document(
     ensures { IfOk result (IsDocumentOf path.now text.now declarations.now) }
 {
     Ok(Document {
-        relative_path: owned(alloc, path)?,
+        relative_path: OwnedText::copy_of(alloc, path)?,
         occurrences: occurrences(alloc, path, text, declarations)?,
         symbols: infos(alloc, path, declarations)?,
-        language: owned(alloc, "Protobuf")?,
+        language: OwnedText::copy_of(alloc, "Protobuf")?,
         position_encoding: 1,
     })
 }
@@ -165,14 +159,14 @@ fn metadata(alloc: Global) -> Result<Metadata, AllocError>
     ensures { IfOk result (λ made. made ≡ metadata) }
 {
     let tool_info = ToolInfo {
-        name: owned(alloc, "protoscip")?,
-        version: owned(alloc, "1")?,
+        name: OwnedText::copy_of(alloc, "protoscip")?,
+        version: OwnedText::copy_of(alloc, "1")?,
         arguments: Sequence::from_vec(Vec::new(alloc)),
     };
     Ok(Metadata {
         version: 0,
         tool_info: Some(tool_info),
-        project_root: owned(alloc, "file:///")?,
+        project_root: OwnedText::copy_of(alloc, "file:///")?,
         text_document_encoding: 1,
     })
 }

@@ -1,9 +1,10 @@
 //! Why the program stops short of its answer.
 ghost use Rattle.std.specs.Prelude.{◌≡◌, IfOk, string_bytes};
-ghost use Rattle.protoscip.specs.Faults.{fault_line, line_of, lex_name, lex_offset, status_of};
+ghost use Rattle.protoscip.specs.Faults.{fault_line, line_of, lex_name, lex_offset, refusal_of_lex, refusal_of_syntax, status_of, syntax_name, syntax_offset};
 
+use crate::syntax::SyntaxFault;
 use proto_lex::{LexFault, Span};
-use std::alloc::{AllocError, Global};
+use std::alloc::{AllocError, AllocFailed, Global};
 use thiserror::Error;
 
 /// Why the program stops short of its answer.
@@ -18,6 +19,9 @@ pub enum Fault {
     /// The source is no text, or has no lexing.
     #[error("{0}")]
     Lex(LexFault),
+    /// The source's tokens have no tree.
+    #[error("{0}")]
+    Syntax(SyntaxFault),
     /// Two declarations have one full name: the places of their names.
     #[error("Duplicate")]
     Duplicate {
@@ -34,6 +38,48 @@ pub enum Fault {
     Write(u64),
 }
 
+impl From<AllocError> for Fault {
+    ghost use Rattle.protoscip.specs.declared.fault.Fault.TheVariants.{Memory};
+
+    ghost from_gives = { λ _ e. e ≡ Memory };
+
+    fn from(_refused: AllocError) -> Fault {
+        Fault::Memory
+    }
+}
+
+impl<T: Drop> From<AllocFailed<T>> for Fault {
+    ghost use Rattle.protoscip.specs.declared.fault.Fault.TheVariants.{Memory};
+
+    ghost from_gives = { λ _ e. e ≡ Memory };
+
+    fn from(_refused: AllocFailed<T>) -> Fault {
+        Fault::Memory
+    }
+}
+
+impl From<LexFault> for Fault {
+    ghost from_gives = { λ fault e. e ≡ refusal_of_lex fault };
+
+    fn from(fault: LexFault) -> Fault {
+        match fault {
+            LexFault::Memory => Fault::Memory,
+            _ => Fault::Lex(fault),
+        }
+    }
+}
+
+impl From<SyntaxFault> for Fault {
+    ghost from_gives = { λ fault e. e ≡ refusal_of_syntax fault };
+
+    fn from(fault: SyntaxFault) -> Fault {
+        match fault {
+            SyntaxFault::Memory => Fault::Memory,
+            _ => Fault::Syntax(fault),
+        }
+    }
+}
+
 impl Fault {
     /// The line, without its end, that says this of the source with this path.
     pub fn line(&self, alloc: Global, path: &str) -> Result<String, AllocError>
@@ -43,6 +89,9 @@ impl Fault {
             Fault::Memory => format!(in alloc; "protoscip: Memory"),
             Fault::Read => format!(in alloc; "protoscip: Read"),
             Fault::Lex(fault) => line_at(alloc, path, offset_of_lex(fault), name_of_lex(fault)),
+            Fault::Syntax(fault) => {
+                line_at(alloc, path, offset_of_syntax(fault), name_of_syntax(fault))
+            }
             Fault::Duplicate { first, second } => {
                 let (first, second) = (first.start, second.start);
                 format!(in alloc; "protoscip: {path}@{second}: Duplicate of {path}@{first}")
@@ -57,9 +106,9 @@ impl Fault {
         ensures { result ≡ status_of self.now }
     {
         match self {
-            Fault::Memory | Fault::Lex(LexFault::Memory) => 4,
+            Fault::Memory | Fault::Lex(LexFault::Memory) | Fault::Syntax(SyntaxFault::Memory) => 4,
             Fault::Read | Fault::TooLarge | Fault::Write(_) => 3,
-            Fault::Lex(_) | Fault::Duplicate { .. } => 1,
+            Fault::Lex(_) | Fault::Syntax(_) | Fault::Duplicate { .. } => 1,
         }
     }
 }
@@ -110,3 +159,30 @@ fn name_of_lex(fault: &LexFault) -> &'static str
         LexFault::Memory => "Memory",
     }
 }
+
+/// The offset that a fault of the tree names.
+fn offset_of_syntax(fault: &SyntaxFault) -> Option<usize>
+    ensures { result ≡ syntax_offset fault.now }
+{
+    match *fault {
+        SyntaxFault::NotProto3(offset)
+        | SyntaxFault::TooDeep(offset)
+        | SyntaxFault::Grammar(offset) => Some(offset),
+        SyntaxFault::Memory => None,
+    }
+}
+
+/// The name of a fault of the tree.
+fn name_of_syntax(fault: &SyntaxFault) -> &'static str
+    ensures { result.now ≡ syntax_name fault.now }
+{
+    match fault {
+        SyntaxFault::NotProto3(_) => "NotProto3",
+        SyntaxFault::TooDeep(_) => "TooDeep",
+        SyntaxFault::Grammar(_) => "Grammar",
+        SyntaxFault::Memory => "Memory",
+    }
+}
+
+#[cfg(test)]
+mod tests;

@@ -6,6 +6,8 @@ pub mod declarations;
 pub mod document;
 pub mod duplicates;
 mod fault;
+pub mod listing;
+pub mod source;
 pub mod symbols;
 pub mod syntax;
 

@@ -1,8 +1,9 @@
 //! A text of a record.
 
-ghost use Rattle.std.specs.Prelude.{◌≡◌};
+ghost use Rattle.std.specs.Prelude.{◌≡◌, IfOk};
 ghost use Rattle.std.specs.String.{string_bytes};
 
+use std::alloc::{AllocError, Global};
 use std::marker::Model;
 
 /// A text in UTF-8, which contracts see as the list of its bytes.
@@ -26,6 +27,13 @@ impl OwnedText {
         ensures { result ≡ string_bytes string }
     {
         OwnedText { string }
+    }
+
+    /// A copy of a text.
+    pub fn copy_of(alloc: Global, text: &str) -> Result<OwnedText, AllocError>
+        ensures { IfOk result (λ copy. copy ≡ text.now) }
+    {
+        Ok(OwnedText::from_string(String::from_str(alloc, text)?))
     }
 
     /// The text.

@@ -15,6 +15,10 @@ mod message;
 mod metadata;
 mod occurrence;
 mod range;
+#[cfg(test)]
+mod samples;
+#[cfg(test)]
+mod tests;
 mod text;
 mod tool_info;
 mod varint;

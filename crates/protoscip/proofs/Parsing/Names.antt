@@ -1,16 +1,18 @@
 -- The names of a tree are identifiers, in their order.
-use Rattle.std.proofs.Common.{◌≡◌, Option, ℕ, zero, suc, ◌<◌, List, [], ◌∷◌, ◌++◌, map, All, AllPairs, append_assoc, arith}
+use Rattle.std.proofs.Common.{◌≡◌, Option, ℕ, zero, suc, ◌<◌, List, [], ◌∷◌, ◌++◌, map, All, AllPairs, append_assoc, arith, refl, ap, ◌≤◌}
 use Rattle.std.proofs.lemmas.List.Elements.{All-cons, All-head, All-tail}
 use Rattle.std.proofs.lemmas.List.Kept.{AllPairs-cons}
 use Rattle.proto_lex.specs.declared.span.Span.{Span}
 use Rattle.proto_lex.specs.declared.token.TokenKind.{TokenKind}
 use Rattle.proto_lex.specs.declared.token.TokenKind.TheVariants.{Identifier}
 use Rattle.protoscip.specs.declared.syntax.tree.Field.{Field}
-use Rattle.protoscip.specs.Syntax.Lexeme.{Lexeme}
+use Rattle.proto_lex.specs.declared.token.Token.{Token}
+use Rattle.proto_lex.specs.Lexed.{AreInOrder}
+use Rattle.protoscip.specs.Syntax.Lexeme.{Lexeme, lexemes_of}
 use Rattle.protoscip.specs.Syntax.Tree.{Body, MessageTree, names_in, names_of}
 use Rattle.protoscip.specs.Syntax.Names.{Among}
 use Rattle.protoscip.specs.Syntax.Names.Among.{none, skip, name}
-use Rattle.protoscip.specs.Syntax.Derives.{IsToken, IsWord, IsText, IsSyntax, IsLabel, IsType, IsField, IsMessage, IsBody, AreStatements, IsFile}
+use Rattle.protoscip.specs.Syntax.Derives.{IsToken, IsWord, IsText, IsSyntax, IsLabel, IsType, IsField, IsMessage, IsBody, AreStatements, IsFile, Derives}
 use Rattle.protoscip.specs.Syntax.Derives.IsToken.{token}
 use Rattle.protoscip.specs.Syntax.Derives.IsWord.{word}
 use Rattle.protoscip.specs.Syntax.Derives.IsText.{last as last_literal, more as more_literals}
@@ -84,3 +86,28 @@ Among-AllPairs R (name {spans} {t} {rest} k behind) pairs =
     AllPairs-cons R t.span spans
     (Among-All (R t.span) behind (λ j d h. pairs zero (suc j) d (omega arith) (omega arith)))
     (Among-AllPairs R behind (λ i j d h l. pairs (suc i) (suc j) d (omega arith) (omega arith)))
+
+-- from an earlier place on too
+from_earlier : (earlier place : ℕ) (spans : List Span) → earlier ≤ place → AreInOrder place spans → AreInOrder earlier spans
+from_earlier earlier place [] h ordered = tt
+from_earlier earlier place (span ∷ spans) h ordered = (omega (arith, ordered.0), ordered.1, ordered.2)
+
+Among-AreInOrder : {spans : List Span} {tokens : List Lexeme} → Among spans tokens → (place : ℕ) → AreInOrder place (map (λ t. t.span) tokens) → AreInOrder place spans
+Among-AreInOrder none place ordered = tt
+Among-AreInOrder (skip {t = t} {rest} behind) place ordered =
+    Among-AreInOrder behind place (from_earlier place t.span.end (map (λ u. u.span) rest) (omega (arith, ordered.0, ordered.1)) ordered.2)
+Among-AreInOrder (name {t = t} k behind) place ordered = (ordered.0, ordered.1, Among-AreInOrder behind t.span.end ordered.2)
+
+spans-lexemes_of : (text : List ℕ) (tokens : List Token) → map (λ t. t.span) (lexemes_of text tokens) ≡ map (λ t. t.span) tokens
+spans-lexemes_of text [] = refl
+spans-lexemes_of text (t ∷ tokens) = ap (λ spans. t.span ∷ spans) (spans-lexemes_of text tokens)
+
+-- the names are in order where the tokens are
+pub names-AreInOrder : (text : List ℕ) (tokens : List Token) (tree : List MessageTree) → Derives text tokens tree
+    → AreInOrder 0 (map (λ t. t.span) tokens) → AreInOrder 0 (names_of tree)
+names-AreInOrder text tokens tree d ordered = Among-AreInOrder (file_named d) 0 (rw (spans-lexemes_of text tokens) ordered)
+
+-- what holds of each token's span holds of each name
+pub names-All : (P : Span → Type 0) (text : List ℕ) (tokens : List Token) (tree : List MessageTree) → Derives text tokens tree
+    → All P (map (λ t. t.span) tokens) → All P (names_of tree)
+names-All P text tokens tree d all = Among-All P (file_named d) (rw (spans-lexemes_of text tokens) all)

@@ -1,10 +1,9 @@
 -- The tokens from a place on.
-use Rattle.std.proofs.Common.{◌≡◌, ℕ, zero, suc, ◌+◌, List, [], ◌∷◌, map, drop, slice_get, option_map, Option, Some, None, length, get_or, ltb, refl, sym, ◌∙◌, ap, add-one}
-use Rattle.std.proofs.lemmas.Option.{slice_get-map, slice_get-get_or, slice_get_past}
-use Rattle.std.proofs.lemmas.Bool.{ltb-true, ltb-false}
-use Rattle.std.specs.Option.{is_some, IfSome, option_copied}
-use Rattle.std.specs.Borrow.{Bor}
-use Rattle.protoscip.specs.Syntax.Lexeme.{Lexeme}
+use Rattle.std.proofs.Common.{◌≡◌, ℕ, zero, suc, ◌+◌, List, [], ◌∷◌, map, drop, slice_get, option_map, Option, Some, None, length, get_or, ◌<◌, ◌≤◌, IfSome, arith, refl, sym, ◌∙◌, ap, add-one}
+use Rattle.std.proofs.lemmas.Option.{slice_get-map, slice_get-get_or}
+use Rattle.proto_lex.specs.declared.token.Token.{Token}
+use Rattle.proto_lex.specs.Lexed.{part_of}
+use Rattle.protoscip.specs.Syntax.Lexeme.{Lexeme, lexeme_of, lexemes_of}
 use Rattle.protoscip.specs.Syntax.Reading.{first, others}
 
 first-drop-by : (tokens : List Lexeme) (place : ℕ) → first (drop place tokens) ≡ slice_get tokens place
@@ -23,12 +22,18 @@ others-drop-by (t ∷ rest) (suc place) = others-drop-by rest place
 pub first-drop : {A : Type 0} (f : A → Lexeme) (xs : List A) (place : ℕ) → first (drop place (map f xs)) ≡ option_map f (slice_get xs place)
 first-drop f xs place = first-drop-by (map f xs) place ∙ slice_get-map f xs place
 
--- what `get` gives, as a value
-pub get-copied : {A : Type 0} (xs : List A) (place : ℕ) (got : Option (Bor A)) → is_some got ≡ ltb place (length xs) → IfSome got (λ x. x.now ≡ get_or xs place x.now)
-    → slice_get xs place ≡ option_copied got
-get-copied xs place None none there = slice_get_past xs place (ltb-false place (length xs) (sym none))
-get-copied xs place (Some x) some there = slice_get-get_or xs place x.now (ltb-true place (length xs) (sym some)) ∙ ap Some (sym there)
+-- what `get` gives where something is there
+pub slice_get-got : {A : Type 0} (xs : List A) (place : ℕ) (x : A) → place < length xs → x ≡ get_or xs place x → slice_get xs place ≡ Some x
+slice_get-got xs place x inside there = slice_get-get_or xs place x inside ∙ ap Some (sym there)
 
 -- the tokens behind the place
 pub others_drop : (tokens : List Lexeme) (place : ℕ) → others (drop place tokens) ≡ drop (place + 1) tokens
 others_drop tokens place = rw add-one (others-drop-by tokens place)
+
+-- the token at the place, with its spelling
+pub first-lexemes_of : (text : List ℕ) (tokens : List Token) (place : ℕ) (t : Token) (spelling : List ℕ) → slice_get tokens place ≡ Some t
+    → IfSome (slice_get tokens place) (λ u. spelling ≡ part_of text u.span)
+    → first (drop place (lexemes_of text tokens)) ≡ Some (record { kind = t.kind; spelling = spelling; span = t.span })
+first-lexemes_of text tokens place t spelling here spelled =
+    let same : spelling ≡ part_of text t.span = rw here at spelled in
+    rw same (first-drop (lexeme_of text) tokens place ∙ rw here refl)

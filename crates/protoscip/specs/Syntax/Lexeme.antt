@@ -1,5 +1,6 @@
 -- Tokens with their spellings: the terminals of the grammar.
-use Rattle.std.specs.Prelude.{◌≡◌, ℕ, Bool, false, ◌==◌, List, [], ◌∷◌, map, slice_range}
+use Rattle.std.specs.Prelude.{ℕ, List, map}
+use Rattle.proto_lex.specs.Lexed.{part_of}
 use Rattle.proto_lex.specs.declared.span.Span.{Span}
 use Rattle.proto_lex.specs.declared.token.Token.{Token}
 use Rattle.proto_lex.specs.declared.token.TokenKind.{TokenKind}
@@ -11,7 +12,7 @@ pub record Lexeme : Type 0 where
   pub span : Span
 
 abbrev pub lexeme_of : List ℕ → Token → Lexeme
-lexeme_of text token = record { kind = token.kind; spelling = slice_range text token.span.start token.span.end; span = token.span }
+lexeme_of text token = record { kind = token.kind; spelling = part_of text token.span; span = token.span }
 
 -- The tokens of a text, each with its spelling.
 abbrev pub lexemes_of : List ℕ → List Token → List Lexeme

@@ -1,14 +1,14 @@
 //! The parser's place among the tokens.
 
-ghost use Rattle.std.specs.Prelude.{◌≡◌, ◌&&◌, map, option_map};
+ghost use Rattle.std.specs.Prelude.{◌≡◌, option_map};
 ghost use Rattle.protoscip.specs.Syntax.Gives.{Gives};
 ghost use Rattle.protoscip.specs.Syntax.Derives.{between_quotes};
-ghost use Rattle.protoscip.specs.Syntax.Terminal.{is_kind};
 ghost use Rattle.protoscip.specs.Syntax.Reading.{first, others, first_is, of_kind, is_word, is_scalar, token_that, ends};
+ghost use Rattle.protoscip.specs.Syntax.Lexeme.{lexemes_of};
 ghost use Rattle.protoscip.specs.Syntax.View.{lexeme_view};
 
 use crate::syntax::fault::SyntaxFault;
-use proto_lex::{Span, TokenKind};
+use proto_lex::{Span, TokenKind, Tokens};
 use std::marker::Model;
 
 /// A token with its spelling.
@@ -63,58 +63,70 @@ impl<'t> Lexeme<'t> {
     }
 }
 
-/// What stands before the parser: the tokens that it has not read yet.
+/// A place among the tokens of a text. Contracts see the tokens behind it, with their spellings.
 #[derive(Drop)]
 pub struct Parser<'t> {
-    lexemes: &'t [Lexeme<'t>],
+    tokens: &'t Tokens<'t>,
     next: usize,
-    end: usize,
 }
 
 impl<'t> Model for Parser<'t> {
-    ghost use Rattle.std.specs.Prelude.{List, map, drop};
-    ghost use Rattle.protoscip.specs.Syntax.Lexeme.{Lexeme};
+    ghost use Rattle.std.specs.Prelude.{List, drop};
+    ghost use Rattle.protoscip.specs.Syntax.Lexeme.{Lexeme, lexemes_of};
 
     ghost Value = { List Lexeme };
 
-    ghost use Rattle.protoscip.specs.Syntax.View.{lexeme_view};
-
-    ghost view = { λ p. drop p.next (map lexeme_view p.lexemes.now) };
+    ghost view = { λ parser. drop parser.next (lexemes_of parser.tokens.now.text parser.tokens.now.tokens) };
 }
 
 impl<'t> Parser<'t> {
-    /// A parser before the first of the tokens of a text of `end` bytes.
-    pub fn new(lexemes: &'t [Lexeme<'t>], end: usize) -> Parser<'t>
-        ensures { result ≡ map lexeme_view lexemes.now }
+    /// The place before the first token.
+    pub fn new(tokens: &'t Tokens<'t>) -> Parser<'t>
+        ensures { result ≡ lexemes_of tokens.now.text tokens.now.tokens }
     {
-        Parser {
-            lexemes,
-            next: 0,
-            end,
-        }
+        Parser { tokens, next: 0 }
     }
 
     /// The next token, if there is one.
     pub fn peek(&self) -> Option<Lexeme<'t>>
         ensures { first self.now ≡ option_map lexeme_view result }
     {
-        self.lexemes.get(self.next).copied()
+        let tokens = self.tokens;
+        let token = tokens.tokens().get(self.next)?;
+        let spelling = tokens.slice(self.next);
+        Some(Lexeme {
+            kind: token.kind,
+            spelling,
+            span: token.span,
+        })
     }
 
     /// Takes the next token, if there is one.
-    #[tactic(auto, using(crate::proofs::Parsing::Places::others_drop))]
     pub fn next(&mut self) -> Option<Lexeme<'t>>
         ensures token { first self.old ≡ option_map lexeme_view result }
         ensures rest { self.new ≡ others self.old }
     {
-        let lexeme = self.peek()?;
-        self.next += 1;
-        Some(lexeme)
+        let lexeme = self.peek();
+        self.advance();
+        lexeme
+    }
+
+    /// Goes behind the next token, if there is one.
+    #[tactic(auto, using(crate::proofs::Parsing::Places::others_drop))]
+    fn advance(&mut self)
+        ensures { self.new ≡ others self.old }
+    {
+        if self.next < self.tokens.tokens().len() {
+            self.next += 1;
+        }
     }
 
     /// The offset of the next token, or the text's length.
     pub fn offset(&self) -> usize {
-        self.peek().map_or(self.end, |lexeme| lexeme.span.start)
+        match self.peek() {
+            Some(lexeme) => lexeme.span.start,
+            None => self.tokens.text().len(),
+        }
     }
 
     /// Whether no token is left.

@@ -1,12 +1,12 @@
-use Rattle.std.proofs.Common.{◌≡◌, option_map, ◌∙◌, ap}
-use Rattle.std.specs.Option.{option_copied}
-use Rattle.protoscip.proofs.Parsing.Places.{first-drop, get-copied}
-use Rattle.protoscip.specs.Syntax.View.{lexeme_view}
+use Rattle.std.proofs.Common.{◌≡◌, Some, slice_get}
+use Rattle.protoscip.proofs.Parsing.Places.{slice_get-got, first-lexemes_of}
 use Rattle.protoscip.proofs.syntax.parser.Parser.peek.Goals as goal
 
 pub returns : goal.returns
 returns c =
     let inside = c.self.inside in
-    let found = c.get.ensures.lookup in
-    rw (← c.self.view_is, c.copied.ensures)
-    (first-drop lexeme_view inside.lexemes.now inside.next ∙ ap (option_map lexeme_view) (get-copied inside.lexemes.now inside.next c.get.result found.0 found.1))
+    let got = c.in_ok-token.ensures.lookup in
+    let token = c.in_ok-token.token.now in
+    let here : slice_get inside.tokens.now.tokens inside.next ≡ Some token =
+    rw (← c.tokens.ensures.value) (slice_get-got c.tokens.result.now inside.next token got.3.0 got.1) in
+    rw (← c.self.view_is) (first-lexemes_of inside.tokens.now.text inside.tokens.now.tokens inside.next token c.slice-spelling.result.now here c.slice-spelling.ensures)

@@ -1,11 +1,9 @@
-use Rattle.std.proofs.Common.{◌≡◌, map, List, Some, [], sym, ◌∙◌, ap}
+use Rattle.std.proofs.Common.{◌≡◌, Some}
 use Rattle.std.proofs.lemmas.Result.{err_from_is_err_and}
-use Rattle.protoscip.specs.Syntax.Lexeme.{Lexeme as Terminal}
 use Rattle.protoscip.specs.Syntax.Derives.{IsFile}
-use Rattle.protoscip.specs.Syntax.View.{lexeme_view}
 use Rattle.protoscip.proofs.Parsing.Found.{file_found}
 use Rattle.protoscip.proofs.Parsing.Exact.{same_tree, only_memory}
-use Rattle.protoscip.proofs.syntax.parse_lexemes.Goals as goal
+use Rattle.protoscip.proofs.syntax.parse.Goals as goal
 
 pub returns-clause-found : goal.returns-clause-found
 returns-clause-found c = rw (← c.new.ensures) (file_found c.new.result (c.in_ok-messages.messages.items, _) c.in_ok-messages.ensures)

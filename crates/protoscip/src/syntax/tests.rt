@@ -1,0 +1,157 @@
+//! Faults with their offsets, which no clause says, and sources that parse.
+
+use super::*;
+use proto_lex::{Span, Text, lex};
+use std::process::Abort;
+
+/// What parsing the source gives.
+fn parsed(rt: &impl Abort, alloc: Global, source: &str) -> Result<File, SyntaxFault> {
+    let text = Text::new(alloc, source.as_bytes()).expect(rt, "a text");
+    let tokens = lex(alloc, &text).expect(rt, "tokens");
+    parse(alloc, &tokens)
+}
+
+#[test]
+fn a_text_that_is_not_proto3(rt: HostRuntime) {
+    for (source, offset) in [
+        ("", 0),
+        ("  // only a comment\n", 20),
+        ("syntax = \"proto2\";\n", 9),
+        ("syntax = \"proto2\"", 9),
+        ("syntax = \"pro\" 'to2';", 9),
+        ("syntax = \"proto\\x33\";", 9),
+        ("syntax = '';", 9),
+        ("\"syntax\" = \"proto3\";", 0),
+        (" ; syntax = \"proto3\";", 1),
+        ("message A {}", 0),
+    ] {
+        assert_eq!(rt;
+            parsed(&rt, rt.alloc(), source).err(),
+            Some(SyntaxFault::NotProto3(offset)),
+            "{source}"
+        );
+    }
+}
+
+#[test]
+fn a_token_that_cannot_stand_there(rt: HostRuntime) {
+    for (source, offset) in [
+        ("syntax", 6),
+        ("syntax \"proto3\";", 7),
+        ("syntax = 3;", 9),
+        ("syntax = ;", 9),
+        ("syntax = \"proto3\"", 17),
+        ("syntax = \"proto3\";\nenum E {}", 19),
+        ("syntax = \"proto3\";\npackage a;", 19),
+        ("syntax = \"proto3\";\n}", 19),
+        ("syntax = \"proto3\";\nmessage {}", 27),
+        ("syntax = \"proto3\";\nmessage A {", 30),
+        ("syntax = \"proto3\";\nmessage A { message B { }", 44),
+        ("syntax = \"proto3\";\nmessage A { B b = 1; }", 31),
+        ("syntax = \"proto3\";\nmessage A { repeated B b = 1; }", 40),
+        ("syntax = \"proto3\";\nmessage A { int32.Foo x = 1; }", 31),
+        ("syntax = \"proto3\";\nmessage A { .Foo x = 1; }", 31),
+        (
+            "syntax = \"proto3\";\nmessage A { map<int32, string> x = 1; }",
+            31,
+        ),
+        ("syntax = \"proto3\";\nmessage A { enum E { X = 0; } }", 31),
+        ("syntax = \"proto3\";\nmessage A { repeated; }", 39),
+        (
+            "syntax = \"proto3\";\nmessage A { optional repeated int32 x = 1; }",
+            40,
+        ),
+        ("syntax = \"proto3\";\nmessage A { int32 x = -1; }", 41),
+        ("syntax = \"proto3\";\nmessage A { int32 x = 1.5; }", 41),
+        (
+            "syntax = \"proto3\";\nmessage A { int32 x = 1 [deprecated = true]; }",
+            43,
+        ),
+        ("syntax = \"proto3\";\nmessage A { int32 x = 1 }", 43),
+    ] {
+        assert_eq!(rt;
+            parsed(&rt, rt.alloc(), source).err(),
+            Some(SyntaxFault::Grammar(offset)),
+            "{source}"
+        );
+    }
+}
+
+#[test]
+fn a_source_that_parses(rt: HostRuntime) {
+    for source in [
+        "syntax = \"proto3\";",
+        "syntax = \"pro\" 'to3';",
+        "syntax = '' \"proto3\" ''; ;;",
+        "syntax = \"proto3\"; message A { ; }",
+        "syntax = \"proto3\"; message message { message message { optional int32 message = 1; } }",
+        "syntax = \"proto3\"; message syntax { repeated bytes repeated = 0x1F; string string = 017; }",
+    ] {
+        assert_eq!(rt; parsed(&rt, rt.alloc(), source).err(), None, "{source}");
+    }
+}
+
+#[test]
+fn spans_of_a_tree(rt: HostRuntime) -> Result<(), SyntaxFault> {
+    let source = "syntax='proto3';message A{repeated int32 x=1;message B{};string y=23;}";
+    let file = parsed(&rt, rt.alloc(), source)?;
+    let [a] = file.messages.as_slice() else {
+        assert!(rt; false, "one message");
+        return Ok(());
+    };
+    assert_eq!(rt; a.keyword, Span { start: 16, end: 23 });
+    assert_eq!(rt; a.name, Span { start: 24, end: 25 });
+    assert_eq!(rt; a.open_brace, Span { start: 25, end: 26 });
+    let [
+        MessageItem::Field(x),
+        MessageItem::Message(b),
+        MessageItem::Field(y),
+    ] = a.items.as_slice()
+    else {
+        assert!(rt; false, "a field, a message and a field");
+        return Ok(());
+    };
+    assert_eq!(rt; x.label, Some(Span { start: 26, end: 34 }));
+    assert_eq!(rt; x.type_name, Span { start: 35, end: 40 });
+    assert_eq!(rt; x.name, Span { start: 41, end: 42 });
+    assert_eq!(rt; x.number, Span { start: 43, end: 44 });
+    assert_eq!(rt; x.semicolon, Span { start: 44, end: 45 });
+    assert_eq!(rt; b.name, Span { start: 53, end: 54 });
+    assert_eq!(rt; y.label, None);
+    assert_eq!(rt; y.name, Span { start: 64, end: 65 });
+    assert_eq!(rt; y.number, Span { start: 66, end: 68 });
+    Ok(())
+}
+
+/// The syntax statement, `depth` messages inside one another, and a rest.
+fn nested(alloc: Global, depth: usize, rest: &str) -> Result<String, SyntaxFault> {
+    let mut source = String::new(alloc);
+    source.push_str("syntax = \"proto3\";\n")?;
+    for _ in 0..depth {
+        source.push_str("message A{")?;
+    }
+    source.push_str(rest)?;
+    Ok(source)
+}
+
+#[test]
+fn sixty_four_messages_inside_one_another(rt: HostRuntime) -> Result<(), SyntaxFault> {
+    let mut braces = String::new(rt.alloc());
+    for _ in 0..64 {
+        braces.push_str("}")?;
+    }
+    let deepest = nested(rt.alloc(), 64, braces.as_str())?;
+    assert_eq!(rt; parsed(&rt, rt.alloc(), deepest.as_str()).err(), None);
+    braces.push_str("}")?;
+    let too_deep = nested(rt.alloc(), 65, braces.as_str())?;
+    assert_eq!(rt;
+        parsed(&rt, rt.alloc(), too_deep.as_str()).err(),
+        Some(SyntaxFault::TooDeep(659))
+    );
+    let cut_off = nested(rt.alloc(), 64, "message =")?;
+    assert_eq!(rt;
+        parsed(&rt, rt.alloc(), cut_off.as_str()).err(),
+        Some(SyntaxFault::TooDeep(659))
+    );
+    Ok(())
+}

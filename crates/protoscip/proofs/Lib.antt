@@ -6,3 +6,5 @@ pub mod Orders
 pub mod Walks
 pub mod Naming
 pub mod Kept
+pub mod Refusals
+pub mod Sources

@@ -1,8 +1,13 @@
 -- The names of a tree's declarations are spans of the text.
-use Rattle.std.proofs.Common.{◌≡◌, ℕ, List, [], ◌∷◌, ◌++◌}
+use Rattle.std.proofs.Common.{◌≡◌, ℕ, arith, List, [], ◌∷◌, ◌++◌}
 use Rattle.std.specs.List.{All, AllByRecursion}
-use Rattle.std.proofs.lemmas.List.Elements.{All-from_recursion}
+use Rattle.std.proofs.lemmas.List.Elements.{All-from_recursion, recursion_from_All}
 use Rattle.proto_lex.specs.declared.span.Span.{Span}
+use Rattle.proto_lex.specs.declared.token.Token.{Token}
+use Rattle.proto_lex.specs.Lexed.{IsPart}
+use Rattle.protoscip.specs.Syntax.Lexeme.{Lexeme, lexemes_of}
+use Rattle.protoscip.specs.Syntax.Names.{Among}
+use Rattle.protoscip.specs.Syntax.Names.Among.{none, skip, name}
 use Rattle.protoscip.specs.declared.declarations.Declaration.{Declaration}
 use Rattle.protoscip.specs.Syntax.Tree.{Body, MessageTree, names_in, names_of}
 use Rattle.protoscip.specs.Syntax.Tree.Body.{NoMore, FieldThen, MessageThen}
@@ -36,3 +41,18 @@ module _ (text : List ℕ) where
 -- the declarations of a tree whose names are spans of the text are named in it
 pub all-named : (text : List ℕ) (tree : List MessageTree) → AllByRecursion (IsSpanOf text) (names_of tree) → All (IsNamedIn text) (declarations_of text tree)
 all-named text tree all = All-from_recursion (IsNamedIn text) (declarations_of text tree) (named-of text tree all)
+
+-- the spans of some of the lexemes are spans of the text, where all of the tokens are
+among-spans : (text : List ℕ) {spans : List Span} {lexemes : List Lexeme} → Among spans lexemes → AllByRecursion (λ (l : Lexeme). IsPart text l.span) lexemes → AllByRecursion (IsSpanOf text) spans
+among-spans text none parts = tt
+among-spans text (skip a) parts = among-spans text a parts.1
+among-spans text (name k a) parts =
+    (record { ordered = omega (arith, parts.0.some); start = parts.0.starts_whole; end = parts.0.ends_whole }, among-spans text a parts.1)
+
+lexeme-parts : (text whole : List ℕ) (tokens : List Token) → AllByRecursion (λ (t : Token). IsPart text t.span) tokens → AllByRecursion (λ (l : Lexeme). IsPart text l.span) (lexemes_of whole tokens)
+lexeme-parts text whole [] parts = tt
+lexeme-parts text whole (t ∷ tokens) parts = (parts.0, lexeme-parts text whole tokens parts.1)
+
+pub spans-of-names : (text : List ℕ) (tokens : List Token) (tree : List MessageTree) → Among (names_of tree) (lexemes_of text tokens) → All (λ (t : Token). IsPart text t.span) tokens
+    → AllByRecursion (IsSpanOf text) (names_of tree)
+spans-of-names text tokens tree among parts = among-spans text among (lexeme-parts text text tokens (recursion_from_All (λ (t : Token). IsPart text t.span) tokens parts))

@@ -5,6 +5,10 @@ use Rattle.proto_lex.specs.declared.fault.LexFault.{LexFault}
 use Rattle.proto_lex.specs.declared.fault.LexFault.TheVariants as lexing
 use Rattle.protoscip.specs.declared.syntax.fault.SyntaxFault.{SyntaxFault}
 use Rattle.protoscip.specs.declared.syntax.fault.SyntaxFault.TheVariants as syntax
+use Rattle.protoscip.specs.declared.source.SourceFault.{SourceFault}
+use Rattle.protoscip.specs.declared.source.SourceFault.TheVariants as source
+use Rattle.scip_wire.specs.declared.write_fault.SpellFault.{SpellFault}
+use Rattle.scip_wire.specs.declared.write_fault.SpellFault.TheVariants as spelling
 use Rattle.protoscip.specs.declared.fault.Fault.{Fault}
 use Rattle.protoscip.specs.declared.fault.Fault.TheVariants as fault
 
@@ -88,3 +92,11 @@ status_of (fault.Syntax e) = syntax_status e
 status_of (fault.Duplicate first second) = 1
 status_of fault.TooLarge = 3
 status_of (fault.Write count) = 3
+
+abbrev pub refusal_of_source : SourceFault → Fault
+refusal_of_source source.Read = fault.Read
+refusal_of_source source.Memory = fault.Memory
+
+abbrev pub refusal_of_spelling : SpellFault → Fault
+refusal_of_spelling spelling.TooLarge = fault.TooLarge
+refusal_of_spelling spelling.Memory = fault.Memory

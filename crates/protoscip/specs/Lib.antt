@@ -6,3 +6,5 @@ pub mod Document
 pub mod Declarations
 pub mod DumpText
 pub mod Source
+pub mod Dump
+pub mod Stages

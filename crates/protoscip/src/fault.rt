@@ -1,9 +1,11 @@
 //! Why the program stops short of its answer.
 ghost use Rattle.std.specs.Prelude.{◌≡◌, IfOk, string_bytes};
-ghost use Rattle.protoscip.specs.Faults.{fault_line, line_of, lex_name, lex_offset, refusal_of_lex, refusal_of_syntax, status_of, syntax_name, syntax_offset};
+ghost use Rattle.protoscip.specs.Faults.{fault_line, line_of, lex_name, lex_offset, refusal_of_lex, refusal_of_source, refusal_of_spelling, refusal_of_syntax, status_of, syntax_name, syntax_offset};
 
+use crate::source::SourceFault;
 use crate::syntax::SyntaxFault;
 use proto_lex::{LexFault, Span};
+use scip_wire::SpellFault;
 use std::alloc::{AllocError, AllocFailed, Global};
 use thiserror::Error;
 
@@ -76,6 +78,28 @@ impl From<SyntaxFault> for Fault {
         match fault {
             SyntaxFault::Memory => Fault::Memory,
             _ => Fault::Syntax(fault),
+        }
+    }
+}
+
+impl From<SourceFault> for Fault {
+    ghost from_gives = { λ fault e. e ≡ refusal_of_source fault };
+
+    fn from(fault: SourceFault) -> Fault {
+        match fault {
+            SourceFault::Read => Fault::Read,
+            SourceFault::Memory => Fault::Memory,
+        }
+    }
+}
+
+impl From<SpellFault> for Fault {
+    ghost from_gives = { λ fault e. e ≡ refusal_of_spelling fault };
+
+    fn from(fault: SpellFault) -> Fault {
+        match fault {
+            SpellFault::TooLarge => Fault::TooLarge,
+            SpellFault::Memory => Fault::Memory,
         }
     }
 }

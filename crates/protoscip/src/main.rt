@@ -4,6 +4,7 @@
 mod command;
 pub mod declarations;
 pub mod document;
+pub mod dump;
 pub mod duplicates;
 mod fault;
 pub mod listing;

@@ -1,0 +1,45 @@
+-- What the steps of a dump give one another.
+use Rattle.std.specs.Prelude.{◌≡◌, ◌<◌, ◌≤◌, List, length, All}
+use Rattle.proto_lex.specs.Lexed.{Lexed}
+use Rattle.scip_model.specs.declared.records.Index.{Index}
+use Rattle.scip_wire.specs.Spelling.{spelling_of}
+use Rattle.protoscip.specs.declared.fault.Fault.{Fault}
+use Rattle.protoscip.specs.declared.fault.Fault.TheVariants.{Memory, Read, Lex, Syntax, Duplicate, TooLarge, Write}
+use Rattle.protoscip.specs.declared.declarations.Declaration.{Declaration}
+use Rattle.protoscip.specs.Syntax.Tree.{MessageTree}
+use Rattle.protoscip.specs.Syntax.Derives.{Derives}
+use Rattle.protoscip.specs.Declarations.{declarations_of}
+use Rattle.protoscip.specs.Document.{IsNamedIn}
+use Rattle.protoscip.specs.Dump.{max_index_length}
+
+-- the declarations of the tokens' tree
+pub record Declares (lexed : Lexed) (declarations : List Declaration) : Type 0 where
+  pub tree : List MessageTree
+  pub derives : Derives lexed.text lexed.tokens tree
+  pub are : declarations ≡ declarations_of lexed.text tree
+  pub named : All (IsNamedIn lexed.text) declarations
+
+-- the tokens have no tree, or memory ran out
+abbrev pub IsTreeRefusal : Lexed → Fault → Type 0
+IsTreeRefusal lexed Memory = Unit {0}
+IsTreeRefusal lexed Read = ⊥
+IsTreeRefusal lexed (Lex fault) = ⊥
+IsTreeRefusal lexed (Syntax fault) = (tree : List MessageTree) → Derives lexed.text lexed.tokens tree → ⊥
+IsTreeRefusal lexed (Duplicate first second) = ⊥
+IsTreeRefusal lexed TooLarge = ⊥
+IsTreeRefusal lexed (Write count) = ⊥
+
+-- what is read back is the index, which isn't too large
+pub record IsStored (index read : Index) : Type 0 where
+  pub same : read ≡ index
+  pub small : length (spelling_of index) ≤ max_index_length
+
+-- the index is too large, or memory ran out
+abbrev pub IsStoreRefusal : Index → Fault → Type 0
+IsStoreRefusal index Memory = Unit {0}
+IsStoreRefusal index Read = ⊥
+IsStoreRefusal index (Lex fault) = ⊥
+IsStoreRefusal index (Syntax fault) = ⊥
+IsStoreRefusal index (Duplicate first second) = ⊥
+IsStoreRefusal index TooLarge = max_index_length < length (spelling_of index)
+IsStoreRefusal index (Write count) = ⊥

@@ -1,0 +1,84 @@
+//! From a source's bytes to the listing of its occurrences.
+
+ghost use Rattle.std.specs.Prelude.{◌≡◌, ◌<◌, ℕ, List, Some, Ok, Err, IfOk, IfErr, OnOk, MatchResult, length};
+ghost use Rattle.std.specs.String.{string_bytes};
+ghost use Rattle.std.specs.Io.KnownBytes.{Appends};
+ghost use Rattle.scip_model.specs.Streams.{one_more};
+ghost use Rattle.protoscip.specs.Source.{IsReadFault};
+ghost use Rattle.protoscip.specs.Dump.{IsIndexOfSource, IsRefusal, IsListing, Dumps};
+ghost use Rattle.protoscip.specs.Stages.{Declares, IsTreeRefusal, IsStored, IsStoreRefusal};
+
+use crate::declarations::{Declaration, declarations_of};
+use crate::document::index_of;
+use crate::duplicates::first_clash;
+use crate::fault::Fault;
+use crate::listing::dump_text;
+use crate::source::read_source;
+use crate::syntax::{names_in_order, parse};
+use proto_lex::{Text, Tokens, lex};
+use scip_model::{Feed, Index, Sink, write_all};
+use scip_wire::{WireFault, read_index, spell_index, spelling_decodes_to_its_index};
+use std::alloc::Global;
+
+/// The path under which a dump shows its source.
+const SOURCE_PATH: &str = "input.proto";
+
+/// What the tokens of a source declare.
+fn declared(alloc: Global, tokens: &Tokens<'_>) -> Result<Vec<Declaration>, Fault>
+    ensures { MatchResult result (λ declared. Declares tokens.now declared.items) (IsTreeRefusal tokens.now) }
+{
+    let file = parse(alloc, tokens)?;
+    let _parts = tokens.tokens();
+    names_in_order();
+    let declarations = declarations_of(alloc, tokens.text(), &file)?;
+    Ok(declarations)
+}
+
+/// The index of a source.
+fn index_of_source(alloc: Global, bytes: &[u8]) -> Result<Index, Fault>
+    ensures { MatchResult result (IsIndexOfSource bytes.now) (IsRefusal bytes.now) }
+{
+    let text = Text::new(alloc, bytes)?;
+    let tokens = lex(alloc, &text)?;
+    let declarations = declared(alloc, &tokens)?;
+    if let Some((first, second)) = first_clash(&declarations) {
+        return Err(Fault::Duplicate { first, second });
+    }
+    let index = index_of(alloc, SOURCE_PATH, &text, &declarations)?;
+    Ok(index)
+}
+
+/// The index that its spelling decodes to: itself.
+fn stored(alloc: Global, index: &Index) -> Result<Index, Fault>
+    ensures { MatchResult result (IsStored index.now) (IsStoreRefusal index.now) }
+{
+    let bytes = spell_index(alloc, index)?;
+    spelling_decodes_to_its_index();
+    match read_index(alloc, &bytes) {
+        Ok(read) => Ok(read),
+        Err(WireFault::Memory) => Err(Fault::Memory),
+        Err(_) => unreachable!(),
+    }
+}
+
+/// The listing of a source.
+fn listing_of(alloc: Global, bytes: &[u8]) -> Result<String, Fault>
+    ensures { MatchResult result (λ listing. IsListing bytes.now (string_bytes listing)) (IsRefusal bytes.now) }
+{
+    let index = index_of_source(alloc, bytes)?;
+    let read = stored(alloc, &index)?;
+    let listing = dump_text(alloc, &read)?;
+    Ok(listing)
+}
+
+/// Reads a source to its end, and writes a line for each occurrence of its index.
+pub fn dump<R: Feed, W: Sink>(alloc: Global, source: &mut R, out: &mut W) -> Result<(), Fault>
+    ensures dumped { (bytes : List ℕ) → R.remaining source.old ≡ Some bytes → (written : List ℕ) × Appends (W.contents out.old) (W.contents out.new) written × Dumps bytes written result }
+{
+    let bytes = read_source(alloc, source)?;
+    let listing = listing_of(alloc, &bytes)?;
+    match write_all(out, listing.as_str().as_bytes()) {
+        Ok(()) => Ok(()),
+        Err(cut_off) => Err(Fault::Write(cut_off.written as u64)),
+    }
+}

@@ -15,7 +15,7 @@ use Rattle.protoscip.specs.Declarations.{declarations_of}
 use Rattle.protoscip.specs.Duplicates.{Clash, NoClash}
 use Rattle.protoscip.specs.Document.{IsIndexOf}
 use Rattle.protoscip.specs.Stages.{Declares}
-use Rattle.protoscip.specs.Dump.{source_path, IsLexable, IsSource, HasClash, IsIndexOfSource, IsRefusal, Dumps}
+use Rattle.protoscip.specs.Dump.{IsLexable, IsSource, HasClash, IsIndexOfSource, IsRefusal, Dumps}
 
 -- a lexed text of the bytes
 pub record Reads (bytes text : List ℕ) (lexed : Lexed) : Type 0 where
@@ -58,12 +58,12 @@ module _ (bytes text : List ℕ) (lexed : Lexed) (reads : Reads bytes text lexed
       clash = subst (λ (ds : List Declaration). Clash ds first second) are_of clash;
     }
 
-    pub index-of : (index : Index) → NoClash declarations → IsIndexOf source_path text declarations index → IsIndexOfSource bytes index
-    index-of index none is = record {
+    pub index-of : (path : List ℕ) (index : Index) → NoClash declarations → IsIndexOf path text declarations index → IsIndexOfSource path bytes index
+    index-of path index none is = record {
       tree = declares.tree;
       source = source-of;
       no_clash = subst NoClash are_of none;
-      is = subst (λ (ds : List Declaration). IsIndexOf source_path bytes ds index) are_of (subst (λ (t : List ℕ). IsIndexOf source_path t declarations index) reads.text_is is);
+      is = subst (λ (ds : List Declaration). IsIndexOf path bytes ds index) are_of (subst (λ (t : List ℕ). IsIndexOf path t declarations index) reads.text_is is);
     }
 
 -- a refusal of the bytes writes nothing

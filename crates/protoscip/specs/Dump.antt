@@ -56,12 +56,12 @@ pub record HasClash (bytes : List ℕ) (first second : Span) : Type 0 where
   pub source : IsSource bytes tree
   pub clash : Clash (declarations_of bytes tree) first second
 
--- the index that the grammar and the rules give the source
-pub record IsIndexOfSource (bytes : List ℕ) (index : Index) : Type 0 where
+-- the index that the grammar and the rules give the source with a path
+pub record IsIndexOfSource (path bytes : List ℕ) (index : Index) : Type 0 where
   pub tree : List MessageTree
   pub source : IsSource bytes tree
   pub no_clash : NoClash (declarations_of bytes tree)
-  pub is : IsIndexOf source_path bytes (declarations_of bytes tree) index
+  pub is : IsIndexOf path bytes (declarations_of bytes tree) index
 
 -- why bytes have no tokens: they are no text, or have no lexing. (Want of memory is `Fault::Memory`.)
 abbrev pub IsLexRefusal : List ℕ → LexFault → Type 0
@@ -81,12 +81,12 @@ IsRefusal bytes Read = ⊥
 IsRefusal bytes (Lex fault) = IsLexRefusal bytes fault
 IsRefusal bytes (Syntax fault) = IsUnparsed bytes
 IsRefusal bytes (Duplicate first second) = HasClash bytes first second
-IsRefusal bytes TooLarge = (index : Index) × IsIndexOfSource bytes index × (max_index_length < length (spelling_of index))
+IsRefusal bytes TooLarge = (index : Index) × IsIndexOfSource source_path bytes index × (max_index_length < length (spelling_of index))
 IsRefusal bytes (Write count) = ⊥
 
 -- the listing of a source: that of its index, where that isn't too large
 abbrev pub IsListing : List ℕ → List ℕ → Type 0
-IsListing bytes listing = (index : Index) × IsIndexOfSource bytes index × (length (spelling_of index) ≤ max_index_length) × (listing ≡ dump_text index)
+IsListing bytes listing = (index : Index) × IsIndexOfSource source_path bytes index × (length (spelling_of index) ≤ max_index_length) × (listing ≡ dump_text index)
 
 -- what a dump of these bytes answers, and what it writes: the listing; nothing where it refuses the
 -- bytes; and where the writer failed, as much of the listing as went out

@@ -34,9 +34,9 @@ fn declared(alloc: Global, tokens: &Tokens<'_>) -> Result<Vec<Declaration>, Faul
     Ok(declarations)
 }
 
-/// The index of a source.
-fn index_of_source(alloc: Global, bytes: &[u8]) -> Result<Index, Fault>
-    ensures { MatchResult result (IsIndexOfSource bytes.now) (IsRefusal bytes.now) }
+/// The index of the source with a path.
+fn index_of_source(alloc: Global, path: &str, bytes: &[u8]) -> Result<Index, Fault>
+    ensures { MatchResult result (IsIndexOfSource path.now bytes.now) (IsRefusal bytes.now) }
 {
     let text = Text::new(alloc, bytes)?;
     let tokens = lex(alloc, &text)?;
@@ -44,7 +44,7 @@ fn index_of_source(alloc: Global, bytes: &[u8]) -> Result<Index, Fault>
     if let Some((first, second)) = first_clash(&declarations) {
         return Err(Fault::Duplicate { first, second });
     }
-    let index = index_of(alloc, SOURCE_PATH, &text, &declarations)?;
+    let index = index_of(alloc, path, &text, &declarations)?;
     Ok(index)
 }
 
@@ -65,7 +65,7 @@ fn stored(alloc: Global, index: &Index) -> Result<Index, Fault>
 fn listing_of(alloc: Global, bytes: &[u8]) -> Result<String, Fault>
     ensures { MatchResult result (λ listing. IsListing bytes.now (string_bytes listing)) (IsRefusal bytes.now) }
 {
-    let index = index_of_source(alloc, bytes)?;
+    let index = index_of_source(alloc, SOURCE_PATH, bytes)?;
     let read = stored(alloc, &index)?;
     let listing = dump_text(alloc, &read)?;
     Ok(listing)
@@ -82,3 +82,6 @@ pub fn dump<R: Feed, W: Sink>(alloc: Global, source: &mut R, out: &mut W) -> Res
         Err(cut_off) => Err(Fault::Write(cut_off.written as u64)),
     }
 }
+
+#[cfg(test)]
+mod tests;

@@ -2,7 +2,7 @@ use Rattle.std.proofs.Common.{◌≡◌, ◌∙◌, ap, sym, subst, refl, List, 
 use Rattle.std.proofs.lemmas.Result.{err_from_is_err_and}
 use Rattle.protoscip.specs.declared.declarations.Declaration.{Declaration}
 use Rattle.proto_lex.specs.Text.{IsText}
-use Rattle.protoscip.specs.Dump.{IsRefusal, source_path}
+use Rattle.protoscip.specs.Dump.{IsRefusal}
 use Rattle.protoscip.specs.Faults.{refusal_of_lex}
 use Rattle.protoscip.specs.Duplicates.{Clash, NoClash}
 use Rattle.protoscip.specs.Document.{IsIndexOf}
@@ -43,6 +43,6 @@ returns c =
     let lexed = c.in_ok-tokens.tokens in
     let reads : Reads c.args.bytes.now c.in_ok-text.text lexed =
     record { is_text = text.0; text_is = text.1; lexed_is = c.in_ok-tokens.ensures.text; lexes = c.in_ok-tokens.ensures.found } in
-    index-of c.args.bytes.now c.in_ok-text.text lexed reads c.in_ok-declarations.declarations.items c.in_ok-declarations.ensures c.in_ok-index.index
+    index-of c.args.bytes.now c.in_ok-text.text lexed reads c.in_ok-declarations.declarations.items c.in_ok-declarations.ensures c.args.path.now c.in_ok-index.index
     (subst NoClash c.deref.ensures.value c.in_default.ensures)
-    (subst (λ (ds : List Declaration). IsIndexOf source_path c.in_ok-text.text ds c.in_ok-index.index) c.deref-2.ensures.value c.in_ok-index.ensures)
+    (subst (λ (ds : List Declaration). IsIndexOf c.args.path.now c.in_ok-text.text ds c.in_ok-index.index) c.deref-2.ensures.value c.in_ok-index.ensures)

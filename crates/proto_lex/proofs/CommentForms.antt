@@ -1,5 +1,4 @@
-use Rattle.std.proofs.Common.{◌≡◌, ℕ, ◌+◌, ◌≤◌, Bool, true, false, not, cond, ◌&&◌, nat_eq, Option, Some, None, List, [], ◌∷◌, ◌++◌, length, refl, sym, ◌∙◌, ap, subst, arith, eqb-true}
-use Rattle.proto_lex.specs.Bytes.{starts}
+use Rattle.std.proofs.Common.{◌≡◌, ℕ, ◌+◌, true, false, nat_eq, Some, List, [], ◌∷◌, ◌++◌, length, refl, sym, ◌∙◌, ap, arith, eqb-true}
 use Rattle.proto_lex.specs.Comments.{begins_close, EndsBlock, close, inside}
 use Rattle.proto_lex.specs.Reading.{block_at}
 use Rattle.proto_lex.proofs.Tools.{chosen, both, same_some}

@@ -1,4 +1,4 @@
-use Rattle.std.proofs.Common.{◌≡◌, ℕ, ◌+◌, ◌-◌, ◌≤◌, Bool, true, false, cond, Option, Some, None, List, [], ◌∷◌, length, drop, take, refl, ap, arith}
+use Rattle.std.proofs.Common.{◌≡◌, ℕ, ◌+◌, ◌-◌, ◌≤◌, true, false, Some, None, List, [], ◌∷◌, length, drop, take, refl, arith}
 use Rattle.proto_lex.specs.Comments.{begins_close}
 use Rattle.proto_lex.specs.Reading.{block_at}
 use Rattle.proto_lex.proofs.Tools.{behind-cons}

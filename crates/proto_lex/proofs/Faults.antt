@@ -1,11 +1,10 @@
-use Rattle.std.proofs.Common.{◌≡◌, ℕ, zero, suc, ◌+◌, ◌-◌, ◌<◌, ◌≤◌, Bool, true, false, not, cond, ◌||◌, ◌&&◌, nat_eq, Option, Some, None, Ok, Err, List, [], ◌∷◌, ◌++◌, length, drop, refl, sym, ◌∙◌, ap, subst, arith, eqb-true, add-zero}
+use Rattle.std.proofs.Common.{◌≡◌, ℕ, zero, suc, ◌+◌, ◌-◌, ◌<◌, Bool, true, false, cond, ◌||◌, ◌&&◌, nat_eq, Option, Some, None, Ok, Err, List, [], ◌∷◌, ◌++◌, length, drop, refl, sym, ◌∙◌, ap, subst, arith, eqb-true, add-zero}
 use Rattle.std.proofs.lemmas.List.{drop_at}
-use Rattle.std.specs.List.{prefix_len}
-use Rattle.proto_lex.specs.Bytes.{is_blank, is_letter, is_digit, is_word, is_quote, is_octal_digit, starts}
+use Rattle.proto_lex.specs.Bytes.{is_blank, is_letter, is_digit, is_quote, starts}
 use Rattle.proto_lex.specs.Numbers.{begins_number, run_of}
-use Rattle.proto_lex.specs.Literals.{is_plain, is_escape_letter, IsEscape, letter, one_hex, two_hex, one_octal, two_octal, three_octal, short_unicode, long_unicode, last_unicode}
+use Rattle.proto_lex.specs.Literals.{is_plain, IsEscape}
 use Rattle.proto_lex.specs.Lexes.{sign_kind}
-use Rattle.proto_lex.specs.Faults.{Holds, here, character, escape, IsStringFault, cut, nul, no_escape, IsFaultAt, unknown, no_number, no_close, no_string, Meets, fault, blank, comment, token, begins_mark, IsFirstFault, unmarked, marked, IsFaultOf}
+use Rattle.proto_lex.specs.Faults.{here, character, escape, IsStringFault, cut, nul, no_escape, IsFaultAt, unknown, no_number, no_close, no_string, Meets, fault, blank, comment, token, begins_mark, IsFirstFault, unmarked, marked, IsFaultOf}
 use Rattle.proto_lex.specs.Reading.{Read, ◌>>=◌, is_in_line, is_integer, is_float, number_kind, numbered, number_at, escape_len, escaped, character_at, literal_at, block_at, blocked, behind_first, slash_at, signed, piece_at, Listed, kept, listed_at, mark_len, listed_of, GivesList}
 use Rattle.proto_lex.specs.Reading as reading
 use Rattle.proto_lex.specs.declared.fault.LexFault.{LexFault}
@@ -15,7 +14,6 @@ use Rattle.proto_lex.specs.declared.lexer.piece.PieceKind.{PieceKind}
 use Rattle.proto_lex.specs.declared.lexer.piece.PieceKind.TheVariants as piece
 use Rattle.proto_lex.specs.declared.token.TokenKind.{TokenKind}
 use Rattle.proto_lex.specs.declared.token.TokenKind.TheVariants as kind
-use Rattle.proto_lex.specs.declared.token.CommentKind.TheVariants as remark
 use Rattle.proto_lex.proofs.Tools.{chosen, none_not_some, same_ok, err_not_ok}
 use Rattle.proto_lex.proofs.ByteClasses.{is_plain_from}
 use Rattle.proto_lex.proofs.NumberForms.{integer_read, float_read}

@@ -1,4 +1,4 @@
-use Rattle.std.proofs.Common.{◌≡◌, ℕ, ◌+◌, ◌-◌, ◌<◌, ◌≤◌, true, false, cond, ◌&&◌, nat_eq, Result, Ok, Err, List, [], ◌∷◌, ◌++◌, length, drop, refl, sym, ◌∙◌, ap, subst, arith, append_assoc, length-append, length-drop}
+use Rattle.std.proofs.Common.{◌≡◌, ℕ, ◌+◌, ◌<◌, ◌≤◌, true, false, cond, ◌&&◌, nat_eq, Result, Ok, Err, List, [], ◌∷◌, ◌++◌, length, drop, refl, sym, ◌∙◌, ap, subst, arith, append_assoc, length-append}
 use Rattle.std.proofs.lemmas.Bool.Decides.{nat_tests}
 use Rattle.proto_lex.specs.Lexes.{part}
 use Rattle.proto_lex.specs.Reading.{Read, ◌>>=◌, piece_at, Listed, list_of, behind, also, kept, listed_at, mark_len, listed_of, GivesList}
@@ -7,7 +7,7 @@ use Rattle.proto_lex.specs.declared.fault.LexFault.TheVariants.{TooLong, NotUtf8
 use Rattle.proto_lex.specs.declared.lexer.piece.Piece.{Piece}
 use Rattle.proto_lex.specs.declared.lexer.piece.PieceKind.{PieceKind}
 use Rattle.proto_lex.specs.declared.lexer.piece.PieceKind.TheVariants as piece
-use Rattle.proto_lex.proofs.PieceForms.{Begins, piece_found}
+use Rattle.proto_lex.proofs.PieceForms.{piece_found}
 use Rattle.proto_lex.proofs.PieceReads.{stands_some}
 use Rattle.proto_lex.proofs.TextForms.{listed_step, listed_fault, listed_end}
 

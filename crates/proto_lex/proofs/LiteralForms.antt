@@ -1,12 +1,12 @@
-use Rattle.std.proofs.Common.{◌≡◌, ◌≢◌, ℕ, zero, suc, ◌+◌, ◌-◌, ◌<◌, ◌≤◌, Bool, true, false, not, cond, ◌||◌, ◌&&◌, nat_eq, nat_le, Option, Some, None, Ok, Err, List, [], ◌∷◌, ◌++◌, length, take, drop, refl, sym, ◌∙◌, ap, subst, arith, eqb-true, eq-eqb, append_assoc}
+use Rattle.std.proofs.Common.{◌≡◌, ℕ, zero, suc, ◌+◌, ◌-◌, true, false, cond, ◌||◌, ◌&&◌, nat_eq, nat_le, Option, Some, None, Ok, List, [], ◌∷◌, ◌++◌, length, drop, refl, sym, ◌∙◌, ap, subst, arith, eqb-true, append_assoc}
 use Rattle.std.proofs.lemmas.List.{drop_at, length-append}
 use Rattle.std.specs.List.{list_all}
-use Rattle.proto_lex.specs.Bytes.{is_octal_digit, is_hex_digit, is_hex_mark, is_quote}
-use Rattle.proto_lex.specs.Literals.{is_plain, is_escape_letter, IsEscape, letter, one_hex, two_hex, one_octal, two_octal, three_octal, short_unicode, long_unicode, last_unicode, EndsLiteral, close, character, escape}
-use Rattle.proto_lex.specs.Reading.{Read, ◌>>=◌, begins_with_hex, begins_last_unicode, begins_long_unicode, escape_len, escaped, character_at, literal_at}
-use Rattle.proto_lex.proofs.Tools.{chosen, both, either, same_some, same_ok, none_not_some, or_right, and_true, err_not_ok, bind_ok}
-use Rattle.proto_lex.proofs.LiteralSteps.{literal_step-cons, literal_close, character_positive}
-use Rattle.proto_lex.proofs.ByteClasses.{is_plain_from, quote_not_backslash, plain_not_quote, plain_not_newline, plain_not_nul, plain_not_backslash, hex_is_plain, octal_is_plain}
+use Rattle.proto_lex.specs.Bytes.{is_octal_digit, is_hex_digit, is_hex_mark}
+use Rattle.proto_lex.specs.Literals.{is_plain, is_escape_letter, IsEscape, letter, one_hex, one_octal, short_unicode, long_unicode, last_unicode, EndsLiteral, close, character, escape}
+use Rattle.proto_lex.specs.Reading.{begins_with_hex, begins_last_unicode, begins_long_unicode, escape_len, escaped, character_at, literal_at}
+use Rattle.proto_lex.proofs.Tools.{chosen, both, either, same_some, same_ok, none_not_some, err_not_ok, bind_ok}
+use Rattle.proto_lex.proofs.LiteralSteps.{character_positive}
+use Rattle.proto_lex.proofs.ByteClasses.{is_plain_from}
 
 -- Strings are read exactly as they are defined.
 

@@ -1,11 +1,11 @@
-use Rattle.std.proofs.Common.{◌≡◌, ◌≢◌, ℕ, ◌+◌, ◌-◌, ◌<◌, ◌≤◌, Bool, true, false, cond, ◌||◌, ◌&&◌, nat_eq, nat_le, Option, Some, None, Ok, Err, List, [], ◌∷◌, ◌++◌, length, take, drop, refl, sym, ◌∙◌, ap, subst, arith, eqb-true, append_assoc}
+use Rattle.std.proofs.Common.{◌≡◌, ℕ, ◌+◌, true, false, ◌||◌, ◌&&◌, nat_eq, nat_le, Some, Ok, List, [], ◌∷◌, ◌++◌, length, drop, refl, ◌∙◌, ap, arith, eqb-true, append_assoc}
 use Rattle.std.proofs.lemmas.Bool.{eqb-false}
 use Rattle.std.proofs.lemmas.Bool.Decides.{nat_tests}
 use Rattle.std.proofs.lemmas.List.{length-append}
 use Rattle.std.specs.List.{list_all}
 use Rattle.proto_lex.specs.Bytes.{is_octal_digit, is_hex_digit, is_hex_mark, is_quote}
 use Rattle.proto_lex.specs.Literals.{is_plain, is_escape_letter, IsEscape, letter, one_hex, two_hex, one_octal, two_octal, three_octal, short_unicode, long_unicode, last_unicode, EndsLiteral, close, character, escape}
-use Rattle.proto_lex.specs.Reading.{begins_with_hex, begins_long_unicode, escape_len, character_at, literal_at}
+use Rattle.proto_lex.specs.Reading.{begins_with_hex, escape_len, character_at, literal_at}
 use Rattle.proto_lex.proofs.Tools.{both, either, or_right, and_true}
 use Rattle.proto_lex.proofs.LiteralSteps.{literal_step-cons, literal_close}
 use Rattle.proto_lex.proofs.ByteClasses.{quote_not_backslash, plain_not_quote, plain_not_newline, plain_not_nul, plain_not_backslash, hex_is_plain, octal_is_plain}

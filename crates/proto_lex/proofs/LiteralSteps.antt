@@ -1,4 +1,4 @@
-use Rattle.std.proofs.Common.{◌≡◌, ◌≢◌, ℕ, zero, suc, ◌+◌, ◌-◌, ◌<◌, ◌≤◌, Bool, true, false, not, cond, Option, Some, None, Result, Ok, Err, List, [], ◌∷◌, length, drop, take, get_or, nat_eq, refl, sym, ◌∙◌, ap, subst, arith, add-one, add-zero, eq-eqb}
+use Rattle.std.proofs.Common.{◌≡◌, ◌≢◌, ℕ, zero, suc, ◌+◌, ◌-◌, ◌<◌, ◌≤◌, true, false, Option, Some, None, Ok, Err, List, [], ◌∷◌, length, drop, take, get_or, nat_eq, refl, ◌∙◌, arith, add-zero, eq-eqb}
 use Rattle.std.proofs.lemmas.Bool.Decides.{nat_tests}
 use Rattle.proto_lex.specs.Reading.{Read, ◌>>=◌, literal_at, character_at, escape_len, escaped}
 use Rattle.proto_lex.specs.declared.fault.LexFault.{LexFault}

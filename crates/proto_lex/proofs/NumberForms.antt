@@ -1,4 +1,4 @@
-use Rattle.std.proofs.Common.{◌≡◌, ℕ, ◌+◌, ◌≤◌, Bool, true, false, not, cond, ◌&&◌, nat_eq, Option, Some, None, List, [], ◌∷◌, ◌++◌, length, refl, sym, ◌∙◌, ap, subst, arith, eqb-true}
+use Rattle.std.proofs.Common.{◌≡◌, ℕ, true, false, cond, nat_eq, List, [], ◌∷◌, refl, sym, ◌∙◌, subst, eqb-true}
 use Rattle.std.specs.List.{list_all}
 use Rattle.proto_lex.specs.Bytes.{is_digit, is_octal_digit, is_hex_mark, is_plus_or_minus, is_exponent_mark, starts}
 use Rattle.proto_lex.specs.Numbers.{IsInteger, decimal, octal, hexadecimal, Digits, digit, digits, IsExponentOrNone, no_exponent, unsigned, signed, IsFloat, whole, fraction, power, point_first}

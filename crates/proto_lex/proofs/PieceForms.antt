@@ -1,12 +1,12 @@
-use Rattle.std.proofs.Common.{◌≡◌, ℕ, suc, ◌+◌, ◌-◌, ◌<◌, ◌≤◌, Bool, true, false, not, cond, ◌||◌, ◌&&◌, nat_eq, Option, Some, None, Ok, Err, List, [], ◌∷◌, ◌++◌, length, take, drop, refl, sym, ◌∙◌, ap, subst, arith, eqb-true}
+use Rattle.std.proofs.Common.{◌≡◌, ℕ, ◌+◌, true, false, ◌||◌, nat_eq, Option, Some, None, Ok, List, [], ◌∷◌, ◌++◌, length, take, drop, refl, sym, ap, subst, arith, eqb-true}
 use Rattle.std.proofs.lemmas.Bool.Decides.{nat_tests}
 use Rattle.std.proofs.lemmas.List.{take-append-drop}
 use Rattle.std.proofs.lemmas.List.Folds.{length-prefix_len}
-use Rattle.std.specs.List.{list_all, prefix_len}
-use Rattle.proto_lex.specs.Bytes.{is_blank, is_letter, is_digit, is_word, is_quote, starts}
+use Rattle.std.specs.List.{prefix_len}
+use Rattle.proto_lex.specs.Bytes.{is_blank, is_letter, is_word, is_quote, starts}
 use Rattle.proto_lex.specs.Numbers.{run_of, begins_number}
 use Rattle.proto_lex.specs.Comments.{IsComment, line, block}
-use Rattle.proto_lex.specs.Lexes.{sign_kind, Spells, identifier, integer, float, literal, sign, IsWhole, IsToken}
+use Rattle.proto_lex.specs.Lexes.{sign_kind, identifier, integer, float, literal, sign, IsWhole, IsToken}
 use Rattle.proto_lex.specs.Reading.{◌>>=◌, is_in_line, is_integer, is_float, number_kind, token, numbered, number_at, literal_at, block_at, blocked, behind_first, slash_at, signed, piece_at}
 use Rattle.proto_lex.specs.declared.lexer.piece.Piece.{Piece}
 use Rattle.proto_lex.specs.declared.lexer.piece.PieceKind.{PieceKind}
@@ -14,7 +14,7 @@ use Rattle.proto_lex.specs.declared.lexer.piece.PieceKind.TheVariants as piece
 use Rattle.proto_lex.specs.declared.token.TokenKind.{TokenKind}
 use Rattle.proto_lex.specs.declared.token.TokenKind.TheVariants as kind
 use Rattle.proto_lex.specs.declared.token.CommentKind.TheVariants as comment
-use Rattle.proto_lex.proofs.Tools.{chosen, both, same_some, same_ok, none_not_some, err_not_ok, bind_ok}
+use Rattle.proto_lex.proofs.Tools.{chosen, same_some, same_ok, none_not_some, err_not_ok, bind_ok}
 use Rattle.proto_lex.proofs.Prefixes.{prefix_passes, prefix_stops}
 use Rattle.proto_lex.proofs.NumberForms.{integer_found, float_found}
 use Rattle.proto_lex.proofs.NumberSteps.{run_of-front}

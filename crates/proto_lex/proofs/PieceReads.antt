@@ -1,12 +1,10 @@
-use Rattle.std.proofs.Common.{◌≡◌, ℕ, suc, ◌+◌, ◌-◌, ◌<◌, ◌≤◌, Bool, true, false, not, cond, ◌||◌, ◌&&◌, nat_eq, Option, Some, None, Ok, Err, List, [], ◌∷◌, ◌++◌, length, refl, sym, ◌∙◌, ap, subst, arith, eqb-true}
+use Rattle.std.proofs.Common.{◌≡◌, ℕ, suc, ◌+◌, ◌<◌, true, false, ◌||◌, ◌&&◌, nat_eq, Some, Ok, List, [], ◌∷◌, ◌++◌, length, refl, ◌∙◌, arith, eqb-true}
 use Rattle.std.proofs.lemmas.Bool.Decides.{nat_tests}
-use Rattle.std.specs.List.{list_all, prefix_len}
-use Rattle.proto_lex.specs.Bytes.{is_blank, is_letter, is_digit, is_word, is_quote, starts}
+use Rattle.proto_lex.specs.Bytes.{is_digit, is_word, is_quote, starts}
 use Rattle.proto_lex.specs.Numbers.{IsInteger, decimal, octal, hexadecimal, IsFloat, whole, fraction, power, point_first, run_of, begins_number}
 use Rattle.proto_lex.specs.Comments.{IsComment, line, block}
-use Rattle.proto_lex.specs.Lexes.{sign_kind, Spells, identifier, integer, float, literal, sign, IsWhole, IsToken}
-use Rattle.proto_lex.specs.Reading.{is_in_line, number_kind, token, number_at, literal_at, slash_at, piece_at}
-use Rattle.proto_lex.specs.declared.lexer.piece.Piece.{Piece}
+use Rattle.proto_lex.specs.Lexes.{sign_kind, Spells, identifier, integer, float, literal, sign, IsWhole}
+use Rattle.proto_lex.specs.Reading.{is_in_line, token, number_at, literal_at, slash_at, piece_at}
 use Rattle.proto_lex.specs.declared.lexer.piece.PieceKind.{PieceKind}
 use Rattle.proto_lex.specs.declared.lexer.piece.PieceKind.TheVariants as piece
 use Rattle.proto_lex.specs.declared.token.TokenKind.{TokenKind}

@@ -1,18 +1,18 @@
-use Rattle.std.proofs.Common.{◌≡◌, ℕ, ◌+◌, ◌-◌, ◌<◌, ◌≤◌, Bool, true, false, not, cond, ◌||◌, ◌&&◌, nat_eq, nat_le, Option, Some, None, List, [], ◌∷◌, ◌++◌, length, drop, map, get_or, refl, sym, ◌∙◌, ap, subst, arith, append_assoc}
+use Rattle.std.proofs.Common.{◌≡◌, ℕ, ◌+◌, ◌-◌, ◌<◌, ◌≤◌, Bool, true, false, not, cond, ◌&&◌, nat_eq, nat_le, Some, List, [], ◌∷◌, ◌++◌, length, drop, map, refl, sym, ◌∙◌, ap, subst, arith, append_assoc}
 use Rattle.std.proofs.lemmas.Bool.Decides.{nat_tests}
 use Rattle.std.proofs.lemmas.List.{drop_at, take_at, length-append}
 use Rattle.std.proofs.lemmas.List.Elements.{All-from_recursion}
 use Rattle.std.proofs.lemmas.Str.{IsUtf8-drop, IsCharBoundary-end, IsCharBoundary-before_ascii, IsCharBoundary-after_ascii, IsCharBoundary-at_seam, IsUtf8-past_char}
 use Rattle.std.proofs.Math.Utf8.{encode}
 use Rattle.std.proofs.Math.Seq.{get_or-append_seam}
-use Rattle.std.specs.Prelude.{IsUtf8, IsCharBoundary, All}
+use Rattle.std.specs.Prelude.{IsUtf8, IsCharBoundary}
 use Rattle.std.specs.List.{list_all, AllByRecursion}
 use Rattle.proto_lex.specs.Bytes.{is_blank, is_letter, is_word, is_quote, is_digit, starts}
 use Rattle.proto_lex.specs.Numbers.{goes_on, run_behind, run_of, begins_hexadecimal, begins_number}
 use Rattle.proto_lex.specs.Literals.{EndsLiteral, close, character, escape}
 use Rattle.proto_lex.specs.Comments.{IsComment, line, block, EndsBlock}
 use Rattle.proto_lex.specs.Comments as comments
-use Rattle.proto_lex.specs.Lexes.{sign_kind, Spells, identifier, integer, float, literal, sign, IsWhole, IsToken, part, LexesFrom, at_end, blank, comment, token, Lexes, unmarked, marked}
+use Rattle.proto_lex.specs.Lexes.{sign_kind, Spells, identifier, integer, float, literal, sign, IsWhole, part, LexesFrom, at_end, blank, comment, token, Lexes, unmarked, marked}
 use Rattle.proto_lex.specs.Lexed.{part_of, IsPart, AreInOrder, IsLexed}
 use Rattle.proto_lex.specs.declared.token.Token.{Token}
 use Rattle.proto_lex.specs.declared.token.TokenKind.{TokenKind}

@@ -1,7 +1,7 @@
-use Rattle.std.proofs.Common.{◌≡◌, ℕ, zero, suc, ◌+◌, ◌-◌, ◌<◌, ◌≤◌, Bool, true, false, cond, ◌&&◌, nat_eq, Result, Ok, Err, List, [], ◌∷◌, ◌++◌, length, drop, refl, sym, ◌∙◌, ap, subst, arith, eqb-true, append_assoc, add-zero}
+use Rattle.std.proofs.Common.{◌≡◌, ℕ, zero, suc, ◌+◌, ◌-◌, ◌<◌, true, false, cond, ◌&&◌, nat_eq, Ok, Err, List, [], ◌∷◌, ◌++◌, length, drop, refl, sym, ◌∙◌, ap, subst, arith, eqb-true, add-zero}
 use Rattle.std.proofs.lemmas.List.{drop_at, length-append}
 use Rattle.proto_lex.specs.Lexes.{LexesFrom, at_end, blank, comment, token, Lexes, unmarked, marked}
-use Rattle.proto_lex.specs.Reading.{Read, ◌>>=◌, piece_at, Listed, list_of, kept, listed_at, mark_len, listed_of}
+use Rattle.proto_lex.specs.Reading.{◌>>=◌, piece_at, Listed, list_of, kept, listed_at, mark_len, listed_of}
 use Rattle.proto_lex.specs.declared.fault.LexFault.{LexFault}
 use Rattle.proto_lex.specs.declared.fault.LexFault.TheVariants.{BadByte}
 use Rattle.proto_lex.specs.declared.lexer.piece.Piece.{Piece}
@@ -9,7 +9,7 @@ use Rattle.proto_lex.specs.declared.lexer.piece.PieceKind.{PieceKind}
 use Rattle.proto_lex.specs.declared.lexer.piece.PieceKind.TheVariants as piece
 use Rattle.proto_lex.specs.declared.token.Token.{Token}
 use Rattle.proto_lex.specs.declared.token.Comment.{Comment}
-use Rattle.proto_lex.proofs.Tools.{chosen, both, same_ok, err_not_ok, bind_ok, bind_of_ok, bind_of_err}
+use Rattle.proto_lex.proofs.Tools.{both, same_ok, err_not_ok, bind_ok, bind_of_ok, bind_of_err}
 use Rattle.proto_lex.proofs.PieceForms.{Stands, Begins, piece_found}
 use Rattle.proto_lex.proofs.PieceReads.{piece_read, stands_some}
 

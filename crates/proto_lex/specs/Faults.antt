@@ -1,5 +1,5 @@
 -- Why a text has no lexing: the fault that reading from left to right meets first.
-use Rattle.std.specs.Prelude.{◌≡◌, ℕ, ◌+◌, Bool, true, false, ◌&&◌, not, None, List, [], ◌∷◌, ◌++◌, length, nat_eq}
+use Rattle.std.specs.Prelude.{◌≡◌, ℕ, ◌+◌, Bool, true, false, ◌&&◌, not, None, List, ◌∷◌, ◌++◌, length, nat_eq}
 use Rattle.proto_lex.specs.Bytes.{is_blank, is_letter, is_digit, is_quote, starts}
 use Rattle.proto_lex.specs.Numbers.{IsInteger, IsFloat, begins_number, run_of}
 use Rattle.proto_lex.specs.Literals.{is_plain, IsEscape}

@@ -1,9 +1,7 @@
-use Rattle.std.proofs.Common.{◌≡◌, List, sym, ◌∙◌, ap, subst, refl, Err, Ok}
+use Rattle.std.proofs.Common.{◌∙◌, ap, refl}
 use Rattle.std.proofs.lemmas.Result.{err_from_is_err_and}
-use Rattle.std.specs.Prelude.{IsOkUnless}
 use Rattle.proto_lex.specs.Lexed.{Lexed}
 use Rattle.proto_lex.specs.Reading.{Listed, list_of, listed_of}
-use Rattle.proto_lex.specs.Faults.{IsFaultOf}
 use Rattle.proto_lex.specs.declared.lexer.Found.{Found}
 use Rattle.proto_lex.proofs.Faults.{given_fault, only_memory}
 use Rattle.proto_lex.proofs.Places.{is_lexed}

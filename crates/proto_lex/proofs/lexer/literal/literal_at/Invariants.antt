@@ -1,4 +1,4 @@
-use Rattle.std.proofs.Common.{◌≡◌, ◌+◌, ◌≤◌, length}
+use Rattle.std.proofs.Common.{◌≡◌, ◌+◌, length}
 use Rattle.proto_lex.specs.Reading.{literal_at}
 use Rattle.proto_lex.proofs.lexer.literal.literal_at.Given as goal
 

@@ -1,5 +1,4 @@
-use Rattle.std.proofs.Common.{◌∙◌, ap, not, length}
-use Rattle.proto_lex.specs.Numbers.{run_behind}
+use Rattle.std.proofs.Common.{◌∙◌}
 use Rattle.proto_lex.proofs.NumberSteps.{run_of-take}
 use Rattle.proto_lex.proofs.lexer.number.run_of.Goals as goal
 

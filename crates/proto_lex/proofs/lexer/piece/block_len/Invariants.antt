@@ -1,4 +1,4 @@
-use Rattle.std.proofs.Common.{◌≡◌, ◌+◌, ◌≤◌, length}
+use Rattle.std.proofs.Common.{◌≡◌, ◌+◌, length}
 use Rattle.proto_lex.specs.Reading.{block_at}
 use Rattle.proto_lex.proofs.lexer.piece.block_len.Given as goal
 

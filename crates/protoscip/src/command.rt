@@ -1,7 +1,7 @@
 //! The command line.
 ghost use Rattle.std.specs.Prelude.{◌≡◌, ◌≢◌, IfOk, map, string_bytes};
 ghost use Rattle.clap.specs.Words.{app_of, fault_of, kind_of};
-ghost use Rattle.protoscip.specs.CommandLine.{Asks, Prints, command_line};
+ghost use Rattle.protoscip.specs.CommandLine.{Asks, IsRefusal, Prints, command_line};
 
 use clap::error::ErrorKind;
 use clap::{Command, Error};
@@ -45,7 +45,9 @@ pub fn request_of(alloc: Global, words: &Vec<String>) -> Result<Request, AllocEr
 }
 
 /// Refuses a command line that isn't text, which the system allows.
-pub fn refuse_other_text(alloc: Global) -> Result<Request, AllocError> {
+pub fn refuse_other_text(alloc: Global) -> Result<Request, AllocError>
+    ensures { IfOk result IsRefusal }
+{
     let message = "invalid UTF-8 was detected in one or more arguments";
     answer(
         alloc,

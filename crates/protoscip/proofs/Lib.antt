@@ -1,3 +1,4 @@
+pub mod CommandLines
 pub mod Backticks
 pub mod ClashLemmas
 pub mod Options

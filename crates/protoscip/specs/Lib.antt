@@ -1,4 +1,6 @@
+pub mod CommandLine
 pub mod Faults
+pub mod Messages
 pub mod Symbols
 pub mod Duplicates
 pub mod Syntax

@@ -1,4 +1,7 @@
 //! The command line.
+ghost use Rattle.std.specs.Prelude.{◌≡◌, ◌≢◌, IfOk, map, string_bytes};
+ghost use Rattle.clap.specs.Words.{app_of, fault_of, kind_of};
+ghost use Rattle.protoscip.specs.CommandLine.{Asks, IsRefusal, Prints, command_line};
 
 use clap::error::ErrorKind;
 use clap::{Command, Error};
@@ -7,43 +10,55 @@ use std::alloc::{AllocError, Global};
 /// What a command line asks for.
 #[derive(Debug, Drop)]
 pub enum Request {
+    /// The program `dump`.
+    Dump,
     /// A text for standard output: help or the version.
     Print(String),
     /// A text for standard error: what is wrong with the command line.
     Refuse(String),
 }
 
-/// The programs and their options.
-fn program<'a>(alloc: Global) -> Command<'a> {
+/// The command line's programs and options.
+fn program<'a>(alloc: Global) -> Result<Command<'a>, AllocError>
+    ensures { IfOk result (λ c. app_of c ≡ command_line) }
+{
+    let dump = Command::new(alloc, "dump").about(
+        "Indexes one source from standard input and prints its occurrences",
+    );
     Command::new(alloc, "protoscip")
         .version("1")
         .about("Indexes proto3 sources and writes SCIP")
-        .arg_required_else_help(true)
+        .subcommand_required(true)
+        .subcommand(dump)
 }
 
 /// Reads a command line, of which the first word is the program's name.
-pub fn request_of(alloc: Global, words: &Vec<String>) -> Result<Request, AllocError> {
-    match program(alloc).try_get_matches_from(words.as_slice()) {
-        Ok(_) => refuse(alloc, "no program was named"),
+///
+/// `Asks` says what it asks for, by the rules of `clap`.
+pub fn request_of(alloc: Global, words: &Vec<String>) -> Result<Request, AllocError>
+    ensures { IfOk result (Asks (map string_bytes words.now.items)) }
+{
+    match program(alloc)?.try_get_matches_from(words.as_slice()) {
+        Ok(_) => Ok(Request::Dump),
         Err(error) => answer(alloc, &error),
     }
 }
 
 /// Refuses a command line that isn't text, which the system allows.
-pub fn refuse_other_text(alloc: Global) -> Result<Request, AllocError> {
-    refuse(alloc, "invalid UTF-8 was detected in one or more arguments")
-}
-
-/// Refuses a command line with a message of the program's own, and the usage.
-fn refuse(alloc: Global, message: &str) -> Result<Request, AllocError> {
+pub fn refuse_other_text(alloc: Global) -> Result<Request, AllocError>
+    ensures { IfOk result IsRefusal }
+{
+    let message = "invalid UTF-8 was detected in one or more arguments";
     answer(
         alloc,
-        &program(alloc).error(ErrorKind::ValueValidation, message)?,
+        &program(alloc)?.error(ErrorKind::ValueValidation, message)?,
     )
 }
 
-/// What to print of an answer that names no program.
-fn answer(alloc: Global, error: &Error) -> Result<Request, AllocError> {
+/// What follows from an answer of `clap` that is no program.
+fn answer(alloc: Global, error: &Error) -> Result<Request, AllocError>
+    ensures { IfOk result (λ r. (kind_of error.now ≢ ErrorKind.OutOfMemory) × Prints (kind_of error.now) r) }
+{
     if matches!(error.kind(), ErrorKind::OutOfMemory) {
         return Err(AllocError);
     }
@@ -54,3 +69,6 @@ fn answer(alloc: Global, error: &Error) -> Result<Request, AllocError> {
         Ok(Request::Print(text))
     }
 }
+
+#[cfg(test)]
+mod tests;

@@ -8,27 +8,33 @@ pub mod dump;
 pub mod duplicates;
 mod fault;
 pub mod listing;
+mod run;
 pub mod source;
 pub mod symbols;
 pub mod syntax;
 
 use command::Request;
 use fault::Fault;
-use scip_model::{Std, write_all};
+use scip_model::Std;
 use std::alloc::AllocError;
 use std::io;
 use std::process::ExitCode;
 
-/// Reads the command line, does what it asks for, and ends with its status.
+/// Does what the command line asks for, over the process's streams, and ends with its status.
 fn main(rt: HostRuntime) -> ExitCode {
+    let mut out = Std::new(rt.stdout());
+    let mut messages = Std::new(rt.stderr());
     let status = match request(&rt) {
-        Ok(request) => run(&rt, request),
-        Err(_) => report(&rt, &Fault::Memory),
+        Ok(request) => {
+            let mut input = Std::new(rt.stdin());
+            run::run(rt.alloc(), &request, &mut input, &mut out, &mut messages)
+        }
+        Err(_) => run::report(rt.alloc(), &Fault::Memory, &mut messages),
     };
     ExitCode::from(status)
 }
 
-/// Reads the program's own command line.
+/// Reads the process's own command line.
 fn request(rt: &HostRuntime) -> Result<Request, AllocError> {
     match std::env::args(rt) {
         Ok(words) => {
@@ -37,37 +43,5 @@ fn request(rt: &HostRuntime) -> Result<Request, AllocError> {
         }
         Err(error) if error.kind() == io::ErrorKind::OutOfMemory => Err(AllocError),
         Err(_) => command::refuse_other_text(rt.alloc()),
-    }
-}
-
-/// Does what was asked for, and gives the exit status.
-fn run(rt: &HostRuntime, request: Request) -> u8 {
-    match request {
-        Request::Print(text) => {
-            let mut out = Std::new(io::writer(rt));
-            match write_all(&mut out, text.as_bytes()) {
-                Ok(()) => 0,
-                Err(cut_off) => report(rt, &Fault::Write(cut_off.written as u64)),
-            }
-        }
-        Request::Refuse(text) => {
-            let _ = rt.eprint(text.as_str());
-            2
-        }
-    }
-}
-
-/// Says on standard error why the program stops, and gives the exit status. What standard error
-/// doesn't take is lost.
-fn report(rt: &HostRuntime, fault: &Fault) -> u8 {
-    match fault.line(rt.alloc(), "input.proto") {
-        Ok(line) => {
-            let _ = rt.eprintln(line.as_str());
-            fault.status()
-        }
-        Err(_) => {
-            let _ = rt.eprintln("protoscip: Memory");
-            Fault::Memory.status()
-        }
     }
 }

@@ -1,0 +1,85 @@
+//! What the program does with its streams, and the exit status that it ends with.
+
+ghost use Rattle.std.specs.Prelude.{◌≡◌, ◌⊎◌, ◌++◌, ℕ, List, Some, Result, IfSome, codes};
+ghost use Rattle.std.specs.Io.KnownBytes.{Appends};
+ghost use Rattle.protoscip.specs.CommandLine.{IsDump, IsRefusal, printed_text};
+ghost use Rattle.protoscip.specs.Dump.{Dumps};
+ghost use Rattle.protoscip.specs.Faults.{status_of};
+ghost use Rattle.protoscip.specs.Messages.{Ends, Heard, Said};
+ghost use Rattle.protoscip.specs.declared.fault.Fault.TheVariants.{Memory};
+
+use crate::command::Request;
+use crate::dump::dump;
+use crate::fault::Fault;
+use scip_model::{Feed, Sink, write_all};
+use std::alloc::Global;
+
+/// The path that the faults of a dump's one source name.
+const DUMPED_PATH: &str = "input.proto";
+
+/// Does what was asked for, and gives the exit status. What the stream of messages doesn't take is
+/// lost.
+pub fn run<R: Feed, W: Sink, M: Sink>(
+    alloc: Global,
+    request: &Request,
+    input: &mut R,
+    out: &mut W,
+    messages: &mut M,
+) -> u8
+    // Help and the version go out whole, and a refused command line writes nothing out.
+    ensures printed { IfSome (printed_text request.now) (λ text. result ≡ 0
+        → Appends (W.contents out.old) (W.contents out.new) text) }
+    ensures refused { IsRefusal request.now → (result ≡ 2) × (out.new ≡ out.old) }
+    ensures dumped { IsDump request.now → (bytes : List ℕ) → R.remaining input.old ≡ Some bytes
+        → (written : List ℕ) × (done : Result (Unit {0}) Fault)
+        × Appends (W.contents out.old) (W.contents out.new) written
+        × Dumps bytes written done × Ends done result }
+{
+    let done = match request {
+        Request::Dump => dump(alloc, input, out),
+        Request::Print(text) => write_all(out, text.as_bytes()).map_err(|cut_off| {
+            Fault::Write(cut_off.written as u64)
+        }),
+        Request::Refuse(text) => {
+            let _ = write_all(messages, text.as_bytes());
+            return 2;
+        }
+    };
+    match done {
+        Ok(()) => 0,
+        Err(fault) => report(alloc, &fault, messages),
+    }
+}
+
+/// Says in one line why the program stops, and gives the exit status. Where memory doesn't suffice
+/// for the line, that is what it says.
+pub fn report<M: Sink>(alloc: Global, fault: &Fault, messages: &mut M) -> u8
+    ensures status { (result ≡ status_of fault.now) ⊎ (result ≡ status_of Memory) }
+    ensures said { Heard (M.failures messages.old) (M.failures messages.new)
+        (Said (M.contents messages.old) (M.contents messages.new) fault.now result
+        ⊎ Said (M.contents messages.old) (M.contents messages.new) Memory result) }
+{
+    match fault.line(alloc, DUMPED_PATH) {
+        Ok(line) => {
+            say(messages, line.as_str());
+            fault.status()
+        }
+        Err(_) => {
+            say(messages, "protoscip: Memory");
+            Fault::Memory.status()
+        }
+    }
+}
+
+/// Writes a line and its end. What the stream doesn't take is lost.
+fn say<M: Sink>(messages: &mut M, line: &str)
+    ensures { Heard (M.failures messages.old) (M.failures messages.new)
+        (Appends (M.contents messages.old) (M.contents messages.new) (line.now ++ codes "\n")) }
+{
+    if write_all(messages, line.as_bytes()).is_ok() {
+        let _ = write_all(messages, b"\n");
+    }
+}
+
+#[cfg(test)]
+mod tests;

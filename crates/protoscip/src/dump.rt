@@ -3,9 +3,8 @@
 ghost use Rattle.std.specs.Prelude.{◌≡◌, ◌<◌, ℕ, List, Some, Ok, Err, IfOk, IfErr, OnOk, MatchResult, length};
 ghost use Rattle.std.specs.String.{string_bytes};
 ghost use Rattle.std.specs.Io.KnownBytes.{Appends};
-ghost use Rattle.scip_model.specs.Streams.{one_more};
 ghost use Rattle.protoscip.specs.Source.{IsReadFault};
-ghost use Rattle.protoscip.specs.Dump.{IsIndexOfSource, IsRefusal, IsListing, Dumps};
+ghost use Rattle.protoscip.specs.Dump.{IsIndexOfSource, IsRefusal, IsListing, Dumps, KeepsReader, KeepsWriter};
 ghost use Rattle.protoscip.specs.Stages.{Declares, IsTreeRefusal, IsStored, IsStoreRefusal};
 
 use crate::declarations::{Declaration, declarations_of};
@@ -73,7 +72,14 @@ fn listing_of(alloc: Global, bytes: &[u8]) -> Result<String, Fault>
 
 /// Reads a source to its end, and writes a line for each occurrence of its index.
 pub fn dump<R: Feed, W: Sink>(alloc: Global, source: &mut R, out: &mut W) -> Result<(), Fault>
-    ensures dumped { (bytes : List ℕ) → R.remaining source.old ≡ Some bytes → (written : List ℕ) × Appends (W.contents out.old) (W.contents out.new) written × Dumps bytes written result }
+    ensures dumped { (bytes : List ℕ) → R.remaining source.old ≡ Some bytes
+        → (written : List ℕ) × Appends (W.contents out.old) (W.contents out.new) written × Dumps bytes written result }
+
+    // Read comes only where a read failed or gave no end, and Write only where a write failed.
+    ensures read { result ≡ Err Fault.Read → IsReadFault (R.failures source.old) (R.failures source.new)
+        (R.reads source.old) (R.reads source.new) (R.ends source.old) (R.ends source.new) }
+    ensures reader { KeepsReader (R.failures source.old) (R.failures source.new) result }
+    ensures writer { KeepsWriter (W.failures out.old) (W.failures out.new) result }
 {
     let bytes = read_source(alloc, source)?;
     let listing = listing_of(alloc, &bytes)?;

@@ -5,6 +5,7 @@ ghost use Rattle.std.specs.String.{string_bytes};
 ghost use Rattle.std.specs.Io.KnownBytes.{Appends};
 ghost use Rattle.protoscip.specs.Source.{IsReadFault};
 ghost use Rattle.protoscip.specs.Dump.{IsIndexOfSource, IsRefusal, IsListing, Dumps, KeepsReader, KeepsWriter};
+ghost use Rattle.protoscip.specs.DumpLaws.{ListingsAreOne};
 ghost use Rattle.protoscip.specs.Stages.{Declares, IsTreeRefusal, IsStored, IsStoreRefusal};
 
 use crate::declarations::{Declaration, declarations_of};
@@ -13,8 +14,8 @@ use crate::duplicates::first_clash;
 use crate::fault::Fault;
 use crate::listing::dump_text;
 use crate::source::read_source;
-use crate::syntax::{names_in_order, parse};
-use proto_lex::{Text, Tokens, lex};
+use crate::syntax::{names_in_order, one_tree, parse};
+use proto_lex::{Text, Tokens, lex, one_lexing};
 use scip_model::{Feed, Index, Sink, write_all};
 use scip_wire::{WireFault, read_index, spell_index, spelling_decodes_to_its_index};
 use std::alloc::Global;
@@ -87,6 +88,14 @@ pub fn dump<R: Feed, W: Sink>(alloc: Global, source: &mut R, out: &mut W) -> Res
         Ok(()) => Ok(()),
         Err(cut_off) => Err(Fault::Write(cut_off.written as u64)),
     }
+}
+
+/// A law: a source has one listing at most.
+pub fn one_listing()
+    ensures { ListingsAreOne }
+{
+    one_lexing();
+    one_tree();
 }
 
 #[cfg(test)]

@@ -9,3 +9,5 @@ pub mod Naming
 pub mod Kept
 pub mod Refusals
 pub mod Sources
+pub mod Ordered
+pub mod OneListing

@@ -7,7 +7,7 @@ use Rattle.scip_model.specs.declared.records.Occurrence.{Occurrence}
 use Rattle.scip_model.specs.declared.records.Info.{Info}
 use Rattle.protoscip.specs.Document.{occurrence_cmp, info_cmp}
 
-occurrences_total : IsTotalOrder occurrence_cmp
+pub occurrences_total : IsTotalOrder occurrence_cmp
 occurrences_total =
     then_total (on_total (λ (o : Occurrence). o.range.start_line) nat_cmp_total)
     (then_total (on_total (λ (o : Occurrence). o.range.start_column) nat_cmp_total)

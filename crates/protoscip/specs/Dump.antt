@@ -8,6 +8,7 @@ use Rattle.proto_lex.specs.declared.fault.LexFault.TheVariants.{TooLong, NotUtf8
 use Rattle.proto_lex.specs.Text.{IsText, IsNoText}
 use Rattle.proto_lex.specs.Lexes.{Lexes}
 use Rattle.proto_lex.specs.Faults.{IsFirstFault}
+use Rattle.scip_model.specs.Streams.{one_more}
 use Rattle.scip_model.specs.declared.records.Index.{Index}
 use Rattle.scip_wire.specs.Spelling.{spelling_of}
 use Rattle.protoscip.specs.declared.fault.Fault.{Fault}
@@ -99,3 +100,25 @@ Dumps bytes written (Err (Syntax fault)) = (written ≡ []) × IsRefusal bytes (
 Dumps bytes written (Err (Duplicate first second)) = (written ≡ []) × IsRefusal bytes (Duplicate first second)
 Dumps bytes written (Err TooLarge) = (written ≡ []) × IsRefusal bytes TooLarge
 Dumps bytes written (Err (Write count)) = (listing : List ℕ) × IsListing bytes listing × (count < length listing) × (written ≡ take count listing)
+
+-- the reader's failures, before and after: none came, but that Memory and Read say nothing of them here
+abbrev pub KeepsReader : ℕ → ℕ → Result (Unit {0}) Fault → Type 0
+KeepsReader before after (Ok done) = after ≡ before
+KeepsReader before after (Err Memory) = Unit {0}
+KeepsReader before after (Err Read) = Unit {0}
+KeepsReader before after (Err (Lex fault)) = after ≡ before
+KeepsReader before after (Err (Syntax fault)) = after ≡ before
+KeepsReader before after (Err (Duplicate first second)) = after ≡ before
+KeepsReader before after (Err TooLarge) = after ≡ before
+KeepsReader before after (Err (Write count)) = after ≡ before
+
+-- the writer's failures, before and after: one came where the answer is Write, and none elsewhere
+abbrev pub KeepsWriter : ℕ → ℕ → Result (Unit {0}) Fault → Type 0
+KeepsWriter before after (Ok done) = after ≡ before
+KeepsWriter before after (Err Memory) = after ≡ before
+KeepsWriter before after (Err Read) = after ≡ before
+KeepsWriter before after (Err (Lex fault)) = after ≡ before
+KeepsWriter before after (Err (Syntax fault)) = after ≡ before
+KeepsWriter before after (Err (Duplicate first second)) = after ≡ before
+KeepsWriter before after (Err TooLarge) = after ≡ before
+KeepsWriter before after (Err (Write count)) = after ≡ one_more before

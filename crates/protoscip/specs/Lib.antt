@@ -10,3 +10,4 @@ pub mod DumpText
 pub mod Source
 pub mod Dump
 pub mod Stages
+pub mod DumpLaws

@@ -3,9 +3,9 @@
 ghost use Rattle.std.specs.Prelude.{◌≡◌, ◌<◌, ℕ, List, Some, Ok, Err, IfOk, IfErr, OnOk, MatchResult, length};
 ghost use Rattle.std.specs.String.{string_bytes};
 ghost use Rattle.std.specs.Io.KnownBytes.{Appends};
-ghost use Rattle.scip_model.specs.Streams.{one_more};
 ghost use Rattle.protoscip.specs.Source.{IsReadFault};
-ghost use Rattle.protoscip.specs.Dump.{IsIndexOfSource, IsRefusal, IsListing, Dumps};
+ghost use Rattle.protoscip.specs.Dump.{IsIndexOfSource, IsRefusal, IsListing, Dumps, KeepsReader, KeepsWriter};
+ghost use Rattle.protoscip.specs.DumpLaws.{ListingsAreOne};
 ghost use Rattle.protoscip.specs.Stages.{Declares, IsTreeRefusal, IsStored, IsStoreRefusal};
 
 use crate::declarations::{Declaration, declarations_of};
@@ -14,8 +14,8 @@ use crate::duplicates::first_clash;
 use crate::fault::Fault;
 use crate::listing::dump_text;
 use crate::source::read_source;
-use crate::syntax::{names_in_order, parse};
-use proto_lex::{Text, Tokens, lex};
+use crate::syntax::{names_in_order, one_tree, parse};
+use proto_lex::{Text, Tokens, lex, one_lexing};
 use scip_model::{Feed, Index, Sink, write_all};
 use scip_wire::{WireFault, read_index, spell_index, spelling_decodes_to_its_index};
 use std::alloc::Global;
@@ -73,7 +73,14 @@ fn listing_of(alloc: Global, bytes: &[u8]) -> Result<String, Fault>
 
 /// Reads a source to its end, and writes a line for each occurrence of its index.
 pub fn dump<R: Feed, W: Sink>(alloc: Global, source: &mut R, out: &mut W) -> Result<(), Fault>
-    ensures dumped { (bytes : List ℕ) → R.remaining source.old ≡ Some bytes → (written : List ℕ) × Appends (W.contents out.old) (W.contents out.new) written × Dumps bytes written result }
+    ensures dumped { (bytes : List ℕ) → R.remaining source.old ≡ Some bytes
+        → (written : List ℕ) × Appends (W.contents out.old) (W.contents out.new) written × Dumps bytes written result }
+
+    // Read comes only where a read failed or gave no end, and Write only where a write failed.
+    ensures read { result ≡ Err Fault.Read → IsReadFault (R.failures source.old) (R.failures source.new)
+        (R.reads source.old) (R.reads source.new) (R.ends source.old) (R.ends source.new) }
+    ensures reader { KeepsReader (R.failures source.old) (R.failures source.new) result }
+    ensures writer { KeepsWriter (W.failures out.old) (W.failures out.new) result }
 {
     let bytes = read_source(alloc, source)?;
     let listing = listing_of(alloc, &bytes)?;
@@ -81,6 +88,14 @@ pub fn dump<R: Feed, W: Sink>(alloc: Global, source: &mut R, out: &mut W) -> Res
         Ok(()) => Ok(()),
         Err(cut_off) => Err(Fault::Write(cut_off.written as u64)),
     }
+}
+
+/// A law: a source has one listing at most.
+pub fn one_listing()
+    ensures { ListingsAreOne }
+{
+    one_lexing();
+    one_tree();
 }
 
 #[cfg(test)]

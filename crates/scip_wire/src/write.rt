@@ -22,7 +22,7 @@ pub const MAX_INDEX_LEN: u32 = 2147483647;
 
 /// How many bytes the spelling of an index has. Takes no memory.
 pub fn encoded_len(index: &Index) -> Result<u32, TooLarge>
-    ensures len { OkIff result (length (spelling_of index.now) ≤ MAX_INDEX_LEN) (length (spelling_of index.now)) }
+    ensures len { OkIff result (length (spelling_of index.now) ≤ 2147483647) (length (spelling_of index.now)) }
     ensures known { IsWellFormed index.now }
 {
     let len = index.spelled_len();
@@ -35,7 +35,7 @@ pub fn encoded_len(index: &Index) -> Result<u32, TooLarge>
 /// The spelling of an index, whole in memory.
 pub fn spell_index(alloc: Global, index: &Index) -> Result<Vec<u8>, SpellFault>
     ensures bytes { IfOk result (λ bytes. bytes.items ≡ spelling_of index.now) }
-    ensures too_large { (result ≡ Err SpellFault.TooLarge) ↔ (MAX_INDEX_LEN < length (spelling_of index.now)) }
+    ensures too_large { (result ≡ Err SpellFault.TooLarge) ↔ (2147483647 < length (spelling_of index.now)) }
     ensures known { IsWellFormed index.now }
 {
     let len = encoded_len(index)?;
@@ -48,7 +48,7 @@ pub fn spell_index(alloc: Global, index: &Index) -> Result<Vec<u8>, SpellFault>
 pub fn write_index<W: Sink>(alloc: Global, index: &Index, sink: &mut W) -> Result<(), WriteFault>
     ensures ok { OnOk result (Appends (W.contents sink.old) (W.contents sink.new) (spelling_of index.now)) }
     ensures unfailed { OnOk result (W.failures sink.new ≡ W.failures sink.old) }
-    ensures too_large { (result ≡ Err WriteFault.TooLarge) ↔ (MAX_INDEX_LEN < length (spelling_of index.now)) }
+    ensures too_large { (result ≡ Err WriteFault.TooLarge) ↔ (2147483647 < length (spelling_of index.now)) }
     ensures refused { IfErr result (Leaves W.contents W.failures sink.old sink.new (spelling_of index.now)) }
     ensures known { IsWellFormed index.now }
 {

@@ -4,7 +4,7 @@ use Rattle.clap.specs.Words.{HasKind, Kinds, IsAmong, is_simple_and_free, kind_o
 use Rattle.clap.specs.declared.error.Error.{Error}
 use Rattle.clap.specs.declared.error.kind.ErrorKind.TheVariants as kind
 use Rattle.clap.proofs.OnLiterals.{clap_on_literals}
-use Rattle.protoscip.specs.CommandLine.{AsksBy, IsRefusal, Prints, command_line}
+use Rattle.protoscip.specs.CommandLine.{AsksBy, IsRefused, Prints, command_line}
 use Rattle.protoscip.specs.declared.command.Request.{Request}
 use Rattle.protoscip.specs.declared.command.Request.TheVariants as request
 
@@ -26,7 +26,7 @@ asks_answer (k ∷ ks) e r (inl memory) p = absurd (p.0 memory)
 asks_answer (k ∷ ks) e r (inr among) p = (kind_of e, among, p.1)
 
 -- an answer that is neither help nor the version is a refusal
-pub refuses : (r : Request) → Prints kind.ValueValidation r → IsRefusal r
+pub refuses : (r : Request) → Prints kind.ValueValidation r → IsRefused r
 refuses request.Dump p = absurd p
 refuses (request.Print text) (inl help) = absurd cc
 refuses (request.Print text) (inr version) = absurd cc

@@ -48,3 +48,7 @@ one-more-read old now after (suc n) none some e = omega (arith, some (omega arit
 pub no-end : (E : Type 0) (ends count : ℕ) (room : List ℕ) → (count ≡ 0 → ⊥) → ends_after_read {E = E} ends (Ok count) room ≡ ends
 no-end E ends zero room some = absurd (some refl)
 no-end E ends (suc count) room some = refl
+
+-- the reads of some turns, and of one more
+pub more-reads : (old now after turns : ℕ) → now ≤ old + turns → after ≡ one_more now → after ≤ old + (turns + 1)
+more-reads old now after turns few e = omega (arith, e)

@@ -1,5 +1,5 @@
 -- Why a dump refuses what one of its steps refused.
-use Rattle.std.proofs.Common.{◌≡◌, ℕ, ◌<◌, ◌≤◌, List, [], length, take, refl, ap, sym, ◌∙◌, subst, arith, Ok, Err}
+use Rattle.std.proofs.Common.{◌≡◌, ℕ, ◌<◌, ◌≤◌, List, [], length, take, refl, ap, sym, ◌∙◌, subst, arith, Ok, Err, inl, inr}
 use Rattle.std.proofs.lemmas.List.{take_all, length-take}
 use Rattle.proto_lex.specs.declared.token.Token.{Token}
 use Rattle.proto_lex.specs.declared.token.Comment.{Comment}
@@ -25,8 +25,8 @@ use Rattle.protoscip.specs.Dump.{IsLexable, IsSource, IsUnlexed, IsUnparsed, IsR
 
 -- bytes that are no text
 pub refused-text : (bytes : List ℕ) (e : LexFault) → IsNoText bytes e → IsRefusal bytes (refusal_of_lex e)
-refused-text bytes lexing.TooLong bad = bad
-refused-text bytes (lexing.NotUtf8 at) bad = bad
+refused-text bytes lexing.TooLong bad = inl bad
+refused-text bytes (lexing.NotUtf8 at) bad = inl bad
 refused-text bytes (lexing.BadByte at) bad = absurd bad
 refused-text bytes (lexing.OpenString at) bad = absurd bad
 refused-text bytes (lexing.OpenComment at) bad = absurd bad
@@ -60,23 +60,25 @@ pub refused-lex : (bytes : List ℕ) (e : LexFault) → IsText bytes → ((token
     → IsRefusal bytes (refusal_of_lex e)
 refused-lex bytes lexing.TooLong text only f = absurd (no-first-long f)
 refused-lex bytes (lexing.NotUtf8 at) text only f = absurd (no-first-utf8 f)
-refused-lex bytes (lexing.BadByte at) text only f = record { text = text; unlexed = λ ts cs l. let e = only ts cs l in cc; first = f }
-refused-lex bytes (lexing.OpenString at) text only f = record { text = text; unlexed = λ ts cs l. let e = only ts cs l in cc; first = f }
-refused-lex bytes (lexing.OpenComment at) text only f = record { text = text; unlexed = λ ts cs l. let e = only ts cs l in cc; first = f }
-refused-lex bytes (lexing.BadEscape at) text only f = record { text = text; unlexed = λ ts cs l. let e = only ts cs l in cc; first = f }
-refused-lex bytes (lexing.BadNumber at) text only f = record { text = text; unlexed = λ ts cs l. let e = only ts cs l in cc; first = f }
+refused-lex bytes (lexing.BadByte at) text only f = inr (record { text = text; unlexed = λ ts cs l. let e = only ts cs l in cc; first = f })
+refused-lex bytes (lexing.OpenString at) text only f = inr (record { text = text; unlexed = λ ts cs l. let e = only ts cs l in cc; first = f })
+refused-lex bytes (lexing.OpenComment at) text only f = inr (record { text = text; unlexed = λ ts cs l. let e = only ts cs l in cc; first = f })
+refused-lex bytes (lexing.BadEscape at) text only f = inr (record { text = text; unlexed = λ ts cs l. let e = only ts cs l in cc; first = f })
+refused-lex bytes (lexing.BadNumber at) text only f = inr (record { text = text; unlexed = λ ts cs l. let e = only ts cs l in cc; first = f })
 refused-lex bytes lexing.Memory text only f = tt
 
 -- tokens that the parser refused, in a source
 pub refused-tree : (bytes : List ℕ) (lexable : IsLexable bytes) (lexed : Lexed) (e : Fault) → lexed.text ≡ bytes → lexed.tokens ≡ lexable.tokens → IsTreeRefusal lexed e → IsRefusal bytes e
 refused-tree bytes lexable lexed fault.Memory text tokens is = tt
-refused-tree bytes lexable lexed fault.Read text tokens is = is
+refused-tree bytes lexable lexed fault.Read text tokens is = absurd is
 refused-tree bytes lexable lexed (fault.Lex e) text tokens is = absurd is
-refused-tree bytes lexable lexed (fault.Syntax e) text tokens is =
-    record { lexable = lexable; unparsed = λ tree d. is tree (rw (text, tokens) d) }
+refused-tree bytes lexable lexed (fault.Syntax (syntax.NotProto3 at)) text tokens is = record { lexable = lexable; unparsed = λ tree d. is tree (rw (text, tokens) d) }
+refused-tree bytes lexable lexed (fault.Syntax (syntax.TooDeep at)) text tokens is = record { lexable = lexable; unparsed = λ tree d. is tree (rw (text, tokens) d) }
+refused-tree bytes lexable lexed (fault.Syntax (syntax.Grammar at)) text tokens is = record { lexable = lexable; unparsed = λ tree d. is tree (rw (text, tokens) d) }
+refused-tree bytes lexable lexed (fault.Syntax syntax.Memory) text tokens is = absurd is
 refused-tree bytes lexable lexed (fault.Duplicate first second) text tokens is = absurd is
 refused-tree bytes lexable lexed fault.TooLarge text tokens is = absurd is
-refused-tree bytes lexable lexed (fault.Write count) text tokens is = is
+refused-tree bytes lexable lexed (fault.Write count) text tokens is = absurd is
 
 -- what is kept of bytes is all of them, where that isn't too long
 pub all-kept : (bytes : List ℕ) → length (kept bytes) ≤ 67108864 → kept bytes ≡ bytes
@@ -92,18 +94,28 @@ whole P bytes short p = subst P (all-kept bytes short) p
 pub listing-of-all : (bytes listing : List ℕ) → IsListing (kept bytes) listing → IsListing bytes listing
 listing-of-all bytes listing is = whole (λ b. IsListing b listing) bytes is.1.source.lexable.text.short is
 
+no-text-of-all : (bytes : List ℕ) (e : LexFault) → IsNoText (kept bytes) e → IsNoText bytes e
+no-text-of-all bytes lexing.TooLong is = longer bytes is
+no-text-of-all bytes (lexing.NotUtf8 at) is = whole (λ b. IsNoText b (lexing.NotUtf8 at)) bytes is.0 is
+no-text-of-all bytes (lexing.BadByte at) is = is
+no-text-of-all bytes (lexing.OpenString at) is = is
+no-text-of-all bytes (lexing.OpenComment at) is = is
+no-text-of-all bytes (lexing.BadEscape at) is = is
+no-text-of-all bytes (lexing.BadNumber at) is = is
+no-text-of-all bytes lexing.Memory is = is
+
+unparsed-of-all : (bytes : List ℕ) → IsUnparsed (kept bytes) → IsUnparsed bytes
+unparsed-of-all bytes is = whole IsUnparsed bytes is.lexable.text.short is
+
 pub refusal-of-all : (bytes : List ℕ) (e : Fault) → IsRefusal (kept bytes) e → IsRefusal bytes e
 refusal-of-all bytes fault.Memory is = tt
 refusal-of-all bytes fault.Read is = is
-refusal-of-all bytes (fault.Lex lexing.TooLong) is = longer bytes is
-refusal-of-all bytes (fault.Lex (lexing.NotUtf8 at)) is = whole (λ b. IsNoText b (lexing.NotUtf8 at)) bytes is.0 is
-refusal-of-all bytes (fault.Lex (lexing.BadByte at)) is = whole (λ b. IsUnlexed b (lexing.BadByte at)) bytes is.text.short is
-refusal-of-all bytes (fault.Lex (lexing.OpenString at)) is = whole (λ b. IsUnlexed b (lexing.OpenString at)) bytes is.text.short is
-refusal-of-all bytes (fault.Lex (lexing.OpenComment at)) is = whole (λ b. IsUnlexed b (lexing.OpenComment at)) bytes is.text.short is
-refusal-of-all bytes (fault.Lex (lexing.BadEscape at)) is = whole (λ b. IsUnlexed b (lexing.BadEscape at)) bytes is.text.short is
-refusal-of-all bytes (fault.Lex (lexing.BadNumber at)) is = whole (λ b. IsUnlexed b (lexing.BadNumber at)) bytes is.text.short is
-refusal-of-all bytes (fault.Lex lexing.Memory) is = is
-refusal-of-all bytes (fault.Syntax e) is = whole IsUnparsed bytes is.lexable.text.short is
+refusal-of-all bytes (fault.Lex e) (inl none) = inl (no-text-of-all bytes e none)
+refusal-of-all bytes (fault.Lex e) (inr is) = inr (whole (λ b. IsUnlexed b e) bytes is.text.short is)
+refusal-of-all bytes (fault.Syntax (syntax.NotProto3 at)) is = unparsed-of-all bytes is
+refusal-of-all bytes (fault.Syntax (syntax.TooDeep at)) is = unparsed-of-all bytes is
+refusal-of-all bytes (fault.Syntax (syntax.Grammar at)) is = unparsed-of-all bytes is
+refusal-of-all bytes (fault.Syntax syntax.Memory) is = is
 refusal-of-all bytes (fault.Duplicate first second) is = whole (λ b. HasClash b first second) bytes is.source.lexable.text.short is
 refusal-of-all bytes fault.TooLarge is = whole (λ b. IsRefusal b fault.TooLarge) bytes is.1.source.lexable.text.short is
 refusal-of-all bytes (fault.Write count) is = is

@@ -1,5 +1,5 @@
 -- The steps of a dump, joined: what they give of the source's bytes.
-use Rattle.std.proofs.Common.{◌≡◌, ℕ, ◌<◌, ◌≤◌, List, [], ◌∷◌, length, take, refl, ap, sym, ◌∙◌, subst, Result, Ok, Err}
+use Rattle.std.proofs.Common.{◌≡◌, ℕ, ◌<◌, ◌≤◌, List, [], ◌∷◌, length, take, refl, ap, sym, ◌∙◌, subst, Option, Result, Ok, Err}
 use Rattle.proto_lex.specs.declared.token.Token.{Token}
 use Rattle.proto_lex.specs.declared.token.Comment.{Comment}
 use Rattle.proto_lex.specs.declared.span.Span.{Span}
@@ -18,7 +18,10 @@ use Rattle.protoscip.specs.Declarations.{declarations_of}
 use Rattle.protoscip.specs.Duplicates.{Clash, NoClash}
 use Rattle.protoscip.specs.Document.{IsIndexOf}
 use Rattle.protoscip.specs.Stages.{Declares}
-use Rattle.protoscip.specs.Dump.{IsLexable, IsSource, HasClash, IsIndexOfSource, IsRefusal, Dumps, KeepsReader, KeepsWriter}
+use Rattle.protoscip.specs.Dump.{IsLexable, IsSource, HasClash, IsIndexOfSource, IsRefusal, IsListing, Dumps, LeavesReader, LeavesWriter}
+use Rattle.protoscip.specs.Source.{IsReadFault, IsReadThrough}
+use Rattle.protoscip.specs.Output.{Writes}
+use Rattle.std.specs.Io.KnownBytes.{Appends}
 
 -- a lexed text of the bytes
 pub record Reads (bytes text : List ℕ) (lexed : Lexed) : Type 0 where
@@ -71,7 +74,7 @@ module _ (bytes text : List ℕ) (lexed : Lexed) (reads : Reads bytes text lexed
 
 -- a refusal of the bytes writes nothing
 pub dumps-refusal : (bytes : List ℕ) (e : Fault) → IsRefusal bytes e → Dumps bytes [] (Err e)
-dumps-refusal bytes fault.Memory is = refl
+dumps-refusal bytes fault.Memory is = (refl, is)
 dumps-refusal bytes fault.Read is = absurd is
 dumps-refusal bytes (fault.Lex e) is = (refl, is)
 dumps-refusal bytes (fault.Syntax e) is = (refl, is)
@@ -79,38 +82,73 @@ dumps-refusal bytes (fault.Duplicate first second) is = (refl, is)
 dumps-refusal bytes fault.TooLarge is = (refl, is)
 dumps-refusal bytes (fault.Write count) is = absurd is
 
--- a refusal leaves the streams as they were
-pub keeps-reader : (before after : ℕ) (e : Fault) → after ≡ before → KeepsReader before after (Err e)
-keeps-reader before after fault.Memory same = tt
-keeps-reader before after fault.Read same = tt
-keeps-reader before after (fault.Lex e) same = same
-keeps-reader before after (fault.Syntax e) same = same
-keeps-reader before after (fault.Duplicate first second) same = same
-keeps-reader before after fault.TooLarge same = same
-keeps-reader before after (fault.Write count) same = same
+-- a refusal of the bytes comes once the reader was read to its end
+pub leaves-reader : (R : Type 0) (failures reads ends : R → ℕ) (before after : R) (bytes : List ℕ) (e : Fault)
+    → IsRefusal bytes e → IsReadThrough failures ends before after → LeavesReader failures reads ends before after (Err e)
+leaves-reader R failures reads ends before after bytes fault.Memory is through = tt
+leaves-reader R failures reads ends before after bytes fault.Read is through = absurd is
+leaves-reader R failures reads ends before after bytes (fault.Lex e) is through = through
+leaves-reader R failures reads ends before after bytes (fault.Syntax e) is through = through
+leaves-reader R failures reads ends before after bytes (fault.Duplicate first second) is through = through
+leaves-reader R failures reads ends before after bytes fault.TooLarge is through = through
+leaves-reader R failures reads ends before after bytes (fault.Write count) is through = absurd is
 
-pub keeps-writer : (bytes : List ℕ) (count : ℕ) (e : Fault) → IsRefusal bytes e → KeepsWriter count count (Err e)
-keeps-writer bytes count fault.Memory is = refl
-keeps-writer bytes count fault.Read is = refl
-keeps-writer bytes count (fault.Lex e) is = refl
-keeps-writer bytes count (fault.Syntax e) is = refl
-keeps-writer bytes count (fault.Duplicate first second) is = refl
-keeps-writer bytes count fault.TooLarge is = refl
-keeps-writer bytes count (fault.Write n) is = absurd is
-
--- a refusal of the bytes isn't Read
-pub not-read : (bytes : List ℕ) (e : Fault) → IsRefusal bytes e → e ≡ fault.Read → ⊥
-not-read bytes e is same = subst (IsRefusal bytes) same is
+-- and leaves the writer as it was
+pub leaves-writer : (W : Type 0) (failures : W → ℕ) (out : W) (bytes : List ℕ) (e : Fault) → IsRefusal bytes e → LeavesWriter failures out out (Err e)
+leaves-writer W failures out bytes fault.Memory is = refl
+leaves-writer W failures out bytes fault.Read is = refl
+leaves-writer W failures out bytes (fault.Lex e) is = refl
+leaves-writer W failures out bytes (fault.Syntax e) is = refl
+leaves-writer W failures out bytes (fault.Duplicate first second) is = refl
+leaves-writer W failures out bytes fault.TooLarge is = refl
+leaves-writer W failures out bytes (fault.Write count) is = absurd is
 
 -- of a source that wasn't read to its end
-pub source-reader : (before after : ℕ) (f : SourceFault) → KeepsReader before after (Err (refusal_of_source f))
-source-reader before after source.Read = tt
-source-reader before after source.Memory = tt
+pub unread-dumps : (bytes : List ℕ) (f : SourceFault) → Dumps bytes [] (Err (refusal_of_source f))
+unread-dumps bytes source.Read = refl
+unread-dumps bytes source.Memory = (refl, tt)
 
-pub source-writer : (count : ℕ) (f : SourceFault) → KeepsWriter count count (Err (refusal_of_source f))
-source-writer count source.Read = refl
-source-writer count source.Memory = refl
+pub unread-reader : (R : Type 0) (failures reads ends : R → ℕ) (before after : R) (f : SourceFault)
+    → (f ≡ source.Read → IsReadFault failures reads ends before after) → LeavesReader failures reads ends before after (Err (refusal_of_source f))
+unread-reader R failures reads ends before after source.Read why = why refl
+unread-reader R failures reads ends before after source.Memory why = tt
 
-pub read-of : (f : SourceFault) → refusal_of_source f ≡ fault.Read → f ≡ source.Read
-read-of source.Read same = refl
-read-of source.Memory same = cc
+pub unread-writer : (W : Type 0) (failures : W → ℕ) (out : W) (f : SourceFault) → LeavesWriter failures out out (Err (refusal_of_source f))
+unread-writer W failures out source.Read = refl
+unread-writer W failures out source.Memory = refl
+
+-- of a listing that was written
+pub written-dumps : (W : Type 0) (contents : W → Option (List ℕ)) (failures : W → ℕ) (before after : W) (bytes listing : List ℕ) (done : Result (Unit {0}) Fault)
+    → IsListing bytes listing → Writes contents failures before after listing done
+    → (written : List ℕ) × Appends (contents before) (contents after) written × Dumps bytes written done
+written-dumps W contents failures before after bytes listing (Ok done) is wrote = (listing, wrote.0, is)
+written-dumps W contents failures before after bytes listing (Err fault.Memory) is wrote = absurd wrote
+written-dumps W contents failures before after bytes listing (Err fault.Read) is wrote = absurd wrote
+written-dumps W contents failures before after bytes listing (Err (fault.Lex e)) is wrote = absurd wrote
+written-dumps W contents failures before after bytes listing (Err (fault.Syntax e)) is wrote = absurd wrote
+written-dumps W contents failures before after bytes listing (Err (fault.Duplicate first second)) is wrote = absurd wrote
+written-dumps W contents failures before after bytes listing (Err fault.TooLarge) is wrote = absurd wrote
+written-dumps W contents failures before after bytes listing (Err (fault.Write count)) is wrote = (take count listing, wrote.1, (listing, is, wrote.0, refl))
+
+pub written-reader : (R W : Type 0) (reader_failures reads ends : R → ℕ) (start end : R) (contents : W → Option (List ℕ)) (failures : W → ℕ) (before after : W)
+    (listing : List ℕ) (done : Result (Unit {0}) Fault)
+    → IsReadThrough reader_failures ends start end → Writes contents failures before after listing done → LeavesReader reader_failures reads ends start end done
+written-reader R W reader_failures reads ends start end contents failures before after listing (Ok done) through wrote = through
+written-reader R W reader_failures reads ends start end contents failures before after listing (Err fault.Memory) through wrote = absurd wrote
+written-reader R W reader_failures reads ends start end contents failures before after listing (Err fault.Read) through wrote = absurd wrote
+written-reader R W reader_failures reads ends start end contents failures before after listing (Err (fault.Lex e)) through wrote = through
+written-reader R W reader_failures reads ends start end contents failures before after listing (Err (fault.Syntax e)) through wrote = through
+written-reader R W reader_failures reads ends start end contents failures before after listing (Err (fault.Duplicate first second)) through wrote = through
+written-reader R W reader_failures reads ends start end contents failures before after listing (Err fault.TooLarge) through wrote = through
+written-reader R W reader_failures reads ends start end contents failures before after listing (Err (fault.Write count)) through wrote = through
+
+pub written-writer : (W : Type 0) (contents : W → Option (List ℕ)) (failures : W → ℕ) (before after : W) (listing : List ℕ) (done : Result (Unit {0}) Fault)
+    → Writes contents failures before after listing done → LeavesWriter failures before after done
+written-writer W contents failures before after listing (Ok done) wrote = wrote.1
+written-writer W contents failures before after listing (Err fault.Memory) wrote = absurd wrote
+written-writer W contents failures before after listing (Err fault.Read) wrote = absurd wrote
+written-writer W contents failures before after listing (Err (fault.Lex e)) wrote = absurd wrote
+written-writer W contents failures before after listing (Err (fault.Syntax e)) wrote = absurd wrote
+written-writer W contents failures before after listing (Err (fault.Duplicate first second)) wrote = absurd wrote
+written-writer W contents failures before after listing (Err fault.TooLarge) wrote = absurd wrote
+written-writer W contents failures before after listing (Err (fault.Write count)) wrote = wrote.2

@@ -37,11 +37,17 @@ printed_text request.Dump = None
 printed_text (request.Print text) = Some (string_bytes text)
 printed_text (request.Refuse text) = None
 
+-- the text that says why the command line is refused
+abbrev pub refused_text : Request → Option Text
+refused_text request.Dump = None
+refused_text (request.Print text) = None
+refused_text (request.Refuse text) = Some (string_bytes text)
+
 -- the command line is refused
-abbrev pub IsRefusal : Request → Type 0
-IsRefusal request.Dump = ⊥
-IsRefusal (request.Print text) = ⊥
-IsRefusal (request.Refuse text) = ⊤
+abbrev pub IsRefused : Request → Type 0
+IsRefused request.Dump = ⊥
+IsRefused (request.Print text) = ⊥
+IsRefused (request.Refuse text) = ⊤
 
 -- a dump is asked for
 abbrev pub IsDump : Request → Type 0

@@ -11,3 +11,4 @@ pub mod Source
 pub mod Dump
 pub mod Stages
 pub mod DumpLaws
+pub mod Output

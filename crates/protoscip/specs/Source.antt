@@ -1,12 +1,26 @@
 -- Reading a source to its end.
-use Rattle.std.specs.Prelude.{◌≡◌, ℕ, ◌+◌, ◌-◌, ◌^◌, ◌⊎◌, min, List, take}
+use Rattle.std.specs.Prelude.{◌≡◌, ℕ, ◌+◌, ◌-◌, ◌^◌, ◌≤◌, ◌⊎◌, min, List, take}
+use Rattle.proto_lex.specs.Text.{max_text_length}
 use Rattle.scip_model.specs.Streams.{one_more}
 
--- what is kept of a source's bytes: one more than a text may have
+-- what is kept of a source's bytes: at most one more than a text may have
 abbrev pub kept : List ℕ → List ℕ
-kept bytes = take 67108865 bytes
+kept bytes = take (max_text_length + 1) bytes
 
--- a read failed, or 16,777,216 reads into room for bytes gave no end. (Counts stop at the last u64.)
-abbrev pub IsReadFault : (failures failures_after reads reads_after ends ends_after : ℕ) → Type 0
-IsReadFault failures failures_after reads reads_after ends ends_after =
-    (failures_after ≡ one_more failures) ⊎ ((reads_after ≡ min (reads + 16777216) (2 ^ 64 - 1)) × (ends_after ≡ ends))
+-- how many reads into room for bytes may give no end
+abbrev pub max_reads : ℕ
+max_reads = 16777216
+
+-- why a source isn't read to its end: a read failed, or so many gave no end. (Counts stop at the last u64.)
+abbrev pub IsReadFault : {R : Type 0} → (failures reads ends : R → ℕ) → R → R → Type 0
+IsReadFault failures reads ends before after =
+    (failures after ≡ one_more (failures before))
+    ⊎ ((reads after ≡ min (reads before + max_reads) (2 ^ 64 - 1)) × (ends after ≡ ends before))
+
+-- a source was read to its end: no read failed, and one met the end
+abbrev pub IsReadThrough : {R : Type 0} → (failures ends : R → ℕ) → R → R → Type 0
+IsReadThrough failures ends before after = (failures after ≡ failures before) × (ends after ≡ one_more (ends before))
+
+-- no more reads than that
+abbrev pub IsReadBriefly : {R : Type 0} → (reads : R → ℕ) → R → R → Type 0
+IsReadBriefly reads before after = reads after ≤ reads before + max_reads

@@ -4,7 +4,8 @@ use Rattle.proto_lex.specs.Lexed.{Lexed}
 use Rattle.scip_model.specs.declared.records.Index.{Index}
 use Rattle.scip_wire.specs.Spelling.{spelling_of}
 use Rattle.protoscip.specs.declared.fault.Fault.{Fault}
-use Rattle.protoscip.specs.declared.fault.Fault.TheVariants.{Memory, Read, Lex, Syntax, Duplicate, TooLarge, Write}
+use Rattle.protoscip.specs.declared.fault.Fault.TheVariants.{Memory, Syntax, TooLarge}
+use Rattle.protoscip.specs.declared.syntax.fault.SyntaxFault.TheVariants.{Memory as SyntaxMemory}
 use Rattle.protoscip.specs.declared.declarations.Declaration.{Declaration}
 use Rattle.protoscip.specs.Syntax.Tree.{MessageTree}
 use Rattle.protoscip.specs.Syntax.Derives.{Derives}
@@ -22,12 +23,9 @@ pub record Declares (lexed : Lexed) (declarations : List Declaration) : Type 0 w
 -- the tokens have no tree, or memory ran out
 abbrev pub IsTreeRefusal : Lexed → Fault → Type 0
 IsTreeRefusal lexed Memory = Unit {0}
-IsTreeRefusal lexed Read = ⊥
-IsTreeRefusal lexed (Lex fault) = ⊥
+IsTreeRefusal lexed (Syntax SyntaxMemory) = ⊥
 IsTreeRefusal lexed (Syntax fault) = (tree : List MessageTree) → Derives lexed.text lexed.tokens tree → ⊥
-IsTreeRefusal lexed (Duplicate first second) = ⊥
-IsTreeRefusal lexed TooLarge = ⊥
-IsTreeRefusal lexed (Write count) = ⊥
+IsTreeRefusal lexed other = ⊥
 
 -- what is read back is the index, which isn't too large
 pub record IsStored (index read : Index) : Type 0 where
@@ -37,9 +35,5 @@ pub record IsStored (index read : Index) : Type 0 where
 -- the index is too large, or memory ran out
 abbrev pub IsStoreRefusal : Index → Fault → Type 0
 IsStoreRefusal index Memory = Unit {0}
-IsStoreRefusal index Read = ⊥
-IsStoreRefusal index (Lex fault) = ⊥
-IsStoreRefusal index (Syntax fault) = ⊥
-IsStoreRefusal index (Duplicate first second) = ⊥
 IsStoreRefusal index TooLarge = max_index_length < length (spelling_of index)
-IsStoreRefusal index (Write count) = ⊥
+IsStoreRefusal index other = ⊥

@@ -1,7 +1,7 @@
 //! The command line.
 ghost use Rattle.std.specs.Prelude.{◌≡◌, ◌≢◌, IfOk, map, string_bytes};
 ghost use Rattle.clap.specs.Words.{app_of, fault_of, kind_of};
-ghost use Rattle.protoscip.specs.CommandLine.{Asks, IsRefusal, Prints, command_line};
+ghost use Rattle.protoscip.specs.CommandLine.{Asks, IsRefused, Prints, command_line};
 
 use clap::error::ErrorKind;
 use clap::{Command, Error};
@@ -46,7 +46,7 @@ pub fn request_of(alloc: Global, words: &Vec<String>) -> Result<Request, AllocEr
 
 /// Refuses a command line that isn't text, which the system allows.
 pub fn refuse_other_text(alloc: Global) -> Result<Request, AllocError>
-    ensures { IfOk result IsRefusal }
+    ensures { IfOk result IsRefused }
 {
     let message = "invalid UTF-8 was detected in one or more arguments";
     answer(

@@ -3,8 +3,8 @@
 ghost use Rattle.std.specs.Prelude.{◌≡◌, ◌<◌, ℕ, List, Some, Ok, Err, IfOk, IfErr, OnOk, MatchResult, length};
 ghost use Rattle.std.specs.String.{string_bytes};
 ghost use Rattle.std.specs.Io.KnownBytes.{Appends};
-ghost use Rattle.protoscip.specs.Source.{IsReadFault};
-ghost use Rattle.protoscip.specs.Dump.{IsIndexOfSource, IsRefusal, IsListing, Dumps, KeepsReader, KeepsWriter};
+ghost use Rattle.protoscip.specs.Source.{IsReadBriefly};
+ghost use Rattle.protoscip.specs.Dump.{IsIndexOfSource, IsRefusal, IsListing, Dumps, LeavesReader, LeavesWriter};
 ghost use Rattle.protoscip.specs.DumpLaws.{ListingsAreOne};
 ghost use Rattle.protoscip.specs.Stages.{Declares, IsTreeRefusal, IsStored, IsStoreRefusal};
 
@@ -13,15 +13,16 @@ use crate::document::index_of;
 use crate::duplicates::first_clash;
 use crate::fault::Fault;
 use crate::listing::dump_text;
+use crate::output::write_text;
 use crate::source::read_source;
 use crate::syntax::{names_in_order, one_tree, parse};
 use proto_lex::{Text, Tokens, lex, one_lexing};
-use scip_model::{Feed, Index, Sink, write_all};
+use scip_model::{Feed, Index, Sink};
 use scip_wire::{WireFault, read_index, spell_index, spelling_decodes_to_its_index};
 use std::alloc::Global;
 
 /// The path under which a dump shows its source.
-const SOURCE_PATH: &str = "input.proto";
+pub const SOURCE_PATH: &str = "input.proto";
 
 /// What the tokens of a source declare.
 fn declared(alloc: Global, tokens: &Tokens<'_>) -> Result<Vec<Declaration>, Fault>
@@ -76,18 +77,14 @@ pub fn dump<R: Feed, W: Sink>(alloc: Global, source: &mut R, out: &mut W) -> Res
     ensures dumped { (bytes : List ℕ) → R.remaining source.old ≡ Some bytes
         → (written : List ℕ) × Appends (W.contents out.old) (W.contents out.new) written × Dumps bytes written result }
 
-    // Read comes only where a read failed or gave no end, and Write only where a write failed.
-    ensures read { result ≡ Err Fault.Read → IsReadFault (R.failures source.old) (R.failures source.new)
-        (R.reads source.old) (R.reads source.new) (R.ends source.old) (R.ends source.new) }
-    ensures reader { KeepsReader (R.failures source.old) (R.failures source.new) result }
-    ensures writer { KeepsWriter (W.failures out.old) (W.failures out.new) result }
+    // Of a reader or a writer that doesn't tell its bytes too.
+    ensures reader { LeavesReader R.failures R.reads R.ends source.old source.new result }
+    ensures briefly { IsReadBriefly R.reads source.old source.new }
+    ensures writer { LeavesWriter W.failures out.old out.new result }
 {
     let bytes = read_source(alloc, source)?;
     let listing = listing_of(alloc, &bytes)?;
-    match write_all(out, listing.as_str().as_bytes()) {
-        Ok(()) => Ok(()),
-        Err(cut_off) => Err(Fault::Write(cut_off.written as u64)),
-    }
+    write_text(out, listing.as_str())
 }
 
 /// A law: a source has one listing at most.

@@ -8,6 +8,7 @@ pub mod dump;
 pub mod duplicates;
 mod fault;
 pub mod listing;
+mod output;
 mod run;
 pub mod source;
 pub mod symbols;

@@ -2,20 +2,20 @@
 
 ghost use Rattle.std.specs.Prelude.{◌≡◌, ◌⊎◌, ◌++◌, ℕ, List, Some, Result, IfSome, codes};
 ghost use Rattle.std.specs.Io.KnownBytes.{Appends};
-ghost use Rattle.protoscip.specs.CommandLine.{IsDump, IsRefusal, printed_text};
-ghost use Rattle.protoscip.specs.Dump.{Dumps};
+ghost use Rattle.protoscip.specs.CommandLine.{IsDump, printed_text, refused_text};
+ghost use Rattle.protoscip.specs.Dump.{Dumps, LeavesReader, LeavesWriter};
+ghost use Rattle.protoscip.specs.Output.{Writes};
+ghost use Rattle.protoscip.specs.Source.{IsReadBriefly};
 ghost use Rattle.protoscip.specs.Faults.{status_of};
 ghost use Rattle.protoscip.specs.Messages.{Ends, Heard, Said};
 ghost use Rattle.protoscip.specs.declared.fault.Fault.TheVariants.{Memory};
 
 use crate::command::Request;
-use crate::dump::dump;
+use crate::dump::{SOURCE_PATH, dump};
 use crate::fault::Fault;
+use crate::output::write_text;
 use scip_model::{Feed, Sink, write_all};
 use std::alloc::Global;
-
-/// The path that the faults of a dump's one source name.
-const DUMPED_PATH: &str = "input.proto";
 
 /// Does what was asked for, and gives the exit status. What the stream of messages doesn't take is
 /// lost.
@@ -26,20 +26,28 @@ pub fn run<R: Feed, W: Sink, M: Sink>(
     out: &mut W,
     messages: &mut M,
 ) -> u8
-    // Help and the version go out whole, and a refused command line writes nothing out.
-    ensures printed { IfSome (printed_text request.now) (λ text. result ≡ 0
-        → Appends (W.contents out.old) (W.contents out.new) text) }
-    ensures refused { IsRefusal request.now → (result ≡ 2) × (out.new ≡ out.old) }
-    ensures dumped { IsDump request.now → (bytes : List ℕ) → R.remaining input.old ≡ Some bytes
-        → (written : List ℕ) × (done : Result (Unit {0}) Fault)
-        × Appends (W.contents out.old) (W.contents out.new) written
-        × Dumps bytes written done × Ends done result }
+    // Help and the version are printed.
+    ensures printed { IfSome (printed_text request.now) (λ text. (done : Result (Unit {0}) Fault)
+        × Writes W.contents W.failures out.old out.new text done
+        × Ends M.contents M.failures messages.old messages.new done result
+        × (input.new ≡ input.old)) }
+    // Of a refused command line it is said why.
+    ensures refused { IfSome (refused_text request.now) (λ text. (result ≡ 2)
+        × Heard (M.failures messages.old) (M.failures messages.new)
+        (Appends (M.contents messages.old) (M.contents messages.new) text)
+        × (input.new ≡ input.old) × (out.new ≡ out.old)) }
+    // What `dump` promises of its answer, and what becomes of that.
+    ensures dumped { IsDump request.now → (done : Result (Unit {0}) Fault)
+        × ((bytes : List ℕ) → R.remaining input.old ≡ Some bytes
+        → (written : List ℕ) × Appends (W.contents out.old) (W.contents out.new) written × Dumps bytes written done)
+        × LeavesReader R.failures R.reads R.ends input.old input.new done
+        × IsReadBriefly R.reads input.old input.new
+        × LeavesWriter W.failures out.old out.new done
+        × Ends M.contents M.failures messages.old messages.new done result }
 {
     let done = match request {
         Request::Dump => dump(alloc, input, out),
-        Request::Print(text) => write_all(out, text.as_bytes()).map_err(|cut_off| {
-            Fault::Write(cut_off.written as u64)
-        }),
+        Request::Print(text) => write_text(out, text.as_str()),
         Request::Refuse(text) => {
             let _ = write_all(messages, text.as_bytes());
             return 2;
@@ -59,7 +67,7 @@ pub fn report<M: Sink>(alloc: Global, fault: &Fault, messages: &mut M) -> u8
         (Said (M.contents messages.old) (M.contents messages.new) fault.now result
         ⊎ Said (M.contents messages.old) (M.contents messages.new) Memory result) }
 {
-    match fault.line(alloc, DUMPED_PATH) {
+    match fault.line(alloc, SOURCE_PATH) {
         Ok(line) => {
             say(messages, line.as_str());
             fault.status()

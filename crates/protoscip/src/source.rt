@@ -1,7 +1,7 @@
 //! Reading a source to its end.
 
 ghost use Rattle.std.specs.Prelude.{◌≡◌, ◌≤◌, ◌+◌, ◌-◌, ◌++◌, ℕ, List, Some, take, length, min, IfOk, IfErr, OnOk};
-ghost use Rattle.protoscip.specs.Source.{kept, IsReadFault};
+ghost use Rattle.protoscip.specs.Source.{kept, IsReadFault, IsReadThrough, IsReadBriefly};
 
 use proto_lex::MAX_TEXT_LENGTH;
 use scip_model::{Failed, Feed};
@@ -52,8 +52,9 @@ fn keep(bytes: &mut Vec<u8>, part: &[u8]) -> Result<(), AllocError>
 /// - `Read`: a read failed, or `MAX_READS` reads gave no end.
 pub fn read_source<R: Feed>(alloc: Global, source: &mut R) -> Result<Vec<u8>, SourceFault>
     ensures bytes { IfOk result (λ bytes. (all : List ℕ) → R.remaining source.old ≡ Some all → bytes.items ≡ kept all) }
-    ensures unfailed { OnOk result (R.failures source.new ≡ R.failures source.old) }
-    ensures read { result ≡ Err SourceFault.Read → IsReadFault (R.failures source.old) (R.failures source.new) (R.reads source.old) (R.reads source.new) (R.ends source.old) (R.ends source.new) }
+    ensures through { OnOk result (IsReadThrough R.failures R.ends source.old source.new) }
+    ensures read { result ≡ Err SourceFault.Read → IsReadFault R.failures R.reads R.ends source.old source.new }
+    ensures briefly { IsReadBriefly R.reads source.old source.new }
 {
     let mut room = [0u8; ROOM];
     let mut bytes = Vec::new(alloc);

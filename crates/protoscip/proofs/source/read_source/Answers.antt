@@ -4,7 +4,7 @@ use Rattle.scip_model.specs.Streams.{one_more}
 use Rattle.scip_model.specs.declared.failed.Failed.{Failed}
 use Rattle.std.proofs.lemmas.Grind.{common_steps}
 use Rattle.protoscip.specs.Source.{kept}
-use Rattle.protoscip.proofs.Kept.{kept-more, kept-few, one-more-read, no-end, consumed, nothing-left, reads-full}
+use Rattle.protoscip.proofs.Kept.{kept-more, kept-few, one-more-read, no-end, consumed, nothing-left, reads-full, more-reads}
 use Rattle.protoscip.proofs.source.read_source.Goals as goal
 
 pub reads-init : goal.reads-init
@@ -14,6 +14,7 @@ reads-init g c = record {
   failures = refl;
   no_reads = λ _. refl;
   reads = λ none. absurd (omega arith);
+  briefly = omega arith;
   ends = refl;
 }
 
@@ -45,5 +46,6 @@ reads-preserved g c =
       failures = c.in-Ok.ensures.failures ∙ c.reads.invariant.failures;
       no_reads = λ none. absurd (omega arith);
       reads = λ _. one-more-read _ _ _ c.reads._read c.reads.invariant.no_reads c.reads.invariant.reads read;
+      briefly = more-reads _ _ _ c.reads._read c.reads.invariant.briefly read;
       ends = c.in-Ok.ensures.ends ∙ no-end Failed _ c.in-Ok.count _ c.if-count-eq0.false ∙ c.reads.invariant.ends;
     }

@@ -13,5 +13,6 @@ invariant-reads g l =
       failures : feed.failures l.source ≡ feed.failures l.fn.source;
       no_reads : l._read ≡ 0 → feed.reads l.source ≡ feed.reads l.fn.source;
       reads : 0 < l._read → feed.reads l.source ≡ min (feed.reads l.fn.source + l._read) (2 ^ 64 - 1);
+      briefly : feed.reads l.source ≤ feed.reads l.fn.source + l._read;
       ends : feed.ends l.source ≡ feed.ends l.fn.source;
     }

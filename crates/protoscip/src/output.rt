@@ -1,0 +1,18 @@
+//! Writing to the program's output.
+
+ghost use Rattle.protoscip.specs.Output.{Writes};
+
+use crate::fault::Fault;
+use scip_model::{Sink, write_all};
+
+/// Writes a text.
+///
+/// - `Write(count)`: a write failed when `count` bytes had gone out.
+pub fn write_text<W: Sink>(out: &mut W, text: &str) -> Result<(), Fault>
+    ensures { Writes W.contents W.failures out.old out.new text.now result }
+{
+    match write_all(out, text.as_bytes()) {
+        Ok(()) => Ok(()),
+        Err(cut_off) => Err(Fault::Write(cut_off.written as u64)),
+    }
+}

@@ -10,4 +10,5 @@ pub mod Kept
 pub mod Refusals
 pub mod Sources
 pub mod Ordered
+pub mod OneSymbol
 pub mod OneListing

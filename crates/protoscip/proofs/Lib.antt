@@ -11,4 +11,4 @@ pub mod Refusals
 pub mod Sources
 pub mod Ordered
 pub mod OneSymbol
-pub mod OneListing
+pub mod OneIndex

@@ -1,6 +1,11 @@
--- A law of dumps.
+-- Laws of dumps.
 use Rattle.std.specs.Prelude.{◌≡◌, ℕ, List}
-use Rattle.protoscip.specs.Dump.{IsListing}
+use Rattle.scip_model.specs.declared.records.Index.{Index}
+use Rattle.protoscip.specs.Dump.{IsIndexOfSource, IsListing}
+
+-- a source with a path has one index at most
+abbrev pub IndexesAreOne : Type 0
+IndexesAreOne = (path bytes : List ℕ) (index other : Index) → IsIndexOfSource path bytes index → IsIndexOfSource path bytes other → index ≡ other
 
 -- a source has one listing at most
 abbrev pub ListingsAreOne : Type 0

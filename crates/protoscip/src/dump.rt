@@ -5,7 +5,7 @@ ghost use Rattle.std.specs.String.{string_bytes};
 ghost use Rattle.std.specs.Io.KnownBytes.{Appends};
 ghost use Rattle.protoscip.specs.Source.{IsReadFault};
 ghost use Rattle.protoscip.specs.Dump.{IsIndexOfSource, IsRefusal, IsListing, Dumps, KeepsReader, KeepsWriter};
-ghost use Rattle.protoscip.specs.DumpLaws.{ListingsAreOne};
+ghost use Rattle.protoscip.specs.DumpLaws.{IndexesAreOne, ListingsAreOne};
 ghost use Rattle.protoscip.specs.Stages.{Declares, IsTreeRefusal, IsStored, IsStoreRefusal};
 
 use crate::declarations::{Declaration, declarations_of};
@@ -90,12 +90,19 @@ pub fn dump<R: Feed, W: Sink>(alloc: Global, source: &mut R, out: &mut W) -> Res
     }
 }
 
+/// A law: a source with a path has one index at most.
+pub fn one_index()
+    ensures { IndexesAreOne }
+{
+    one_lexing();
+    one_tree();
+}
+
 /// A law: a source has one listing at most.
 pub fn one_listing()
     ensures { ListingsAreOne }
 {
-    one_lexing();
-    one_tree();
+    one_index();
 }
 
 #[cfg(test)]

@@ -2,6 +2,7 @@
 use Rattle.std.specs.Prelude.{◌≡◌, ◌<◌, ◌-◌, ◌^◌, ◌++◌, ◌⊎◌, ℕ, List, Option, Result, Ok, Err, codes}
 use Rattle.std.specs.Io.KnownBytes.{Appends}
 use Rattle.protoscip.specs.Faults.{fault_line, status_of}
+use Rattle.protoscip.specs.Dump.{source_path}
 use Rattle.protoscip.specs.declared.fault.Fault.{Fault}
 use Rattle.protoscip.specs.declared.fault.Fault.TheVariants.{Memory}
 
@@ -12,7 +13,7 @@ Heard before after P = before < 2 ^ 64 - 1 → after ≡ before → P
 -- the fault's line has been added, and the exit status is the fault's
 abbrev pub Said : Option (List ℕ) → Option (List ℕ) → Fault → ℕ → Type 0
 Said before after fault status = Appends before after
-    (fault_line (codes "input.proto") fault ++ codes "\n") × (status ≡ status_of fault)
+    (fault_line source_path fault ++ codes "\n") × (status ≡ status_of fault)
 
 -- the exit status after a dump's answer: 0, or the fault's, or that of want of memory for its line
 abbrev pub Ends : Result (Unit {0}) Fault → ℕ → Type 0

@@ -20,8 +20,8 @@ use scip_model::{Feed, Index, Sink, write_all};
 use scip_wire::{WireFault, read_index, spell_index, spelling_decodes_to_its_index};
 use std::alloc::Global;
 
-/// The path under which a dump shows its source.
-const SOURCE_PATH: &str = "input.proto";
+/// The path under which a dump, and what is said of its fault, shows its source.
+pub const SOURCE_PATH: &str = "input.proto";
 
 /// What the tokens of a source declare.
 fn declared(alloc: Global, tokens: &Tokens<'_>) -> Result<Vec<Declaration>, Fault>

@@ -9,13 +9,10 @@ ghost use Rattle.protoscip.specs.Messages.{Ends, Heard, Said};
 ghost use Rattle.protoscip.specs.declared.fault.Fault.TheVariants.{Memory};
 
 use crate::command::Request;
-use crate::dump::dump;
+use crate::dump::{SOURCE_PATH, dump};
 use crate::fault::Fault;
 use scip_model::{Feed, Sink, write_all};
 use std::alloc::Global;
-
-/// The path that the faults of a dump's one source name.
-const DUMPED_PATH: &str = "input.proto";
 
 /// Does what was asked for, and gives the exit status. What the stream of messages doesn't take is
 /// lost.
@@ -59,7 +56,7 @@ pub fn report<M: Sink>(alloc: Global, fault: &Fault, messages: &mut M) -> u8
         (Said (M.contents messages.old) (M.contents messages.new) fault.now result
         ⊎ Said (M.contents messages.old) (M.contents messages.new) Memory result) }
 {
-    match fault.line(alloc, DUMPED_PATH) {
+    match fault.line(alloc, SOURCE_PATH) {
         Ok(line) => {
             say(messages, line.as_str());
             fault.status()

@@ -1,14 +1,14 @@
 -- Lemmas on texts with their backticks doubled.
-use Rattle.std.proofs.Common.{◌≡◌, ℕ, suc, ◌<◌, Bool, true, false, cond, List, [], ◌∷◌, ◌++◌, length, get_or, take, ◌≤◌, eqb, refl, ap, sym, ◌∙◌, arith, append_assoc}
-use Rattle.std.specs.List.{flat_map, position_or_len, before_first, after_first}
+use Rattle.std.proofs.Common.{◌≡◌, ℕ, suc, ◌<◌, true, false, cond, List, [], ◌∷◌, ◌++◌, length, get_or, take, ◌≤◌, eqb, refl, ap, sym, ◌∙◌, arith, append_assoc}
+use Rattle.std.specs.List.{position_or_len, before_first, after_first}
 use Rattle.std.proofs.lemmas.List.Sums.{split_at_first, fails_before_first, passes_at_first}
 use Rattle.std.proofs.lemmas.List.{length-take-le, get_or-take}
 use Rattle.protoscip.specs.Symbols.{doubled}
 
-other : (b : ℕ) (bs : List ℕ) → eqb b 96 ≡ false → doubled (b ∷ bs) ≡ b ∷ doubled bs
+pub other : (b : ℕ) (bs : List ℕ) → eqb b 96 ≡ false → doubled (b ∷ bs) ≡ b ∷ doubled bs
 other b bs e = rw e refl
 
-backtick : (b : ℕ) (bs : List ℕ) → eqb b 96 ≡ true → doubled (b ∷ bs) ≡ 96 ∷ 96 ∷ doubled bs
+pub backtick : (b : ℕ) (bs : List ℕ) → eqb b 96 ≡ true → doubled (b ∷ bs) ≡ 96 ∷ 96 ∷ doubled bs
 backtick b bs e = rw e refl
 
 clean : (xs : List ℕ) → ((k : ℕ) → k < length xs → eqb (get_or xs k 0) 96 ≡ false) → doubled xs ≡ xs

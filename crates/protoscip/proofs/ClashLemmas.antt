@@ -10,7 +10,11 @@ use Rattle.std.proofs.lemmas.Option.{slice_get-get_or, slice_get_read, slice_get
 use Rattle.std.proofs.lemmas.Slice.Eq.{bytes_eq-Decides}
 use Rattle.proto_lex.specs.declared.span.Span.{Span}
 use Rattle.protoscip.specs.declared.declarations.Declaration.{Declaration}
-use Rattle.protoscip.specs.Duplicates.{is_named, Clashes, Clash, NoClash}
+use Rattle.protoscip.specs.Duplicates.{Clashes, Clash, NoClash}
+
+-- a declaration has this full name
+abbrev pub is_named : List ℕ → Declaration → Bool
+is_named full_name d = bytes_eq d.full_name full_name
 
 -- where nothing is found, each element fails
 position-none : {X : Type 0} (p : X → Bool) (xs : List X) → position p xs ≡ None → (k : ℕ) (d : X) → k < length xs → p (get_or xs k d) ≡ false

@@ -1,3 +1,4 @@
+pub mod Exclusion
 pub mod CommandLines
 pub mod Backticks
 pub mod ClashLemmas
@@ -10,4 +11,5 @@ pub mod Kept
 pub mod Refusals
 pub mod Sources
 pub mod Ordered
-pub mod OneListing
+pub mod OneSymbol
+pub mod OneIndex

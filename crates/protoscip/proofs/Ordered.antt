@@ -1,15 +1,12 @@
 -- A list that ascends is the only one of its elements that does.
-use Rattle.std.proofs.Common.{◌≡◌, ℕ, zero, suc, ◌+◌, ◌<◌, ◌≤◌, ◌⊎◌, inl, inr, Bool, true, false, cond, List, [], ◌∷◌, length, get_or, refl, ap, sym, ◌∙◌, subst, arith, add-one}
+use Rattle.std.proofs.Common.{◌≡◌, ℕ, suc, ◌+◌, inl, inr, Bool, true, false, cond, List, [], ◌∷◌, get_or, refl, ap, sym, ◌∙◌, arith, add-one}
 use Rattle.std.specs.List.{AllByRecursion, All, sum_by}
 use Rattle.std.specs.List.Sorted.{IsSortedBy, IsPermutation}
 use Rattle.std.specs.Cmp.{IsStrictWeakOrder}
 use Rattle.std.proofs.lemmas.List.Sorted.{sorted_far, sum_by-IsPermutation, All-permutation}
 use Rattle.std.proofs.lemmas.List.Elements.{recursion_from_All}
 use Rattle.std.proofs.lemmas.List.Sums.{sum_by-cons}
-
-either : (b : Bool) → (b ≡ true) ⊎ (b ≡ false)
-either true = inl refl
-either false = inr refl
+use Rattle.std.proofs.lemmas.Bool.{cases_Bool}
 
 module _ {X : Type 0} (lt : X → X → Bool) (order : IsStrictWeakOrder lt) where
   abbrev Ascends : List X → Type 0
@@ -24,10 +21,10 @@ module _ {X : Type 0} (lt : X → X → Bool) (order : IsStrictWeakOrder lt) whe
   not_above x z = cond (lt x z) 0 1
 
   passes : (x y z : X) → lt x y ≡ true → lt z y ≡ false → lt x z ≡ true
-  passes x y z below least = elim (either (lt x z)) [ inl e ↦ e | inr e ↦ let bad : true ≡ false = sym below ∙ order.chain x z y e least in cc ]
+  passes x y z below least = elim (cases_Bool (lt x z)) [ inl e ↦ e | inr e ↦ let bad : true ≡ false = sym below ∙ order.chain x z y e least in cc ]
 
   itself : (x : X) → lt x x ≡ false
-  itself x = elim (either (lt x x)) [ inl e ↦ order.one_way x x e | inr e ↦ e ]
+  itself x = elim (cases_Bool (lt x x)) [ inl e ↦ order.one_way x x e | inr e ↦ e ]
 
   none_left : (x y : X) (ys : List X) → lt x y ≡ true → AllByRecursion (λ z. lt z y ≡ false) ys → sum_by (not_above x) ys ≡ 0
   none_left x y [] below least = refl
@@ -38,7 +35,7 @@ module _ {X : Type 0} (lt : X → X → Bool) (order : IsStrictWeakOrder lt) whe
       omega arith
 
   heads : (x y : X) (xs ys : List X) → Alike (x ∷ xs) (y ∷ ys) → AllByRecursion (λ z. lt z y ≡ false) ys → lt x y ≡ false
-  heads x y xs ys alike least = elim (either (lt x y)) [
+  heads x y xs ys alike least = elim (cases_Bool (lt x y)) [
     | inr e ↦ e
     | inl e ↦
         let left : sum_by (not_above x) (x ∷ xs) ≡ 1 + sum_by (not_above x) xs = sum_by-cons (not_above x) x xs ∙ rw (itself x) refl in

@@ -15,7 +15,7 @@ occurrences_total =
     (then_total (on_total (λ (o : Occurrence). o.range.end_column) nat_cmp_total)
     (on_total (λ (o : Occurrence). o.symbol) nat_list_cmp_total))))
 
-infos_total : IsTotalOrder info_cmp
+pub infos_total : IsTotalOrder info_cmp
 infos_total = on_total (λ (i : Info). i.symbol) nat_list_cmp_total
 
 pub occurrences_rank : IsStrictWeakOrder (λ x y. is_lt (occurrence_cmp x y))

@@ -1,22 +1,13 @@
 -- What a file declares.
-use Rattle.std.specs.Prelude.{ℕ, ◌≤◌, List, [], ◌∷◌, ◌++◌, codes, slice_range, IsCharBoundary}
+use Rattle.std.specs.Prelude.{ℕ, List, [], ◌∷◌, ◌++◌, codes}
 use Rattle.std.specs.List.{flat_map}
 use Rattle.proto_lex.specs.declared.span.Span.{Span}
+use Rattle.proto_lex.specs.Lexed.{part_of}
 use Rattle.protoscip.specs.declared.declarations.Declaration.{Declaration}
 use Rattle.protoscip.specs.declared.declarations.DeclarationKind.{DeclarationKind}
 use Rattle.protoscip.specs.declared.declarations.DeclarationKind.TheVariants.{Message, Field}
 use Rattle.protoscip.specs.Syntax.Tree.{Body, MessageTree}
 use Rattle.protoscip.specs.Syntax.Tree.Body.{NoMore, FieldThen, MessageThen}
-
--- a span of whole characters of the text
-pub record IsSpanOf (text : List ℕ) (span : Span) : Type 0 where
-  pub ordered : span.start ≤ span.end
-  pub start : IsCharBoundary text span.start
-  pub end : IsCharBoundary text span.end
-
--- what a span of the text spells
-abbrev pub spelling_at : List ℕ → Span → List ℕ
-spelling_at text span = slice_range text span.start span.end
 
 -- names joined by dots
 abbrev pub dotted : List (List ℕ) → List ℕ
@@ -26,7 +17,7 @@ dotted (outer ∷ name ∷ names) = outer ++ codes "." ++ dotted (name ∷ names
 
 -- a path of names with one more
 abbrev pub within : List ℕ → List (List ℕ) → Span → List (List ℕ)
-within text scope name = scope ++ spelling_at text name ∷ []
+within text scope name = scope ++ part_of text name ∷ []
 
 -- the declaration of a name in a scope, which is the path of the messages around it
 abbrev pub declaration_at : List ℕ → DeclarationKind → List (List ℕ) → Span → Declaration

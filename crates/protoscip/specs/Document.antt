@@ -1,5 +1,5 @@
 -- The index of one source: its document's occurrences and symbols, each exactly once and in order.
-use Rattle.std.specs.Prelude.{◌≡◌, ℕ, ◌-◌, ℤ, pos, List, [], ◌∷◌, length, map, Some, codes, slice_get, unwrap_or, IsCharBoundary}
+use Rattle.std.specs.Prelude.{◌≡◌, ℕ, ◌-◌, ℤ, pos, List, [], ◌∷◌, length, map, Some, codes, slice_get, unwrap_or}
 use Rattle.std.specs.declared.cmp.Ordering.{Ordering}
 use Rattle.std.specs.Ordering.{nat_cmp, on, then_cmp}
 use Rattle.std.specs.Cmp.Lexicographic.{slice_cmp}
@@ -114,8 +114,3 @@ pub record IsIndexOf (path text : List ℕ) (declarations : List Declaration) (i
   pub is : IsDocumentOf path text declarations document
   pub metadata_is : index.metadata ≡ Some metadata
   pub external_symbols : index.external_symbols ≡ []
-
--- a declaration's name stands in the text, between two characters at each end
-pub record IsNamedIn (text : List ℕ) (d : Declaration) : Type 0 where
-  pub start : IsCharBoundary text d.name.start
-  pub end : IsCharBoundary text d.name.end

@@ -22,7 +22,7 @@ use Rattle.protoscip.specs.Document.{IsIndexOf}
 use Rattle.protoscip.specs.DumpText.{dump_text}
 use Rattle.protoscip.specs.Source.{IsReadFault, IsReadThrough}
 
--- the path under which a dump shows its source
+-- the path under which a dump, and what is said of its fault, shows its source
 abbrev pub source_path : List ℕ
 source_path = codes "input.proto"
 

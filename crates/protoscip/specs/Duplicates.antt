@@ -1,6 +1,6 @@
--- Declarations of one full name. A file is one namespace: two of them are refused.
-use Rattle.std.specs.Prelude.{◌≡◌, ℕ, ◌<◌, ◌≤◌, Bool, List, slice_get, Some}
-use Rattle.std.specs.Str.{bytes_eq}
+-- Declarations of one full name. A file is one namespace: two of them are refused. The lists here are in order
+-- of the places of the names, so that what is earlier in a list is earlier in the file.
+use Rattle.std.specs.Prelude.{◌≡◌, ℕ, ◌<◌, ◌≤◌, List, slice_get, Some}
 use Rattle.protoscip.specs.declared.declarations.Declaration.{Declaration}
 use Rattle.proto_lex.specs.declared.span.Span.{Span}
 
@@ -26,7 +26,3 @@ pub record Clash (declarations : List Declaration) (first second : Span) : Type 
 -- no two declarations have one full name
 abbrev pub NoClash : List Declaration → Type 0
 NoClash declarations = (i j : ℕ) → Clashes declarations i j → ⊥
-
--- a declaration has this full name
-abbrev pub is_named : List ℕ → Declaration → Bool
-is_named full_name d = bytes_eq d.full_name full_name

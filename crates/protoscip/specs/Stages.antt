@@ -1,6 +1,6 @@
 -- What the steps of a dump give one another.
 use Rattle.std.specs.Prelude.{◌≡◌, ◌<◌, ◌≤◌, List, length, All}
-use Rattle.proto_lex.specs.Lexed.{Lexed}
+use Rattle.proto_lex.specs.Lexed.{Lexed, IsPart}
 use Rattle.scip_model.specs.declared.records.Index.{Index}
 use Rattle.scip_wire.specs.Spelling.{spelling_of}
 use Rattle.protoscip.specs.declared.fault.Fault.{Fault}
@@ -10,7 +10,6 @@ use Rattle.protoscip.specs.declared.declarations.Declaration.{Declaration}
 use Rattle.protoscip.specs.Syntax.Tree.{MessageTree}
 use Rattle.protoscip.specs.Syntax.Derives.{Derives}
 use Rattle.protoscip.specs.Declarations.{declarations_of}
-use Rattle.protoscip.specs.Document.{IsNamedIn}
 use Rattle.protoscip.specs.Dump.{max_index_length}
 
 -- the declarations of the tokens' tree
@@ -18,7 +17,7 @@ pub record Declares (lexed : Lexed) (declarations : List Declaration) : Type 0 w
   pub tree : List MessageTree
   pub derives : Derives lexed.text lexed.tokens tree
   pub are : declarations ≡ declarations_of lexed.text tree
-  pub named : All (IsNamedIn lexed.text) declarations
+  pub named : All (λ (d : Declaration). IsPart lexed.text d.name) declarations
 
 -- the tokens have no tree, or memory ran out
 abbrev pub IsTreeRefusal : Lexed → Fault → Type 0

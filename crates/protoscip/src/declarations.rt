@@ -3,8 +3,9 @@
 ghost use Rattle.std.specs.Prelude.{◌≡◌, ◌++◌, ◌∷◌, [], OnOk, IfOk};
 ghost use Rattle.std.specs.List.{AllByRecursion};
 ghost use Rattle.std.specs.String.{string_bytes};
+ghost use Rattle.proto_lex.specs.Lexed.{IsPart, part_of};
 ghost use Rattle.protoscip.specs.Syntax.Tree.{names_in, names_of};
-ghost use Rattle.protoscip.specs.Declarations.{IsSpanOf, spelling_at, dotted, within, declaration_at, declared_by, declarations_of};
+ghost use Rattle.protoscip.specs.Declarations.{dotted, within, declaration_at, declared_by, declarations_of};
 
 use crate::syntax::{File, Message, MessageItem};
 use proto_lex::Span;
@@ -32,8 +33,8 @@ pub struct Declaration {
 
 /// What a span of the text spells.
 fn spelling_at<'a>(text: &'a str, span: Span) -> &'a str
-    requires { IsSpanOf text.now span }
-    ensures { result.now ≡ spelling_at text.now span }
+    requires { IsPart text.now span }
+    ensures { result.now ≡ part_of text.now span }
 {
     &text[span.start..span.end]
 }
@@ -60,7 +61,7 @@ fn within(
     scope: &[OwnedText],
     name: Span,
 ) -> Result<Sequence<OwnedText>, AllocError>
-    requires { IsSpanOf text.now name }
+    requires { IsPart text.now name }
     ensures { IfOk result (λ path. path ≡ within text.now scope.now name) }
 {
     let mut path = Vec::new(alloc);
@@ -79,7 +80,7 @@ fn declaration_at(
     scope: &[OwnedText],
     name: Span,
 ) -> Result<Declaration, AllocError>
-    requires { IsSpanOf text.now name }
+    requires { IsPart text.now name }
     ensures { IfOk result (λ declared. declared ≡ declaration_at text.now kind scope.now name) }
 {
     let path = within(alloc, text, scope, name)?;
@@ -101,7 +102,7 @@ fn declare_message(
     message: &Message,
     declarations: &mut Vec<Declaration>,
 ) -> Result<(), AllocError>
-    requires { AllByRecursion (IsSpanOf text.now) (message.now.heading.name ∷ names_in message.now.body) }
+    requires { AllByRecursion (IsPart text.now) (message.now.heading.name ∷ names_in message.now.body) }
     ensures { OnOk result (declarations.new.items ≡ declarations.old.items ++ declared_by text.now scope.now message.now) }
 {
     declarations.push(declaration_at(alloc, text, DeclarationKind::Message, scope, message.name)?)?;
@@ -127,7 +128,7 @@ pub fn declarations_of(
     text: &str,
     file: &File,
 ) -> Result<Vec<Declaration>, AllocError>
-    requires { AllByRecursion (IsSpanOf text.now) (names_of file.now) }
+    requires { AllByRecursion (IsPart text.now) (names_of file.now) }
     ensures { IfOk result (λ declared. declared.items ≡ declarations_of text.now file.now) }
 {
     let mut declarations = Vec::new(alloc);

@@ -2,7 +2,8 @@
 
 ghost use Rattle.std.specs.Prelude.{◌≡◌, ◌++◌, ◌∷◌, [], List, map, IfOk, OnOk, All, IsCharBoundary, IsPermutation};
 ghost use Rattle.std.specs.List.Sorted.{IsSorted};
-ghost use Rattle.protoscip.specs.Document.{range_over, file_occurrence, declaration_occurrence, occurrences_of, occurrence_cmp, simple_name, file_info, declaration_info, infos_of, info_cmp, IsOrdered, IsDocumentOf, metadata, IsIndexOf, IsNamedIn};
+ghost use Rattle.proto_lex.specs.Lexed.{IsPart};
+ghost use Rattle.protoscip.specs.Document.{range_over, file_occurrence, declaration_occurrence, occurrences_of, occurrence_cmp, simple_name, file_info, declaration_info, infos_of, info_cmp, IsOrdered, IsDocumentOf, metadata, IsIndexOf};
 
 use crate::declarations::Declaration;
 use crate::symbols;
@@ -44,7 +45,7 @@ fn declaration_occurrence(
     text: &Text<'_>,
     declaration: &Declaration,
 ) -> Result<Occurrence, AllocError>
-    requires { IsNamedIn text.now declaration.now }
+    requires { IsPart text.now declaration.now.name }
     ensures { IfOk result (λ occurrence. occurrence ≡ declaration_occurrence text.now declaration.now) }
 {
     Ok(Occurrence {
@@ -71,7 +72,7 @@ fn occurrences(
     text: &Text<'_>,
     declarations: &[Declaration],
 ) -> Result<Sequence<Occurrence>, AllocError>
-    requires { All (IsNamedIn text.now) declarations.now }
+    requires { All (λ d. IsPart text.now d.name) declarations.now }
     ensures { IfOk result (λ listed. IsOrdered occurrence_cmp (occurrences_of path.now text.now declarations.now) listed) }
 {
     let mut occurrences = Vec::new(alloc);
@@ -143,7 +144,7 @@ pub fn document(
     text: &Text<'_>,
     declarations: &[Declaration],
 ) -> Result<Document, AllocError>
-    requires { All (IsNamedIn text.now) declarations.now }
+    requires { All (λ d. IsPart text.now d.name) declarations.now }
     ensures { IfOk result (IsDocumentOf path.now text.now declarations.now) }
 {
     Ok(Document {
@@ -178,7 +179,7 @@ pub fn index_of(
     text: &Text<'_>,
     declarations: &[Declaration],
 ) -> Result<Index, AllocError>
-    requires { All (IsNamedIn text.now) declarations.now }
+    requires { All (λ d. IsPart text.now d.name) declarations.now }
     ensures { IfOk result (IsIndexOf path.now text.now declarations.now) }
 {
     let metadata = metadata(alloc)?;

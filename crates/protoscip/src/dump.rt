@@ -5,7 +5,7 @@ ghost use Rattle.std.specs.String.{string_bytes};
 ghost use Rattle.std.specs.Io.KnownBytes.{Appends};
 ghost use Rattle.protoscip.specs.Source.{IsReadBriefly};
 ghost use Rattle.protoscip.specs.Dump.{IsIndexOfSource, IsRefusal, IsListing, Dumps, LeavesReader, LeavesWriter};
-ghost use Rattle.protoscip.specs.DumpLaws.{ListingsAreOne};
+ghost use Rattle.protoscip.specs.DumpLaws.{IndexesAreOne, ListingsAreOne, ListedUnlessMemory};
 ghost use Rattle.protoscip.specs.Stages.{Declares, IsTreeRefusal, IsStored, IsStoreRefusal};
 
 use crate::declarations::{Declaration, declarations_of};
@@ -21,7 +21,7 @@ use scip_model::{Feed, Index, Sink};
 use scip_wire::{WireFault, read_index, spell_index, spelling_decodes_to_its_index};
 use std::alloc::Global;
 
-/// The path under which a dump shows its source.
+/// The path under which a dump, and what is said of its fault, shows its source.
 pub const SOURCE_PATH: &str = "input.proto";
 
 /// What the tokens of a source declare.
@@ -87,9 +87,24 @@ pub fn dump<R: Feed, W: Sink>(alloc: Global, source: &mut R, out: &mut W) -> Res
     write_text(out, listing.as_str())
 }
 
+/// A law: a source with a path has one index at most.
+pub fn one_index()
+    ensures { IndexesAreOne }
+{
+    one_lexing();
+    one_tree();
+}
+
 /// A law: a source has one listing at most.
 pub fn one_listing()
     ensures { ListingsAreOne }
+{
+    one_index();
+}
+
+/// A law: a source that has a listing isn't refused, but for want of memory.
+pub fn listed_unless_memory()
+    ensures { ListedUnlessMemory }
 {
     one_lexing();
     one_tree();

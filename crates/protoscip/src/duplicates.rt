@@ -1,15 +1,14 @@
 //! Declarations of one full name.
 
-ghost use Rattle.std.specs.Prelude.{◌≡◌, MatchOption, position};
+ghost use Rattle.std.specs.Prelude.{◌≡◌, MatchOption, position, bytes_eq};
 ghost use Rattle.protoscip.specs.Duplicates.{Clash, NoClash};
-ghost use Rattle.protoscip.specs.Duplicates.{is_named};
 
 use crate::declarations::Declaration;
 use proto_lex::Span;
 
 /// The index of the first declaration with a full name.
 fn first_with(declarations: &[Declaration], full_name: &str) -> Option<usize>
-    ensures { result ≡ position (is_named full_name.now) declarations.now }
+    ensures { result ≡ position (λ d. bytes_eq d.full_name full_name.now) declarations.now }
 {
     declarations
         .iter()

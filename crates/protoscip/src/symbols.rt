@@ -1,8 +1,9 @@
 //! Symbols as text, by the grammar in the comment of `scip.proto`'s `Symbol`.
 
-ghost use Rattle.std.specs.Prelude.{◌≡◌, ◌++◌, OnOk, IfOk};
+ghost use Rattle.std.specs.Prelude.{◌≡◌, ◌++◌, ℕ, List, [], OnOk, IfOk};
 ghost use Rattle.std.specs.List.{list_all};
 ghost use Rattle.std.specs.String.{string_bytes};
+ghost use Rattle.protoscip.specs.declared.declarations.DeclarationKind.{DeclarationKind};
 ghost use Rattle.protoscip.specs.Symbols.{is_identifier_character, is_simple_identifier, doubled, name_text, suffix_of, descriptors_text, file_symbol_text, symbol_text};
 
 use crate::declarations::DeclarationKind;
@@ -108,3 +109,18 @@ pub fn symbol_of(
     push_descriptors(&mut out, kind, path)?;
     Ok(OwnedText::from_string(out))
 }
+
+/// A law: a text is the symbol of one file at most, or of one path of names and, where there are
+/// names, of one kind; and of no file and declaration both.
+pub fn one_symbol()
+    ensures files { (path : List ℕ) → (other : List ℕ)
+        → file_symbol_text path ≡ file_symbol_text other → path ≡ other }
+    ensures apart { (path : List ℕ) → (kind : DeclarationKind) → (names : List (List ℕ))
+        → file_symbol_text path ≡ symbol_text kind names → ⊥ }
+    ensures paths { (kind : DeclarationKind) → (other : DeclarationKind)
+        → (path : List (List ℕ)) → (others : List (List ℕ))
+        → symbol_text kind path ≡ symbol_text other others → path ≡ others }
+    ensures kinds { (kind : DeclarationKind) → (other : DeclarationKind)
+        → (path : List (List ℕ)) → (others : List (List ℕ)) → (path ≡ [] → ⊥)
+        → symbol_text kind path ≡ symbol_text other others → kind ≡ other }
+{}

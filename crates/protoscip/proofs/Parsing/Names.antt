@@ -1,7 +1,6 @@
 -- The names of a tree are identifiers, in their order.
 use Rattle.std.proofs.Common.{◌≡◌, Option, ℕ, zero, suc, ◌<◌, List, [], ◌∷◌, ◌++◌, map, All, AllPairs, append_assoc, arith, refl, ap, ◌≤◌}
-use Rattle.std.proofs.lemmas.List.Elements.{All-cons, All-head, All-tail}
-use Rattle.std.proofs.lemmas.List.Kept.{AllPairs-cons}
+use Rattle.std.proofs.lemmas.List.Elements.{All-cons, All-head, All-tail, All-map}
 use Rattle.proto_lex.specs.declared.span.Span.{Span}
 use Rattle.proto_lex.specs.declared.token.TokenKind.{TokenKind}
 use Rattle.proto_lex.specs.declared.token.TokenKind.TheVariants.{Identifier}
@@ -71,21 +70,12 @@ statements_named (file_message m rest) = message_named m (statements_named rest)
 pub file_named : {a : List Lexeme} {messages : List MessageTree} → IsFile a messages → Among (names_of messages) a
 file_named (a_file s rest) = past_syntax s (statements_named rest)
 
--- what holds of every token's span holds of each name
-pub Among-All : (P : Span → Type 0) {spans : List Span} {tokens : List Lexeme} → Among spans tokens → All P (map (λ t. t.span) tokens) → All P spans
+-- what holds of every token's span holds of each of the spans among them
+Among-All : (P : Span → Type 0) {spans : List Span} {tokens : List Lexeme} → Among spans tokens → All P (map (λ t. t.span) tokens) → All P spans
 Among-All P none all = λ k d h. absurd (omega arith)
 Among-All P (skip {t = t} {rest} behind) all = Among-All P behind (All-tail P t.span (map (λ u. u.span) rest) all)
 Among-All P (name {spans} {t} {rest} k behind) all =
     All-cons P t.span spans (All-head P t.span (map (λ u. u.span) rest) all) (Among-All P behind (All-tail P t.span (map (λ u. u.span) rest) all))
-
--- what holds of each two tokens' spans in order holds of each two names
-pub Among-AllPairs : (R : Span → Span → Type 0) {spans : List Span} {tokens : List Lexeme} → Among spans tokens → AllPairs R (map (λ t. t.span) tokens) → AllPairs R spans
-Among-AllPairs R none pairs = λ i j d h k. absurd (omega arith)
-Among-AllPairs R (skip behind) pairs = Among-AllPairs R behind (λ i j d h k. pairs (suc i) (suc j) d (omega arith) (omega arith))
-Among-AllPairs R (name {spans} {t} {rest} k behind) pairs =
-    AllPairs-cons R t.span spans
-    (Among-All (R t.span) behind (λ j d h. pairs zero (suc j) d (omega arith) (omega arith)))
-    (Among-AllPairs R behind (λ i j d h l. pairs (suc i) (suc j) d (omega arith) (omega arith)))
 
 -- from an earlier place on too
 from_earlier : (earlier place : ℕ) (spans : List Span) → earlier ≤ place → AreInOrder place spans → AreInOrder earlier spans
@@ -107,7 +97,7 @@ pub names-AreInOrder : (text : List ℕ) (tokens : List Token) (tree : List Mess
     → AreInOrder 0 (map (λ t. t.span) tokens) → AreInOrder 0 (names_of tree)
 names-AreInOrder text tokens tree d ordered = Among-AreInOrder (file_named d) 0 (rw (spans-lexemes_of text tokens) ordered)
 
--- what holds of each token's span holds of each name
-pub names-All : (P : Span → Type 0) (text : List ℕ) (tokens : List Token) (tree : List MessageTree) → Derives text tokens tree
-    → All P (map (λ t. t.span) tokens) → All P (names_of tree)
-names-All P text tokens tree d all = Among-All P (file_named d) (rw (spans-lexemes_of text tokens) all)
+-- alike, of a text's tokens
+pub Among-tokens : (P : Span → Type 0) (text : List ℕ) (tokens : List Token) (spans : List Span) → Among spans (lexemes_of text tokens)
+    → All (λ (t : Token). P t.span) tokens → All P spans
+Among-tokens P text tokens spans among all = Among-All P among (rw (spans-lexemes_of text tokens) (All-map P (λ (t : Token). t.span) tokens all))

@@ -62,13 +62,13 @@ pub data IsField : List Lexeme → Field → List Lexeme → Type 0 where
       → IsField a (record { label = label; type_name = type_name; name = name; number = number; semicolon = semicolon }) g
 
 mutual
-  -- "Message definition": the word, a name, and a body in braces, with fewer than `room` messages inside one another.
+  -- "Message definition": the word, a name, and a body in braces. At most `room` messages stand inside one another, itself the outermost.
   pub data IsMessage : ℕ → List Lexeme → MessageTree → List Lexeme → Type 0 where
     message : {room : ℕ} {a b c d e f : List Lexeme} {keyword name open_brace close_brace : Span} {body : Body}
         → IsWord (codes "message") a keyword b → IsToken Identifier b name c → IsToken OpenBrace c open_brace d → IsBody room d body e → IsToken CloseBrace e close_brace f
         → IsMessage (suc room) a (record { heading = record { keyword = keyword; name = name; open_brace = open_brace }; body = body }) f
 
-  -- What stands before the closing brace: messages, fields and `;`.
+  -- What stands before the closing brace: messages, fields and `;`. At most `room` messages stand inside one another.
   pub data IsBody : ℕ → List Lexeme → Body → List Lexeme → Type 0 where
     at_close : {room : ℕ} {t : Lexeme} {rest : List Lexeme} → t.kind ≡ CloseBrace → IsBody room (t ∷ rest) NoMore (t ∷ rest)
     semicolon : {room : ℕ} {a b c : List Lexeme} {span : Span} {others : Body}

@@ -2,7 +2,7 @@ use Rattle.std.proofs.Common.{◌≡◌, ◌+◌, ◌∷◌, ◌∙◌, ap, drop
 use Rattle.protoscip.specs.declared.syntax.tree.MessageItem.TheVariants.{Message, Field}
 use Rattle.protoscip.specs.Syntax.Items.{body_of}
 use Rattle.protoscip.specs.Syntax.Tree.{MessageTree, message_size}
-use Rattle.protoscip.specs.Declarations.{IsSpanOf}
+use Rattle.proto_lex.specs.Lexed.{IsPart}
 use Rattle.protoscip.proofs.Walks.{left_at, nested-smaller, names-message, names-field, told-message, told-field}
 use Rattle.protoscip.proofs.declarations.+declare_message.Goals as goal
 use Rattle.protoscip.proofs.declarations.+declare_message.Goals.{in-Message+in_ok-declare_message-in-Message, in-Field+in_ok-declaration_at-in-Field+in_ok-push-in-Field}
@@ -13,7 +13,7 @@ declare_message-requires t c =
     let rest = drop (c.loop-item.item-index + 1) items in
     let left : drop c.loop-item.item-index items ≡ Message c.in-Message.nested ∷ rest =
     left_at items c.loop-item.item-index c.item-item.result c.loop-item-test.true c.item-item.is ∙ ap (λ x. x ∷ rest) c.in-Message.is in
-    let named = names-message (IsSpanOf c.args.text.now) _ rest c.in-Message.nested left c.loop-item.invariant.named in
+    let named = names-message (IsPart c.args.text.now) _ rest c.in-Message.nested left c.loop-item.invariant.named in
     let body : c.args.message.now.body ≡ body_of items =
     ap (λ (m : MessageTree). m.body) (sym c.message.view_is) ∙ ap body_of (sym c.deref-item-items.ensures.value) in
     let smaller = nested-smaller items rest c.loop-item.item-index c.args.message.now c.in-Message.nested body left in
@@ -29,12 +29,12 @@ loop-item-preserved t c =
           let left : drop c.loop-item.item-index items ≡ Message w.in-Message.nested ∷ rest = here ∙ ap (λ x. x ∷ rest) w.in-Message.is in
           record {
             told = told-message c.args.text.now c.as_slice-inner.result.now _ rest w.in-Message.nested c.loop-item.declarations.items _ _ left (ap (λ v. v.items) w.declarations-is ∙ w.in_ok-declare_message-in-Message.ensures) c.loop-item.invariant.told;
-            named = (names-message (IsSpanOf c.args.text.now) _ rest w.in-Message.nested left c.loop-item.invariant.named).1;
+            named = (names-message (IsPart c.args.text.now) _ rest w.in-Message.nested left c.loop-item.invariant.named).1;
           }
       | in-Field+in_ok-declaration_at-in-Field+in_ok-push-in-Field w ↦
           let left : drop c.loop-item.item-index items ≡ Field w.in-Field.field ∷ rest = here ∙ ap (λ x. x ∷ rest) w.in-Field.is in
           record {
             told = told-field c.args.text.now c.as_slice-inner.result.now _ rest w.in-Field.field w.in_ok-declaration_at-in-Field.field-0 c.loop-item.declarations.items _ _ left w.in_ok-declaration_at-in-Field.ensures (ap (λ v. v.items) w.declarations-is ∙ w.in_ok-push-in-Field.ensures.items) c.loop-item.invariant.told;
-            named = (names-field (IsSpanOf c.args.text.now) _ rest w.in-Field.field left c.loop-item.invariant.named).1;
+            named = (names-field (IsPart c.args.text.now) _ rest w.in-Field.field left c.loop-item.invariant.named).1;
           }
     ]

@@ -1,0 +1,180 @@
+-- A text is the symbol of one file, or of one kind and path of names: no spelling of a name goes on as another's.
+use Rattle.std.proofs.Common.{◌≡◌, ℕ, inl, inr, true, false, cond, eqb, List, [], ◌∷◌, ◌++◌, codes, refl, ap, sym, ◌∙◌, append_assoc}
+use Rattle.std.proofs.lemmas.Bool.{cases_Bool, both_ways, and_parts, eqb-true, eqb-false, cond-true, cond-false}
+use Rattle.std.proofs.lemmas.List.{append_cancel_left}
+use Rattle.std.specs.List.{list_all}
+use Rattle.protoscip.specs.declared.declarations.DeclarationKind.{DeclarationKind}
+use Rattle.protoscip.specs.declared.declarations.DeclarationKind.TheVariants.{Message, Field}
+use Rattle.protoscip.specs.Symbols.{is_identifier_character, is_simple_identifier, doubled, name_text, descriptors_text, package_text, file_symbol_text, symbol_text}
+use Rattle.protoscip.proofs.Backticks.{other, backtick}
+
+parts : {X : Type 0} {x y : X} {xs ys : List X} → x ∷ xs ≡ y ∷ ys → (x ≡ y) × (xs ≡ ys)
+parts e = (cc, cc)
+
+joined : {X : Type 0} {x y : X} {xs ys : List X} → x ≡ y → xs ≡ ys → x ∷ xs ≡ y ∷ ys
+joined p q = cc
+
+-- what stands behind a character once backticks are doubled: a backtick's double, and then the rest
+behind : ℕ → List ℕ → List ℕ
+behind x rest = cond (eqb x 96) (96 ∷ rest) rest
+
+begins : (x : ℕ) (xs rest : List ℕ) → doubled (x ∷ xs) ++ rest ≡ x ∷ behind x (doubled xs ++ rest)
+unfolding behind
+begins x xs rest = elim (cases_Bool (eqb x 96)) [
+  | inl t ↦ rw (backtick x xs t) (rw t (ap (λ z. z ∷ 96 ∷ (doubled xs ++ rest)) (sym (eqb-true x 96 t))))
+  | inr f ↦ rw (other x xs f) (rw f refl)
+]
+
+behind-one : (x : ℕ) (xs ys : List ℕ) → behind x xs ≡ behind x ys → xs ≡ ys
+unfolding behind
+behind-one x xs ys e = elim (cases_Bool (eqb x 96)) [
+  | inl t ↦ (parts (sym (cond-true (eqb x 96) (96 ∷ xs) xs t) ∙ e ∙ cond-true (eqb x 96) (96 ∷ ys) ys t)).1
+  | inr f ↦ sym (cond-false (eqb x 96) (96 ∷ xs) xs f) ∙ e ∙ cond-false (eqb x 96) (96 ∷ ys) ys f
+]
+
+-- behind a backtick another one stands
+backtick-behind : (x : ℕ) (rest : List ℕ) → x ≡ 96 → behind x rest ≡ 96 ∷ rest
+unfolding behind
+backtick-behind x rest e = rw e refl
+
+-- a character that follows a name in a descriptor: no identifier character, and no backtick
+record IsMark (b : ℕ) : Type 0 where
+  plain : is_identifier_character b ≡ false
+  quoted : eqb b 96 ≡ false
+
+not-plain : (x b : ℕ) → IsMark b → is_identifier_character x ≡ true → x ≡ b → ⊥
+not-plain x b mark is e = both_ways (is_identifier_character x) (ap is_identifier_character e ∙ mark.plain) is
+
+module _ (a b : ℕ) (rest left : List ℕ) (a_is : IsMark a) (b_is : IsMark b) where
+  -- identifier characters up to a mark
+  runs : (xs ys : List ℕ) → list_all is_identifier_character xs ≡ true → list_all is_identifier_character ys ≡ true
+      → xs ++ (a ∷ rest) ≡ ys ++ (b ∷ left) → (xs ≡ ys) × (a ∷ rest ≡ b ∷ left)
+  runs [] [] p q e = (refl, e)
+  runs [] (y ∷ ys) p q e = absurd (not-plain y a a_is (and_parts _ _ q).0 (sym (parts e).0))
+  runs (x ∷ xs) [] p q e = absurd (not-plain x b b_is (and_parts _ _ p).0 (parts e).0)
+  runs (x ∷ xs) (y ∷ ys) p q e = let more = runs xs ys (and_parts _ _ p).1 (and_parts _ _ q).1 (parts e).1 in (joined (parts e).0 more.0, more.1)
+
+  -- doubled backticks and others, up to a backtick before a mark
+  between : (xs ys : List ℕ) → doubled xs ++ (96 ∷ a ∷ rest) ≡ doubled ys ++ (96 ∷ b ∷ left) → (xs ≡ ys) × (a ∷ rest ≡ b ∷ left)
+  between [] [] e = (refl, (parts e).1)
+  between [] (y ∷ ys) e =
+      let first = parts (e ∙ begins y ys (96 ∷ b ∷ left)) in
+      absurd (eqb-false a 96 a_is.quoted (parts (first.1 ∙ backtick-behind y _ (sym first.0))).0)
+  between (x ∷ xs) [] e =
+      let first = parts (sym e ∙ begins x xs (96 ∷ a ∷ rest)) in
+      absurd (eqb-false b 96 b_is.quoted (parts (first.1 ∙ backtick-behind x _ (sym first.0))).0)
+  between (x ∷ xs) (y ∷ ys) e =
+      let first = parts (sym (begins x xs (96 ∷ a ∷ rest)) ∙ e ∙ begins y ys (96 ∷ b ∷ left)) in
+      let more = between xs ys (behind-one x _ _ (first.1 ∙ ap (λ z. behind z (doubled ys ++ (96 ∷ b ∷ left))) (sym first.0))) in
+      (joined first.0 more.0, more.1)
+
+simple-text : (name : List ℕ) → is_simple_identifier name ≡ true → name_text name ≡ name
+simple-text name is = cond-true (is_simple_identifier name) name (codes "`" ++ doubled name ++ codes "`") is
+
+quoted-text : (name rest : List ℕ) → is_simple_identifier name ≡ false → name_text name ++ rest ≡ 96 ∷ (doubled name ++ (96 ∷ rest))
+quoted-text name rest is =
+    ap (λ (t : List ℕ). t ++ rest) (cond-false (is_simple_identifier name) name (codes "`" ++ doubled name ++ codes "`") is)
+    ∙ ap (λ (t : List ℕ). 96 ∷ t) (append_assoc (doubled name) (96 ∷ []) rest)
+
+not-quoted : (name rest left : List ℕ) → is_simple_identifier name ≡ true → name ++ rest ≡ 96 ∷ left → ⊥
+not-quoted [] rest left is e = cc
+not-quoted (x ∷ xs) rest left is e = both_ways (is_identifier_character x) (ap is_identifier_character (parts e).0) (and_parts _ _ (and_parts _ _ is).1).0
+
+-- a name's text is no beginning of another's, where marks follow
+named : (a b : ℕ) (rest left name names : List ℕ) → IsMark a → IsMark b → name_text name ++ (a ∷ rest) ≡ name_text names ++ (b ∷ left)
+    → (name ≡ names) × (a ∷ rest ≡ b ∷ left)
+named a b rest left x y p q e = elim (cases_Bool (is_simple_identifier x)) [
+  | inl s ↦
+      let e' : x ++ (a ∷ rest) ≡ name_text y ++ (b ∷ left) = ap (λ (t : List ℕ). t ++ (a ∷ rest)) (sym (simple-text x s)) ∙ e in
+      elim (cases_Bool (is_simple_identifier y)) [
+        | inl t ↦ runs a b rest left p q x y (and_parts _ _ s).1 (and_parts _ _ t).1 (e' ∙ ap (λ (l : List ℕ). l ++ (b ∷ left)) (simple-text y t))
+        | inr t ↦ absurd (not-quoted x (a ∷ rest) _ s (e' ∙ quoted-text y (b ∷ left) t))
+      ]
+  | inr s ↦
+      let e' : 96 ∷ (doubled x ++ (96 ∷ a ∷ rest)) ≡ name_text y ++ (b ∷ left) = sym (quoted-text x (a ∷ rest) s) ∙ e in
+      elim (cases_Bool (is_simple_identifier y)) [
+        | inl t ↦ absurd (not-quoted y (b ∷ left) _ t (sym (e' ∙ ap (λ (l : List ℕ). l ++ (b ∷ left)) (simple-text y t))))
+        | inr t ↦ between a b rest left p q x y (parts (e' ∙ quoted-text y (b ∷ left) t)).1
+      ]
+]
+
+-- ---- descriptors
+
+-- what follows the first name
+mark : DeclarationKind → List (List ℕ) → ℕ
+mark Message [] = 35
+mark Field [] = 46
+mark kind (name ∷ names) = 35
+
+marks : (kind : DeclarationKind) (names : List (List ℕ)) → IsMark (mark kind names)
+unfolding mark
+marks Message [] = record { plain = refl; quoted = refl }
+marks Field [] = record { plain = refl; quoted = refl }
+marks Message (name ∷ names) = record { plain = refl; quoted = refl }
+marks Field (name ∷ names) = record { plain = refl; quoted = refl }
+
+no-namespace : (kind : DeclarationKind) (names : List (List ℕ)) → eqb 47 (mark kind names) ≡ false
+unfolding mark
+no-namespace Message [] = refl
+no-namespace Field [] = refl
+no-namespace Message (name ∷ names) = refl
+no-namespace Field (name ∷ names) = refl
+
+opened : (kind : DeclarationKind) (name : List ℕ) (names : List (List ℕ))
+    → descriptors_text kind (name ∷ names) ≡ name_text name ++ (mark kind names ∷ descriptors_text kind names)
+unfolding mark
+opened Message name [] = refl
+opened Field name [] = refl
+opened Message name (inner ∷ names) = append_assoc (name_text name) (codes "#") (descriptors_text Message (inner ∷ names))
+opened Field name (inner ∷ names) = append_assoc (name_text name) (codes "#") (descriptors_text Field (inner ∷ names))
+
+no-end : (xs rest : List ℕ) (b : ℕ) → xs ++ (b ∷ rest) ≡ [] → ⊥
+no-end [] rest b e = cc
+no-end (x ∷ xs) rest b e = cc
+
+paths-one : (kind other : DeclarationKind) (path others : List (List ℕ)) → descriptors_text kind path ≡ descriptors_text other others → path ≡ others
+paths-one kind other [] [] e = refl
+paths-one kind other [] (y ∷ ys) e = absurd (no-end (name_text y) _ _ (sym (e ∙ opened other y ys)))
+paths-one kind other (x ∷ xs) [] e = absurd (no-end (name_text x) _ _ (sym (opened kind x xs) ∙ e))
+paths-one kind other (x ∷ xs) (y ∷ ys) e =
+    let same = named _ _ _ _ x y (marks kind xs) (marks other ys) (sym (opened kind x xs) ∙ e ∙ opened other y ys) in
+    joined same.0 (paths-one kind other xs ys (parts same.1).1)
+
+nested : (kind other : DeclarationKind) (name inner : List ℕ) (names : List (List ℕ)) → descriptors_text kind (name ∷ inner ∷ names) ≡ descriptors_text other (name ∷ inner ∷ names)
+    → descriptors_text kind (inner ∷ names) ≡ descriptors_text other (inner ∷ names)
+nested kind other name inner names e =
+    (parts (append_cancel_left (name_text name) _ _ (sym (opened kind name (inner ∷ names)) ∙ e ∙ opened other name (inner ∷ names)))).1
+
+kinds-one : (kind other : DeclarationKind) (name : List ℕ) (names : List (List ℕ)) → descriptors_text kind (name ∷ names) ≡ descriptors_text other (name ∷ names) → kind ≡ other
+unfolding mark
+kinds-one Message Message name names e = refl
+kinds-one Field Field name names e = refl
+kinds-one Message Field name [] e = absurd (eqb-false 35 46 refl (parts (append_cancel_left (name_text name) (codes "#") (codes ".") e)).0)
+kinds-one Field Message name [] e = absurd (eqb-false 46 35 refl (parts (append_cancel_left (name_text name) (codes ".") (codes "#") e)).0)
+kinds-one Message Field name (inner ∷ names) e = kinds-one Message Field inner names (nested Message Field name inner names e)
+kinds-one Field Message name (inner ∷ names) e = kinds-one Field Message inner names (nested Field Message name inner names e)
+
+-- ---- symbols
+
+-- a text is the symbol of one file
+pub one-file : (path other : List ℕ) → file_symbol_text path ≡ file_symbol_text other → path ≡ other
+one-file path other e =
+    (named 47 47 [] [] path other (record { plain = refl; quoted = refl }) (record { plain = refl; quoted = refl }) (append_cancel_left package_text _ _ e)).0
+
+-- a file's symbol is no declaration's
+pub no-declaration : (path : List ℕ) (kind : DeclarationKind) (names : List (List ℕ)) → file_symbol_text path ≡ symbol_text kind names → ⊥
+no-declaration path kind [] e = no-end (name_text path) [] 47 (append_cancel_left package_text (name_text path ++ codes "/") [] e)
+no-declaration path kind (name ∷ names) e =
+    let same = named 47 (mark kind names) [] _ path name (record { plain = refl; quoted = refl }) (marks kind names) (append_cancel_left package_text _ _ e ∙ opened kind name names) in
+    eqb-false 47 (mark kind names) (no-namespace kind names) (parts same.1).0
+
+-- a text is the symbol of one path of names
+pub one-path : (kind other : DeclarationKind) (path others : List (List ℕ)) → symbol_text kind path ≡ symbol_text other others → path ≡ others
+one-path kind other path others e = paths-one kind other path others (append_cancel_left package_text _ _ e)
+
+-- and of one kind, where there are names
+pub one-kind : (kind other : DeclarationKind) (path others : List (List ℕ)) → (path ≡ [] → ⊥) → symbol_text kind path ≡ symbol_text other others → kind ≡ other
+one-kind kind other [] others some e = absurd (some refl)
+one-kind kind other (name ∷ names) others some e =
+    let same = one-path kind other (name ∷ names) others e in
+    kinds-one kind other name names (append_cancel_left package_text _ _ e ∙ ap (descriptors_text other) (sym same))

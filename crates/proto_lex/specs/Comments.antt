@@ -4,7 +4,7 @@ use Rattle.proto_lex.specs.Bytes.{starts}
 use Rattle.proto_lex.specs.declared.token.CommentKind.{CommentKind}
 use Rattle.proto_lex.specs.declared.token.CommentKind.TheVariants.{Line, Block}
 
--- Comments (proto3 specification, Comments).
+-- Comments (proto3 language guide, Adding Comments).
 
 -- whether these bytes begin with `*/`
 abbrev pub begins_close : List ℕ → Bool

@@ -18,7 +18,7 @@ pub data Holds (quote : ℕ) : (place : ℕ) (bytes : List ℕ) (later : ℕ) (l
   escape : {place later : ℕ} {letters others left : List ℕ}
       → IsEscape letters → Holds quote (place + (1 + length letters)) others later left → Holds quote place (92 ∷ (letters ++ others)) later left
 
--- why a string that opens at a place has no end, where these bytes are its part behind a place
+-- why what opens a string at `opening` is none, where these bytes stand from `place` on
 pub data IsStringFault (quote opening : ℕ) : (place : ℕ) → List ℕ → LexFault → Type 0 where
   -- a \n or the end of the text comes first
   cut : {place later : ℕ} {bytes left : List ℕ}
@@ -49,6 +49,7 @@ pub data Meets : (place : ℕ) → List ℕ → LexFault → Type 0 where
   token : {place : ℕ} {k : TokenKind} {word rest : List ℕ} {f : LexFault}
       → IsToken k word rest → Meets (place + length word) rest f → Meets place (word ++ rest) f
 
+-- the bytes begin with a byte order mark
 abbrev pub begins_mark : List ℕ → Bool
 begins_mark (a ∷ (b ∷ (c ∷ _))) = nat_eq a 239 && nat_eq b 187 && nat_eq c 191
 begins_mark _ = false

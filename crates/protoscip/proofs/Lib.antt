@@ -13,3 +13,4 @@ pub mod Sources
 pub mod Ordered
 pub mod OneSymbol
 pub mod OneIndex
+pub mod NoTies

@@ -30,7 +30,7 @@ use Rattle.protoscip.proofs.OneSymbol.{one-path, no-declaration}
 abbrev IsDefinition : Occurrence → Type 0
 IsDefinition o = o.symbol_roles ≡ definition_role
 
-both-equal : (a b : Ordering) → ordering_then a b ≡ Equal → (a ≡ Equal) × (b ≡ Equal)
+pub both-equal : (a b : Ordering) → ordering_then a b ≡ Equal → (a ≡ Equal) × (b ≡ Equal)
 both-equal Less b e = cc
 both-equal Equal b e = (refl, e)
 both-equal Greater b e = cc

@@ -9,7 +9,8 @@ use Rattle.std.proofs.lemmas.List.Sums.{sum_by-cons}
 use Rattle.std.proofs.lemmas.Bool.{cases_Bool}
 
 module _ {X : Type 0} (lt : X → X → Bool) (order : IsStrictWeakOrder lt) where
-  abbrev Ascends : List X → Type 0
+  -- no element is below one before it
+  abbrev pub Ascends : List X → Type 0
   Ascends [] = Unit {0}
   Ascends (x ∷ xs) = AllByRecursion (λ y. lt y x ≡ false) xs × Ascends xs
 
@@ -66,7 +67,7 @@ module _ {X : Type 0} (lt : X → X → Bool) (order : IsStrictWeakOrder lt) whe
       let rest = one_order P ties xs ys p.1 q.1 a.1 b.1 (tails x y xs ys same alike) in
       cc
 
-  ascends-of : (xs : List X) → IsSortedBy lt xs → Ascends xs
+  pub ascends-of : (xs : List X) → IsSortedBy lt xs → Ascends xs
   ascends-of [] up = tt
   ascends-of (x ∷ xs) up = (
     recursion_from_All (λ y. lt y x ≡ false) xs (λ k d within. sorted_far lt order (x ∷ xs) up 0 (suc k) d (omega arith) (omega arith)),

@@ -5,7 +5,7 @@ ghost use Rattle.std.specs.String.{string_bytes};
 ghost use Rattle.std.specs.Io.KnownBytes.{Appends};
 ghost use Rattle.protoscip.specs.Source.{IsReadBriefly};
 ghost use Rattle.protoscip.specs.Dump.{IsIndexOfSource, IsRefusal, IsListing, Dumps, LeavesReader, LeavesWriter};
-ghost use Rattle.protoscip.specs.DumpLaws.{IndexesAreOne, ListingsAreOne, ListedUnlessMemory};
+ghost use Rattle.protoscip.specs.DumpLaws.{IndexesAreOne, OccurrencesDontTie, EntriesDontTie, ListingsAreOne, ListedUnlessMemory};
 ghost use Rattle.protoscip.specs.Stages.{Declares, IsTreeRefusal, IsStored, IsStoreRefusal};
 
 use crate::declarations::{Declaration, declarations_of};
@@ -94,6 +94,13 @@ pub fn one_index()
     one_lexing();
     one_tree();
 }
+
+/// A law: in the index of a source no two occurrences of a document are at one range with one
+/// symbol, and no two of its symbol entries are of one symbol.
+pub fn no_ties()
+    ensures occurrences { OccurrencesDontTie }
+    ensures symbols { EntriesDontTie }
+{}
 
 /// A law: a source has one listing at most.
 pub fn one_listing()

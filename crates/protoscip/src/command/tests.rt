@@ -4,14 +4,18 @@ use super::*;
 use std::process::Abort;
 use std::test::Fail;
 
-/// What the words behind the program's name ask for.
-fn asked(alloc: Global, arguments: &[&str]) -> Result<Request, AllocError> {
+/// What the words behind the program's name ask for. Where memory was refused it is asked again, and
+/// has to come then.
+fn asked(alloc: Global, arguments: &[&str]) -> Result<Request, Fail> {
     let mut words = Vec::new(alloc);
     words.push(String::from_str(alloc, "protoscip")?)?;
     for argument in arguments {
         words.push(String::from_str(alloc, argument)?)?;
     }
-    request_of(alloc, &words)
+    match request_of(alloc, &words) {
+        Ok(request) => Ok(request),
+        Err(AllocError) => Ok(request_of(alloc, &words).map_err(|_| "no request")?),
+    }
 }
 
 /// The text that the words have printed, and that they are no refusal.
@@ -99,7 +103,11 @@ fn other_words_are_refused(rt: HostRuntime) -> Result<(), Fail> {
 
 #[test]
 fn words_that_are_no_text_are_refused(rt: HostRuntime) -> Result<(), Fail> {
-    match refuse_other_text(rt.alloc())? {
+    let refusal = match refuse_other_text(rt.alloc()) {
+        Ok(request) => request,
+        Err(AllocError) => refuse_other_text(rt.alloc()).map_err(|_| "no request")?,
+    };
+    match refusal {
         Request::Refuse(text) => assert!(rt; text.as_str().starts_with("error: invalid UTF-8")),
         other => panic!(rt; "{other:?}"),
     }

@@ -5,21 +5,12 @@
 
 use super::*;
 use scip_model::Std;
-use std::alloc::AllocError;
 use std::process::Abort;
 use std::test::Fail;
 
-/// The exit status, unless it is that of want of memory, which any step may meet.
-fn settled(status: u8) -> Result<u8, AllocError> {
-    if status == Fault::Memory.status() {
-        return Err(AllocError);
-    }
-    Ok(status)
-}
-
-/// Runs the request with no input and this room for the output, and gives the exit status and what
-/// standard error was told.
-fn ran(
+/// Runs the request once with no input and this room for the output, and gives the exit status and
+/// what standard error was told.
+fn ran_once(
     rt: &impl Abort,
     alloc: Global,
     request: &Request,
@@ -29,11 +20,47 @@ fn ran(
     let mut out = Std::new(room);
     let mut told = [0u8; 64];
     let mut messages = Std::new(told.as_mut_slice());
-    let status = settled(run(alloc, request, &mut input, &mut out, &mut messages))?;
+    let status = run(alloc, request, &mut input, &mut out, &mut messages);
     let left = messages.into_inner().len();
     assert!(rt; left <= 64);
     let told = std::str::from_utf8(&told[..64 - left])?;
     Ok((status, String::from_str(alloc, told)?))
+}
+
+/// Runs the request. Where memory was refused, which has to be what standard error was told, it is
+/// run again with new streams, and the second run counts.
+fn ran(
+    rt: &impl Abort,
+    alloc: Global,
+    request: &Request,
+    room: &mut [u8],
+) -> Result<(u8, String), Fail> {
+    let (status, told) = ran_once(rt, alloc, request, room)?;
+    if status != Fault::Memory.status() {
+        return Ok((status, told));
+    }
+    assert!(rt; told.as_str() == "protoscip: Memory\n", "{told}");
+    room.fill(0);
+    ran_once(rt, alloc, request, room)
+}
+
+/// Reports a fault once into this room, and gives the exit status and how many bytes are left of it.
+fn reported_once(alloc: Global, fault: &Fault, room: &mut [u8]) -> (u8, usize) {
+    let mut messages = Std::new(room);
+    let status = report(alloc, fault, &mut messages);
+    (status, messages.into_inner().len())
+}
+
+/// Reports a fault. Where memory was refused, which has to be what the room was told, it is reported
+/// again into the emptied room, and the second time counts.
+fn reported(rt: &impl Abort, alloc: Global, fault: &Fault, room: &mut [u8]) -> (u8, usize) {
+    let (status, left) = reported_once(alloc, fault, room);
+    if status != Fault::Memory.status() {
+        return (status, left);
+    }
+    assert!(rt; room.is_empty() || room.starts_with(b"protoscip: Memory\n"));
+    room.fill(0);
+    reported_once(alloc, fault, room)
 }
 
 #[test]
@@ -70,22 +97,18 @@ fn an_output_that_takes_too_little_is_a_fault(rt: HostRuntime) -> Result<(), Fai
 }
 
 #[test]
-fn a_fault_is_one_line(rt: HostRuntime) -> Result<(), Fail> {
+fn a_fault_is_one_line(rt: HostRuntime) {
     let fault = Fault::Lex(proto_lex::LexFault::BadByte(7));
     let mut told = [0u8; 34];
-    let mut messages = Std::new(told.as_mut_slice());
-    let status = settled(report(rt.alloc(), &fault, &mut messages))?;
+    let (status, left) = reported(&rt, rt.alloc(), &fault, &mut told);
     assert_eq!(rt; status, 1);
-    assert!(rt; messages.into_inner().is_empty());
+    assert_eq!(rt; left, 0);
     assert!(rt; told.as_slice() == b"protoscip: input.proto@7: BadByte\n".as_slice());
-    Ok(())
 }
 
 #[test]
-fn a_message_that_nobody_takes_changes_no_status(rt: HostRuntime) -> Result<(), Fail> {
+fn a_message_that_nobody_takes_changes_no_status(rt: HostRuntime) {
     let mut told = [0u8; 0];
-    let mut messages = Std::new(told.as_mut_slice());
-    let status = settled(report(rt.alloc(), &Fault::Read, &mut messages))?;
+    let (status, _) = reported(&rt, rt.alloc(), &Fault::Read, &mut told);
     assert_eq!(rt; status, 3);
-    Ok(())
 }

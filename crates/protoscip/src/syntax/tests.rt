@@ -1,14 +1,27 @@
 //! Faults with their offsets, which no clause says, and sources that parse.
 
 use super::*;
-use proto_lex::{Span, Text, lex};
+use proto_lex::{LexFault, Span, Text, lex};
+use std::alloc::AllocError;
 use std::process::Abort;
+use std::test::Fail;
 
-/// What parsing the source gives.
+/// What lexing a text gives. After `Memory` it is done again, and the second answer counts.
+fn lexed<'a>(alloc: Global, text: &Text<'a>) -> Result<Tokens<'a>, LexFault> {
+    match lex(alloc, text) {
+        Err(LexFault::Memory) => lex(alloc, text),
+        answer => answer,
+    }
+}
+
+/// What parsing a source gives. After `Memory` it is done again, and the second answer counts.
 fn parsed(rt: &impl Abort, alloc: Global, source: &str) -> Result<File, SyntaxFault> {
     let text = Text::new(alloc, source.as_bytes()).expect(rt, "a text");
-    let tokens = lex(alloc, &text).expect(rt, "tokens");
-    parse(alloc, &tokens)
+    let tokens = lexed(alloc, &text).expect(rt, "tokens");
+    match parse(alloc, &tokens) {
+        Err(SyntaxFault::Memory) => parse(alloc, &tokens),
+        answer => answer,
+    }
 }
 
 #[test]
@@ -92,7 +105,7 @@ fn a_source_that_parses(rt: HostRuntime) {
 }
 
 #[test]
-fn spans_of_a_tree(rt: HostRuntime) -> Result<(), SyntaxFault> {
+fn spans_of_a_tree(rt: HostRuntime) -> Result<(), Fail> {
     let source = "syntax='proto3';message A{repeated int32 x=1;message B{};string y=23;}";
     let file = parsed(&rt, rt.alloc(), source)?;
     let [a] = file.messages.as_slice() else {
@@ -124,7 +137,7 @@ fn spans_of_a_tree(rt: HostRuntime) -> Result<(), SyntaxFault> {
 }
 
 /// The syntax statement, `depth` messages inside one another, and a rest.
-fn nested(alloc: Global, depth: usize, rest: &str) -> Result<String, SyntaxFault> {
+fn nested(alloc: Global, depth: usize, rest: &str) -> Result<String, AllocError> {
     let mut source = String::new(alloc);
     source.push_str("syntax = \"proto3\";\n")?;
     for _ in 0..depth {
@@ -135,7 +148,7 @@ fn nested(alloc: Global, depth: usize, rest: &str) -> Result<String, SyntaxFault
 }
 
 #[test]
-fn sixty_four_messages_inside_one_another(rt: HostRuntime) -> Result<(), SyntaxFault> {
+fn sixty_four_messages_inside_one_another(rt: HostRuntime) -> Result<(), Fail> {
     let mut braces = String::new(rt.alloc());
     for _ in 0..64 {
         braces.push_str("}")?;

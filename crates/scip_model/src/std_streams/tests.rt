@@ -45,7 +45,8 @@ impl Read for Brittle {
 
 #[test]
 fn vector_takes_all(rt: HostRuntime) -> Result<(), Fail> {
-    let mut sink = Std::new(Vec::new(rt.alloc()));
+    // The vector has its room already: one that can't grow would fail as a writer does.
+    let mut sink = Std::new(Vec::with_capacity(rt.alloc(), 7)?);
     write_all(&mut sink, b"one ")?;
     write_all(&mut sink, b"")?;
     write_all(&mut sink, b"two")?;

@@ -123,6 +123,7 @@ fn tool_info(
     })
 }
 
+/// An index that holds nothing.
 pub fn empty_index(alloc: Global) -> Index {
     Index {
         metadata: None,
@@ -162,6 +163,7 @@ fn plain_metadata(alloc: Global) -> Result<Metadata, Fail> {
     })
 }
 
+/// The index of `NO_DOCUMENT`.
 pub fn no_document(alloc: Global) -> Result<Index, Fail> {
     Ok(with_metadata(alloc, plain_metadata(alloc)?))
 }
@@ -180,6 +182,7 @@ fn message_document(alloc: Global) -> Result<Document, Fail> {
     Ok(document(alloc, "a.proto", occurrences, symbols, "Protobuf", 1)?)
 }
 
+/// The index of `MESSAGE`.
 pub fn message(alloc: Global) -> Result<Index, Fail> {
     let metadata = plain_metadata(alloc)?;
     let document = message_document(alloc)?;
@@ -191,6 +194,7 @@ pub fn message(alloc: Global) -> Result<Index, Fail> {
     })
 }
 
+/// The index of `OCCURRENCE`.
 pub fn one_occurrence(alloc: Global) -> Result<Index, Fail> {
     let occurrence = occurrence(alloc, Range::new(1, 8, 1, 9), "x", 1)?;
     let document = document(
@@ -230,6 +234,7 @@ fn full_document(alloc: Global) -> Result<Document, Fail> {
     Ok(document(alloc, "é𝄞", occurrences, symbols, "L", 3)?)
 }
 
+/// The index of `EVERYTHING`.
 pub fn everything(alloc: Global) -> Result<Index, Fail> {
     let metadata = full_metadata(alloc)?;
     let full = full_document(alloc)?;

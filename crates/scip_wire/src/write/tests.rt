@@ -4,6 +4,7 @@
 use super::samples::*;
 use super::*;
 use scip_model::Std;
+use std::alloc::AllocError;
 use std::io;
 use std::io::{ErrorKind, Write};
 use std::process::Abort;
@@ -16,23 +17,30 @@ enum AtEnd {
     TakesNothing,
 }
 
-/// A writer that takes some bytes a call, and so many in all.
-#[derive(Drop)]
-struct Narrow {
-    bytes: Vec<u8>,
+/// How many bytes a writer takes a call, and how many in all.
+#[derive(Clone, Copy)]
+struct Limits {
     a_call: usize,
     room: usize,
     at_end: AtEnd,
 }
 
+/// A writer that takes so many bytes.
+#[derive(Drop)]
+struct Narrow {
+    bytes: Vec<u8>,
+    limits: Limits,
+}
+
 impl Write for Narrow {
     fn write(&mut self, bytes: &[u8]) -> io::Result<usize> {
-        let count = bytes.len().min(self.a_call).min(self.room);
-        if count == 0 && self.at_end == AtEnd::Fails {
+        let limits = self.limits;
+        let count = bytes.len().min(limits.a_call).min(limits.room);
+        if count == 0 && limits.at_end == AtEnd::Fails {
             return Err(io::Error::from(ErrorKind::Interrupted));
         }
         self.bytes.extend_from_slice(bytes.split_at(count).0)?;
-        self.room -= count;
+        self.limits.room -= count;
         Ok(count)
     }
 
@@ -41,15 +49,85 @@ impl Write for Narrow {
     }
 }
 
+/// What `spell_index` answers. After `Memory` it is called again, and the second answer counts.
+fn spelled(alloc: Global, index: &Index) -> Result<Vec<u8>, SpellFault> {
+    match spell_index(alloc, index) {
+        Err(SpellFault::Memory) => spell_index(alloc, index),
+        answer => answer,
+    }
+}
+
+/// What one call of `write_index` answers, and what its writer then has. The writer gets the memory
+/// for its room first, so that writing takes none.
+fn written_once(
+    alloc: Global,
+    index: &Index,
+    limits: Limits,
+) -> Result<(Result<(), WriteFault>, Vec<u8>), AllocError> {
+    let bytes = Vec::with_capacity(alloc, limits.room)?;
+    let mut sink = Std::new(Narrow { bytes, limits });
+    let answer = write_index(alloc, index, &mut sink);
+    Ok((answer, sink.into_inner().bytes))
+}
+
+/// What `write_index` answers, and what its writer then has. After `Memory`, which has to come with
+/// nothing written, it is called again with a new writer, and the second answer counts.
+fn written(
+    rt: &impl Abort,
+    alloc: Global,
+    index: &Index,
+    limits: Limits,
+) -> Result<(Result<(), WriteFault>, Vec<u8>), AllocError> {
+    let (answer, bytes) = written_once(alloc, index, limits)?;
+    if answer != Err(WriteFault::Memory) {
+        return Ok((answer, bytes));
+    }
+    assert_eq!(rt; bytes.len(), 0);
+    written_once(alloc, index, limits)
+}
+
+/// Sees that an index is spelled and written as these bytes.
 fn assert_spelled(rt: &impl Abort, alloc: Global, index: &Index, want: &[u8]) -> Result<(), Fail> {
     let len = encoded_len(index)?;
     assert_eq!(rt; len as usize, want.len());
-    let bytes = spell_index(alloc, index)?;
+    let bytes = spelled(alloc, index)?;
     assert_eq!(rt; bytes.as_slice(), want);
-    let mut sink = Std::new(Vec::new(alloc));
-    write_index(alloc, index, &mut sink)?;
-    let written = sink.into_inner();
-    assert_eq!(rt; written.as_slice(), want);
+    let limits = Limits {
+        a_call: usize::MAX,
+        room: 400,
+        at_end: AtEnd::Fails,
+    };
+    let (answer, bytes) = written(rt, alloc, index, limits)?;
+    assert_eq!(rt; answer, Ok(()));
+    assert_eq!(rt; bytes.as_slice(), want);
+    Ok(())
+}
+
+/// Sees that a writer with room for less than all of the bytes gets the first of them, and that the
+/// answer names how many: for each room. One with room for all of them gets all.
+fn assert_cut_off(
+    rt: &impl Abort,
+    alloc: Global,
+    index: &Index,
+    want: &[u8],
+    a_call: usize,
+    at_end: AtEnd,
+) -> Result<(), Fail> {
+    for room in 0..=want.len() {
+        let limits = Limits {
+            a_call,
+            room,
+            at_end,
+        };
+        let (answer, bytes) = written(rt, alloc, index, limits)?;
+        assert_eq!(rt; bytes.as_slice(), &want[..room], "{a_call} {room}");
+        let expected = if room == want.len() {
+            Ok(())
+        } else {
+            Err(WriteFault::Write(room))
+        };
+        assert_eq!(rt; answer, expected, "{a_call} {room}");
+    }
     Ok(())
 }
 
@@ -93,28 +171,17 @@ fn writers_that_take_little_or_fail(rt: HostRuntime) -> Result<(), Fail> {
     let index = no_document(rt.alloc())?;
     for a_call in [1, 7, 100] {
         for at_end in [AtEnd::Fails, AtEnd::TakesNothing] {
-            for room in 0..31 {
-                let mut sink = Std::new(Narrow {
-                    bytes: Vec::new(rt.alloc()),
-                    a_call,
-                    room,
-                    at_end,
-                });
-                let answer = write_index(rt.alloc(), &index, &mut sink);
-                let narrow = sink.into_inner();
-                assert_eq!(rt;
-                    narrow.bytes.as_slice(),
-                    &NO_DOCUMENT[..room],
-                    "{a_call} {room}"
-                );
-                let want = if room == 30 {
-                    Ok(())
-                } else {
-                    Err(WriteFault::Write(room))
-                };
-                assert_eq!(rt; answer, want, "{a_call} {room}");
-            }
+            assert_cut_off(&rt, rt.alloc(), &index, NO_DOCUMENT, a_call, at_end)?;
         }
+    }
+    Ok(())
+}
+
+#[test]
+fn writers_that_take_all_and_stop_at_each_byte(rt: HostRuntime) -> Result<(), Fail> {
+    let index = message(rt.alloc())?;
+    for at_end in [AtEnd::Fails, AtEnd::TakesNothing] {
+        assert_cut_off(&rt, rt.alloc(), &index, MESSAGE, usize::MAX, at_end)?;
     }
     Ok(())
 }

@@ -18,12 +18,11 @@ use Rattle.protoscip.specs.Syntax.Tree.{MessageTree}
 use Rattle.protoscip.specs.Syntax.Derives.{Derives}
 use Rattle.protoscip.specs.declared.declarations.Declaration.{Declaration}
 use Rattle.protoscip.specs.Declarations.{declarations_of}
-use Rattle.protoscip.specs.Symbols.{symbol_text}
-use Rattle.protoscip.specs.Document.{occurrence_cmp, occurrences_of, declaration_occurrence, definition_role, info_cmp, infos_of, file_info, declaration_info, simple_name, IsDocumentOf, IsIndexOf}
+use Rattle.protoscip.specs.Document.{occurrence_cmp, occurrences_of, declaration_symbol, declaration_occurrence, definition_role, info_cmp, infos_of, file_info, declaration_info, IsDocumentOf, IsIndexOf}
 use Rattle.protoscip.specs.Dump.{IsIndexOfSource}
 use Rattle.protoscip.proofs.Orders.{occurrences_total, occurrences_rank, infos_total, infos_rank}
 use Rattle.protoscip.proofs.Ordered.{ordered-one}
-use Rattle.protoscip.proofs.OneSymbol.{one-path, no-declaration}
+use Rattle.protoscip.proofs.OneSymbol.{one-declaration, no-declaration}
 
 -- ---- occurrences
 
@@ -85,19 +84,19 @@ IsEntry path i = (i ≡ file_info path) ⊎ ((d : Declaration) × (i ≡ declara
 entry : (symbol name : List ℕ) → Info
 entry symbol name = record { symbol = symbol; documentation = []; display_name = name }
 
-declaration_info-one : (d other : Declaration) → symbol_text d.kind d.path ≡ symbol_text other.kind other.path → declaration_info d ≡ declaration_info other
+declaration_info-one : (d other : Declaration) → declaration_symbol d ≡ declaration_symbol other → declaration_info d ≡ declaration_info other
 unfolding entry
 declaration_info-one d other e =
-    ap (λ (symbol : List ℕ). entry symbol (simple_name d.path)) e
-    ∙ ap (λ (path : List (List ℕ)). entry (symbol_text other.kind other.path) (simple_name path)) (one-path d.kind other.kind d.path other.path e)
+    ap (λ (symbol : List ℕ). entry symbol d.simple_name) e
+    ∙ ap (λ (name : List ℕ). entry (declaration_symbol other) name) (one-declaration d.kind other.kind d.scope other.scope d.simple_name other.simple_name e).2
 
 -- two entries of one symbol are one
 entries-one : (path : List ℕ) (x y : Info) → IsEntry path x → IsEntry path y → x.symbol ≡ y.symbol → x ≡ y
 entries-one path x y (inl p) (inl q) e = p ∙ sym q
 entries-one path x y (inl p) (inr q) e =
-    absurd (no-declaration path q.0.kind q.0.path (sym (ap (λ (i : Info). i.symbol) p) ∙ e ∙ ap (λ (i : Info). i.symbol) q.1))
+    absurd (no-declaration path q.0.kind q.0.scope q.0.simple_name (sym (ap (λ (i : Info). i.symbol) p) ∙ e ∙ ap (λ (i : Info). i.symbol) q.1))
 entries-one path x y (inr p) (inl q) e =
-    absurd (no-declaration path p.0.kind p.0.path (sym (ap (λ (i : Info). i.symbol) q) ∙ sym e ∙ ap (λ (i : Info). i.symbol) p.1))
+    absurd (no-declaration path p.0.kind p.0.scope p.0.simple_name (sym (ap (λ (i : Info). i.symbol) q) ∙ sym e ∙ ap (λ (i : Info). i.symbol) p.1))
 entries-one path x y (inr p) (inr q) e =
     p.1 ∙ declaration_info-one p.0 q.0 (sym (ap (λ (i : Info). i.symbol) p.1) ∙ e ∙ ap (λ (i : Info). i.symbol) q.1) ∙ sym q.1
 

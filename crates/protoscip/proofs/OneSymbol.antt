@@ -1,4 +1,4 @@
--- A text is the symbol of one file, or of one kind and path of names: no spelling of a name goes on as another's.
+-- A text is the symbol of one file, or of one kind, scope and name: no spelling of a name goes on as another's.
 use Rattle.std.proofs.Common.{◌≡◌, ℕ, inl, inr, true, false, cond, eqb, List, [], ◌∷◌, ◌++◌, codes, refl, ap, sym, ◌∙◌, append_assoc}
 use Rattle.std.proofs.lemmas.Bool.{cases_Bool, both_ways, and_parts, eqb-true, eqb-false, cond-true, cond-false}
 use Rattle.std.proofs.lemmas.List.{append_cancel_left}
@@ -100,81 +100,86 @@ named a b rest left x y p q e = elim (cases_Bool (is_simple_identifier x)) [
 
 -- ---- descriptors
 
--- what follows the first name
-mark : DeclarationKind → List (List ℕ) → ℕ
-mark Message [] = 35
-mark Field [] = 46
-mark kind (name ∷ names) = 35
+mark : DeclarationKind → ℕ
+mark Message = 35
+mark Field = 46
 
-marks : (kind : DeclarationKind) (names : List (List ℕ)) → IsMark (mark kind names)
+is-mark : (kind : DeclarationKind) → IsMark (mark kind)
 unfolding mark
-marks Message [] = record { plain = refl; quoted = refl }
-marks Field [] = record { plain = refl; quoted = refl }
-marks Message (name ∷ names) = record { plain = refl; quoted = refl }
-marks Field (name ∷ names) = record { plain = refl; quoted = refl }
+is-mark Message = record { plain = refl; quoted = refl }
+is-mark Field = record { plain = refl; quoted = refl }
 
-no-namespace : (kind : DeclarationKind) (names : List (List ℕ)) → eqb 47 (mark kind names) ≡ false
-unfolding mark
-no-namespace Message [] = refl
-no-namespace Field [] = refl
-no-namespace Message (name ∷ names) = refl
-no-namespace Field (name ∷ names) = refl
+hash : IsMark 35
+hash = record { plain = refl; quoted = refl }
 
-opened : (kind : DeclarationKind) (name : List ℕ) (names : List (List ℕ))
-    → descriptors_text kind (name ∷ names) ≡ name_text name ++ (mark kind names ∷ descriptors_text kind names)
+slash : IsMark 47
+slash = record { plain = refl; quoted = refl }
+
+-- a kind has its own mark
+one-mark : (kind other : DeclarationKind) → mark kind ≡ mark other → kind ≡ other
 unfolding mark
-opened Message name [] = refl
-opened Field name [] = refl
-opened Message name (inner ∷ names) = append_assoc (name_text name) (codes "#") (descriptors_text Message (inner ∷ names))
-opened Field name (inner ∷ names) = append_assoc (name_text name) (codes "#") (descriptors_text Field (inner ∷ names))
+one-mark Message Message e = refl
+one-mark Message Field e = absurd (eqb-false 35 46 refl e)
+one-mark Field Message e = absurd (eqb-false 46 35 refl e)
+one-mark Field Field e = refl
+
+no-slash : (kind : DeclarationKind) → 47 ≡ mark kind → ⊥
+unfolding mark
+no-slash Message e = eqb-false 47 35 refl e
+no-slash Field e = eqb-false 47 46 refl e
+
+own : (kind : DeclarationKind) (name : List ℕ) → descriptors_text kind [] name ≡ name_text name ++ (mark kind ∷ [])
+unfolding mark
+own Message name = refl
+own Field name = refl
+
+inside : (kind : DeclarationKind) (outer : List ℕ) (scope : List (List ℕ)) (name : List ℕ)
+    → descriptors_text kind (outer ∷ scope) name ≡ name_text outer ++ (35 ∷ descriptors_text kind scope name)
+inside kind outer scope name = append_assoc (name_text outer) (codes "#") (descriptors_text kind scope name)
 
 no-end : (xs rest : List ℕ) (b : ℕ) → xs ++ (b ∷ rest) ≡ [] → ⊥
 no-end [] rest b e = cc
 no-end (x ∷ xs) rest b e = cc
 
-paths-one : (kind other : DeclarationKind) (path others : List (List ℕ)) → descriptors_text kind path ≡ descriptors_text other others → path ≡ others
-paths-one kind other [] [] e = refl
-paths-one kind other [] (y ∷ ys) e = absurd (no-end (name_text y) _ _ (sym (e ∙ opened other y ys)))
-paths-one kind other (x ∷ xs) [] e = absurd (no-end (name_text x) _ _ (sym (opened kind x xs) ∙ e))
-paths-one kind other (x ∷ xs) (y ∷ ys) e =
-    let same = named _ _ _ _ x y (marks kind xs) (marks other ys) (sym (opened kind x xs) ∙ e ∙ opened other y ys) in
-    joined same.0 (paths-one kind other xs ys (parts same.1).1)
+some : (kind : DeclarationKind) (scope : List (List ℕ)) (name : List ℕ) → [] ≡ descriptors_text kind scope name → ⊥
+some kind [] name e = no-end (name_text name) [] _ (sym (e ∙ own kind name))
+some kind (outer ∷ scope) name e = no-end (name_text outer) _ 35 (sym (e ∙ inside kind outer scope name))
 
-nested : (kind other : DeclarationKind) (name inner : List ℕ) (names : List (List ℕ)) → descriptors_text kind (name ∷ inner ∷ names) ≡ descriptors_text other (name ∷ inner ∷ names)
-    → descriptors_text kind (inner ∷ names) ≡ descriptors_text other (inner ∷ names)
-nested kind other name inner names e =
-    (parts (append_cancel_left (name_text name) _ _ (sym (opened kind name (inner ∷ names)) ∙ e ∙ opened other name (inner ∷ names)))).1
+-- no descriptors end where others go on
+not-longer : (kind other : DeclarationKind) (name outer : List ℕ) (scope : List (List ℕ)) (word : List ℕ)
+    → descriptors_text kind [] name ≡ descriptors_text other (outer ∷ scope) word → ⊥
+not-longer kind other name outer scope word e =
+    let same = named (mark kind) 35 [] _ name outer (is-mark kind) hash (sym (own kind name) ∙ e ∙ inside other outer scope word) in
+    some other scope word (parts same.1).1
 
-kinds-one : (kind other : DeclarationKind) (name : List ℕ) (names : List (List ℕ)) → descriptors_text kind (name ∷ names) ≡ descriptors_text other (name ∷ names) → kind ≡ other
-unfolding mark
-kinds-one Message Message name names e = refl
-kinds-one Field Field name names e = refl
-kinds-one Message Field name [] e = absurd (eqb-false 35 46 refl (parts (append_cancel_left (name_text name) (codes "#") (codes ".") e)).0)
-kinds-one Field Message name [] e = absurd (eqb-false 46 35 refl (parts (append_cancel_left (name_text name) (codes ".") (codes "#") e)).0)
-kinds-one Message Field name (inner ∷ names) e = kinds-one Message Field inner names (nested Message Field name inner names e)
-kinds-one Field Message name (inner ∷ names) e = kinds-one Field Message inner names (nested Field Message name inner names e)
+descriptors-one : (kind other : DeclarationKind) (scope outer : List (List ℕ)) (name word : List ℕ)
+    → descriptors_text kind scope name ≡ descriptors_text other outer word → (kind ≡ other) × (scope ≡ outer) × (name ≡ word)
+descriptors-one kind other [] [] name word e =
+    let same = named (mark kind) (mark other) [] [] name word (is-mark kind) (is-mark other) (sym (own kind name) ∙ e ∙ own other word) in
+    (one-mark kind other (parts same.1).0, refl, same.0)
+descriptors-one kind other [] (y ∷ ys) name word e = absurd (not-longer kind other name y ys word e)
+descriptors-one kind other (x ∷ xs) [] name word e = absurd (not-longer other kind word x xs name (sym e))
+descriptors-one kind other (x ∷ xs) (y ∷ ys) name word e =
+    let same = named 35 35 _ _ x y hash hash (sym (inside kind x xs name) ∙ e ∙ inside other y ys word) in
+    let rest = descriptors-one kind other xs ys name word (parts same.1).1 in
+    (rest.0, joined same.0 rest.1, rest.2)
 
 -- ---- symbols
 
 -- a text is the symbol of one file
 pub one-file : (path other : List ℕ) → file_symbol_text path ≡ file_symbol_text other → path ≡ other
-one-file path other e =
-    (named 47 47 [] [] path other (record { plain = refl; quoted = refl }) (record { plain = refl; quoted = refl }) (append_cancel_left package_text _ _ e)).0
+one-file path other e = (named 47 47 [] [] path other slash slash (append_cancel_left package_text _ _ e)).0
+
+-- a text is the symbol of one kind, scope and name
+pub one-declaration : (kind other : DeclarationKind) (scope outer : List (List ℕ)) (name word : List ℕ)
+    → symbol_text kind scope name ≡ symbol_text other outer word → (kind ≡ other) × (scope ≡ outer) × (name ≡ word)
+one-declaration kind other scope outer name word e = descriptors-one kind other scope outer name word (append_cancel_left package_text _ _ e)
 
 -- a file's symbol is no declaration's
-pub no-declaration : (path : List ℕ) (kind : DeclarationKind) (names : List (List ℕ)) → file_symbol_text path ≡ symbol_text kind names → ⊥
-no-declaration path kind [] e = no-end (name_text path) [] 47 (append_cancel_left package_text (name_text path ++ codes "/") [] e)
-no-declaration path kind (name ∷ names) e =
-    let same = named 47 (mark kind names) [] _ path name (record { plain = refl; quoted = refl }) (marks kind names) (append_cancel_left package_text _ _ e ∙ opened kind name names) in
-    eqb-false 47 (mark kind names) (no-namespace kind names) (parts same.1).0
-
--- a text is the symbol of one path of names
-pub one-path : (kind other : DeclarationKind) (path others : List (List ℕ)) → symbol_text kind path ≡ symbol_text other others → path ≡ others
-one-path kind other path others e = paths-one kind other path others (append_cancel_left package_text _ _ e)
-
--- and of one kind, where there are names
-pub one-kind : (kind other : DeclarationKind) (path others : List (List ℕ)) → (path ≡ [] → ⊥) → symbol_text kind path ≡ symbol_text other others → kind ≡ other
-one-kind kind other [] others some e = absurd (some refl)
-one-kind kind other (name ∷ names) others some e =
-    let same = one-path kind other (name ∷ names) others e in
-    kinds-one kind other name names (append_cancel_left package_text _ _ e ∙ ap (descriptors_text other) (sym same))
+pub no-declaration : (path : List ℕ) (kind : DeclarationKind) (scope : List (List ℕ)) (name : List ℕ) → file_symbol_text path ≡ symbol_text kind scope name → ⊥
+no-declaration path kind [] name e =
+    let same = named 47 (mark kind) [] [] path name slash (is-mark kind) (append_cancel_left package_text _ _ e ∙ own kind name) in
+    no-slash kind (parts same.1).0
+no-declaration path kind (outer ∷ scope) name e =
+    let same = named 47 35 [] _ path outer slash hash (append_cancel_left package_text _ _ e ∙ inside kind outer scope name) in
+    eqb-false 47 35 refl (parts same.1).0

@@ -9,22 +9,22 @@ use Rattle.protoscip.specs.declared.declarations.DeclarationKind.TheVariants.{Me
 use Rattle.protoscip.specs.Syntax.Tree.{Body, MessageTree}
 use Rattle.protoscip.specs.Syntax.Tree.Body.{NoMore, FieldThen, MessageThen}
 
--- names joined by dots
-abbrev pub dotted : List (List ℕ) → List ℕ
-dotted [] = []
-dotted (name ∷ []) = name
-dotted (outer ∷ name ∷ names) = outer ++ codes "." ++ dotted (name ∷ names)
+-- the names of a scope, outermost first, and a name in it, joined by dots
+abbrev pub dotted : List (List ℕ) → List ℕ → List ℕ
+dotted [] name = name
+dotted (outer ∷ scope) name = outer ++ codes "." ++ dotted scope name
 
--- a path of names with one more
+-- the scope of a message's body: one more name
 abbrev pub within : List ℕ → List (List ℕ) → Span → List (List ℕ)
 within text scope name = scope ++ part_of text name ∷ []
 
--- the declaration of a name in a scope, which is the path of the messages around it
+-- the declaration of a name in a scope, which has the names of the messages around it
 abbrev pub declaration_at : List ℕ → DeclarationKind → List (List ℕ) → Span → Declaration
 declaration_at text kind scope name = record {
   kind = kind;
-  full_name = dotted (within text scope name);
-  path = within text scope name;
+  full_name = dotted scope (part_of text name);
+  scope = scope;
+  simple_name = part_of text name;
   name = name;
 }
 

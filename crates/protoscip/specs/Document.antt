@@ -1,5 +1,5 @@
 -- The index of one source: its document's occurrences and symbols, each exactly once and in order.
-use Rattle.std.specs.Prelude.{◌≡◌, ℕ, ◌-◌, ℤ, pos, List, [], ◌∷◌, length, map, Some, codes, slice_get, unwrap_or}
+use Rattle.std.specs.Prelude.{◌≡◌, ℕ, ℤ, pos, List, [], ◌∷◌, map, Some, codes}
 use Rattle.std.specs.declared.cmp.Ordering.{Ordering}
 use Rattle.std.specs.Ordering.{nat_cmp, on, then_cmp}
 use Rattle.std.specs.Cmp.Lexicographic.{slice_cmp}
@@ -10,7 +10,6 @@ use Rattle.proto_lex.specs.Position.{position_of}
 use Rattle.scip_model.specs.Range.{RangeNumbers}
 use Rattle.scip_model.specs.declared.records.Index.{Index}
 use Rattle.scip_model.specs.declared.records.Metadata.{Metadata}
-use Rattle.scip_model.specs.declared.records.ToolInfo.{ToolInfo}
 use Rattle.scip_model.specs.declared.records.Document.{Document}
 use Rattle.scip_model.specs.declared.records.Occurrence.{Occurrence}
 use Rattle.scip_model.specs.declared.records.Info.{Info}
@@ -40,11 +39,15 @@ file_occurrence path = record {
   symbol_roles = definition_role;
 }
 
+-- the symbol of a declaration
+abbrev pub declaration_symbol : Declaration → List ℕ
+declaration_symbol d = symbol_text d.kind d.scope d.simple_name
+
 -- a declaration's symbol, over its name
 abbrev pub declaration_occurrence : List ℕ → Declaration → Occurrence
 declaration_occurrence text d = record {
   range = range_over text d.name;
-  symbol = symbol_text d.kind d.path;
+  symbol = declaration_symbol d;
   symbol_roles = definition_role;
 }
 
@@ -63,17 +66,13 @@ occurrence_cmp =
 
 -- ---- symbol entries (`scip.proto`, SymbolInformation)
 
--- the last name of a path
-abbrev pub simple_name : List (List ℕ) → List ℕ
-simple_name path = unwrap_or (slice_get path (length path - 1)) []
-
 -- of the file, shown by its path
 abbrev pub file_info : List ℕ → Info
 file_info path = record { symbol = file_symbol_text path; documentation = []; display_name = path }
 
 -- of a declaration, shown by its simple name
 abbrev pub declaration_info : Declaration → Info
-declaration_info d = record { symbol = symbol_text d.kind d.path; documentation = []; display_name = simple_name d.path }
+declaration_info d = record { symbol = declaration_symbol d; documentation = []; display_name = d.simple_name }
 
 -- one entry for the file, and for each declaration
 abbrev pub infos_of : List ℕ → List Declaration → List Info

@@ -27,10 +27,9 @@ suffix_of Message = codes "#"
 suffix_of Field = codes "."
 
 -- the descriptors of a declaration: a type descriptor for each enclosing message, outermost first, and its own
-abbrev pub descriptors_text : DeclarationKind → List (List ℕ) → List ℕ
-descriptors_text kind [] = []
-descriptors_text kind (name ∷ []) = name_text name ++ suffix_of kind
-descriptors_text kind (outer ∷ name ∷ names) = name_text outer ++ codes "#" ++ descriptors_text kind (name ∷ names)
+abbrev pub descriptors_text : DeclarationKind → List (List ℕ) → List ℕ → List ℕ
+descriptors_text kind [] name = name_text name ++ suffix_of kind
+descriptors_text kind (outer ∷ scope) name = name_text outer ++ codes "#" ++ descriptors_text kind scope name
 
 -- scheme, manager, package name and version: the last three are empty, which is spelled `.`
 abbrev pub package_text : List ℕ
@@ -40,6 +39,6 @@ package_text = codes "scip-protobuf . . . "
 abbrev pub file_symbol_text : List ℕ → List ℕ
 file_symbol_text path = package_text ++ name_text path ++ codes "/"
 
--- the symbol of a declaration, of its kind and its path of names
-abbrev pub symbol_text : DeclarationKind → List (List ℕ) → List ℕ
-symbol_text kind path = package_text ++ descriptors_text kind path
+-- the symbol of a declaration, of its kind, the names of the messages around it and its own
+abbrev pub symbol_text : DeclarationKind → List (List ℕ) → List ℕ → List ℕ
+symbol_text kind scope name = package_text ++ descriptors_text kind scope name

@@ -23,10 +23,12 @@ pub enum DeclarationKind {
 #[derive(Debug, Drop)]
 pub struct Declaration {
     pub kind: DeclarationKind,
-    /// The names of its path, joined by dots.
+    /// The names of its scope and its own, joined by dots.
     pub full_name: OwnedText,
-    /// The names of the enclosing messages, outermost first, and then its own.
-    pub path: Sequence<OwnedText>,
+    /// The names of the enclosing messages, outermost first.
+    pub scope: Sequence<OwnedText>,
+    /// Its own name.
+    pub simple_name: OwnedText,
     /// Where its own name stands.
     pub name: Span,
 }
@@ -39,22 +41,31 @@ fn spelling_at<'a>(text: &'a str, span: Span) -> &'a str
     &text[span.start..span.end]
 }
 
-/// Appends names joined by dots.
-fn push_dotted(out: &mut String, path: &[OwnedText]) -> Result<(), AllocError>
-    ensures { OnOk result (string_bytes out.new ≡ string_bytes out.old ++ dotted path.now) }
+/// Appends the names of a scope and a name, joined by dots.
+fn push_dotted(out: &mut String, scope: &[OwnedText], name: &str) -> Result<(), AllocError>
+    ensures { OnOk result (string_bytes out.new ≡ string_bytes out.old ++ dotted scope.now name.now) }
 {
-    match path {
-        [] => Ok(()),
-        [name] => out.push_str(name.as_str()),
-        [outer, names @ ..] => {
+    match scope {
+        [] => out.push_str(name),
+        [outer, inner @ ..] => {
             out.push_str(outer.as_str())?;
             out.push_str(".")?;
-            push_dotted(out, names)
+            push_dotted(out, inner, name)
         }
     }
 }
 
-/// A path of names with one more.
+fn copied(alloc: Global, scope: &[OwnedText]) -> Result<Vec<OwnedText>, AllocError>
+    ensures { IfOk result (λ copy. copy.items ≡ scope.now) }
+{
+    let mut copy = Vec::new(alloc);
+    for outer in scope {
+        copy.push(OwnedText::copy_of(alloc, outer.as_str())?)?;
+    }
+    Ok(copy)
+}
+
+/// The scope of the body of a message with a name.
 fn within(
     alloc: Global,
     text: &str,
@@ -62,14 +73,11 @@ fn within(
     name: Span,
 ) -> Result<Sequence<OwnedText>, AllocError>
     requires { IsPart text.now name }
-    ensures { IfOk result (λ path. path ≡ within text.now scope.now name) }
+    ensures { IfOk result (λ inner. inner ≡ within text.now scope.now name) }
 {
-    let mut path = Vec::new(alloc);
-    for outer in scope {
-        path.push(OwnedText::copy_of(alloc, outer.as_str())?)?;
-    }
-    path.push(OwnedText::copy_of(alloc, spelling_at(text, name))?)?;
-    Ok(Sequence::from_vec(path))
+    let mut inner = copied(alloc, scope)?;
+    inner.push(OwnedText::copy_of(alloc, spelling_at(text, name))?)?;
+    Ok(Sequence::from_vec(inner))
 }
 
 /// The declaration of a name in a scope.
@@ -83,13 +91,14 @@ fn declaration_at(
     requires { IsPart text.now name }
     ensures { IfOk result (λ declared. declared ≡ declaration_at text.now kind scope.now name) }
 {
-    let path = within(alloc, text, scope, name)?;
+    let simple_name = spelling_at(text, name);
     let mut full_name = String::new(alloc);
-    push_dotted(&mut full_name, path.as_slice())?;
+    push_dotted(&mut full_name, scope, simple_name)?;
     Ok(Declaration {
         kind,
         full_name: OwnedText::from_string(full_name),
-        path,
+        scope: Sequence::from_vec(copied(alloc, scope)?),
+        simple_name: OwnedText::copy_of(alloc, simple_name)?,
         name,
     })
 }

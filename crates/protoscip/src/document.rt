@@ -3,7 +3,7 @@
 ghost use Rattle.std.specs.Prelude.{◌≡◌, ◌++◌, ◌∷◌, [], List, map, IfOk, OnOk, All, IsCharBoundary, IsPermutation};
 ghost use Rattle.std.specs.List.Sorted.{IsSorted};
 ghost use Rattle.proto_lex.specs.Lexed.{IsPart};
-ghost use Rattle.protoscip.specs.Document.{range_over, file_occurrence, declaration_occurrence, occurrences_of, occurrence_cmp, simple_name, file_info, declaration_info, infos_of, info_cmp, IsOrdered, IsDocumentOf, metadata, IsIndexOf};
+ghost use Rattle.protoscip.specs.Document.{range_over, file_occurrence, declaration_symbol, declaration_occurrence, occurrences_of, occurrence_cmp, file_info, declaration_info, infos_of, info_cmp, IsOrdered, IsDocumentOf, metadata, IsIndexOf};
 
 use crate::declarations::Declaration;
 use crate::symbols;
@@ -40,6 +40,14 @@ fn file_occurrence(alloc: Global, path: &str) -> Result<Occurrence, AllocError>
     })
 }
 
+fn declaration_symbol(alloc: Global, declaration: &Declaration) -> Result<OwnedText, AllocError>
+    ensures { IfOk result (λ symbol. symbol ≡ declaration_symbol declaration.now) }
+{
+    let scope = declaration.scope.as_slice();
+    let name = declaration.simple_name.as_str();
+    symbols::symbol_of(alloc, declaration.kind, scope, name)
+}
+
 fn declaration_occurrence(
     alloc: Global,
     text: &Text<'_>,
@@ -50,7 +58,7 @@ fn declaration_occurrence(
 {
     Ok(Occurrence {
         range: range_over(text, declaration.name),
-        symbol: symbols::symbol_of(alloc, declaration.kind, declaration.path.as_slice())?,
+        symbol: declaration_symbol(alloc, declaration)?,
         symbol_roles: DEFINITION,
     })
 }
@@ -84,15 +92,6 @@ fn occurrences(
     Ok(Sequence::from_vec(occurrences))
 }
 
-fn simple_name(path: &[OwnedText]) -> &str
-    ensures { result.now ≡ simple_name path.now }
-{
-    match path.last() {
-        Some(name) => name.as_str(),
-        None => "",
-    }
-}
-
 fn file_info(alloc: Global, path: &str) -> Result<Info, AllocError>
     ensures { IfOk result (λ info. info ≡ file_info path.now) }
 {
@@ -106,11 +105,10 @@ fn file_info(alloc: Global, path: &str) -> Result<Info, AllocError>
 fn declaration_info(alloc: Global, declaration: &Declaration) -> Result<Info, AllocError>
     ensures { IfOk result (λ info. info ≡ declaration_info declaration.now) }
 {
-    let path = declaration.path.as_slice();
     Ok(Info {
-        symbol: symbols::symbol_of(alloc, declaration.kind, path)?,
+        symbol: declaration_symbol(alloc, declaration)?,
         documentation: Sequence::from_vec(Vec::new(alloc)),
-        display_name: OwnedText::copy_of(alloc, simple_name(path))?,
+        display_name: OwnedText::copy_of(alloc, declaration.simple_name.as_str())?,
     })
 }
 

@@ -1,6 +1,6 @@
 //! Symbols as text, by the grammar in the comment of `scip.proto`'s `Symbol`.
 
-ghost use Rattle.std.specs.Prelude.{◌≡◌, ◌++◌, ℕ, List, [], OnOk, IfOk};
+ghost use Rattle.std.specs.Prelude.{◌≡◌, ◌++◌, ℕ, List, OnOk, IfOk};
 ghost use Rattle.std.specs.List.{list_all};
 ghost use Rattle.std.specs.String.{string_bytes};
 ghost use Rattle.protoscip.specs.declared.declarations.DeclarationKind.{DeclarationKind};
@@ -67,20 +67,21 @@ fn suffix_of(kind: DeclarationKind) -> &'static str
 fn push_descriptors(
     out: &mut String,
     kind: DeclarationKind,
-    path: &[OwnedText],
+    scope: &[OwnedText],
+    name: &str,
 ) -> Result<(), AllocError>
-    ensures { OnOk result (string_bytes out.new ≡ string_bytes out.old ++ descriptors_text kind path.now) }
+    ensures { OnOk result (string_bytes out.new
+        ≡ string_bytes out.old ++ descriptors_text kind scope.now name.now) }
 {
-    match path {
-        [] => Ok(()),
-        [name] => {
-            push_name(out, name.as_str())?;
+    match scope {
+        [] => {
+            push_name(out, name)?;
             out.push_str(suffix_of(kind))
         }
-        [outer, names @ ..] => {
+        [outer, inner @ ..] => {
             push_name(out, outer.as_str())?;
             out.push_str("#")?;
-            push_descriptors(out, kind, names)
+            push_descriptors(out, kind, inner, name)
         }
     }
 }
@@ -97,30 +98,30 @@ pub fn file_symbol(alloc: Global, path: &str) -> Result<OwnedText, AllocError>
     Ok(OwnedText::from_string(out))
 }
 
-/// The symbol of a declaration, of its kind and its path of names.
+/// The symbol of a declaration, of its kind, the names of the messages around it and its own.
 pub fn symbol_of(
     alloc: Global,
     kind: DeclarationKind,
-    path: &[OwnedText],
+    scope: &[OwnedText],
+    name: &str,
 ) -> Result<OwnedText, AllocError>
-    ensures { IfOk result (λ symbol. symbol ≡ symbol_text kind path.now) }
+    ensures { IfOk result (λ symbol. symbol ≡ symbol_text kind scope.now name.now) }
 {
     let mut out = String::from_str(alloc, PACKAGE)?;
-    push_descriptors(&mut out, kind, path)?;
+    push_descriptors(&mut out, kind, scope, name)?;
     Ok(OwnedText::from_string(out))
 }
 
-/// A law: a text is the symbol of one file at most, or of one path of names and, where there are
-/// names, of one kind; and of no file and declaration both.
+/// A law: a text is the symbol of one file at most, or of one declaration's kind, scope and name,
+/// and never of both.
 pub fn one_symbol()
     ensures files { (path : List ℕ) → (other : List ℕ)
         → file_symbol_text path ≡ file_symbol_text other → path ≡ other }
-    ensures apart { (path : List ℕ) → (kind : DeclarationKind) → (names : List (List ℕ))
-        → file_symbol_text path ≡ symbol_text kind names → ⊥ }
-    ensures paths { (kind : DeclarationKind) → (other : DeclarationKind)
-        → (path : List (List ℕ)) → (others : List (List ℕ))
-        → symbol_text kind path ≡ symbol_text other others → path ≡ others }
-    ensures kinds { (kind : DeclarationKind) → (other : DeclarationKind)
-        → (path : List (List ℕ)) → (others : List (List ℕ)) → (path ≡ [] → ⊥)
-        → symbol_text kind path ≡ symbol_text other others → kind ≡ other }
+    ensures declarations { (kind : DeclarationKind) → (other : DeclarationKind)
+        → (scope : List (List ℕ)) → (outer : List (List ℕ)) → (name : List ℕ) → (word : List ℕ)
+        → symbol_text kind scope name ≡ symbol_text other outer word
+        → (kind ≡ other) × (scope ≡ outer) × (name ≡ word) }
+    ensures apart { (path : List ℕ)
+        → (kind : DeclarationKind) → (scope : List (List ℕ)) → (name : List ℕ)
+        → file_symbol_text path ≡ symbol_text kind scope name → ⊥ }
 {}

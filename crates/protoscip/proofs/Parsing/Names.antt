@@ -1,5 +1,5 @@
 -- The names of a tree are identifiers, in their order.
-use Rattle.std.proofs.Common.{◌≡◌, Option, ℕ, zero, suc, ◌<◌, List, [], ◌∷◌, ◌++◌, map, All, AllPairs, append_assoc, arith, refl, ap, ◌≤◌}
+use Rattle.std.proofs.Common.{◌≡◌, Option, ℕ, List, [], ◌∷◌, ◌++◌, map, All, append_assoc, arith, refl, ap, ◌≤◌}
 use Rattle.std.proofs.lemmas.List.Elements.{All-cons, All-head, All-tail, All-map}
 use Rattle.proto_lex.specs.declared.span.Span.{Span}
 use Rattle.proto_lex.specs.declared.token.TokenKind.{TokenKind}

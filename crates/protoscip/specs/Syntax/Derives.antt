@@ -1,6 +1,6 @@
 -- The grammar: which tokens derive which tree (proto3 specification). Each relation is between the
 -- tokens before a part and those left behind it, with what the part is in the tree between them.
-use Rattle.std.specs.Prelude.{◌≡◌, ℕ, suc, Bool, true, false, ◌+◌, ◌-◌, Option, Some, None, List, [], ◌∷◌, ◌++◌, length, take, drop, codes}
+use Rattle.std.specs.Prelude.{◌≡◌, ℕ, suc, true, ◌-◌, Option, Some, None, List, [], ◌∷◌, ◌++◌, length, take, drop, codes}
 use Rattle.proto_lex.specs.declared.span.Span.{Span}
 use Rattle.proto_lex.specs.declared.token.Token.{Token}
 use Rattle.proto_lex.specs.declared.token.TokenKind.{TokenKind}
@@ -8,7 +8,7 @@ use Rattle.proto_lex.specs.declared.token.TokenKind.TheVariants.{Identifier, Int
 use Rattle.protoscip.specs.declared.syntax.tree.Field.{Field}
 use Rattle.protoscip.specs.Syntax.Lexeme.{Lexeme, lexemes_of}
 use Rattle.protoscip.specs.Syntax.Terminal.{is_scalar_word}
-use Rattle.protoscip.specs.Syntax.Tree.{Heading, Body, MessageTree}
+use Rattle.protoscip.specs.Syntax.Tree.{Body, MessageTree}
 use Rattle.protoscip.specs.Syntax.Tree.Body.{NoMore, FieldThen, MessageThen}
 
 -- One token of the kind.

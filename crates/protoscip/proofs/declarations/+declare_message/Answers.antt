@@ -1,7 +1,7 @@
 use Rattle.std.proofs.Common.{◌≡◌, ◌+◌, ◌∷◌, ◌∙◌, ap, drop, sym, arith}
 use Rattle.protoscip.specs.declared.syntax.tree.MessageItem.TheVariants.{Message, Field}
 use Rattle.protoscip.specs.Syntax.Items.{body_of}
-use Rattle.protoscip.specs.Syntax.Tree.{MessageTree, message_size}
+use Rattle.protoscip.specs.Syntax.Tree.{MessageTree}
 use Rattle.proto_lex.specs.Lexed.{IsPart}
 use Rattle.protoscip.proofs.Walks.{left_at, nested-smaller, names-message, names-field, told-message, told-field}
 use Rattle.protoscip.proofs.declarations.+declare_message.Goals as goal

@@ -1,4 +1,3 @@
-use Rattle.std.proofs.Common.{◌+◌, drop}
 use Rattle.proto_lex.specs.Lexed.{IsPart}
 use Rattle.protoscip.proofs.Walks.{left_at, names-top, told-top}
 use Rattle.protoscip.proofs.declarations.declarations_of.Goals as goal

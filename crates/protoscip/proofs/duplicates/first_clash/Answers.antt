@@ -1,4 +1,4 @@
-use Rattle.std.proofs.Common.{◌≡◌, ℕ, length, refl, sym, ap, ◌∙◌, arith, subst, Some, None, slice_get, take, position}
+use Rattle.std.proofs.Common.{◌≡◌, length, refl, sym, ◌∙◌, arith, subst, Some, None, slice_get, take, position}
 use Rattle.std.proofs.lemmas.Option.{slice_get_read, slice_get_within}
 use Rattle.protoscip.specs.declared.declarations.Declaration.{Declaration}
 use Rattle.protoscip.specs.Duplicates.{Clash}

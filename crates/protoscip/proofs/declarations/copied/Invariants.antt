@@ -1,6 +1,6 @@
 use Rattle.std.proofs.Common.{◌≡◌, take}
-use Rattle.protoscip.proofs.declarations.within.Given as goal
+use Rattle.protoscip.proofs.declarations.copied.Given as goal
 
 -- the names of the scope so far
 abbrev pub invariant-loop-outer : goal.invariant-loop-outer
-invariant-loop-outer l = l.path.items ≡ take l.outer-index l.scope
+invariant-loop-outer l = l.copy.items ≡ take l.outer-index l.scope

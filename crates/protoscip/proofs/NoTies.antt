@@ -28,14 +28,14 @@ use Rattle.protoscip.specs.DumpLaws.{OccurrencesDontTie, EntriesDontTie}
 use Rattle.protoscip.proofs.Naming.{both}
 use Rattle.protoscip.proofs.Orders.{occurrences_total, infos_total}
 use Rattle.protoscip.proofs.Ordered.{Ascends, ascends-of}
-use Rattle.protoscip.proofs.OneSymbol.{one-path, no-declaration}
+use Rattle.protoscip.proofs.OneSymbol.{one-declaration, no-declaration}
 use Rattle.protoscip.proofs.OneIndex.{both-equal}
 
 -- ---- declarations
 
--- a full name is the path, joined by dots
+-- a full name is the scope and the simple name, joined by dots
 abbrev IsDotted : Declaration → Type 0
-IsDotted d = d.full_name ≡ dotted d.path
+IsDotted d = d.full_name ≡ dotted d.scope d.simple_name
 
 dotted-in : (text : List ℕ) (scope : List (List ℕ)) (body : Body) → AllByRecursion IsDotted (declared_in text scope body)
 dotted-in text scope NoMore = tt
@@ -105,11 +105,11 @@ module _ {X : Type 0} (cmp : X → X → Ordering) (total : IsTotalOrder cmp) (s
   rises [] up differ = tt
   rises (x ∷ xs) up differ = (all-below x xs up.0 differ.0, rises xs up.1 differ.1)
 
-  module _ (path : List ℕ) (file : X) (made : Declaration → X) (of_file : symbol file ≡ file_symbol_text path) (of_made : (d : Declaration) → symbol (made d) ≡ symbol_text d.kind d.path) where
+  module _ (path : List ℕ) (file : X) (made : Declaration → X) (of_file : symbol file ≡ file_symbol_text path) (of_made : (d : Declaration) → symbol (made d) ≡ symbol_text d.kind d.scope d.simple_name) where
     -- the file's has another symbol than each declaration's
     file-apart : (ds : List Declaration) → AllByRecursion (λ y. eq_by_cmp cmp file y ≡ false) (map made ds)
     file-apart [] = tt
-    file-apart (d ∷ ds) = (apart file (made d) (λ same. no-declaration path d.kind d.path (sym of_file ∙ same ∙ of_made d)), file-apart ds)
+    file-apart (d ∷ ds) = (apart file (made d) (λ same. no-declaration path d.kind d.scope d.simple_name (sym of_file ∙ same ∙ of_made d)), file-apart ds)
 
     -- a declaration's has another symbol than those of other full names
     made-apart : (d : Declaration) (ds : List Declaration) → IsDotted d → AllByRecursion IsDotted ds → AllByRecursion (λ (e : Declaration). d.full_name ≢ e.full_name) ds
@@ -117,8 +117,11 @@ module _ {X : Type 0} (cmp : X → X → Ordering) (total : IsTotalOrder cmp) (s
     made-apart d [] named names differ = tt
     made-apart d (e ∷ ds) named names differ = (
       apart (made d) (made e) (λ same.
-          let paths = one-path d.kind e.kind d.path e.path (sym (of_made d) ∙ same ∙ of_made e) in
-          differ.0 (named ∙ ap dotted paths ∙ sym names.0)),
+          let one = one-declaration d.kind e.kind d.scope e.scope d.simple_name e.simple_name (sym (of_made d) ∙ same ∙ of_made e) in
+          let scope = one.1 in
+          let name = one.2 in
+          let dots : dotted d.scope d.simple_name ≡ dotted e.scope e.simple_name = cc in
+          differ.0 (named ∙ dots ∙ sym names.0)),
       made-apart d ds named names.1 differ.1,
     )
 

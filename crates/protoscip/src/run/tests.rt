@@ -8,15 +8,16 @@ use scip_model::Std;
 use std::process::Abort;
 use std::test::Fail;
 
-/// Runs the request once with no input and this room for the output, and gives the exit status and
-/// what standard error was told.
+/// Runs the request once on this source, with this room for the output, and gives the exit status
+/// and what standard error was told.
 fn ran_once(
     rt: &impl Abort,
     alloc: Global,
     request: &Request,
+    source: &[u8],
     room: &mut [u8],
 ) -> Result<(u8, String), Fail> {
-    let mut input = Std::new(b"".as_slice());
+    let mut input = Std::new(source);
     let mut out = Std::new(room);
     let mut told = [0u8; 64];
     let mut messages = Std::new(told.as_mut_slice());
@@ -33,15 +34,16 @@ fn ran(
     rt: &impl Abort,
     alloc: Global,
     request: &Request,
+    source: &[u8],
     room: &mut [u8],
 ) -> Result<(u8, String), Fail> {
-    let (status, told) = ran_once(rt, alloc, request, room)?;
+    let (status, told) = ran_once(rt, alloc, request, source, room)?;
     if status != Fault::Memory.status() {
         return Ok((status, told));
     }
     assert!(rt; told.as_str() == "protoscip: Memory\n", "{told}");
     room.fill(0);
-    ran_once(rt, alloc, request, room)
+    ran_once(rt, alloc, request, source, room)
 }
 
 /// Reports a fault once into this room, and gives the exit status and how many bytes are left of it.
@@ -67,7 +69,7 @@ fn reported(rt: &impl Abort, alloc: Global, fault: &Fault, room: &mut [u8]) -> (
 fn a_text_goes_to_standard_output(rt: HostRuntime) -> Result<(), Fail> {
     let request = Request::Print(String::from_str(rt.alloc(), "some text\n")?);
     let mut room = [0u8; 12];
-    let (status, told) = ran(&rt, rt.alloc(), &request, &mut room)?;
+    let (status, told) = ran(&rt, rt.alloc(), &request, b"", &mut room)?;
     assert_eq!(rt; status, 0);
     assert!(rt; room.as_slice() == b"some text\n\0\0".as_slice());
     assert!(rt; told.is_empty());
@@ -78,7 +80,7 @@ fn a_text_goes_to_standard_output(rt: HostRuntime) -> Result<(), Fail> {
 fn a_refusal_goes_to_standard_error(rt: HostRuntime) -> Result<(), Fail> {
     let request = Request::Refuse(String::from_str(rt.alloc(), "some text\n")?);
     let mut room = [0u8; 2];
-    let (status, told) = ran(&rt, rt.alloc(), &request, &mut room)?;
+    let (status, told) = ran(&rt, rt.alloc(), &request, b"", &mut room)?;
     assert_eq!(rt; status, 2);
     assert!(rt; room.as_slice() == b"\0\0".as_slice());
     assert!(rt; told.as_str() == "some text\n");
@@ -89,10 +91,32 @@ fn a_refusal_goes_to_standard_error(rt: HostRuntime) -> Result<(), Fail> {
 fn an_output_that_takes_too_little_is_a_fault(rt: HostRuntime) -> Result<(), Fail> {
     let request = Request::Print(String::from_str(rt.alloc(), "some text\n")?);
     let mut room = [0u8; 4];
-    let (status, told) = ran(&rt, rt.alloc(), &request, &mut room)?;
+    let (status, told) = ran(&rt, rt.alloc(), &request, b"", &mut room)?;
     assert_eq!(rt; status, 3);
     assert!(rt; room.as_slice() == b"some".as_slice());
     assert!(rt; told.as_str() == "protoscip: Write\n");
+    Ok(())
+}
+
+#[test]
+fn a_dump_goes_to_standard_output(rt: HostRuntime) -> Result<(), Fail> {
+    let source = b"syntax = \"proto3\";".as_slice();
+    let mut room = [0u8; 49];
+    let (status, told) = ran(&rt, rt.alloc(), &Request::Dump, source, &mut room)?;
+    assert_eq!(rt; status, 0);
+    let listing = b"0 0 0 0 1 scip-protobuf . . . `input.proto`/\n= 1\n".as_slice();
+    assert!(rt; room.as_slice() == listing);
+    assert!(rt; told.is_empty());
+    Ok(())
+}
+
+#[test]
+fn a_refused_source_is_told_of(rt: HostRuntime) -> Result<(), Fail> {
+    let mut room = [0u8; 2];
+    let (status, told) = ran(&rt, rt.alloc(), &Request::Dump, b" @", &mut room)?;
+    assert_eq!(rt; status, 1);
+    assert!(rt; room.as_slice() == b"\0\0".as_slice());
+    assert!(rt; told.as_str() == "protoscip: input.proto@1: BadByte\n");
     Ok(())
 }
 

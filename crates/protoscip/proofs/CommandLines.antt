@@ -1,6 +1,6 @@
 -- What the answers of `clap` ask for.
-use Rattle.std.proofs.Common.{◌≡◌, ◌≢◌, List, [], ◌∷◌, inl, inr, true, refl}
-use Rattle.clap.specs.Words.{HasKind, Kinds, IsAmong, is_simple_and_free, kind_of}
+use Rattle.std.proofs.Common.{◌≡◌, ◌≢◌, [], ◌∷◌, inl, inr, true, refl}
+use Rattle.clap.specs.Words.{HasKind, Kinds, is_simple_and_free, kind_of}
 use Rattle.clap.specs.declared.error.Error.{Error}
 use Rattle.clap.specs.declared.error.kind.ErrorKind.TheVariants as kind
 use Rattle.clap.proofs.OnLiterals.{clap_on_literals}

@@ -1,8 +1,7 @@
 -- A source that has a listing is refused for want of memory alone.
-use Rattle.std.proofs.Common.{◌≡◌, ℕ, ◌<◌, ◌≤◌, inl, inr, List, length, take, refl, sym, subst, arith}
+use Rattle.std.proofs.Common.{◌≡◌, ℕ, ◌≤◌, inl, inr, List, length, refl, sym, subst, arith}
 use Rattle.std.proofs.lemmas.List.{take_all}
 use Rattle.std.specs.Prelude.{IsUtf8}
-use Rattle.std.specs.Str.{IsValidUpTo}
 use Rattle.proto_lex.specs.declared.token.Token.{Token}
 use Rattle.proto_lex.specs.declared.token.Comment.{Comment}
 use Rattle.proto_lex.specs.declared.fault.LexFault.{LexFault}
@@ -18,7 +17,7 @@ use Rattle.protoscip.specs.declared.fault.Fault.TheVariants as fault
 use Rattle.protoscip.specs.declared.syntax.fault.SyntaxFault.TheVariants as syntax
 use Rattle.protoscip.specs.Declarations.{declarations_of}
 use Rattle.protoscip.specs.Duplicates.{NoClash}
-use Rattle.protoscip.specs.Dump.{IsSource, IsUnparsed, IsRefusal, IsListing, IsIndexOfSource, source_path}
+use Rattle.protoscip.specs.Dump.{IsSource, IsUnparsed, IsRefusal, IsListing, source_path}
 use Rattle.protoscip.proofs.OneIndex.{index-one}
 
 text-or-none : (bytes : List ℕ) (e : LexFault) → IsText bytes → IsNoText bytes e → ⊥

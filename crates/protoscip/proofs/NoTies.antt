@@ -1,6 +1,6 @@
 -- In the index of a source no two occurrences tie, and no two symbol entries: where no two declarations have one full
 -- name, no two have one symbol.
-use Rattle.std.proofs.Common.{◌≡◌, ◌≢◌, ℕ, suc, inl, inr, true, false, List, [], ◌∷◌, get_or, map, refl, ap, sym, ◌∙◌, arith, subst}
+use Rattle.std.proofs.Common.{◌≡◌, ◌≢◌, ℕ, suc, inl, inr, true, false, List, [], ◌∷◌, get_or, map, refl, sym, ◌∙◌, arith, subst}
 use Rattle.std.specs.declared.cmp.Ordering.{Ordering}
 use Rattle.std.specs.declared.cmp.Ordering.TheVariants.{Less, Equal, Greater}
 use Rattle.std.specs.Ordering.{is_lt, nat_cmp, eq_by_cmp, ordering_then, ordering_reverse}

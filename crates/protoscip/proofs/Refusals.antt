@@ -1,5 +1,5 @@
 -- Why a dump refuses what one of its steps refused.
-use Rattle.std.proofs.Common.{◌≡◌, ℕ, ◌<◌, ◌≤◌, List, [], length, take, refl, ap, sym, ◌∙◌, subst, arith, Ok, Err, inl, inr}
+use Rattle.std.proofs.Common.{◌≡◌, ℕ, ◌<◌, ◌≤◌, List, length, subst, arith, inl, inr}
 use Rattle.std.proofs.lemmas.List.{take_all, length-take}
 use Rattle.proto_lex.specs.declared.token.Token.{Token}
 use Rattle.proto_lex.specs.declared.token.Comment.{Comment}
@@ -8,20 +8,17 @@ use Rattle.proto_lex.specs.declared.fault.LexFault.TheVariants as lexing
 use Rattle.proto_lex.specs.Text.{IsText, IsNoText}
 use Rattle.proto_lex.specs.Lexes.{Lexes}
 use Rattle.proto_lex.specs.Lexed.{Lexed}
-use Rattle.proto_lex.specs.Faults.{IsFirstFault, IsFaultOf, Meets, IsFaultAt}
+use Rattle.proto_lex.specs.Faults.{IsFirstFault, IsFaultOf, Meets}
 use Rattle.proto_lex.specs.Faults.Meets.{fault as met, blank as past_blank, comment as past_comment, token as past_token}
 use Rattle.proto_lex.specs.Faults.IsFaultAt.{no_string}
 use Rattle.proto_lex.specs.Faults.IsFirstFault.{unmarked, marked}
 use Rattle.protoscip.specs.Stages.{IsTreeRefusal}
 use Rattle.protoscip.specs.declared.fault.Fault.{Fault}
 use Rattle.protoscip.specs.declared.fault.Fault.TheVariants as fault
-use Rattle.protoscip.specs.declared.syntax.fault.SyntaxFault.{SyntaxFault}
 use Rattle.protoscip.specs.declared.syntax.fault.SyntaxFault.TheVariants as syntax
-use Rattle.protoscip.specs.Faults.{refusal_of_lex, refusal_of_syntax}
-use Rattle.protoscip.specs.Syntax.Tree.{MessageTree}
-use Rattle.protoscip.specs.Syntax.Derives.{Derives}
+use Rattle.protoscip.specs.Faults.{refusal_of_lex}
 use Rattle.protoscip.specs.Source.{kept}
-use Rattle.protoscip.specs.Dump.{IsLexable, IsSource, IsUnlexed, IsUnparsed, IsRefusal, IsLexRefusal, IsListing, IsIndexOfSource, HasClash}
+use Rattle.protoscip.specs.Dump.{IsLexable, IsUnlexed, IsUnparsed, IsRefusal, IsListing, HasClash}
 
 -- bytes that are no text
 pub refused-text : (bytes : List ℕ) (e : LexFault) → IsNoText bytes e → IsRefusal bytes (refusal_of_lex e)

@@ -1,7 +1,5 @@
 -- The steps of a dump, joined: what they give of the source's bytes.
-use Rattle.std.proofs.Common.{◌≡◌, ℕ, ◌<◌, ◌≤◌, List, [], ◌∷◌, length, take, refl, ap, sym, ◌∙◌, subst, Option, Result, Ok, Err}
-use Rattle.proto_lex.specs.declared.token.Token.{Token}
-use Rattle.proto_lex.specs.declared.token.Comment.{Comment}
+use Rattle.std.proofs.Common.{◌≡◌, ℕ, List, [], take, refl, ap, ◌∙◌, subst, Option, Result, Ok, Err}
 use Rattle.proto_lex.specs.declared.span.Span.{Span}
 use Rattle.proto_lex.specs.Text.{IsText}
 use Rattle.proto_lex.specs.Lexes.{Lexes}

@@ -1,9 +1,9 @@
 -- What is in the grammar is read.
-use Rattle.std.proofs.Common.{◌≡◌, ℕ, zero, suc, ◌+◌, ◌<◌, ◌≤◌, Bool, true, false, cond, ◌&&◌, ◌||◌, Option, Some, None, option_to_list, List, [], ◌∷◌, ◌++◌, length, refl, sym, ◌∙◌, ap, subst, append-nil, arith, codes, bytes_eq}
+use Rattle.std.proofs.Common.{◌≡◌, ℕ, zero, suc, ◌<◌, ◌≤◌, true, false, Option, Some, List, [], ◌∷◌, length, refl, sym, ◌∙◌, ap, append-nil, arith, codes, bytes_eq}
 use Rattle.std.proofs.lemmas.Slice.Eq.{bytes_eq-Decides}
 use Rattle.proto_lex.specs.declared.span.Span.{Span}
 use Rattle.proto_lex.specs.declared.token.TokenKind.{TokenKind}
-use Rattle.proto_lex.specs.declared.token.TokenKind.TheVariants.{Identifier, Integer, StringLiteral, Semicolon, Equals, OpenBrace, CloseBrace, Dot}
+use Rattle.proto_lex.specs.declared.token.TokenKind.TheVariants.{Identifier, StringLiteral, Semicolon, CloseBrace, Dot}
 use Rattle.protoscip.specs.declared.syntax.tree.Field.{Field}
 use Rattle.protoscip.specs.declared.syntax.tree.MessageItem.{MessageItem}
 use Rattle.protoscip.specs.declared.syntax.tree.MessageItem.TheVariants.{Message, Field as FieldItem}
@@ -11,11 +11,11 @@ use Rattle.protoscip.specs.declared.syntax.fault.SyntaxFault.{SyntaxFault}
 use Rattle.protoscip.specs.declared.syntax.fault.SyntaxFault.TheVariants.{NotProto3, TooDeep, Grammar, Memory}
 use Rattle.protoscip.specs.Syntax.Gives.{Fails}
 use Rattle.protoscip.specs.Syntax.Lexeme.{Lexeme}
-use Rattle.protoscip.specs.Syntax.Terminal.{is_kind, is_scalar_word}
+use Rattle.protoscip.specs.Syntax.Terminal.{is_kind}
 use Rattle.protoscip.specs.Syntax.Tree.{Body, MessageTree}
 use Rattle.protoscip.specs.Syntax.Tree.Body.{NoMore, FieldThen, MessageThen}
 use Rattle.protoscip.specs.Syntax.Items.{body_of}
-use Rattle.protoscip.specs.Syntax.Derives.{IsToken, IsWord, NotNext, IsText, IsSyntax, IsLabel, IsType, IsField, IsMessage, IsBody, AreStatements, IsFile, between_quotes}
+use Rattle.protoscip.specs.Syntax.Derives.{IsToken, IsWord, IsText, IsSyntax, IsLabel, IsType, IsField, IsMessage, IsBody, AreStatements, IsFile}
 use Rattle.protoscip.specs.Syntax.Derives.IsToken.{token}
 use Rattle.protoscip.specs.Syntax.Derives.IsWord.{word}
 use Rattle.protoscip.specs.Syntax.Derives.IsText.{last as last_literal, more as more_literals}
@@ -27,8 +27,8 @@ use Rattle.protoscip.specs.Syntax.Derives.IsMessage.{message as a_message}
 use Rattle.protoscip.specs.Syntax.Derives.IsBody.{at_close, semicolon as a_semicolon, plain, nested}
 use Rattle.protoscip.specs.Syntax.Derives.AreStatements.{at_end as no_statements, semicolon as file_semicolon, message as file_message}
 use Rattle.protoscip.specs.Syntax.Derives.IsFile.{file as a_file}
-use Rattle.protoscip.specs.Syntax.Reading.{◌>>=◌, Read, first, others, first_is, of_kind, is_word, is_scalar, token_that, joined_text, after_text, proto3_at, syntax_at, label_at, type_at, field_at, many, all_until, item_at, closes, message_with, message_at, statement_at, ends, file_at}
-use Rattle.protoscip.proofs.Parsing.Tests.{is_kind-same, is_kind-other, is_word-same, is_word-other, not_next-first_is, not_next_word-first_is, scalar-other}
+use Rattle.protoscip.specs.Syntax.Reading.{others, first_is, of_kind, is_word, token_that, joined_text, after_text, proto3_at, syntax_at, label_at, type_at, field_at, many, all_until, item_at, closes, message_with, message_at, statement_at, ends, file_at}
+use Rattle.protoscip.proofs.Parsing.Tests.{is_kind-same, is_word-same, not_next-first_is, not_next_word-first_is, scalar-other}
 use Rattle.protoscip.proofs.Options.{same_some}
 use Rattle.protoscip.proofs.Parsing.Stops.{no_text, no_text_after}
 use Rattle.protoscip.proofs.Parsing.Shorter.{message_at-shorter, field_at-shorter}

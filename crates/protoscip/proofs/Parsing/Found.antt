@@ -1,12 +1,11 @@
 -- What is read is in the grammar.
-use Rattle.std.proofs.Common.{◌≡◌, ℕ, zero, suc, Bool, true, false, cond, ◌&&◌, ◌||◌, Option, Some, None, option_to_list, List, [], ◌∷◌, ◌++◌, length, refl, sym, ◌∙◌, ap, subst, append-nil, codes, bytes_eq}
+use Rattle.std.proofs.Common.{◌≡◌, ℕ, zero, suc, Bool, true, false, cond, ◌||◌, Option, Some, None, option_to_list, List, [], ◌∷◌, ◌++◌, length, refl, sym, ◌∙◌, ap, subst, append-nil, codes, bytes_eq}
 use Rattle.std.proofs.lemmas.Slice.Eq.{bytes_eq-Decides}
 use Rattle.proto_lex.specs.declared.span.Span.{Span}
 use Rattle.proto_lex.specs.declared.token.TokenKind.{TokenKind}
 use Rattle.proto_lex.specs.declared.token.TokenKind.TheVariants.{Identifier, Integer, StringLiteral, Semicolon, Equals, OpenBrace, CloseBrace, Dot}
 use Rattle.protoscip.specs.declared.syntax.tree.Field.{Field}
 use Rattle.protoscip.specs.declared.syntax.tree.MessageItem.{MessageItem}
-use Rattle.protoscip.specs.declared.syntax.tree.MessageItem.TheVariants.{Message, Field as FieldItem}
 use Rattle.protoscip.specs.Syntax.Lexeme.{Lexeme}
 use Rattle.protoscip.specs.Syntax.Terminal.{is_kind, is_scalar_word}
 use Rattle.protoscip.specs.Syntax.Tree.{MessageTree}
@@ -24,7 +23,7 @@ use Rattle.protoscip.specs.Syntax.Derives.IsMessage.{message as a_message}
 use Rattle.protoscip.specs.Syntax.Derives.IsBody.{at_close, semicolon as a_semicolon, plain, nested}
 use Rattle.protoscip.specs.Syntax.Derives.AreStatements.{at_end as no_statements, semicolon as file_semicolon, message as file_message}
 use Rattle.protoscip.specs.Syntax.Derives.IsFile.{file as a_file}
-use Rattle.protoscip.specs.Syntax.Reading.{◌>>=◌, Read, first, others, first_is, of_kind, is_word, is_scalar, token_that, joined_text, after_text, proto3_at, syntax_at, label_at, type_at, field_at, many, all_until, item_at, closes, message_with, message_at, statement_at, ends, file_at}
+use Rattle.protoscip.specs.Syntax.Reading.{others, first_is, of_kind, is_word, is_scalar, token_that, joined_text, after_text, proto3_at, syntax_at, label_at, type_at, field_at, many, all_until, item_at, closes, message_with, message_at, statement_at, ends, file_at}
 use Rattle.protoscip.proofs.Options.{bind_some, same_some, guard_some, kept_some, chosen, both_true, either_true, both_false}
 use Rattle.protoscip.proofs.Parsing.Tests.{same_kind, same_word, not_next, not_next_word}
 use Rattle.protoscip.proofs.Parsing.Stops.{no_text, no_text_after}

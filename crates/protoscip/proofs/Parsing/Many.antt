@@ -1,5 +1,5 @@
 -- Items read one after another: what a loop over them keeps.
-use Rattle.std.proofs.Common.{◌≡◌, ℕ, zero, suc, ◌+◌, ◌<◌, ◌≤◌, Bool, true, false, cond, Option, Some, None, option_and_then, option_to_list, List, [], ◌∷◌, ◌++◌, length, refl, sym, ◌∙◌, ap, arith, append_assoc, append-nil}
+use Rattle.std.proofs.Common.{◌≡◌, ℕ, zero, suc, ◌<◌, ◌≤◌, Bool, true, false, cond, Option, Some, None, option_to_list, List, [], ◌++◌, length, refl, sym, ◌∙◌, ap, arith, append_assoc, append-nil}
 use Rattle.protoscip.specs.declared.syntax.fault.SyntaxFault.{SyntaxFault}
 use Rattle.protoscip.specs.declared.syntax.fault.SyntaxFault.TheVariants.{NotProto3, TooDeep, Grammar, Memory}
 use Rattle.protoscip.specs.Syntax.Lexeme.{Lexeme}

@@ -1,5 +1,5 @@
 -- The tokens from a place on.
-use Rattle.std.proofs.Common.{◌≡◌, ℕ, zero, suc, ◌+◌, List, [], ◌∷◌, map, drop, slice_get, option_map, Option, Some, None, length, get_or, ◌<◌, ◌≤◌, IfSome, arith, refl, sym, ◌∙◌, ap, add-one}
+use Rattle.std.proofs.Common.{◌≡◌, ℕ, zero, suc, ◌+◌, List, [], ◌∷◌, map, drop, slice_get, option_map, Some, length, get_or, ◌<◌, IfSome, refl, sym, ◌∙◌, ap, add-one}
 use Rattle.std.proofs.lemmas.Option.{slice_get-map, slice_get-get_or}
 use Rattle.proto_lex.specs.declared.token.Token.{Token}
 use Rattle.proto_lex.specs.Lexed.{part_of}

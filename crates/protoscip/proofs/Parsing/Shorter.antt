@@ -1,13 +1,13 @@
 -- What is read leaves fewer tokens.
-use Rattle.std.proofs.Common.{◌≡◌, ℕ, zero, suc, ◌+◌, ◌<◌, ◌≤◌, Bool, true, false, cond, ◌||◌, Option, Some, None, List, [], ◌∷◌, ◌++◌, length, refl, sym, ap, subst, arith, codes}
+use Rattle.std.proofs.Common.{◌≡◌, ℕ, zero, suc, ◌<◌, ◌≤◌, Bool, true, ◌||◌, Option, Some, List, [], ◌∷◌, length, arith, codes}
 use Rattle.proto_lex.specs.declared.span.Span.{Span}
 use Rattle.proto_lex.specs.declared.token.TokenKind.TheVariants.{Identifier, Integer, Semicolon, Equals, OpenBrace, CloseBrace, Dot}
 use Rattle.protoscip.specs.declared.syntax.tree.Field.{Field}
 use Rattle.protoscip.specs.declared.syntax.tree.MessageItem.{MessageItem}
 use Rattle.protoscip.specs.Syntax.Lexeme.{Lexeme}
 use Rattle.protoscip.specs.Syntax.Tree.{MessageTree}
-use Rattle.protoscip.specs.Syntax.Reading.{◌>>=◌, Read, first, others, first_is, of_kind, is_word, is_scalar, token_that, label_at, type_at, field_at, many, all_until, item_at, closes, message_with, message_at, statement_at, ends}
-use Rattle.protoscip.proofs.Options.{bind_some, same_some, guard_some, kept_some, chosen}
+use Rattle.protoscip.specs.Syntax.Reading.{Read, others, first_is, of_kind, is_word, is_scalar, token_that, label_at, type_at, field_at, many, all_until, item_at, closes, message_with, message_at, statement_at}
+use Rattle.protoscip.proofs.Options.{bind_some, guard_some, kept_some, chosen}
 use Rattle.protoscip.proofs.Parsing.Many.{Falls}
 
 -- the rest behind a value that is read

@@ -1,5 +1,5 @@
 -- Each message in a body is smaller than what the body stands in.
-use Rattle.std.specs.Prelude.{ℕ, ◌+◌, ◌≤◌, List, [], ◌∷◌}
+use Rattle.std.specs.Prelude.{◌+◌, ◌≤◌, List, [], ◌∷◌}
 use Rattle.std.proofs.Common.{arith}
 use denote.Param.Weighed.{most}
 use Rattle.protoscip.specs.declared.syntax.tree.MessageItem.{MessageItem}

@@ -1,5 +1,5 @@
 -- What a step of the parser gives, beside what can be read from the tokens.
-use Rattle.std.specs.Prelude.{◌≡◌, ℕ, Option, Some, None, Result, Ok, Err}
+use Rattle.std.specs.Prelude.{◌≡◌, Option, Some, None, Result, Ok, Err}
 use Rattle.protoscip.specs.declared.syntax.fault.SyntaxFault.{SyntaxFault}
 use Rattle.protoscip.specs.declared.syntax.fault.SyntaxFault.TheVariants.{NotProto3, TooDeep, Grammar, Memory}
 

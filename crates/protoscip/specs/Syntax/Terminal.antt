@@ -1,9 +1,8 @@
 -- What single tokens say, as tests.
-use Rattle.std.specs.Prelude.{◌≡◌, ℕ, Bool, false, ◌==◌, ◌&&◌, List, [], ◌∷◌, bytes_eq, codes}
+use Rattle.std.specs.Prelude.{ℕ, Bool, ◌==◌, List, [], ◌∷◌, bytes_eq, codes}
 use Rattle.std.specs.List.{list_any}
 use Rattle.proto_lex.specs.declared.token.TokenKind.{TokenKind}
 use Rattle.proto_lex.specs.declared.token.TokenKind.TheVariants.{Identifier, Integer, Float, StringLiteral, Semicolon, Equals, OpenBrace, CloseBrace, OpenBracket, CloseBracket, OpenParenthesis, CloseParenthesis, Less, Greater, Comma, Dot, Colon, Plus, Minus, Slash}
-use Rattle.protoscip.specs.Syntax.Lexeme.{Lexeme}
 
 abbrev pub number_of : TokenKind → ℕ
 number_of Identifier = 0

@@ -1,4 +1,3 @@
-use Rattle.std.specs.Prelude.{◌≡◌, ℕ, List, map, drop, Option, option_map}
 use Rattle.protoscip.specs.declared.syntax.parser.Lexeme.{Lexeme as Found}
 use Rattle.protoscip.specs.Syntax.Lexeme.{Lexeme}
 

@@ -2,7 +2,7 @@ use Rattle.std.proofs.Common.{◌≡◌, rules, ◌∙◌, ap, length, ◌≤◌
 use Rattle.std.specs.Ordering.{is_lt}
 use Rattle.std.proofs.lemmas.List.{take_all}
 use Rattle.std.proofs.lemmas.List.Sorted.{answers_always}
-use Rattle.protoscip.specs.Document.{info_cmp, infos_of, IsOrdered}
+use Rattle.protoscip.specs.Document.{info_cmp, infos_of}
 use Rattle.protoscip.proofs.Orders.{infos_rank}
 use Rattle.protoscip.proofs.document.infos.Goals as goal
 

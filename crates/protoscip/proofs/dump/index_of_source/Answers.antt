@@ -1,4 +1,4 @@
-use Rattle.std.proofs.Common.{◌≡◌, ◌∙◌, ap, sym, subst, refl, List, ℕ}
+use Rattle.std.proofs.Common.{◌∙◌, sym, subst, refl, List, ℕ}
 use Rattle.std.proofs.lemmas.Result.{err_from_is_err_and}
 use Rattle.protoscip.specs.declared.declarations.Declaration.{Declaration}
 use Rattle.proto_lex.specs.Text.{IsText}

@@ -1,8 +1,7 @@
-use Rattle.std.proofs.Common.{◌≡◌, ℕ, ◌+◌, ◌<◌, ◌≤◌, ◌++◌, List, [], length, take, refl, ap, sym, ◌∙◌, arith, append_assoc, subst}
+use Rattle.std.proofs.Common.{◌≡◌, ℕ, ◌<◌, ◌≤◌, ◌++◌, List, [], length, take, refl, ap, sym, ◌∙◌, arith, append_assoc, subst}
 use Rattle.std.proofs.lemmas.List.{append-nil}
 use Rattle.scip_model.specs.Streams.{one_more}
 use Rattle.scip_model.specs.declared.failed.Failed.{Failed}
-use Rattle.std.proofs.lemmas.Grind.{common_steps}
 use Rattle.protoscip.specs.Source.{kept}
 use Rattle.protoscip.proofs.Kept.{kept-more, kept-few, one-more-read, no-end, consumed, nothing-left, reads-full, more-reads}
 use Rattle.protoscip.proofs.source.read_source.Goals as goal

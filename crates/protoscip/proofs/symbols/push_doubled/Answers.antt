@@ -1,4 +1,4 @@
-use Rattle.std.proofs.Common.{◌≡◌, ◌++◌, length, arith, append_assoc, rules, sym, ap, ◌∙◌, codes, List, ℕ, ◌∷◌}
+use Rattle.std.proofs.Common.{◌≡◌, ◌++◌, arith, append_assoc, rules, sym, ap, ◌∙◌, codes, List, ℕ, ◌∷◌}
 use Rattle.std.proofs.lemmas.Grind.{common_steps}
 use Rattle.std.proofs.lemmas.Str.Pattern.{split_once_first}
 use Rattle.std.specs.String.{string_bytes}

@@ -1,4 +1,3 @@
-use Rattle.std.proofs.Common.{◌≡◌, Some}
 use Rattle.std.proofs.lemmas.Result.{err_from_is_err_and}
 use Rattle.protoscip.specs.Syntax.Derives.{IsFile}
 use Rattle.protoscip.proofs.Parsing.Found.{file_found}

@@ -1,4 +1,4 @@
-use Rattle.std.proofs.Common.{◌≡◌, ◌++◌, ℕ, length}
+use Rattle.std.proofs.Common.{◌≡◌, ◌++◌, length}
 use Rattle.protoscip.specs.Syntax.Reading.{joined_text, after_text}
 use Rattle.protoscip.proofs.syntax.parser.Parser.literals.Given as goal
 

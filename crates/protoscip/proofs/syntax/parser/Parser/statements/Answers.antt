@@ -1,6 +1,6 @@
-use Rattle.std.proofs.Common.{◌≡◌, ◌++◌, ◌<◌, true, false, Some, length, option_to_list, sym, ◌∙◌, arith}
+use Rattle.std.proofs.Common.{◌≡◌, true, false}
 use Rattle.std.proofs.lemmas.Result.{err_from_is_err_and}
-use Rattle.protoscip.specs.Syntax.Reading.{statement_at, all_until, ends}
+use Rattle.protoscip.specs.Syntax.Reading.{statement_at, ends}
 use Rattle.protoscip.proofs.Parsing.Many.{Fails-of, goes_on, is_done, stops}
 use Rattle.protoscip.proofs.Parsing.Shorter.{statements-fall}
 use Rattle.protoscip.proofs.syntax.parser.Parser.statements.Goals as goal

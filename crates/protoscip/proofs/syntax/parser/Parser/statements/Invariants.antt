@@ -1,4 +1,4 @@
-use Rattle.std.proofs.Common.{◌≡◌, ℕ, length}
+use Rattle.std.proofs.Common.{◌≡◌, length}
 use Rattle.protoscip.specs.Syntax.Reading.{statement_at, all_until, ends}
 use Rattle.protoscip.proofs.Parsing.Many.{with_front}
 use Rattle.protoscip.proofs.syntax.parser.Parser.statements.Given as goal

@@ -11,7 +11,7 @@ use crate::write_fault::{SpellFault, TooLarge, WriteFault};
 use scip_model::{Index, Sink, write_all};
 
 #[cfg(test)]
-mod samples;
+pub(crate) mod samples;
 #[cfg(test)]
 mod tests;
 

@@ -2,9 +2,8 @@
 //! the values are worked out by hand from the Protocol Buffers encoding and `scip.proto`.
 
 use super::*;
-use crate::read::samples::{message, unpacked};
-use crate::write::spell_index;
-use crate::write_fault::SpellFault;
+use crate::read::samples::unpacked;
+use crate::write::samples::{MESSAGE, spelled};
 use scip_model::{Document, Info, Metadata, Occurrence, ToolInfo};
 use std::process::Abort;
 use std::test::Fail;
@@ -13,14 +12,6 @@ use std::test::Fail;
 fn decoded(alloc: Global, bytes: &[u8]) -> Result<Index, WireFault> {
     match read_index(alloc, bytes) {
         Err(WireFault::Memory) => read_index(alloc, bytes),
-        answer => answer,
-    }
-}
-
-/// What `spell_index` answers. After `Memory` it is called again, and the second answer counts.
-fn spelled(alloc: Global, index: &Index) -> Result<Vec<u8>, SpellFault> {
-    match spell_index(alloc, index) {
-        Err(SpellFault::Memory) => spell_index(alloc, index),
         answer => answer,
     }
 }
@@ -114,7 +105,7 @@ fn no_bytes_are_the_empty_index(rt: HostRuntime) -> Result<(), Fail> {
 #[test]
 fn cut_bytes_are_refused(rt: HostRuntime) -> Result<(), Fail> {
     refuses_cuts(&rt, rt.alloc(), unpacked(), 0, WireFault::Truncated(0));
-    let bytes = message();
+    let bytes = MESSAGE.as_slice();
     assert_eq!(rt; bytes.len(), 200);
     let (metadata, _) = bytes.split_at(30);
     let first = decoded(rt.alloc(), metadata)?;
@@ -438,12 +429,12 @@ fn read_changes(rt: &impl Abort, alloc: Global, bytes: &mut [u8], at: usize) -> 
 
 #[test]
 fn each_change_of_one_byte(rt: HostRuntime) -> Result<(), Fail> {
-    let mut bytes = message().to_vec(rt.alloc())?;
+    let mut bytes = MESSAGE.as_slice().to_vec(rt.alloc())?;
     let mut read = 0u32;
     for at in 0..200usize {
         read = read.wrapping_add(read_changes(&rt, rt.alloc(), &mut bytes, at)?);
     }
     assert!(rt; 0 < read && read < 51000);
-    assert!(rt; bytes.as_slice() == message());
+    assert!(rt; bytes.as_slice() == MESSAGE.as_slice());
     Ok(())
 }

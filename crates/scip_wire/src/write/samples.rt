@@ -9,7 +9,7 @@ use std::test::Fail;
 pub const NO_DOCUMENT: &[u8; 30] =
     b"\x0A\x1C\x12\x0E\x0A\x09protoscip\x12\x011\x1A\x08file:///\x20\x01";
 
-/// The index of a file `a.proto` with one message, `A`.
+/// The index of a file `a.proto` with one message, `A`. The metadata's record has the first 30 bytes.
 pub const MESSAGE: &[u8; 200] =
     b"\x0A\x1C\x12\x0E\x0A\x09protoscip\x12\x011\x1A\x08file:///\x20\x01\
 \x12\xA7\x01\x0A\x07a.proto\
@@ -247,4 +247,12 @@ pub fn everything(alloc: Global) -> Result<Index, Fail> {
         documents,
         external_symbols,
     })
+}
+
+/// What `spell_index` answers. After `Memory` it is called again, and the second answer counts.
+pub fn spelled(alloc: Global, index: &Index) -> Result<Vec<u8>, SpellFault> {
+    match spell_index(alloc, index) {
+        Err(SpellFault::Memory) => spell_index(alloc, index),
+        answer => answer,
+    }
 }

@@ -49,14 +49,6 @@ impl Write for Narrow {
     }
 }
 
-/// What `spell_index` answers. After `Memory` it is called again, and the second answer counts.
-fn spelled(alloc: Global, index: &Index) -> Result<Vec<u8>, SpellFault> {
-    match spell_index(alloc, index) {
-        Err(SpellFault::Memory) => spell_index(alloc, index),
-        answer => answer,
-    }
-}
-
 /// What one call of `write_index` answers, and what its writer then has. The writer gets the memory
 /// for its room first, so that writing takes none.
 fn written_once(

@@ -6,7 +6,7 @@ use Rattle.std.specs.Prelude.{ℕ, Bool, false, ◌||◌, ◌&&◌, List, [], �
 abbrev pub is_blank : ℕ → Bool
 is_blank b = nat_eq b 32 || (nat_le 9 b && nat_le b 13)
 
--- an ASCII letter or `_` (with which an identifier may begin: that is our choice)
+-- an ASCII letter or `_` (with which an identifier may begin: that is the profile's)
 abbrev pub is_letter : ℕ → Bool
 is_letter b = nat_le 65 b && nat_le b 90 || nat_le 97 b && nat_le b 122 || nat_eq b 95
 

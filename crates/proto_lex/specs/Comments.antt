@@ -21,5 +21,5 @@ pub data IsComment : CommentKind → (comment rest : List ℕ) → Type 0 where
   -- `//`, and all that follows up to the next \n or the end
   line : {inside rest : List ℕ} → list_all (λ b. not (nat_eq b 10)) inside ≡ true → starts (λ b. not (nat_eq b 10)) rest ≡ false
       → IsComment Line (47 ∷ (47 ∷ inside)) rest
-  -- `/*`, and all that follows up to and with the next `*/`; a `/*` in it is plain text
+  -- `/*`, and all that follows up to and with the next `*/`; a `/*` in it is plain text (the profile's)
   block : {inside rest : List ℕ} → EndsBlock inside → IsComment Block (47 ∷ (42 ∷ inside)) rest

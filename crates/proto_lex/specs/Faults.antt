@@ -54,7 +54,7 @@ abbrev pub begins_mark : List ℕ → Bool
 begins_mark (a ∷ (b ∷ (c ∷ _))) = nat_eq a 239 && nat_eq b 187 && nat_eq c 191
 begins_mark _ = false
 
--- the first fault of the text, behind a byte order mark where it begins with one
+-- the first fault of the text, behind a byte order mark where it begins with one (that the first counts is the profile's)
 pub data IsFirstFault : List ℕ → LexFault → Type 0 where
   unmarked : {text : List ℕ} {f : LexFault} → begins_mark text ≡ false → Meets 0 text f → IsFirstFault text f
   marked : {rest : List ℕ} {f : LexFault} → Meets 3 rest f → IsFirstFault (239 ∷ (187 ∷ (191 ∷ rest))) f

@@ -42,7 +42,7 @@ pub data Spells : TokenKind → List ℕ → Type 0 where
   sign : {b : ℕ} {k : TokenKind} → sign_kind b ≡ Some k → Spells k (b ∷ [])
 
 -- such a word is a whole token where this rest of the text follows: an identifier doesn't go on, a number is its
--- whole run (our choice, over the longest number), a `.` begins no number and a `/` no comment
+-- whole run (the profile's, over the longest number), a `.` begins no number and a `/` no comment
 abbrev pub IsWhole : TokenKind → (word rest : List ℕ) → Type 0
 IsWhole kind.Identifier word rest = starts is_word rest ≡ false
 IsWhole kind.Integer word rest = run_of (word ++ rest) ≡ word
@@ -73,7 +73,7 @@ pub data LexesFrom : (at : ℕ) (bytes : List ℕ) → List Token → List Comme
       → LexesFrom at (word ++ rest) (record { kind = k; span = part at (length word) } ∷ tokens) comments
 
 -- the text is a gap, a token, a gap and so on, where a gap is blanks and comments; a byte order mark at its very
--- start is a blank (our choice)
+-- start is a blank (the profile's)
 pub data Lexes : (text : List ℕ) → (tokens : List Token) → (comments : List Comment) → Type 0 where
   unmarked : {text : List ℕ} {tokens : List Token} {comments : List Comment} → LexesFrom 0 text tokens comments → Lexes text tokens comments
   marked : {rest : List ℕ} {tokens : List Token} {comments : List Comment}

@@ -8,7 +8,7 @@ use Rattle.proto_lex.specs.Bytes.{is_octal_digit, is_hex_digit, is_hex_mark, is_
 abbrev pub is_plain : ℕ → ℕ → Bool
 is_plain quote b = not (nat_eq b quote || nat_eq b 10 || nat_eq b 0 || nat_eq b 92)
 
--- one of a b f n r t v ? \ " ' (`?` is our choice)
+-- one of a b f n r t v ? \ " ' (`?` is the profile's)
 abbrev pub is_escape_letter : ℕ → Bool
 is_escape_letter b = list_any (nat_eq b) (codes "abfnrtv?") || nat_eq b 92 || is_quote b
 

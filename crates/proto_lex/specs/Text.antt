@@ -4,7 +4,7 @@ use Rattle.std.specs.Str.{IsValidUpTo}
 use Rattle.proto_lex.specs.declared.fault.LexFault.{LexFault}
 use Rattle.proto_lex.specs.declared.fault.LexFault.TheVariants.{TooLong, NotUtf8, BadByte, OpenString, OpenComment, BadEscape, BadNumber, Memory}
 
--- The most bytes of a text.
+-- The most bytes of a text (the profile's).
 abbrev pub max_text_length : ℕ
 max_text_length = 67108864
 

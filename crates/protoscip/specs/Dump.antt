@@ -70,7 +70,8 @@ pub record IsIndexOfSource (path bytes : List ℕ) (index : Index) : Type 0 wher
 abbrev pub IsLexRefusal : List ℕ → LexFault → Type 0
 IsLexRefusal bytes fault = IsNoText bytes fault ⊎ IsUnlexed bytes fault
 
--- why tokens have no tree. (Want of memory is `Fault::Memory`. Which of the other faults comes isn't said here.)
+-- why bytes that lex have no tree. (Want of memory is `Fault::Memory`. Which of the other faults comes, and its offset,
+-- isn't said here.)
 abbrev pub IsSyntaxRefusal : List ℕ → SyntaxFault → Type 0
 IsSyntaxRefusal bytes SyntaxMemory = ⊥
 IsSyntaxRefusal bytes fault = IsUnparsed bytes

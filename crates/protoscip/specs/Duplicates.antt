@@ -1,4 +1,4 @@
--- Declarations of one full name. A file is one namespace: two of them are refused. The lists here are in order
+-- Declarations of one full name. A file is one namespace (the profile's): two of them are refused. The lists here are in order
 -- of the places of the names, so that what is earlier in a list is earlier in the file.
 use Rattle.std.specs.Prelude.{◌≡◌, ℕ, ◌<◌, ◌≤◌, List, slice_get, Some}
 use Rattle.protoscip.specs.declared.declarations.Declaration.{Declaration}

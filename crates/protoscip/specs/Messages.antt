@@ -16,9 +16,9 @@ Said before after fault status = Appends before after (fault_line source_path fa
 
 -- the stream of messages, before and after, and the exit status: nothing is said of a success, which ends with 0. A fault's
 -- line is said, with its status; or, where memory doesn't suffice for the line, that of want of memory, with that status
-abbrev pub Ends : {M : Type 0} → (contents : M → Option (List ℕ)) → (failures : M → ℕ) → M → M → Result (Unit {0}) Fault → ℕ → Type 0
-Ends contents failures before after (Ok done) status = (after ≡ before) × (status ≡ 0)
-Ends contents failures before after (Err fault) status =
+abbrev pub Tells : {M : Type 0} → (contents : M → Option (List ℕ)) → (failures : M → ℕ) → M → M → Result (Unit {0}) Fault → ℕ → Type 0
+Tells contents failures before after (Ok done) status = (after ≡ before) × (status ≡ 0)
+Tells contents failures before after (Err fault) status =
     ((status ≡ status_of fault) ⊎ (status ≡ status_of Memory))
     × Heard (failures before) (failures after)
     (Said (contents before) (contents after) fault status ⊎ Said (contents before) (contents after) Memory status)

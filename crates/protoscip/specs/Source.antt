@@ -7,7 +7,7 @@ use Rattle.scip_model.specs.Streams.{one_more}
 abbrev pub kept : List ℕ → List ℕ
 kept bytes = take (max_text_length + 1) bytes
 
--- how many reads into room for bytes may give no end
+-- the most reads into room for bytes: the end has to come within them
 abbrev pub max_reads : ℕ
 max_reads = 16777216
 
@@ -21,6 +21,6 @@ IsReadFault failures reads ends before after =
 abbrev pub IsReadThrough : {R : Type 0} → (failures ends : R → ℕ) → R → R → Type 0
 IsReadThrough failures ends before after = (failures after ≡ failures before) × (ends after ≡ one_more (ends before))
 
--- no more reads than that
+-- there were at most `max_reads` reads into room for bytes. (Counts stop at the last u64.)
 abbrev pub IsReadBriefly : {R : Type 0} → (reads : R → ℕ) → R → R → Type 0
 IsReadBriefly reads before after = reads after ≤ reads before + max_reads

@@ -115,8 +115,8 @@ fn declare_message(
     ensures { OnOk result (declarations.new.items ≡ declarations.old.items ++ declared_by text.now scope.now message.now) }
 {
     declarations.push(declaration_at(alloc, text, DeclarationKind::Message, scope, message.name)?)?;
-    let path = within(alloc, text, scope, message.name)?;
-    let inner = path.as_slice();
+    let inner_scope = within(alloc, text, scope, message.name)?;
+    let inner = inner_scope.as_slice();
     for item in &message.items {
         match item {
             MessageItem::Message(nested) => {

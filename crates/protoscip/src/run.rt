@@ -7,7 +7,7 @@ ghost use Rattle.protoscip.specs.Dump.{Dumps, LeavesReader, LeavesWriter};
 ghost use Rattle.protoscip.specs.Output.{Writes};
 ghost use Rattle.protoscip.specs.Source.{IsReadBriefly};
 ghost use Rattle.protoscip.specs.Faults.{status_of};
-ghost use Rattle.protoscip.specs.Messages.{Ends, Heard, Said};
+ghost use Rattle.protoscip.specs.Messages.{Heard, Said, Tells};
 ghost use Rattle.protoscip.specs.declared.fault.Fault.TheVariants.{Memory};
 
 use crate::command::Request;
@@ -26,10 +26,10 @@ pub fn run<R: Feed, W: Sink, M: Sink>(
     out: &mut W,
     messages: &mut M,
 ) -> u8
-    // Help and the version are printed.
+    // Help and the version are printed, or a write failed, and that is said.
     ensures printed { IfSome (printed_text request.now) (λ text. (done : Result (Unit {0}) Fault)
         × Writes W.contents W.failures out.old out.new text done
-        × Ends M.contents M.failures messages.old messages.new done result
+        × Tells M.contents M.failures messages.old messages.new done result
         × (input.new ≡ input.old)) }
     // Of a refused command line it is said why.
     ensures refused { IfSome (refused_text request.now) (λ text. (result ≡ 2)
@@ -43,7 +43,7 @@ pub fn run<R: Feed, W: Sink, M: Sink>(
         × LeavesReader R.failures R.reads R.ends input.old input.new done
         × IsReadBriefly R.reads input.old input.new
         × LeavesWriter W.failures out.old out.new done
-        × Ends M.contents M.failures messages.old messages.new done result }
+        × Tells M.contents M.failures messages.old messages.new done result }
 {
     let done = match request {
         Request::Dump => dump(alloc, input, out),

@@ -7,7 +7,7 @@ use proto_lex::MAX_TEXT_LENGTH;
 use scip_model::{Failed, Feed};
 use std::alloc::{AllocError, Global};
 
-/// How many reads into room for bytes may give no end.
+/// The most reads into room for bytes: the end has to come within them.
 pub const MAX_READS: u32 = 16_777_216;
 
 /// How many bytes are read at a time.

@@ -117,10 +117,11 @@ pub fn symbol_of(
 pub fn one_symbol()
     ensures files { (path : List ℕ) → (other : List ℕ)
         → file_symbol_text path ≡ file_symbol_text other → path ≡ other }
-    ensures declarations { (kind : DeclarationKind) → (other : DeclarationKind)
-        → (scope : List (List ℕ)) → (outer : List (List ℕ)) → (name : List ℕ) → (word : List ℕ)
-        → symbol_text kind scope name ≡ symbol_text other outer word
-        → (kind ≡ other) × (scope ≡ outer) × (name ≡ word) }
+    ensures declarations { (kind : DeclarationKind) → (other_kind : DeclarationKind)
+        → (scope : List (List ℕ)) → (other_scope : List (List ℕ))
+        → (name : List ℕ) → (other_name : List ℕ)
+        → symbol_text kind scope name ≡ symbol_text other_kind other_scope other_name
+        → (kind ≡ other_kind) × (scope ≡ other_scope) × (name ≡ other_name) }
     ensures apart { (path : List ℕ)
         → (kind : DeclarationKind) → (scope : List (List ℕ)) → (name : List ℕ)
         → file_symbol_text path ≡ symbol_text kind scope name → ⊥ }

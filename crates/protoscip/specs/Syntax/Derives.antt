@@ -78,7 +78,7 @@ mutual
     nested : {room : ℕ} {a b c : List Lexeme} {message : MessageTree} {others : Body}
         → IsMessage room a message b → IsBody room b others c → IsBody room a (MessageThen message.heading message.body others) c
 
--- "Proto file": what stands behind the syntax statement, up to the end: messages and `;`. 64 messages may stand inside one another.
+-- "Proto file": what stands behind the syntax statement, up to the end: messages and `;`. 64 messages may stand inside one another (the profile's).
 pub data AreStatements : List Lexeme → List MessageTree → Type 0 where
   at_end : AreStatements [] []
   semicolon : {a b : List Lexeme} {span : Span} {messages : List MessageTree}

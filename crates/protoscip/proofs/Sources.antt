@@ -1,12 +1,14 @@
 -- The steps of a dump, joined: what they give of the source's bytes.
-use Rattle.std.proofs.Common.{◌≡◌, ℕ, List, [], take, refl, ap, ◌∙◌, subst, Option, Result, Ok, Err}
+use Rattle.std.proofs.Common.{◌≡◌, ℕ, List, [], take, refl, ap, sym, ◌∙◌, subst, Option, Result, Ok, Err}
 use Rattle.proto_lex.specs.declared.span.Span.{Span}
+use Rattle.proto_lex.specs.declared.fault.LexFault.{LexFault}
 use Rattle.proto_lex.specs.Text.{IsText}
 use Rattle.proto_lex.specs.Lexes.{Lexes}
 use Rattle.proto_lex.specs.Lexed.{Lexed}
 use Rattle.scip_model.specs.declared.records.Index.{Index}
 use Rattle.protoscip.specs.declared.fault.Fault.{Fault}
 use Rattle.protoscip.specs.declared.fault.Fault.TheVariants as fault
+use Rattle.protoscip.specs.declared.syntax.fault.SyntaxFault.{SyntaxFault}
 use Rattle.protoscip.specs.declared.source.SourceFault.{SourceFault}
 use Rattle.protoscip.specs.declared.source.SourceFault.TheVariants as source
 use Rattle.protoscip.specs.Faults.{refusal_of_source}
@@ -70,36 +72,35 @@ module _ (bytes text : List ℕ) (lexed : Lexed) (reads : Reads bytes text lexed
       is = subst (λ (ds : List Declaration). IsIndexOf path bytes ds index) are_of (subst (λ (t : List ℕ). IsIndexOf path t declarations index) reads.text_is is);
     }
 
+-- a fault that refuses bytes is none of reading or writing
+pub refusal-elim : (P : Fault → Type 0) → P fault.Memory → ((e : LexFault) → P (fault.Lex e)) → ((e : SyntaxFault) → P (fault.Syntax e))
+    → ((first second : Span) → P (fault.Duplicate first second)) → P fault.TooLarge → (bytes : List ℕ) (e : Fault) → IsRefusal bytes e → P e
+refusal-elim P memory lex syntax duplicate large bytes fault.Memory is = memory
+refusal-elim P memory lex syntax duplicate large bytes fault.Read is = absurd is
+refusal-elim P memory lex syntax duplicate large bytes (fault.Lex e) is = lex e
+refusal-elim P memory lex syntax duplicate large bytes (fault.Syntax e) is = syntax e
+refusal-elim P memory lex syntax duplicate large bytes (fault.Duplicate first second) is = duplicate first second
+refusal-elim P memory lex syntax duplicate large bytes fault.TooLarge is = large
+refusal-elim P memory lex syntax duplicate large bytes (fault.Write count) is = absurd is
+
 -- a refusal of the bytes writes nothing
 pub dumps-refusal : (bytes : List ℕ) (e : Fault) → IsRefusal bytes e → Dumps bytes [] (Err e)
-dumps-refusal bytes fault.Memory is = (refl, is)
-dumps-refusal bytes fault.Read is = absurd is
-dumps-refusal bytes (fault.Lex e) is = (refl, is)
-dumps-refusal bytes (fault.Syntax e) is = (refl, is)
-dumps-refusal bytes (fault.Duplicate first second) is = (refl, is)
-dumps-refusal bytes fault.TooLarge is = (refl, is)
-dumps-refusal bytes (fault.Write count) is = absurd is
+dumps-refusal bytes e is =
+    let P : Fault → Type 0 = λ f. IsRefusal bytes f → Dumps bytes [] (Err f) in
+    refusal-elim P (λ i. (refl, i)) (λ _ i. (refl, i)) (λ _ i. (refl, i)) (λ _ _ i. (refl, i)) (λ i. (refl, i)) bytes e is is
 
 -- a refusal of the bytes comes once the reader was read to its end
 pub leaves-reader : (R : Type 0) (failures reads ends : R → ℕ) (before after : R) (bytes : List ℕ) (e : Fault)
     → IsRefusal bytes e → IsReadThrough failures ends before after → LeavesReader failures reads ends before after (Err e)
-leaves-reader R failures reads ends before after bytes fault.Memory is through = tt
-leaves-reader R failures reads ends before after bytes fault.Read is through = absurd is
-leaves-reader R failures reads ends before after bytes (fault.Lex e) is through = through
-leaves-reader R failures reads ends before after bytes (fault.Syntax e) is through = through
-leaves-reader R failures reads ends before after bytes (fault.Duplicate first second) is through = through
-leaves-reader R failures reads ends before after bytes fault.TooLarge is through = through
-leaves-reader R failures reads ends before after bytes (fault.Write count) is through = absurd is
+leaves-reader R failures reads ends before after bytes e is through =
+    let P : Fault → Type 0 = λ f. LeavesReader failures reads ends before after (Err f) in
+    refusal-elim P through.0 (λ _. through) (λ _. through) (λ _ _. through) through bytes e is
 
 -- and leaves the writer as it was
 pub leaves-writer : (W : Type 0) (failures : W → ℕ) (out : W) (bytes : List ℕ) (e : Fault) → IsRefusal bytes e → LeavesWriter failures out out (Err e)
-leaves-writer W failures out bytes fault.Memory is = refl
-leaves-writer W failures out bytes fault.Read is = refl
-leaves-writer W failures out bytes (fault.Lex e) is = refl
-leaves-writer W failures out bytes (fault.Syntax e) is = refl
-leaves-writer W failures out bytes (fault.Duplicate first second) is = refl
-leaves-writer W failures out bytes fault.TooLarge is = refl
-leaves-writer W failures out bytes (fault.Write count) is = absurd is
+leaves-writer W failures out bytes e is =
+    let P : Fault → Type 0 = λ f. LeavesWriter failures out out (Err f) in
+    refusal-elim P refl (λ _. refl) (λ _. refl) (λ _ _. refl) refl bytes e is
 
 -- of a source that wasn't read to its end
 pub unread-dumps : (bytes : List ℕ) (f : SourceFault) → Dumps bytes [] (Err (refusal_of_source f))
@@ -107,46 +108,33 @@ unread-dumps bytes source.Read = refl
 unread-dumps bytes source.Memory = (refl, tt)
 
 pub unread-reader : (R : Type 0) (failures reads ends : R → ℕ) (before after : R) (f : SourceFault)
-    → (f ≡ source.Read → IsReadFault failures reads ends before after) → LeavesReader failures reads ends before after (Err (refusal_of_source f))
-unread-reader R failures reads ends before after source.Read why = why refl
-unread-reader R failures reads ends before after source.Memory why = tt
+    → (f ≡ source.Read → IsReadFault failures reads ends before after) → (f ≡ source.Memory → failures after ≡ failures before)
+    → LeavesReader failures reads ends before after (Err (refusal_of_source f))
+unread-reader R failures reads ends before after source.Read why memory = why refl
+unread-reader R failures reads ends before after source.Memory why memory = memory refl
 
 pub unread-writer : (W : Type 0) (failures : W → ℕ) (out : W) (f : SourceFault) → LeavesWriter failures out out (Err (refusal_of_source f))
 unread-writer W failures out source.Read = refl
 unread-writer W failures out source.Memory = refl
 
 -- of a listing that was written
-pub written-dumps : (W : Type 0) (contents : W → Option (List ℕ)) (failures : W → ℕ) (before after : W) (bytes listing : List ℕ) (done : Result (Unit {0}) Fault)
-    → IsListing bytes listing → Writes contents failures before after listing done
-    → (written : List ℕ) × Appends (contents before) (contents after) written × Dumps bytes written done
-written-dumps W contents failures before after bytes listing (Ok done) is wrote = (listing, wrote.0, is)
-written-dumps W contents failures before after bytes listing (Err fault.Memory) is wrote = absurd wrote
-written-dumps W contents failures before after bytes listing (Err fault.Read) is wrote = absurd wrote
-written-dumps W contents failures before after bytes listing (Err (fault.Lex e)) is wrote = absurd wrote
-written-dumps W contents failures before after bytes listing (Err (fault.Syntax e)) is wrote = absurd wrote
-written-dumps W contents failures before after bytes listing (Err (fault.Duplicate first second)) is wrote = absurd wrote
-written-dumps W contents failures before after bytes listing (Err fault.TooLarge) is wrote = absurd wrote
-written-dumps W contents failures before after bytes listing (Err (fault.Write count)) is wrote = (take count listing, wrote.1, (listing, is, wrote.0, refl))
+module _ (W : Type 0) (contents : W → Option (List ℕ)) (failures : W → ℕ) (before after : W) (listing : List ℕ) where
+  pub written-dumps : (bytes : List ℕ) (done : Result (Unit {0}) Fault) → IsListing bytes listing → Writes contents failures before after listing done
+      → (written : List ℕ) × Appends (contents before) (contents after) written × Dumps bytes written done
+  written-dumps bytes (Ok done) is wrote = (listing, wrote.0, is)
+  written-dumps bytes (Err e) is wrote =
+      let P : Fault → Type 0 = λ f. Dumps bytes (take wrote.0 listing) (Err f) in
+      (take wrote.0 listing, wrote.2.added, subst P (sym wrote.1) (listing, is, wrote.2.short, refl))
 
-pub written-reader : (R W : Type 0) (reader_failures reads ends : R → ℕ) (start end : R) (contents : W → Option (List ℕ)) (failures : W → ℕ) (before after : W)
-    (listing : List ℕ) (done : Result (Unit {0}) Fault)
-    → IsReadThrough reader_failures ends start end → Writes contents failures before after listing done → LeavesReader reader_failures reads ends start end done
-written-reader R W reader_failures reads ends start end contents failures before after listing (Ok done) through wrote = through
-written-reader R W reader_failures reads ends start end contents failures before after listing (Err fault.Memory) through wrote = absurd wrote
-written-reader R W reader_failures reads ends start end contents failures before after listing (Err fault.Read) through wrote = absurd wrote
-written-reader R W reader_failures reads ends start end contents failures before after listing (Err (fault.Lex e)) through wrote = through
-written-reader R W reader_failures reads ends start end contents failures before after listing (Err (fault.Syntax e)) through wrote = through
-written-reader R W reader_failures reads ends start end contents failures before after listing (Err (fault.Duplicate first second)) through wrote = through
-written-reader R W reader_failures reads ends start end contents failures before after listing (Err fault.TooLarge) through wrote = through
-written-reader R W reader_failures reads ends start end contents failures before after listing (Err (fault.Write count)) through wrote = through
+  pub written-reader : (R : Type 0) (reader_failures reads ends : R → ℕ) (start end : R) (done : Result (Unit {0}) Fault)
+      → IsReadThrough reader_failures ends start end → Writes contents failures before after listing done → LeavesReader reader_failures reads ends start end done
+  written-reader R reader_failures reads ends start end (Ok done) through wrote = through
+  written-reader R reader_failures reads ends start end (Err e) through wrote =
+      let P : Fault → Type 0 = λ f. LeavesReader reader_failures reads ends start end (Err f) in
+      subst P (sym wrote.1) through
 
-pub written-writer : (W : Type 0) (contents : W → Option (List ℕ)) (failures : W → ℕ) (before after : W) (listing : List ℕ) (done : Result (Unit {0}) Fault)
-    → Writes contents failures before after listing done → LeavesWriter failures before after done
-written-writer W contents failures before after listing (Ok done) wrote = wrote.1
-written-writer W contents failures before after listing (Err fault.Memory) wrote = absurd wrote
-written-writer W contents failures before after listing (Err fault.Read) wrote = absurd wrote
-written-writer W contents failures before after listing (Err (fault.Lex e)) wrote = absurd wrote
-written-writer W contents failures before after listing (Err (fault.Syntax e)) wrote = absurd wrote
-written-writer W contents failures before after listing (Err (fault.Duplicate first second)) wrote = absurd wrote
-written-writer W contents failures before after listing (Err fault.TooLarge) wrote = absurd wrote
-written-writer W contents failures before after listing (Err (fault.Write count)) wrote = wrote.2
+  pub written-writer : (done : Result (Unit {0}) Fault) → Writes contents failures before after listing done → LeavesWriter failures before after done
+  written-writer (Ok done) wrote = wrote.1
+  written-writer (Err e) wrote =
+      let P : Fault → Type 0 = λ f. LeavesWriter failures before after (Err f) in
+      subst P (sym wrote.1) wrote.2.failed

@@ -99,9 +99,9 @@ Dumps bytes written (Err Read) = written ≡ []
 Dumps bytes written (Err (Write count)) = (listing : List ℕ) × IsListing bytes listing × (count < length listing) × (written ≡ take count listing)
 Dumps bytes written (Err fault) = (written ≡ []) × IsRefusal bytes fault
 
--- the reader, before and after: it was read to its end; at Read, why it wasn't; at Memory, nothing is said
+-- the reader, before and after: it was read to its end; at Read, why it wasn't; at Memory, no read failed
 abbrev pub LeavesReader : {R : Type 0} → (failures reads ends : R → ℕ) → R → R → Result (Unit {0}) Fault → Type 0
-LeavesReader failures reads ends before after (Err Memory) = Unit {0}
+LeavesReader failures reads ends before after (Err Memory) = failures after ≡ failures before
 LeavesReader failures reads ends before after (Err Read) = IsReadFault failures reads ends before after
 LeavesReader failures reads ends before after other = IsReadThrough failures ends before after
 

@@ -207,6 +207,3 @@ fn name_of_syntax(fault: &SyntaxFault) -> &'static str
         SyntaxFault::Memory => "Memory",
     }
 }
-
-#[cfg(test)]
-mod tests;

@@ -1,9 +1,8 @@
 //! Symbols as text, by the grammar in the comment of `scip.proto`'s `Symbol`.
 
-ghost use Rattle.std.specs.Prelude.{◌≡◌, ◌++◌, ℕ, List, OnOk, IfOk};
+ghost use Rattle.std.specs.Prelude.{◌≡◌, ◌++◌, OnOk, IfOk};
 ghost use Rattle.std.specs.List.{list_all};
 ghost use Rattle.std.specs.String.{string_bytes};
-ghost use Rattle.protoscip.specs.declared.declarations.DeclarationKind.{DeclarationKind};
 ghost use Rattle.protoscip.specs.Symbols.{is_identifier_character, is_simple_identifier, doubled, name_text, suffix_of, descriptors_text, file_symbol_text, symbol_text};
 
 use crate::declarations::DeclarationKind;
@@ -111,18 +110,3 @@ pub fn symbol_of(
     push_descriptors(&mut out, kind, scope, name)?;
     Ok(OwnedText::from_string(out))
 }
-
-/// A law: a text is the symbol of one file at most, or of one declaration's kind, scope and name,
-/// and never of both.
-pub fn one_symbol()
-    ensures files { (path : List ℕ) → (other : List ℕ)
-        → file_symbol_text path ≡ file_symbol_text other → path ≡ other }
-    ensures declarations { (kind : DeclarationKind) → (other_kind : DeclarationKind)
-        → (scope : List (List ℕ)) → (other_scope : List (List ℕ))
-        → (name : List ℕ) → (other_name : List ℕ)
-        → symbol_text kind scope name ≡ symbol_text other_kind other_scope other_name
-        → (kind ≡ other_kind) × (scope ≡ other_scope) × (name ≡ other_name) }
-    ensures apart { (path : List ℕ)
-        → (kind : DeclarationKind) → (scope : List (List ℕ)) → (name : List ℕ)
-        → file_symbol_text path ≡ symbol_text kind scope name → ⊥ }
-{}

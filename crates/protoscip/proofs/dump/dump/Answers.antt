@@ -18,7 +18,7 @@ returns-in_err-bytes-clause-dumped g c = λ all known.
 pub returns-in_err-bytes-clause-reader : goal.returns-in_err-bytes-clause-reader
 returns-in_err-bytes-clause-reader g c =
     let p = err_from_is_err_and c.from_residual.result c.from_residual.ensures.1 in
-    rw (p.1, p.2) (unread-reader _ g.R.Feed.failures g.R.Feed.reads g.R.Feed.ends c.args.source.now c.read_source.new.source c.in_err-bytes.field-0.0 (λ e. c.in_err-bytes.ensures.read (ap Err e)))
+    rw (p.1, p.2) (unread-reader _ g.R.Feed.failures g.R.Feed.reads g.R.Feed.ends c.args.source.now c.read_source.new.source c.in_err-bytes.field-0.0 (λ e. c.in_err-bytes.ensures.read (ap Err e)) (λ e. c.in_err-bytes.ensures.memory (ap Err e)))
 
 pub returns-in_err-bytes-clause-writer : goal.returns-in_err-bytes-clause-writer
 returns-in_err-bytes-clause-writer g c =
@@ -53,11 +53,13 @@ returns-clause-dumped g c = λ all known.
     let bytes = c.deref.ensures.value ∙ c.in_ok-bytes.ensures.bytes all known in
     let is = listing-of-all all listing (subst (λ (b : List ℕ). IsListing b listing) bytes c.in_ok-listing.ensures) in
     let wrote = subst (λ (t : List ℕ). Writes g.W.Sink.contents g.W.Sink.failures c.args.out.now c.write_text.new.out t c.write_text.result) c.as_str.ensures.value c.write_text.ensures in
-    written-dumps _ g.W.Sink.contents g.W.Sink.failures c.args.out.now c.write_text.new.out all listing c.write_text.result is wrote
+    written-dumps _ g.W.Sink.contents g.W.Sink.failures c.args.out.now c.write_text.new.out listing all c.write_text.result is wrote
 
 pub returns-clause-reader : goal.returns-clause-reader
 returns-clause-reader g c =
-    written-reader _ _ g.R.Feed.failures g.R.Feed.reads g.R.Feed.ends c.args.source.now c.read_source.new.source g.W.Sink.contents g.W.Sink.failures c.args.out.now c.write_text.new.out c.as_str.result.now c.write_text.result c.in_ok-bytes.ensures.through c.write_text.ensures
+    written-reader _ g.W.Sink.contents g.W.Sink.failures c.args.out.now c.write_text.new.out c.as_str.result.now
+    _ g.R.Feed.failures g.R.Feed.reads g.R.Feed.ends c.args.source.now c.read_source.new.source c.write_text.result c.in_ok-bytes.ensures.through c.write_text.ensures
 
 pub returns-clause-writer : goal.returns-clause-writer
-returns-clause-writer g c = written-writer _ g.W.Sink.contents g.W.Sink.failures c.args.out.now c.write_text.new.out c.as_str.result.now c.write_text.result c.write_text.ensures
+returns-clause-writer g c =
+    written-writer _ g.W.Sink.contents g.W.Sink.failures c.args.out.now c.write_text.new.out c.as_str.result.now c.write_text.result c.write_text.ensures

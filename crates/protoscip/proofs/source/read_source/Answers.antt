@@ -39,9 +39,9 @@ reads-preserved g c =
             after.0,
             after.1,
             before.3 ∙ ap (λ l. before.0 ++ l) after.2 ∙ sym (append_assoc before.0 taken after.0),
-            c.in_ok-keep.ensures ∙ kept-more before.0 taken c.reads.bytes.items before.4,
+            c.in_ok-append_kept.ensures ∙ kept-more before.0 taken c.reads.bytes.items before.4,
           );
-      few = subst (λ (l : List ℕ). length l ≤ 67108865) (sym c.in_ok-keep.ensures) (kept-few _);
+      few = subst (λ (l : List ℕ). length l ≤ 67108865) (sym c.in_ok-append_kept.ensures) (kept-few _);
       failures = c.in-Ok.ensures.failures ∙ c.reads.invariant.failures;
       no_reads = λ none. absurd (omega arith);
       reads = λ _. one-more-read _ _ _ c.reads._read c.reads.invariant.no_reads c.reads.invariant.reads read;

@@ -1,7 +1,7 @@
 //! Writing an index.
 
 ghost use Rattle.std.specs.Prelude.{◌≡◌, ◌<◌, ◌≤◌, ◌↔◌, length, IfOk, IfErr, OnOk, OkIff, Err};
-ghost use Rattle.std.specs.Io.KnownBytes.{Appends};
+ghost use Rattle.scip_model.specs.WholeWrites.{IsWritten};
 ghost use Rattle.scip_wire.specs.Spelling.{spelling_of};
 ghost use Rattle.scip_wire.specs.WellFormed.{IsWellFormed};
 ghost use Rattle.scip_wire.specs.Writing.{Leaves};
@@ -46,8 +46,7 @@ pub fn spell_index(alloc: Global, index: &Index) -> Result<Vec<u8>, SpellFault>
 
 /// Writes the spelling of an index.
 pub fn write_index<W: Sink>(alloc: Global, index: &Index, sink: &mut W) -> Result<(), WriteFault>
-    ensures ok { OnOk result (Appends (W.contents sink.old) (W.contents sink.new) (spelling_of index.now)) }
-    ensures unfailed { OnOk result (W.failures sink.new ≡ W.failures sink.old) }
+    ensures ok { OnOk result (IsWritten W.contents W.failures sink.old sink.new (spelling_of index.now)) }
     ensures too_large { (result ≡ Err WriteFault.TooLarge) ↔ (2147483647 < length (spelling_of index.now)) }
     ensures refused { IfErr result (Leaves W.contents W.failures sink.old sink.new (spelling_of index.now)) }
     ensures known { IsWellFormed index.now }

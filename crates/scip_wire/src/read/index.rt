@@ -4,9 +4,8 @@ ghost use Rattle.scip_wire.specs.Reading.{no_index, index_step};
 
 use crate::read::field::{Field, Payload};
 use crate::read::message::{Message, read_message, read_only};
-use crate::read::text::{append, empty_sequence};
 use crate::wire_fault::WireFault;
-use scip_model::Index;
+use scip_model::{Index, Sequence};
 use std::alloc::Global;
 
 impl Message for Index {
@@ -17,8 +16,8 @@ impl Message for Index {
     fn empty(alloc: Global) -> Index {
         Index {
             metadata: None,
-            documents: empty_sequence(alloc),
-            external_symbols: empty_sequence(alloc),
+            documents: Sequence::new(alloc),
+            external_symbols: Sequence::new(alloc),
         }
     }
 
@@ -35,14 +34,11 @@ impl Message for Index {
                 self.metadata = read_only(alloc, &self.metadata, bytes, start, end)?;
             }
             (2, Payload::Delimited(bytes)) => {
-                append(alloc, &mut self.documents, read_message(alloc, bytes, end)?)?;
+                self.documents.push(read_message(alloc, bytes, end)?)?;
             }
             (3, Payload::Delimited(bytes)) => {
-                append(
-                    alloc,
-                    &mut self.external_symbols,
-                    read_message(alloc, bytes, end)?,
-                )?;
+                self.external_symbols
+                    .push(read_message(alloc, bytes, end)?)?;
             }
             _ => {}
         }

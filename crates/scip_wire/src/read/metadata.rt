@@ -4,9 +4,9 @@ ghost use Rattle.scip_wire.specs.Reading.{no_metadata, metadata_step};
 
 use crate::read::field::{Field, Payload};
 use crate::read::message::{Message, read_only};
-use crate::read::text::{empty_text, number_of, text_of};
+use crate::read::text::{number_of, text_of};
 use crate::wire_fault::WireFault;
-use scip_model::Metadata;
+use scip_model::{Metadata, OwnedText};
 use std::alloc::Global;
 
 impl Message for Metadata {
@@ -18,7 +18,7 @@ impl Message for Metadata {
         Metadata {
             version: 0,
             tool_info: None,
-            project_root: empty_text(alloc),
+            project_root: OwnedText::new(alloc),
             text_document_encoding: 0,
         }
     }

@@ -4,11 +4,10 @@ ghost use Rattle.std.specs.Prelude.{◌≡◌};
 ghost use Rattle.scip_wire.specs.Gives.{Gives};
 ghost use Rattle.scip_wire.specs.Reading.{fold_at, varint_at, packed_step, range_at};
 
-use crate::read::text::{append, low_bits};
+use crate::read::text::low_bits;
 use crate::read::varint::{VARINT_BYTES, varint_of};
 use crate::wire_fault::WireFault;
 use scip_model::{Range, Sequence};
-use std::alloc::Global;
 
 /// The varint that the bytes begin with, in a record at `start` in the input, and the bytes behind
 /// it.
@@ -24,18 +23,13 @@ fn read_varint(bytes: &[u8], start: usize) -> Result<(u64, &[u8]), WireFault>
 
 /// Adds the numbers of a packed field, whose record is at `start` in the input (Protocol Buffers
 /// encoding, Packed Repeated Fields). After an error the numbers are of no use.
-pub fn add_packed(
-    alloc: Global,
-    numbers: &mut Sequence<u32>,
-    bytes: &[u8],
-    start: usize,
-) -> Result<(), WireFault>
+pub fn add_packed(numbers: &mut Sequence<u32>, bytes: &[u8], start: usize) -> Result<(), WireFault>
     ensures { Gives (λ _. numbers.new) result (fold_at (varint_at 10) packed_step bytes.now numbers.old) }
 {
     let mut rest = bytes;
     'varints: while !rest.is_empty() {
         let (value, after) = read_varint(rest, start)?;
-        append(alloc, numbers, low_bits(value))?;
+        numbers.push(low_bits(value))?;
         rest = after;
     }
     Ok(())

@@ -3,14 +3,14 @@
 ghost use Rattle.scip_wire.specs.Reading.{no_document, document_step};
 
 use crate::read::field::{Field, Payload};
-use crate::read::message::{Message, read_message};
+use crate::read::message::{Decode, read_message};
 use crate::read::occurrence::add_occurrence;
 use crate::read::text::{number_of, text_of};
 use crate::wire_fault::WireFault;
 use scip_model::{Document, OwnedText, Sequence};
 use std::alloc::Global;
 
-impl Message for Document {
+impl Decode for Document {
     ghost none = { no_document };
 
     ghost step = { document_step };
@@ -26,7 +26,7 @@ impl Message for Document {
     }
 
     #[tactic(auto, unfolding(crate::specs::Reading::document_step, crate::specs::Reading::info_at, crate::specs::Reading::parted, crate::specs::Reading::both, crate::specs::Reading::column))]
-    fn take_in(
+    fn merge_field(
         &mut self,
         alloc: Global,
         field: Field<'_>,

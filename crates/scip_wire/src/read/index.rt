@@ -3,12 +3,12 @@
 ghost use Rattle.scip_wire.specs.Reading.{no_index, index_step};
 
 use crate::read::field::{Field, Payload};
-use crate::read::message::{Message, read_message, read_only};
+use crate::read::message::{Decode, read_message, read_only};
 use crate::wire_fault::WireFault;
 use scip_model::{Index, Sequence};
 use std::alloc::Global;
 
-impl Message for Index {
+impl Decode for Index {
     ghost none = { no_index };
 
     ghost step = { index_step };
@@ -22,7 +22,7 @@ impl Message for Index {
     }
 
     #[tactic(auto, unfolding(crate::specs::Reading::index_step, crate::specs::Reading::metadata_at, crate::specs::Reading::document_at, crate::specs::Reading::info_at, crate::specs::Reading::parted, crate::specs::Reading::both, crate::specs::Reading::column))]
-    fn take_in(
+    fn merge_field(
         &mut self,
         alloc: Global,
         field: Field<'_>,

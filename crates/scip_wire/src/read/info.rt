@@ -3,13 +3,13 @@
 ghost use Rattle.scip_wire.specs.Reading.{no_info, info_step};
 
 use crate::read::field::{Field, Payload};
-use crate::read::message::Message;
+use crate::read::message::Decode;
 use crate::read::text::text_of;
 use crate::wire_fault::WireFault;
 use scip_model::{Info, OwnedText, Sequence};
 use std::alloc::Global;
 
-impl Message for Info {
+impl Decode for Info {
     ghost none = { no_info };
 
     ghost step = { info_step };
@@ -23,7 +23,7 @@ impl Message for Info {
     }
 
     #[tactic(auto, unfolding(crate::specs::Reading::info_step, crate::specs::Reading::parted, crate::specs::Reading::both, crate::specs::Reading::column))]
-    fn take_in(
+    fn merge_field(
         &mut self,
         alloc: Global,
         field: Field<'_>,

@@ -3,13 +3,13 @@
 ghost use Rattle.scip_wire.specs.Reading.{no_metadata, metadata_step};
 
 use crate::read::field::{Field, Payload};
-use crate::read::message::{Message, read_only};
+use crate::read::message::{Decode, read_only};
 use crate::read::text::{number_of, text_of};
 use crate::wire_fault::WireFault;
 use scip_model::{Metadata, OwnedText};
 use std::alloc::Global;
 
-impl Message for Metadata {
+impl Decode for Metadata {
     ghost none = { no_metadata };
 
     ghost step = { metadata_step };
@@ -24,7 +24,7 @@ impl Message for Metadata {
     }
 
     #[tactic(auto, unfolding(crate::specs::Reading::metadata_step, crate::specs::Reading::tool_info_at, crate::specs::Reading::parted, crate::specs::Reading::both, crate::specs::Reading::column))]
-    fn take_in(
+    fn merge_field(
         &mut self,
         alloc: Global,
         field: Field<'_>,

@@ -5,7 +5,7 @@ ghost use Rattle.scip_wire.specs.Gives.{Gives};
 ghost use Rattle.scip_wire.specs.Reading.{occurrence_after};
 
 use crate::read::field::{Field, Payload};
-use crate::read::message::{Message, read_message};
+use crate::read::message::{Decode, read_message};
 use crate::read::range::{add_packed, range_of};
 use crate::read::text::{low_bits, number_of, text_of};
 use crate::wire_fault::WireFault;
@@ -20,7 +20,7 @@ pub struct OccurrenceParts {
     pub symbol_roles: i32,
 }
 
-impl Message for OccurrenceParts {
+impl Decode for OccurrenceParts {
     ghost use Rattle.scip_wire.specs.Reading.{no_parts, occurrence_step};
 
     ghost none = { no_parts };
@@ -35,8 +35,8 @@ impl Message for OccurrenceParts {
         }
     }
 
-    #[tactic(auto, unfolding(crate::specs::Reading::occurrence_step, crate::specs::Reading::parted, crate::specs::Reading::both, crate::specs::Reading::column), using(crate::proofs::Messages::fold_of_packed))]
-    fn take_in(
+    #[tactic(auto, unfolding(crate::specs::Reading::occurrence_step, crate::specs::Reading::parted, crate::specs::Reading::both, crate::specs::Reading::column), using(crate::proofs::DecodesLemmas::fold_of_packed))]
+    fn merge_field(
         &mut self,
         alloc: Global,
         field: Field<'_>,

@@ -11,13 +11,13 @@ use scip_model::{Range, Sequence};
 
 /// The varint that the bytes begin with, in a record at `start` in the input, and the bytes behind
 /// it.
-#[tactic(auto, using(crate::proofs::Faults::of_bytes))]
+#[tactic(auto)]
 fn read_varint(bytes: &[u8], start: usize) -> Result<(u64, &[u8]), WireFault>
     ensures { Gives (λ x. (x.0, x.1.now)) result (varint_at 10 bytes.now) }
 {
     match varint_of(bytes, VARINT_BYTES) {
         Ok(read) => Ok(read),
-        Err(cause) => Err(cause.at(start)),
+        Err(fault) => Err(fault.at(start)),
     }
 }
 
@@ -39,7 +39,7 @@ pub fn add_packed(numbers: &mut Sequence<u32>, bytes: &[u8], start: usize) -> Re
 /// end column]` (`scip.proto`, `Occurrence.range`).
 ///
 /// None for any other count, and where a number is negative as an int32.
-#[tactic(auto, unfolding(crate::specs::Reading::range_at), using(crate::proofs::Messages::checked_of))]
+#[tactic(auto, unfolding(crate::specs::Reading::range_at), using(crate::proofs::DecodesLemmas::checked_of))]
 pub fn range_of(numbers: &[u32]) -> Option<Range>
     ensures { result ≡ range_at numbers.now }
 {

@@ -11,7 +11,7 @@ use std::alloc::Global;
 use std::str;
 
 /// The text of a field, whose record is at `start` in the input.
-#[tactic(auto, unfolding(crate::specs::Reading::text_at), using(crate::proofs::Texts::text_of_utf8, crate::proofs::Texts::none_of_others))]
+#[tactic(auto, unfolding(crate::specs::Reading::text_at), using(crate::proofs::TextLemmas::text_of_utf8, crate::proofs::TextLemmas::none_of_others))]
 pub fn text_of(alloc: Global, bytes: &[u8], start: usize) -> Result<OwnedText, WireFault>
     ensures { Gives (λ t. t) result (text_at bytes.now) }
 {

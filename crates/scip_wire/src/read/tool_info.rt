@@ -3,13 +3,13 @@
 ghost use Rattle.scip_wire.specs.Reading.{no_tool_info, tool_info_step};
 
 use crate::read::field::{Field, Payload};
-use crate::read::message::Message;
+use crate::read::message::Decode;
 use crate::read::text::text_of;
 use crate::wire_fault::WireFault;
 use scip_model::{OwnedText, Sequence, ToolInfo};
 use std::alloc::Global;
 
-impl Message for ToolInfo {
+impl Decode for ToolInfo {
     ghost none = { no_tool_info };
 
     ghost step = { tool_info_step };
@@ -23,7 +23,7 @@ impl Message for ToolInfo {
     }
 
     #[tactic(auto, unfolding(crate::specs::Reading::tool_info_step, crate::specs::Reading::parted, crate::specs::Reading::both, crate::specs::Reading::column))]
-    fn take_in(
+    fn merge_field(
         &mut self,
         alloc: Global,
         field: Field<'_>,

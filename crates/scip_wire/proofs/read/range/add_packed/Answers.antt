@@ -1,8 +1,8 @@
 use Rattle.std.proofs.Common.{◌∙◌, ◌≡◌, Some, refl}
 use Rattle.std.proofs.lemmas.Result.{err_from_is_err_and}
 use Rattle.scip_wire.specs.Reading.{varint_at, packed_step}
-use Rattle.scip_wire.proofs.Loops.{goes_on, unread, is_done}
-use Rattle.scip_wire.proofs.Messages.{varint_shortens}
+use Rattle.scip_wire.proofs.FoldLemmas.{goes_on, unread, is_done}
+use Rattle.scip_wire.proofs.DecodesLemmas.{varint_shortens}
 use Rattle.scip_wire.proofs.read.range.add_packed.Goals as goal
 
 pub returns-in_err-value : goal.returns-in_err-value

@@ -1,14 +1,14 @@
-use Rattle.std.proofs.Common.{◌≡◌, ℕ, zero, suc, ◌+◌, ◌-◌, ◌<◌, Bool, true, false, cond, ◌||◌, ◌&&◌, nat_eq, Option, Some, None, Ok, Err, List, [], ◌∷◌, ◌++◌, length, drop, refl, sym, ◌∙◌, ap, subst, arith, eqb-true, add-zero}
+use Rattle.std.proofs.Common.{◌≡◌, ℕ, zero, suc, ◌+◌, ◌-◌, ◌<◌, Bool, true, false, cond, ◌||◌, ◌&&◌, ◌⊎◌, inl, inr, nat_eq, Option, Some, None, Ok, Err, List, [], ◌∷◌, ◌++◌, length, drop, refl, sym, ◌∙◌, ap, subst, arith, eqb-true, add-zero}
 use Rattle.std.proofs.lemmas.List.{drop_at}
 use Rattle.proto_lex.specs.Bytes.{is_blank, is_letter, is_digit, is_quote, starts}
 use Rattle.proto_lex.specs.Numbers.{begins_number, run_of}
 use Rattle.proto_lex.specs.Literals.{is_plain, IsEscape}
 use Rattle.proto_lex.specs.Lexes.{sign_kind}
-use Rattle.proto_lex.specs.Faults.{here, character, escape, IsStringFault, cut, nul, no_escape, IsFaultAt, unknown, no_number, no_close, no_string, Meets, fault, blank, comment, token, begins_mark, IsFirstFault, unmarked, marked, IsFaultOf}
-use Rattle.proto_lex.specs.Reading.{Read, ◌>>=◌, is_in_line, is_integer, is_float, number_kind, numbered, number_at, escape_len, escaped, character_at, literal_at, block_at, blocked, behind_first, slash_at, signed, piece_at, Listed, kept, listed_at, mark_len, listed_of, GivesList}
+use Rattle.proto_lex.specs.Faults.{here, character, escape, IsStringFault, cut, nul, no_escape, IsFaultAt, unknown, no_number, no_close, no_string, Meets, fault, blank, comment, token, begins_mark, IsFirstFault, unmarked, marked}
+use Rattle.proto_lex.specs.Reading.{Read, ◌>>=◌, is_in_line, is_integer, is_float, number_kind, numbered, number_at, escape_len, escaped, character_at, literal_at, block_at, blocked, behind_first, slash_at, signed, piece_at, Listed, kept, listed_at, mark_len, listed_of}
 use Rattle.proto_lex.specs.Reading as reading
 use Rattle.proto_lex.specs.declared.fault.LexFault.{LexFault}
-use Rattle.proto_lex.specs.declared.fault.LexFault.TheVariants.{TooLong, NotUtf8, Memory, BadByte, OpenString, OpenComment, BadEscape, BadNumber}
+use Rattle.proto_lex.specs.declared.fault.LexFault.TheVariants.{Memory, BadByte, OpenString, OpenComment, BadEscape, BadNumber}
 use Rattle.proto_lex.specs.declared.lexer.piece.Piece.{Piece}
 use Rattle.proto_lex.specs.declared.lexer.piece.PieceKind.{PieceKind}
 use Rattle.proto_lex.specs.declared.lexer.piece.PieceKind.TheVariants as piece
@@ -27,10 +27,10 @@ use Rattle.proto_lex.proofs.TextForms.{drop_behind, mark_cases}
 
 -- The fault that is read is the one that the text meets first.
 
-ok_not_err : {A P : Type 0} {d : LexFault} {x : A} → Ok x ≡ Err d → P
+pub ok_not_err : {A P : Type 0} {d : LexFault} {x : A} → Ok x ≡ Err d → P
 ok_not_err e = absurd cc
 
-same_err : {A : Type 0} (c d : LexFault) (r : Read A) → r ≡ Err c → r ≡ Err d → c ≡ d
+pub same_err : {A : Type 0} (c d : LexFault) (r : Read A) → r ≡ Err c → r ≡ Err d → c ≡ d
 same_err c d r e f = cc
 
 abbrev failed : LexFault → Read ℕ
@@ -242,23 +242,11 @@ first_fault text f e =
     (λ rest m. subst (λ (t : List ℕ). IsFirstFault t f) (sym m) (marked (listed_fault_found 0 3 rest f (rw m at e))))
 
 -- what a failed reading tells of the text
-pub given_fault : {X : Type 0} (view : X → Listed) (text : List ℕ) (f : LexFault) → GivesList view (Err f) (listed_of text) → IsFaultOf text f
-given_fault view text TooLong e = first_fault text TooLong e
-given_fault view text (NotUtf8 n) e = first_fault text (NotUtf8 n) e
-given_fault view text (BadByte n) e = first_fault text (BadByte n) e
-given_fault view text (OpenString n) e = first_fault text (OpenString n) e
-given_fault view text (OpenComment n) e = first_fault text (OpenComment n) e
-given_fault view text (BadEscape n) e = first_fault text (BadEscape n) e
-given_fault view text (BadNumber n) e = first_fault text (BadNumber n) e
-given_fault view text Memory e = tt
+pub given_fault : (text : List ℕ) (f : LexFault) → (f ≡ Memory) ⊎ (listed_of text ≡ Err f) → (f ≡ Memory) ⊎ IsFirstFault text f
+given_fault text f (inl memory) = inl memory
+given_fault text f (inr e) = inr (first_fault text f e)
 
 -- a text that lexes fails for want of memory alone
-pub only_memory : {X : Type 0} (view : X → Listed) (f : LexFault) (read : Read Listed) (l : Listed) → GivesList view (Err f) read → read ≡ Ok l → f ≡ Memory
-only_memory view TooLong read l g e = ok_not_err (sym e ∙ g)
-only_memory view (NotUtf8 n) read l g e = ok_not_err (sym e ∙ g)
-only_memory view (BadByte n) read l g e = ok_not_err (sym e ∙ g)
-only_memory view (OpenString n) read l g e = ok_not_err (sym e ∙ g)
-only_memory view (OpenComment n) read l g e = ok_not_err (sym e ∙ g)
-only_memory view (BadEscape n) read l g e = ok_not_err (sym e ∙ g)
-only_memory view (BadNumber n) read l g e = ok_not_err (sym e ∙ g)
-only_memory view Memory read l g e = refl
+pub only_memory : (f : LexFault) (read : Read Listed) (l : Listed) → (f ≡ Memory) ⊎ (read ≡ Err f) → read ≡ Ok l → f ≡ Memory
+only_memory f read l (inl memory) g = memory
+only_memory f read l (inr e) g = ok_not_err (sym g ∙ e)

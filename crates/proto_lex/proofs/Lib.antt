@@ -1,5 +1,6 @@
 pub mod PositionRows
 pub mod Positions
+pub mod LineStarts
 pub mod Rising
 pub mod Utf16
 pub mod LineParts
@@ -20,3 +21,4 @@ pub mod ListSteps
 pub mod Places
 pub mod Longest
 pub mod Faults
+pub mod FaultReads

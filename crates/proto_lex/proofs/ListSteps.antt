@@ -1,9 +1,8 @@
-use Rattle.std.proofs.Common.{◌≡◌, ℕ, ◌+◌, ◌<◌, ◌≤◌, true, false, cond, ◌&&◌, nat_eq, Result, Ok, Err, List, [], ◌∷◌, ◌++◌, length, drop, refl, sym, ◌∙◌, ap, subst, arith, append_assoc, length-append}
+use Rattle.std.proofs.Common.{◌≡◌, ℕ, ◌+◌, ◌<◌, ◌≤◌, true, false, cond, ◌&&◌, nat_eq, Result, Ok, Err, inr, List, [], ◌∷◌, ◌++◌, length, drop, refl, sym, ◌∙◌, ap, subst, arith, append_assoc, length-append}
 use Rattle.std.proofs.lemmas.Bool.Decides.{nat_tests}
 use Rattle.proto_lex.specs.Lexes.{part}
 use Rattle.proto_lex.specs.Reading.{Read, ◌>>=◌, piece_at, Listed, list_of, behind, also, kept, listed_at, mark_len, listed_of, GivesList}
 use Rattle.proto_lex.specs.declared.fault.LexFault.{LexFault}
-use Rattle.proto_lex.specs.declared.fault.LexFault.TheVariants.{TooLong, NotUtf8, BadByte, OpenString, OpenComment, BadEscape, BadNumber, Memory}
 use Rattle.proto_lex.specs.declared.lexer.piece.Piece.{Piece}
 use Rattle.proto_lex.specs.declared.lexer.piece.PieceKind.{PieceKind}
 use Rattle.proto_lex.specs.declared.lexer.piece.PieceKind.TheVariants as piece
@@ -68,20 +67,9 @@ mark_within (a ∷ (b ∷ (c ∷ rest))) =
     ]
 
 -- a fault that is read is an answer
-fault_given : {X : Type 0} (view : X → Listed) (fault : LexFault) (read : Read Listed) → read ≡ Err fault → GivesList view (Err fault) read
-fault_given view TooLong read e = e
-fault_given view (NotUtf8 n) read e = e
-fault_given view (BadByte n) read e = e
-fault_given view (OpenString n) read e = e
-fault_given view (OpenComment n) read e = e
-fault_given view (BadEscape n) read e = e
-fault_given view (BadNumber n) read e = e
-fault_given view Memory read e = tt
-
 pub gives_fault : {X : Type 0} (view : X → Listed) (result : Result X LexFault) (fault other : LexFault) (read : Read Listed)
     → result ≡ Err other → other ≡ fault → read ≡ Err fault → GivesList view result read
-gives_fault {X} view result fault other read e f g =
-    subst (λ (r : Result X LexFault). GivesList view r read) (sym (e ∙ ap Err f)) (fault_given view fault read g)
+gives_fault {X} view result fault other read e f g = subst (λ (r : Result X LexFault). GivesList view r read) (sym (e ∙ ap Err f)) (inr g)
 
 pub some_left : (n : ℕ) → nat_eq n 0 ≡ false → 0 < n
 some_left n e = grind (arith, nat_tests)

@@ -17,7 +17,7 @@ plain_read : (quote opening at b : ℕ) (others : List ℕ) → is_plain quote b
 unfolding character_at
 plain_read quote opening at b others p = rw (plain_not_newline quote b p, plain_not_nul quote b p, plain_not_backslash quote b p) refl
 
-literal_plain : (quote opening len b : ℕ) (others : List ℕ) → is_plain quote b ≡ true
+pub literal_plain : (quote opening len b : ℕ) (others : List ℕ) → is_plain quote b ≡ true
     → literal_at quote opening 0 len (b ∷ others) ≡ literal_at quote opening 0 (len + 1) others
 literal_plain quote opening len b others p =
     literal_step-cons quote opening len 1 b others (eqb-false b quote (plain_not_quote quote b p)) (plain_read quote opening (opening + len) b others p)
@@ -78,7 +78,7 @@ escape_some (long_unicode {a} {b} {c} {d} {e} h) rest = (9, rw (five_read a b c 
 escape_some (last_unicode {a} {b} {c} {d} h) rest = (9, rw (four_read a b c d rest h) refl)
 
 -- an escape is read, with the digits that follow its first as characters
-escape_read : (quote opening : ℕ) → is_quote quote ≡ true → {letters : List ℕ} → IsEscape letters → (len : ℕ) (rest : List ℕ)
+pub escape_read : (quote opening : ℕ) → is_quote quote ≡ true → {letters : List ℕ} → IsEscape letters → (len : ℕ) (rest : List ℕ)
     → literal_at quote opening 0 len (92 ∷ (letters ++ rest)) ≡ literal_at quote opening 0 (len + 1 + length letters) rest
 escape_read quote opening q (letter {b} t) len rest =
     let e : escape_len (b ∷ rest) ≡ Some 1 = rw t refl in

@@ -30,7 +30,7 @@ character_positive opening at b more others e =
     chosen (nat_eq b 0) x (λ _ y. err_not_ok y) (λ _ y.
     chosen (nat_eq b 92) y (λ _ z. escaped_positive at (escape_len others) more z) (λ _ z. one_positive more (Ok 1) refl z)))
 
-literal_first : (quote opening len b : ℕ) (others : List ℕ) → b ≢ quote
+pub literal_first : (quote opening len b : ℕ) (others : List ℕ) → b ≢ quote
     → literal_at quote opening 0 len (b ∷ others)
     ≡ (character_at opening (opening + len) b others >>= λ more. literal_at quote opening (more - 1) (len + 1) others)
 unfolding literal_at

@@ -4,7 +4,7 @@ use Rattle.proto_lex.specs.Bytes.{is_digit, is_word, is_quote, starts}
 use Rattle.proto_lex.specs.Numbers.{IsInteger, decimal, octal, hexadecimal, IsFloat, whole, fraction, power, point_first, run_of, begins_number}
 use Rattle.proto_lex.specs.Comments.{IsComment, line, block}
 use Rattle.proto_lex.specs.Lexes.{sign_kind, Spells, identifier, integer, float, literal, sign, IsWhole}
-use Rattle.proto_lex.specs.Reading.{is_in_line, token, number_at, literal_at, slash_at, piece_at}
+use Rattle.proto_lex.specs.Reading.{◌>>=◌, is_in_line, token, number_at, literal_at, slash_at, piece_at}
 use Rattle.proto_lex.specs.declared.lexer.piece.PieceKind.{PieceKind}
 use Rattle.proto_lex.specs.declared.lexer.piece.PieceKind.TheVariants as piece
 use Rattle.proto_lex.specs.declared.token.TokenKind.{TokenKind}
@@ -90,11 +90,14 @@ sign_read at b k rest e =
 quote_no_number : (b : ℕ) (others : List ℕ) → is_quote b ≡ true → begins_number (b ∷ others) ≡ false
 quote_no_number b others q = rw (quote_not_digit b q, quote_not_point b q) refl
 
+pub quote_place : (at b : ℕ) (others : List ℕ) → is_quote b ≡ true
+    → piece_at at (b ∷ others) ≡ (literal_at b at 0 1 others >>= λ len. Ok (token kind.StringLiteral len))
+unfolding piece_at
+quote_place at b others q = rw (quote_not_blank b q, quote_not_letter b q, quote_no_number b others q, q) refl
+
 pub string_read : (at b : ℕ) (others rest : List ℕ) → is_quote b ≡ true → (literal_at b at 0 1 (others ++ rest) ≡ Ok (1 + length others))
     → piece_at at (b ∷ (others ++ rest)) ≡ Ok (token kind.StringLiteral (suc (length others)))
-unfolding piece_at
-string_read at b others rest q e =
-    rw (quote_not_blank b q, quote_not_letter b q, quote_no_number b (others ++ rest) q, q, e, one_more (length others)) refl
+string_read at b others rest q e = quote_place at b (others ++ rest) q ∙ rw (e, one_more (length others)) refl
 
 -- all tokens
 

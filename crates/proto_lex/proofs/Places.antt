@@ -1,4 +1,4 @@
-use Rattle.std.proofs.Common.{◌≡◌, ℕ, ◌+◌, ◌-◌, ◌<◌, ◌≤◌, Bool, true, false, not, cond, ◌&&◌, nat_eq, nat_le, Some, List, [], ◌∷◌, ◌++◌, length, drop, map, refl, sym, ◌∙◌, ap, subst, arith, append_assoc}
+use Rattle.std.proofs.Common.{◌≡◌, ℕ, ◌+◌, ◌-◌, ◌<◌, ◌≤◌, Bool, true, false, not, cond, ◌&&◌, nat_eq, nat_le, Some, List, [], ◌∷◌, ◌++◌, length, get_or, drop, map, inl, inr, refl, sym, ◌∙◌, ap, subst, arith, append_assoc}
 use Rattle.std.proofs.lemmas.Bool.Decides.{nat_tests}
 use Rattle.std.proofs.lemmas.List.{drop_at, take_at, length-append}
 use Rattle.std.proofs.lemmas.List.Elements.{All-from_recursion}
@@ -13,7 +13,7 @@ use Rattle.proto_lex.specs.Literals.{EndsLiteral, close, character, escape}
 use Rattle.proto_lex.specs.Comments.{IsComment, line, block, EndsBlock}
 use Rattle.proto_lex.specs.Comments as comments
 use Rattle.proto_lex.specs.Lexes.{sign_kind, Spells, identifier, integer, float, literal, sign, IsWhole, part, LexesFrom, at_end, blank, comment, token, Lexes, unmarked, marked}
-use Rattle.proto_lex.specs.Lexed.{part_of, IsPart, AreInOrder, IsLexed}
+use Rattle.proto_lex.specs.Lexed.{part_of, IsPart, AreInOrder, AreApart, IsLexed}
 use Rattle.proto_lex.specs.declared.token.Token.{Token}
 use Rattle.proto_lex.specs.declared.token.TokenKind.{TokenKind}
 use Rattle.proto_lex.specs.declared.token.Comment.{Comment}
@@ -172,10 +172,33 @@ part_word text front word rest at e n =
     let count : at + length word - at ≡ length word = omega arith in
     rw (left, count) (take_at word rest (length word) refl)
 
+-- the bytes behind a piece are the rest of the text
+rest_behind : (text front word rest : List ℕ) (at : ℕ) → text ≡ front ++ (word ++ rest) → at ≡ length front → drop (at + length word) text ≡ rest
+rest_behind text front word rest at e n =
+    let split : text ≡ (front ++ word) ++ rest = e ∙ sym (append_assoc front word rest) in
+    let count : length (front ++ word) ≡ at + length word = omega (arith, n, length-append front word) in
+    ap (λ xs. drop (at + length word) xs) split ∙ drop_at (front ++ word) rest (at + length word) count
+
+-- what stands first is apart from what begins where it ends, or behind
+
+token_first : (span : Span) (comments : List Comment) → AreInOrder span.end (map (λ c. c.span) comments) → AllByRecursion (λ (c : Comment). AreApart span c.span) comments
+token_first span [] o = tt
+token_first span (c ∷ comments) o =
+    (inl o.0, token_first span comments (in_order_before span.end c.span.end (map (λ d. d.span) comments) (omega (arith, o.0, o.1)) o.2))
+
+comment_first : (span : Span) (k : CommentKind) (tokens : List Token) (comments : List Comment) → AreInOrder span.end (map (λ t. t.span) tokens)
+    → AllByRecursion (λ (t : Token). AllByRecursion (λ (c : Comment). AreApart t.span c.span) comments) tokens
+    → AllByRecursion (λ (t : Token). AllByRecursion (λ (c : Comment). AreApart t.span c.span) (record { kind = k; span = span } ∷ comments)) tokens
+comment_first span k [] comments o a = tt
+comment_first span k (t ∷ tokens) comments o a =
+    ((inr o.0, a.0), comment_first span k tokens comments (in_order_before span.end t.span.end (map (λ u. u.span) tokens) (omega (arith, o.0, o.1)) o.2) a.1)
+
 record ArePlaced (text : List ℕ) (place : ℕ) (tokens : List Token) (comments : List Comment) : Type 0 where
   tokens_in : AllByRecursion (λ t. IsPart text t.span) tokens
   spelled_in : AllByRecursion (λ t. Spells t.kind (part_of text t.span)) tokens
   comments_in : AllByRecursion (λ c. IsPart text c.span) comments
+  comments_spelled_in : AllByRecursion (λ c. IsComment c.kind (part_of text c.span) (drop c.span.end text)) comments
+  apart_in : AllByRecursion (λ t. AllByRecursion (λ c. AreApart t.span c.span) comments) tokens
   token_order : AreInOrder place (map (λ t. t.span) tokens)
   comment_order : AreInOrder place (map (λ c. c.span) comments)
 
@@ -185,13 +208,15 @@ placed_before text place later tokens comments h p = record {
   tokens_in = p.tokens_in;
   spelled_in = p.spelled_in;
   comments_in = p.comments_in;
+  comments_spelled_in = p.comments_spelled_in;
+  apart_in = p.apart_in;
   token_order = in_order_before place later (map (λ t. t.span) tokens) h p.token_order;
   comment_order = in_order_before place later (map (λ c. c.span) comments) h p.comment_order;
 }
 
 placed_from : (text front : List ℕ) {at : ℕ} {bytes : List ℕ} {tokens : List Token} {comments : List Comment} → text ≡ front ++ bytes → at ≡ length front
     → IsUtf8 bytes → LexesFrom at bytes tokens comments → ArePlaced text at tokens comments
-placed_from text front e n u at_end = record { tokens_in = tt; spelled_in = tt; comments_in = tt; token_order = tt; comment_order = tt }
+placed_from text front e n u at_end = record { tokens_in = tt; spelled_in = tt; comments_in = tt; comments_spelled_in = tt; apart_in = tt; token_order = tt; comment_order = tt }
 placed_from text front e n u (blank {at} {b} {rest} {tokens} {comments} t r) =
     let v = utf8_behind piece.Blank (b ∷ []) rest (b, refl, t) u in
     let split : text ≡ (front ++ b ∷ []) ++ rest = e ∙ sym (append_assoc front (b ∷ []) rest) in
@@ -208,6 +233,8 @@ placed_from text front e n u (comment {at} {k} {word} {rest} {tokens} {comments}
       tokens_in = p.tokens_in;
       spelled_in = p.spelled_in;
       comments_in = (part_of_text, p.comments_in);
+      comments_spelled_in = (rw (part_word text front word rest at e n, rest_behind text front word rest at e n) s, p.comments_spelled_in);
+      apart_in = comment_first (part at (length word)) k tokens comments p.token_order p.apart_in;
       token_order = in_order_before at (at + length word) (map (λ t. t.span) tokens) (omega arith) p.token_order;
       comment_order = (omega arith, part_of_text.some, p.comment_order);
     }
@@ -222,6 +249,8 @@ placed_from text front e n u (token {at} {k} {word} {rest} {tokens} {comments} s
       tokens_in = (part_of_text, p.tokens_in);
       spelled_in = (subst (λ (w : List ℕ). Spells k w) (sym (part_word text front word rest at e n)) s.spelled, p.spelled_in);
       comments_in = p.comments_in;
+      comments_spelled_in = p.comments_spelled_in;
+      apart_in = (token_first (part at (length word)) comments p.comment_order, p.apart_in);
       token_order = (omega arith, part_of_text.some, p.token_order);
       comment_order = in_order_before at (at + length word) (map (λ c. c.span) comments) (omega arith) p.comment_order;
     }
@@ -247,6 +276,9 @@ is_lexed {text} {tokens} {comments} u d =
       token_parts = All-from_recursion (λ t. IsPart text t.span) tokens p.tokens_in;
       spelled = All-from_recursion (λ t. Spells t.kind (part_of text t.span)) tokens p.spelled_in;
       comment_parts = All-from_recursion (λ c. IsPart text c.span) comments p.comments_in;
+      comments_spelled = All-from_recursion (λ c. IsComment c.kind (part_of text c.span) (drop c.span.end text)) comments p.comments_spelled_in;
       tokens_in_order = p.token_order;
       comments_in_order = p.comment_order;
+      apart = λ k d inside. All-from_recursion (λ c. AreApart (get_or tokens k d).span c.span) comments
+          (All-from_recursion (λ t. AllByRecursion (λ c. AreApart t.span c.span) comments) tokens p.apart_in k d inside);
     }

@@ -2,7 +2,7 @@
 use Rattle.std.proofs.Common.{◌≡◌, refl, ℕ, ◌+◌, ◌-◌, ◌≤◌, ◌*◌, List, [], ◌∷◌, ◌++◌, length, get_or, take, drop, Bool, true, false, not, cond, arith, length-append, length-drop}
 use Rattle.std.proofs.lemmas.List.{reverse-append, drop-append-le, length-take}
 use Rattle.std.proofs.lemmas.List.Sums.{sum_by_push, suffix_len-le-length, sum_by-le, count_by-le-length}
-use Rattle.std.specs.List.{after_last, count_by, suffix_len, All}
+use Rattle.std.specs.List.{after_last, count_by, sum_by, suffix_len, All}
 use Rattle.std.proofs.Math.ListN.{drop_of_length-le}
 use Rattle.std.proofs.lemmas.Bool.Decides.{nat_tests}
 use Rattle.proto_lex.specs.Position.{is_line_end, code_units, position_after}
@@ -55,6 +55,7 @@ pub byte_column-le : (text : List ℕ) → (position_after Utf8 text).column ≤
 byte_column-le text =
     omega (arith, sum_by-le (code_units Utf8) 1 (after_last is_line_end text) (one_each (after_last is_line_end text)), length-after_last-le is_line_end text)
 
--- the same of a position that was counted as far as i
-pub column_so_far : (position : Position) (encoding : Encoding) (text : List ℕ) (i : ℕ) → position ≡ position_after encoding (take i text) → position.column ≤ 2 * i
-column_so_far position encoding text i e = rw e (omega (arith, column-le encoding (take i text), length-take i text))
+-- so are the units of the first bytes
+pub units_so_far : (encoding : Encoding) (bytes : List ℕ) (i : ℕ) → sum_by (code_units encoding) (take i bytes) ≤ 2 * i
+units_so_far encoding bytes i =
+    omega (arith, sum_by-le (code_units encoding) 2 (take i bytes) (all_few encoding (take i bytes)), length-take i bytes)

@@ -6,7 +6,7 @@ use Rattle.proto_lex.specs.Literals.{is_plain, IsEscape}
 use Rattle.proto_lex.specs.Comments.{EndsBlock, IsComment}
 use Rattle.proto_lex.specs.Lexes.{sign_kind, IsToken}
 use Rattle.proto_lex.specs.declared.fault.LexFault.{LexFault}
-use Rattle.proto_lex.specs.declared.fault.LexFault.TheVariants.{Memory, BadByte, OpenString, OpenComment, BadEscape, BadNumber}
+use Rattle.proto_lex.specs.declared.fault.LexFault.TheVariants.{BadByte, OpenString, OpenComment, BadEscape, BadNumber}
 use Rattle.proto_lex.specs.declared.token.TokenKind.{TokenKind}
 use Rattle.proto_lex.specs.declared.token.CommentKind.{CommentKind}
 
@@ -58,8 +58,3 @@ begins_mark _ = false
 pub data IsFirstFault : List ℕ → LexFault → Type 0 where
   unmarked : {text : List ℕ} {f : LexFault} → begins_mark text ≡ false → Meets 0 text f → IsFirstFault text f
   marked : {rest : List ℕ} {f : LexFault} → Meets 3 rest f → IsFirstFault (239 ∷ (187 ∷ (191 ∷ rest))) f
-
--- the text's first fault, or that memory ran out
-abbrev pub IsFaultOf : List ℕ → LexFault → Type 0
-IsFaultOf text Memory = Unit {0}
-IsFaultOf text f = IsFirstFault text f

@@ -1,5 +1,6 @@
 pub mod Position
 pub mod PositionLaws
+pub mod LexLaws
 pub mod Text
 pub mod Bytes
 pub mod Comments

@@ -1,5 +1,5 @@
 -- The position of an offset: its line and its column.
-use Rattle.std.specs.Prelude.{ℕ, ◌≡◌, ◌<◌, ◌≤◌, Bool, ◌==◌, nat_lt, if◌then◌else◌, List, take, count_by, sum_by}
+use Rattle.std.specs.Prelude.{ℕ, ◌≡◌, ◌+◌, ◌<◌, ◌≤◌, Bool, ◌==◌, nat_lt, if◌then◌else◌, List, [], ◌∷◌, take, count_by, sum_by}
 use Rattle.std.specs.List.{after_last}
 use Rattle.proto_lex.specs.declared.position.Encoding.{Encoding}
 use Rattle.proto_lex.specs.declared.position.Encoding.TheVariants.{Utf8, Utf16}
@@ -8,6 +8,20 @@ use Rattle.proto_lex.specs.declared.position.Position.{Position}
 -- A line ends at `\n` alone.
 abbrev pub is_line_end : ℕ → Bool
 is_line_end byte = byte == 10
+
+-- The offsets behind the line ends of bytes that stand at an offset.
+abbrev pub behind_line_ends : (at : ℕ) → List ℕ → List ℕ
+behind_line_ends at [] = []
+behind_line_ends at (byte ∷ others) =
+    if is_line_end byte then (at + 1) ∷ behind_line_ends (at + 1) others else behind_line_ends (at + 1) others
+
+-- The offsets at which the lines of a text start: 0, and that behind each line end.
+abbrev pub line_starts : List ℕ → List ℕ
+line_starts text = 0 ∷ behind_line_ends 0 text
+
+-- The line of an offset, from 0: how many line ends stand before it.
+abbrev pub line_of : List ℕ → ℕ → ℕ
+line_of text offset = count_by is_line_end (take offset text)
 
 -- The code units that a byte of a text in UTF-8 counts for. In UTF-8 each byte is a unit. In UTF-16 a
 -- character counts at its first byte: two units where it lies past U+FFFF, so that its first byte is

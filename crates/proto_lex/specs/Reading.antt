@@ -1,4 +1,4 @@
-use Rattle.std.specs.Prelude.{◌≡◌, ℕ, zero, suc, ◌+◌, ◌-◌, Bool, true, false, ◌||◌, ◌&&◌, not, cond, Option, Some, None, Result, Ok, Err, List, [], ◌∷◌, ◌++◌, length, take, drop, nat_eq, nat_le}
+use Rattle.std.specs.Prelude.{◌≡◌, ℕ, zero, suc, ◌+◌, ◌-◌, ◌⊎◌, Bool, true, false, ◌||◌, ◌&&◌, not, cond, Option, Some, None, Result, Ok, Err, List, [], ◌∷◌, ◌++◌, length, take, drop, nat_eq, nat_le}
 use Rattle.std.specs.List.{list_all, prefix_len}
 use Rattle.proto_lex.specs.Bytes.{is_blank, is_letter, is_digit, is_octal_digit, is_hex_digit, is_word, is_plus_or_minus, is_exponent_mark, is_hex_mark, is_quote, starts}
 use Rattle.proto_lex.specs.Numbers.{begins_number, run_of}
@@ -205,5 +205,4 @@ listed_of text = listed_at 0 (mark_len text) (drop (mark_len text) text)
 -- memory ran out, or the answer is what is read
 abbrev pub GivesList : {X : Type 0} → (X → Listed) → Result X LexFault → Read Listed → Type 0
 GivesList view (Ok x) read = read ≡ Ok (view x)
-GivesList view (Err Memory) read = Unit {0}
-GivesList view (Err fault) read = read ≡ Err fault
+GivesList view (Err fault) read = (fault ≡ Memory) ⊎ (read ≡ Err fault)

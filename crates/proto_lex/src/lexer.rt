@@ -1,11 +1,10 @@
 //! From a text to its tokens and comments.
 
-ghost use Rattle.std.specs.Prelude.{◌≡◌, ℕ, ◌<◌, ◌^◌, ◌++◌, [], List, length, IfOk, IfErr, OnOk, IsOkUnless};
+ghost use Rattle.std.specs.Prelude.{◌≡◌, ◌<◌, ◌^◌, ◌⊎◌, List, length, IfOk, IfErr, OnOk, IsOkUnless};
 ghost use Rattle.proto_lex.specs.declared.token.Token.{Token};
 ghost use Rattle.proto_lex.specs.declared.token.Comment.{Comment};
-ghost use Rattle.proto_lex.specs.declared.token.TokenKind.{TokenKind};
-ghost use Rattle.proto_lex.specs.Faults.{IsFaultOf};
-ghost use Rattle.proto_lex.specs.Lexes.{Lexes, IsToken, Spells};
+ghost use Rattle.proto_lex.specs.Faults.{IsFirstFault};
+ghost use Rattle.proto_lex.specs.Lexes.{Lexes};
 ghost use Rattle.proto_lex.specs.Reading.{list_of, also, mark_len, listed_of, GivesList};
 
 mod bytes;
@@ -85,7 +84,7 @@ fn listed(alloc: Global, bytes: &[u8]) -> Result<Found, LexFault>
 /// - `BadNumber`: a number's run that has none of the forms of numbers, with its start.
 ///
 /// `Memory` comes where memory runs out, for any text.
-pub fn lex<'a>(alloc: Global, text: &Text<'a>) -> Result<Tokens<'a>, LexFault>
+pub fn lex<'a>(alloc: Global, text: &'a Text<'a>) -> Result<Tokens<'a>, LexFault>
     ensures text { IfOk result (λ found. found.text ≡ text.now) }
     ensures found { IfOk result (λ found. Lexes text.now found.tokens found.comments) }
 
@@ -94,29 +93,11 @@ pub fn lex<'a>(alloc: Global, text: &Text<'a>) -> Result<Tokens<'a>, LexFault>
         → IsOkUnless result LexFault.Memory }
     ensures only { (tokens : List Token) → (comments : List Comment) → Lexes text.now tokens comments
         → IfOk result (λ found. found ≡ record { text = text.now; tokens = tokens; comments = comments }) }
-    ensures fault { IfErr result (λ fault. IsFaultOf text.now fault) }
+    ensures fault { IfErr result (λ fault. (fault ≡ LexFault.Memory) ⊎ IsFirstFault text.now fault) }
 {
-    let text = text.as_str();
-    let found = listed(alloc, text.as_bytes())?;
+    let found = listed(alloc, text.as_str().as_bytes())?;
     Ok(Tokens::new(text, found.tokens, found.comments))
 }
-
-/// A text has at most one lexing.
-pub fn one_lexing()
-    ensures tokens { (text : List ℕ) → (tokens : List Token) → (others : List Token)
-        → (comments : List Comment) → (remarks : List Comment)
-        → Lexes text tokens comments → Lexes text others remarks → tokens ≡ others }
-    ensures comments { (text : List ℕ) → (tokens : List Token) → (others : List Token)
-        → (comments : List Comment) → (remarks : List Comment)
-        → Lexes text tokens comments → Lexes text others remarks → comments ≡ remarks }
-{}
-
-/// Where a token stands, no longer spelling of a token stands.
-pub fn longest_token()
-    ensures { (kind : TokenKind) → (other : TokenKind)
-        → (word : List ℕ) → (rest : List ℕ) → (more : List ℕ) → (tail : List ℕ)
-        → IsToken kind word rest → rest ≡ more ++ tail → Spells other (word ++ more) → more ≡ [] }
-{}
 
 #[cfg(test)]
 mod tests;

@@ -7,7 +7,7 @@ use std::process::Abort;
 use std::test::Fail;
 
 /// What `lex` answers for a text. After `Memory` it is called again, and the second answer counts.
-fn lexed<'a>(alloc: Global, text: &Text<'a>) -> Result<Tokens<'a>, LexFault> {
+fn lexed<'a>(alloc: Global, text: &'a Text<'a>) -> Result<Tokens<'a>, LexFault> {
     match lex(alloc, text) {
         Err(LexFault::Memory) => lex(alloc, text),
         answer => answer,
@@ -23,7 +23,7 @@ fn assert_tokens(
 ) -> Result<(), LexFault> {
     let text = Text::new(alloc, source.as_bytes())?;
     let found = lexed(alloc, &text)?;
-    assert_eq!(rt; found.text(), source);
+    assert_eq!(rt; found.text().as_str(), source);
     let count = found.tokens().len();
     assert_eq!(rt; count, want.len(), "in {source}");
     for (index, (kind, spelling)) in want.iter().enumerate() {

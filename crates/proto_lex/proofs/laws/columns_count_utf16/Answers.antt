@@ -5,7 +5,7 @@ use Rattle.proto_lex.specs.Position.{is_line_end}
 use Rattle.proto_lex.proofs.LineParts.{IsUtf8-line_before}
 use Rattle.proto_lex.proofs.Positions.{length-after_last-le}
 use Rattle.proto_lex.proofs.Utf16.{units_of_text, few_of_text}
-use Rattle.proto_lex.proofs.position.columns_count_utf16.Goals as goal
+use Rattle.proto_lex.proofs.laws.columns_count_utf16.Goals as goal
 
 pub returns-clause-count : goal.returns-clause-count
 returns-clause-count c text offset utf8 between = units_of_text (after_last is_line_end (take offset text)) (IsUtf8-line_before text offset utf8 between)

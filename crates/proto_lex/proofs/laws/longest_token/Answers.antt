@@ -1,5 +1,5 @@
 use Rattle.proto_lex.proofs.Longest.{no_longer}
-use Rattle.proto_lex.proofs.lexer.longest_token.Goals as goal
+use Rattle.proto_lex.proofs.laws.longest_token.Goals as goal
 
 pub returns : goal.returns
 returns c = no_longer

@@ -1,11 +1,10 @@
 //! From a source's bytes to the listing of its occurrences.
 
 ghost use Rattle.std.specs.Prelude.{◌≡◌, ℕ, List, Some, MatchResult};
+ghost use Rattle.scip_model.specs.WholeReads.{IsReadBriefly};
 ghost use Rattle.std.specs.String.{string_bytes};
-ghost use Rattle.std.specs.Io.KnownBytes.{Appends};
-ghost use Rattle.protoscip.specs.Source.{IsReadBriefly};
 ghost use Rattle.protoscip.specs.Dump.{IsRefusal, IsListing, Dumps, LeavesReader, LeavesWriter};
-ghost use Rattle.protoscip.specs.Stages.{IsStored, IsStoreRefusal};
+ghost use Rattle.protoscip.specs.DumpSteps.{IsStored, IsStoreRefusal};
 
 use crate::fault::Fault;
 use crate::index::index_of_source;
@@ -43,14 +42,15 @@ fn listing_of(alloc: Global, bytes: &[u8]) -> Result<String, Fault>
 }
 
 /// Reads a source to its end, and writes a line for each occurrence of its index.
+///
+/// - `Read`: a read failed, or `MAX_READS` reads met no end.
+/// - `Lex`, `Syntax`, `Duplicate`, `TooLarge`: why the source has no listing.
+/// - `Write`: a write failed when a part of the listing had gone out.
 pub fn dump<R: Feed, W: Sink>(alloc: Global, source: &mut R, out: &mut W) -> Result<(), Fault>
-    ensures dumped { (bytes : List ℕ) → R.remaining source.old ≡ Some bytes
-        → (written : List ℕ) × Appends (W.contents out.old) (W.contents out.new) written × Dumps bytes written result }
-
-    // Of a reader or a writer that doesn't tell its bytes too.
+    ensures dumped { (due : List ℕ) × LeavesWriter W.contents W.failures out.old out.new due result
+        × ((bytes : List ℕ) → R.remaining source.old ≡ Some bytes → Dumps bytes due result) }
     ensures reader { LeavesReader R.failures R.reads R.ends source.old source.new result }
     ensures briefly { IsReadBriefly R.reads source.old source.new }
-    ensures writer { LeavesWriter W.failures out.old out.new result }
 {
     let bytes = read_source(alloc, source)?;
     let listing = listing_of(alloc, &bytes)?;

@@ -2,13 +2,12 @@
 
 ghost use Rattle.std.specs.Prelude.{◌≡◌, MatchResult};
 ghost use Rattle.protoscip.specs.Dump.{IsIndexOfSource, IsRefusal};
-ghost use Rattle.protoscip.specs.Stages.{Declares, IsTreeRefusal};
+ghost use Rattle.protoscip.specs.DumpSteps.{Declares, IsTreeRefusal};
 
 use crate::declarations::{Declaration, declarations_of};
 use crate::document::index_of;
 use crate::duplicates::first_clash;
 use crate::fault::Fault;
-use crate::laws::names_in_order;
 use crate::syntax::parse;
 use proto_lex::{Text, Tokens, lex};
 use scip_model::Index;
@@ -20,8 +19,7 @@ fn declarations_of_tokens(alloc: Global, tokens: &Tokens<'_>) -> Result<Vec<Decl
 {
     let file = parse(alloc, tokens)?;
     let _parts = tokens.tokens();
-    names_in_order();
-    let declarations = declarations_of(alloc, tokens.text(), &file)?;
+    let declarations = declarations_of(alloc, tokens.text().as_str(), &file)?;
     Ok(declarations)
 }
 

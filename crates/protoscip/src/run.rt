@@ -5,7 +5,7 @@ ghost use Rattle.std.specs.Io.KnownBytes.{Appends};
 ghost use Rattle.protoscip.specs.CommandLine.{IsDump, printed_text, refused_text};
 ghost use Rattle.protoscip.specs.Dump.{Dumps, LeavesReader, LeavesWriter};
 ghost use Rattle.protoscip.specs.Output.{Writes};
-ghost use Rattle.protoscip.specs.Source.{IsReadBriefly};
+ghost use Rattle.scip_model.specs.WholeReads.{IsReadBriefly};
 ghost use Rattle.protoscip.specs.Faults.{status_of};
 ghost use Rattle.protoscip.specs.Messages.{Heard, Said, Tells};
 ghost use Rattle.protoscip.specs.declared.fault.Fault.TheVariants.{Memory};
@@ -38,11 +38,10 @@ pub fn run<R: Feed, W: Sink, M: Sink>(
         × (input.new ≡ input.old) × (out.new ≡ out.old))) }
     // What `dump` promises of its answer, and what becomes of that.
     ensures dumped { IfOk asked.now (λ request. IsDump request → (done : Result (Unit {0}) Fault)
-        × ((bytes : List ℕ) → R.remaining input.old ≡ Some bytes
-        → (written : List ℕ) × Appends (W.contents out.old) (W.contents out.new) written × Dumps bytes written done)
+        × ((due : List ℕ) × LeavesWriter W.contents W.failures out.old out.new due done
+        × ((bytes : List ℕ) → R.remaining input.old ≡ Some bytes → Dumps bytes due done))
         × LeavesReader R.failures R.reads R.ends input.old input.new done
         × IsReadBriefly R.reads input.old input.new
-        × LeavesWriter W.failures out.old out.new done
         × Tells M.contents M.failures messages.old messages.new done result) }
     // Nothing was asked for, since memory ran out, and that is said.
     ensures unknown { IfErr asked.now (λ _. (input.new ≡ input.old) × (out.new ≡ out.old)

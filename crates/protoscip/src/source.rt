@@ -1,14 +1,12 @@
 //! Reading a source to its end.
 
 ghost use Rattle.std.specs.Prelude.{◌≡◌, ◌≤◌, ◌+◌, ◌-◌, ◌++◌, ℕ, List, Some, take, length, min, IfOk, IfErr, OnOk};
-ghost use Rattle.protoscip.specs.Source.{kept, IsReadFault, IsReadThrough, IsReadBriefly};
+ghost use Rattle.scip_model.specs.WholeReads.{IsReadThrough, IsReadFault, IsReadBriefly};
+ghost use Rattle.protoscip.specs.Source.{kept_bytes};
 
 use proto_lex::MAX_TEXT_LENGTH;
-use scip_model::{Failed, Feed};
+use scip_model::{Failed, Feed, MAX_READS};
 use std::alloc::{AllocError, Global};
-
-/// The most reads into room for bytes: the end has to come within them.
-pub const MAX_READS: u32 = 16_777_216;
 
 /// How many bytes are read at a time, at most.
 const BUFFER_LENGTH: usize = 16_384;
@@ -39,7 +37,7 @@ impl From<AllocError> for SourceFault {
 /// Appends bytes, as far as they are kept: up to one more than a text may have.
 fn append_kept(bytes: &mut Vec<u8>, part: &[u8]) -> Result<(), AllocError>
     requires { length bytes.old.items ≤ MAX_TEXT_LENGTH + 1 }
-    ensures { OnOk result (bytes.new.items ≡ kept (bytes.old.items ++ part.now)) }
+    ensures { OnOk result (bytes.new.items ≡ kept_bytes (bytes.old.items ++ part.now)) }
 {
     let space = MAX_TEXT_LENGTH + 1 - bytes.len();
     if part.len() <= space {
@@ -54,7 +52,7 @@ fn append_kept(bytes: &mut Vec<u8>, part: &[u8]) -> Result<(), AllocError>
 ///
 /// - `Read`: a read failed, or `MAX_READS` reads gave no end.
 pub fn read_source<R: Feed>(alloc: Global, source: &mut R) -> Result<Vec<u8>, SourceFault>
-    ensures bytes { IfOk result (λ bytes. (all : List ℕ) → R.remaining source.old ≡ Some all → bytes.items ≡ kept all) }
+    ensures bytes { IfOk result (λ bytes. (all : List ℕ) → R.remaining source.old ≡ Some all → bytes.items ≡ kept_bytes all) }
     ensures through { OnOk result (IsReadThrough R.failures R.ends source.old source.new) }
     ensures read { result ≡ Err SourceFault.Read → IsReadFault R.failures R.reads R.ends source.old source.new }
     ensures memory { result ≡ Err SourceFault.Memory → R.failures source.new ≡ R.failures source.old }

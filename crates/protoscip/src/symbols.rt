@@ -3,7 +3,7 @@
 ghost use Rattle.std.specs.Prelude.{◌≡◌, ◌++◌, OnOk, IfOk};
 ghost use Rattle.std.specs.List.{list_all};
 ghost use Rattle.std.specs.String.{string_bytes};
-ghost use Rattle.protoscip.specs.Symbols.{is_identifier_character, is_simple_identifier, doubled, name_text, suffix_of, descriptors_text, file_symbol_text, symbol_text};
+ghost use Rattle.protoscip.specs.Symbols.{is_identifier_character, is_simple_identifier, escaped_text, name_text, suffix_of, descriptors_text, file_symbol_text, symbol_text};
 
 use crate::declarations::DeclarationKind;
 use scip_model::OwnedText;
@@ -28,8 +28,8 @@ fn is_simple_identifier(name: &str) -> bool
 }
 
 /// Appends a text with each backtick doubled.
-fn push_doubled(out: &mut String, text: &str) -> Result<(), AllocError>
-    ensures { OnOk result (string_bytes out.new ≡ string_bytes out.old ++ doubled text.now) }
+fn push_escaped(out: &mut String, text: &str) -> Result<(), AllocError>
+    ensures { OnOk result (string_bytes out.new ≡ string_bytes out.old ++ escaped_text text.now) }
 {
     let mut rest = text;
     'backticks: while let Some((front, after)) = rest.split_once('`') {
@@ -48,7 +48,7 @@ fn push_name(out: &mut String, name: &str) -> Result<(), AllocError>
         out.push_str(name)
     } else {
         out.push_str("`")?;
-        push_doubled(out, name)?;
+        push_escaped(out, name)?;
         out.push_str("`")
     }
 }

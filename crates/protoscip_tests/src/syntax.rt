@@ -7,8 +7,16 @@ use std::alloc::{AllocError, Global};
 use std::process::Abort;
 use std::test::Fail;
 
+/// The text of a source. After `Memory` it is made again, and the second answer counts.
+fn text_of(alloc: Global, source: &str) -> Result<Text<'_>, LexFault> {
+    match Text::new(alloc, source.as_bytes()) {
+        Err(LexFault::Memory) => Text::new(alloc, source.as_bytes()),
+        answer => answer,
+    }
+}
+
 /// What lexing a text gives. After `Memory` it is done again, and the second answer counts.
-fn lexed<'a>(alloc: Global, text: &Text<'a>) -> Result<Tokens<'a>, LexFault> {
+fn lexed<'a>(alloc: Global, text: &'a Text<'a>) -> Result<Tokens<'a>, LexFault> {
     match lex(alloc, text) {
         Err(LexFault::Memory) => lex(alloc, text),
         answer => answer,
@@ -17,7 +25,7 @@ fn lexed<'a>(alloc: Global, text: &Text<'a>) -> Result<Tokens<'a>, LexFault> {
 
 /// What parsing a source gives. After `Memory` it is done again, and the second answer counts.
 fn parsed(rt: &impl Abort, alloc: Global, source: &str) -> Result<File, SyntaxFault> {
-    let text = Text::new(alloc, source.as_bytes()).expect(rt, "a text");
+    let text = text_of(alloc, source).expect(rt, "a text");
     let tokens = lexed(alloc, &text).expect(rt, "tokens");
     match parse(alloc, &tokens) {
         Err(SyntaxFault::Memory) => parse(alloc, &tokens),

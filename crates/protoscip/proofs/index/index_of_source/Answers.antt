@@ -6,9 +6,14 @@ use Rattle.protoscip.specs.Dump.{IsRefusal}
 use Rattle.protoscip.specs.Faults.{refusal_of_lex}
 use Rattle.protoscip.specs.Duplicates.{Clash, NoClash}
 use Rattle.protoscip.specs.Document.{IsIndexOf}
-use Rattle.protoscip.proofs.Refusals.{refused-lex, refused-tree}
-use Rattle.protoscip.proofs.Sources.{Reads, lexable-of, clash-of, index-of}
+use Rattle.protoscip.proofs.RefusalLemmas.{refused-text, refused-lex, refused-tree}
+use Rattle.protoscip.proofs.IndexLemmas.{Reads, lexable-of, clash-of, index-of}
 use Rattle.protoscip.proofs.index.index_of_source.Goals as goal
+
+pub returns-in_err-text : goal.returns-in_err-text
+returns-in_err-text c =
+    let p = err_from_is_err_and c.from_residual.result c.from_residual.ensures.1 in
+    rw (p.1, p.2) (refused-text c.args.bytes.now c.in_err-text.field-0.0 c.in_err-text.ensures.fault)
 
 pub returns-in_err-tokens : goal.returns-in_err-tokens
 returns-in_err-tokens c =

@@ -1,4 +1,4 @@
-use Rattle.protoscip.proofs.Exclusion.{listed-unless-memory}
+use Rattle.protoscip.proofs.ListedUnlessMemory.{listed-unless-memory}
 use Rattle.protoscip.proofs.laws.listed_unless_memory.Goals as goal
 
 pub returns : goal.returns

@@ -1,4 +1,4 @@
-use Rattle.protoscip.proofs.Parsing.Names.{file_named, names-AreInOrder}
+use Rattle.protoscip.proofs.SyntaxLemmas.Names.{file_named, names-AreInOrder}
 use Rattle.protoscip.proofs.laws.names_in_order.Goals as goal
 
 pub returns-clause-among : goal.returns-clause-among

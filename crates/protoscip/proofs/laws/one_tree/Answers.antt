@@ -1,4 +1,4 @@
-use Rattle.protoscip.proofs.Parsing.Exact.{same_tree}
+use Rattle.protoscip.proofs.SyntaxLemmas.Exact.{same_tree}
 use Rattle.protoscip.proofs.laws.one_tree.Goals as goal
 
 pub returns : goal.returns

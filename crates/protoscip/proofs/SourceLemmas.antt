@@ -3,14 +3,14 @@ use Rattle.std.proofs.Common.{◌≡◌, ℕ, zero, suc, ◌+◌, ◌-◌, ◌^�
 use Rattle.std.proofs.lemmas.List.{take_all, length-append, length-take}
 use Rattle.std.proofs.Math.Seq.{take-append-add}
 use Rattle.std.specs.Io.KnownBytes.{Consumes, IsAtEnd}
-use Rattle.scip_model.specs.Streams.{one_more, reads_after_read, ends_after_read}
-use Rattle.protoscip.specs.Source.{kept}
+use Rattle.scip_model.specs.Streams.{one_more, more_by, reads_after_read, ends_after_read}
+use Rattle.protoscip.specs.Source.{kept_bytes, max_kept_length}
 
-pub kept-fits : (xs ys : List ℕ) → length xs + length ys ≤ 67108865 → kept (xs ++ ys) ≡ xs ++ ys
-kept-fits xs ys fits = take_all 67108865 (xs ++ ys) (omega (arith, length-append xs ys))
+pub kept_bytes-fits : (xs ys : List ℕ) → length xs + length ys ≤ max_kept_length → kept_bytes (xs ++ ys) ≡ xs ++ ys
+kept_bytes-fits xs ys fits = take_all max_kept_length (xs ++ ys) (omega (arith, length-append xs ys))
 
-pub kept-cut : (xs ys : List ℕ) (n : ℕ) → length xs + n ≡ 67108865 → kept (xs ++ ys) ≡ xs ++ take n ys
-kept-cut xs ys n e = ap (λ k. take k (xs ++ ys)) (sym e) ∙ take-append-add xs ys n
+pub kept_bytes-cut : (xs ys : List ℕ) (n : ℕ) → length xs + n ≡ max_kept_length → kept_bytes (xs ++ ys) ≡ xs ++ take n ys
+kept_bytes-cut xs ys n e = ap (λ k. take k (xs ++ ys)) (sym e) ∙ take-append-add xs ys n
 
 take-take-append : (n : ℕ) (xs ys : List ℕ) → take n (take n xs ++ ys) ≡ take n (xs ++ ys)
 take-take-append zero xs ys = refl
@@ -18,8 +18,8 @@ take-take-append (suc n) [] ys = refl
 take-take-append (suc n) (x ∷ xs) ys = ap (λ l. x ∷ l) (take-take-append n xs ys)
 
 -- what is kept of more, where what came before was kept
-pub kept-more : (given part kept_before : List ℕ) → kept_before ≡ kept given → kept (kept_before ++ part) ≡ kept (given ++ part)
-kept-more given part kept_before e = rw e (take-take-append 67108865 given part)
+pub kept_bytes-more : (given part kept_before : List ℕ) → kept_before ≡ kept_bytes given → kept_bytes (kept_before ++ part) ≡ kept_bytes (given ++ part)
+kept_bytes-more given part kept_before e = rw e (take-take-append max_kept_length given part)
 
 -- what is left behind a read
 pub consumed : (known after : Option (List ℕ)) (left taken : List ℕ) → known ≡ Some left → Consumes known after taken
@@ -36,11 +36,11 @@ pub reads-full : (n : ℕ) (room : List ℕ) → 0 < length room → reads_after
 reads-full n [] some = absurd (omega arith)
 reads-full n (b ∷ bs) some = refl
 
-pub kept-few : (bytes : List ℕ) → length (kept bytes) ≤ 67108865
-kept-few bytes = omega (arith, length-take 67108865 bytes)
+pub kept_bytes-few : (bytes : List ℕ) → length (kept_bytes bytes) ≤ max_kept_length
+kept_bytes-few bytes = omega (arith, length-take max_kept_length bytes)
 
 -- one more read after some
-pub one-more-read : (old now after n : ℕ) → (n ≡ 0 → now ≡ old) → (0 < n → now ≡ min (old + n) (2 ^ 64 - 1)) → after ≡ one_more now → after ≡ min (old + (n + 1)) (2 ^ 64 - 1)
+pub one-more-read : (old now after n : ℕ) → (n ≡ 0 → now ≡ old) → (0 < n → now ≡ more_by n old) → after ≡ one_more now → after ≡ more_by (n + 1) old
 one-more-read old now after zero none some e = omega (arith, none refl)
 one-more-read old now after (suc n) none some e = omega (arith, some (omega arith))
 

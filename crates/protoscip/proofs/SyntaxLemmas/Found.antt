@@ -11,10 +11,10 @@ use Rattle.protoscip.specs.Syntax.Terminal.{is_kind, is_scalar_word}
 use Rattle.protoscip.specs.Syntax.Tree.{MessageTree}
 use Rattle.protoscip.specs.Syntax.Tree.Body.{NoMore}
 use Rattle.protoscip.specs.Syntax.Items.{body_of}
-use Rattle.protoscip.specs.Syntax.Derives.{IsToken, IsWord, IsText, IsSyntax, IsLabel, IsType, IsField, IsMessage, IsBody, AreStatements, IsFile, between_quotes}
-use Rattle.protoscip.specs.Syntax.Derives.IsToken.{token}
+use Rattle.protoscip.specs.Syntax.Derives.{IsTerminal, IsWord, IsLiterals, IsSyntax, IsLabel, IsType, IsField, IsMessage, IsBody, AreStatements, IsFile, between_quotes, max_nesting}
+use Rattle.protoscip.specs.Syntax.Derives.IsTerminal.{token}
 use Rattle.protoscip.specs.Syntax.Derives.IsWord.{word}
-use Rattle.protoscip.specs.Syntax.Derives.IsText.{last as last_literal, more as more_literals}
+use Rattle.protoscip.specs.Syntax.Derives.IsLiterals.{last as last_literal, more as more_literals}
 use Rattle.protoscip.specs.Syntax.Derives.IsSyntax.{syntax as a_syntax}
 use Rattle.protoscip.specs.Syntax.Derives.IsLabel.{repeated, optional, no_label}
 use Rattle.protoscip.specs.Syntax.Derives.IsType.{scalar as a_scalar}
@@ -24,16 +24,17 @@ use Rattle.protoscip.specs.Syntax.Derives.IsBody.{at_close, semicolon as a_semic
 use Rattle.protoscip.specs.Syntax.Derives.AreStatements.{at_end as no_statements, semicolon as file_semicolon, message as file_message}
 use Rattle.protoscip.specs.Syntax.Derives.IsFile.{file as a_file}
 use Rattle.protoscip.specs.Syntax.Reading.{others, first_is, of_kind, is_word, is_scalar, token_that, joined_text, after_text, proto3_at, syntax_at, label_at, type_at, field_at, many, all_until, item_at, closes, message_with, message_at, statement_at, ends, file_at}
-use Rattle.protoscip.proofs.Options.{bind_some, same_some, guard_some, kept_some, chosen, both_true, either_true, both_false}
-use Rattle.protoscip.proofs.Parsing.Tests.{same_kind, same_word, not_next, not_next_word}
-use Rattle.protoscip.proofs.Parsing.Stops.{no_text, no_text_after}
+use Rattle.protoscip.proofs.SyntaxLemmas.Steps.{bind_some, same_some, guard_some, kept_some, chosen, either_true}
+use Rattle.std.proofs.lemmas.Bool.{and_parts, or_parts}
+use Rattle.protoscip.proofs.SyntaxLemmas.Tests.{same_kind, same_word, not_next, not_next_word}
+use Rattle.protoscip.proofs.SyntaxLemmas.Stops.{no_text, no_text_after}
 
-token_found : (kind : TokenKind) (tokens : List Lexeme) (x : Span × List Lexeme) → token_that (of_kind kind) tokens ≡ Some x → IsToken kind tokens x.0 x.1
+token_found : (kind : TokenKind) (tokens : List Lexeme) (x : Span × List Lexeme) → token_that (of_kind kind) tokens ≡ Some x → IsTerminal kind tokens x.0 x.1
 unfolding token_that
 token_found kind [] x e = cc
 token_found kind (t ∷ rest) x e =
     let g = guard_some (is_kind kind t.kind) _ x e in
-    subst (λ (y : Span × List Lexeme). IsToken kind (t ∷ rest) y.0 y.1) (same_some _ x g.1) (token (same_kind kind t.kind g.0))
+    subst (λ (y : Span × List Lexeme). IsTerminal kind (t ∷ rest) y.0 y.1) (same_some _ x g.1) (token (same_kind kind t.kind g.0))
 
 word_found : (spelling : List ℕ) (tokens : List Lexeme) (x : Span × List Lexeme) → token_that (is_word spelling) tokens ≡ Some x → IsWord spelling tokens x.0 x.1
 unfolding token_that
@@ -50,13 +51,13 @@ unfolding token_that
 taken test kind [] x is e = cc
 taken test kind (t ∷ rest) x is e = rw is (guard_some (is_kind kind t.kind) _ x e).1
 
-text_found : (tokens : List Lexeme) → first_is (of_kind StringLiteral) tokens ≡ true → IsText tokens (joined_text tokens) (after_text tokens)
+text_found : (tokens : List Lexeme) → first_is (of_kind StringLiteral) tokens ≡ true → IsLiterals tokens (joined_text tokens) (after_text tokens)
 unfolding joined_text after_text
 text_found [] e = cc
 text_found (t ∷ rest) e = rw e (behind (λ more. text_found rest more) (first_is (of_kind StringLiteral) rest) refl)
   where
-    behind : (first_is (of_kind StringLiteral) rest ≡ true → IsText rest (joined_text rest) (after_text rest))
-        → (b : Bool) → first_is (of_kind StringLiteral) rest ≡ b → IsText (t ∷ rest) (between_quotes t.spelling ++ joined_text rest) (after_text rest)
+    behind : (first_is (of_kind StringLiteral) rest ≡ true → IsLiterals rest (joined_text rest) (after_text rest))
+        → (b : Bool) → first_is (of_kind StringLiteral) rest ≡ b → IsLiterals (t ∷ rest) (between_quotes t.spelling ++ joined_text rest) (after_text rest)
     behind further true more = more_literals (same_kind StringLiteral t.kind e) (further more)
     behind further false none =
         rw (no_text rest none, no_text_after rest none, append-nil)
@@ -75,7 +76,7 @@ label_found tokens x e =
     (λ is. subst (λ (y : Option Span × List Lexeme). IsLabel tokens y.0 y.1) here
     (optional (word_found _ tokens t.0 (taken (is_word (codes "optional")) Identifier tokens t.0 is t.1)))))
     (λ neither found.
-    let not = both_false (first_is (is_word (codes "repeated")) tokens) (first_is (is_word (codes "optional")) tokens) neither in
+    let not = or_parts (first_is (is_word (codes "repeated")) tokens) (first_is (is_word (codes "optional")) tokens) neither in
     subst (λ (y : Option Span × List Lexeme). IsLabel tokens y.0 y.1) (same_some _ x found)
     (no_label (not_next_word _ tokens not.0) (not_next_word _ tokens not.1)))
 
@@ -85,7 +86,7 @@ type_found [] x e = cc
 type_found (t ∷ rest) x e =
     let s = bind_some (cond (is_scalar t) (Some (t.span, rest)) None) _ x e in
     let g = guard_some (is_scalar t) _ s.0 s.1 in
-    let both = both_true (is_kind Identifier t.kind) (is_scalar_word t.spelling) g.0 in
+    let both = and_parts (is_kind Identifier t.kind) (is_scalar_word t.spelling) g.0 in
     let k = kept_some (first_is (of_kind Dot) s.0.1) _ x s.2 in
     let here : ◌≡◌ {A = Span × List Lexeme} (t.span, rest) x = same_some _ s.0 g.1 ∙ same_some s.0 x k.1 in
     let no_dot : first_is (of_kind Dot) rest ≡ false = rw (← ap (λ (y : Span × List Lexeme). y.1) (same_some _ s.0 g.1)) at k.0 in
@@ -104,69 +105,69 @@ field_found tokens x e =
     subst (λ (y : Field × List Lexeme). IsField tokens y.0 y.1) (same_some _ x s.2)
     (a_field (label_found _ _ l.1) (type_found _ _ t.1) (token_found _ _ _ n.1) (token_found _ _ _ q.1) (token_found _ _ _ i.1) (token_found _ _ _ s.1))
 
-closes_found : (room : ℕ) (tokens : List Lexeme) → closes tokens ≡ true → IsBody room tokens NoMore tokens
-closes_found room [] e = cc
-closes_found room (t ∷ rest) e = at_close (same_kind CloseBrace t.kind e)
+closes_found : (levels : ℕ) (tokens : List Lexeme) → closes tokens ≡ true → IsBody levels tokens NoMore tokens
+closes_found levels [] e = cc
+closes_found levels (t ∷ rest) e = at_close (same_kind CloseBrace t.kind e)
 
-semicolon_found : (tokens : List Lexeme) → first_is (of_kind Semicolon) tokens ≡ true → (span : Span) × IsToken Semicolon tokens span (others tokens)
+semicolon_found : (tokens : List Lexeme) → first_is (of_kind Semicolon) tokens ≡ true → (span : Span) × IsTerminal Semicolon tokens span (others tokens)
 semicolon_found [] e = cc
 semicolon_found (t ∷ rest) e = (t.span, token (same_kind Semicolon t.kind e))
 
--- what the readers of messages with this much room find is messages
+-- what the readers of messages with this much levels find is messages
 abbrev FindsMessages : ℕ → Type 0
-FindsMessages room = (tokens : List Lexeme) (x : MessageTree × List Lexeme) → message_at room tokens ≡ Some x → IsMessage room tokens x.0 x.1
+FindsMessages levels = (tokens : List Lexeme) (x : MessageTree × List Lexeme) → message_at levels tokens ≡ Some x → IsMessage levels tokens x.0 x.1
 
-item_found : (room : ℕ) → FindsMessages room → (tokens : List Lexeme) (x : Option MessageItem × List Lexeme) → item_at (message_at room) tokens ≡ Some x
-    → (others' : List MessageItem) (after : List Lexeme) → IsBody room x.1 (body_of others') after → IsBody room tokens (body_of (option_to_list x.0 ++ others')) after
+item_found : (levels : ℕ) → FindsMessages levels → (tokens : List Lexeme) (x : Option MessageItem × List Lexeme) → item_at (message_at levels) tokens ≡ Some x
+    → (others' : List MessageItem) (after : List Lexeme) → IsBody levels x.1 (body_of others') after → IsBody levels tokens (body_of (option_to_list x.0 ++ others')) after
 unfolding item_at
-item_found room inner tokens x e others' after rest =
+item_found levels inner tokens x e others' after rest =
     chosen (first_is (of_kind Semicolon) tokens) _ _ (Some x) e
     (λ test found.
     let here = same_some _ x found in
-    let rest' = subst (λ (y : Option MessageItem × List Lexeme). IsBody room y.1 (body_of others') after) (sym here) rest in
-    subst (λ (y : Option MessageItem × List Lexeme). IsBody room tokens (body_of (option_to_list y.0 ++ others')) after) here
+    let rest' = subst (λ (y : Option MessageItem × List Lexeme). IsBody levels y.1 (body_of others') after) (sym here) rest in
+    subst (λ (y : Option MessageItem × List Lexeme). IsBody levels tokens (body_of (option_to_list y.0 ++ others')) after) here
     (a_semicolon (semicolon_found tokens test).1 rest'))
     (λ _ found. chosen (first_is (is_word (codes "message")) tokens) _ _ (Some x) found
     (λ _ found'.
-    let m = bind_some (message_at room tokens) _ x found' in
+    let m = bind_some (message_at levels tokens) _ x found' in
     let here = same_some _ x m.2 in
-    let rest' = subst (λ (y : Option MessageItem × List Lexeme). IsBody room y.1 (body_of others') after) (sym here) rest in
-    subst (λ (y : Option MessageItem × List Lexeme). IsBody room tokens (body_of (option_to_list y.0 ++ others')) after) here
+    let rest' = subst (λ (y : Option MessageItem × List Lexeme). IsBody levels y.1 (body_of others') after) (sym here) rest in
+    subst (λ (y : Option MessageItem × List Lexeme). IsBody levels tokens (body_of (option_to_list y.0 ++ others')) after) here
     (nested (inner tokens m.0 m.1) rest'))
     (λ _ found'.
     let f = bind_some (field_at tokens) _ x found' in
     let here = same_some _ x f.2 in
-    let rest' = subst (λ (y : Option MessageItem × List Lexeme). IsBody room y.1 (body_of others') after) (sym here) rest in
-    subst (λ (y : Option MessageItem × List Lexeme). IsBody room tokens (body_of (option_to_list y.0 ++ others')) after) here
+    let rest' = subst (λ (y : Option MessageItem × List Lexeme). IsBody levels y.1 (body_of others') after) (sym here) rest in
+    subst (λ (y : Option MessageItem × List Lexeme). IsBody levels tokens (body_of (option_to_list y.0 ++ others')) after) here
     (plain (field_found tokens f.0 f.1) rest')))
 
-items_found : (room : ℕ) → FindsMessages room → (n : ℕ) (tokens : List Lexeme) (x : List MessageItem × List Lexeme)
-    → many closes (item_at (message_at room)) n tokens ≡ Some x → IsBody room tokens (body_of x.0) x.1
-items_found room inner zero tokens x e =
+items_found : (levels : ℕ) → FindsMessages levels → (n : ℕ) (tokens : List Lexeme) (x : List MessageItem × List Lexeme)
+    → many closes (item_at (message_at levels)) n tokens ≡ Some x → IsBody levels tokens (body_of x.0) x.1
+items_found levels inner zero tokens x e =
     let g = guard_some (closes tokens) _ x e in
-    subst (λ (y : List MessageItem × List Lexeme). IsBody room tokens (body_of y.0) y.1) (same_some _ x g.1) (closes_found room tokens g.0)
-items_found room inner (suc n) tokens x e =
+    subst (λ (y : List MessageItem × List Lexeme). IsBody levels tokens (body_of y.0) y.1) (same_some _ x g.1) (closes_found levels tokens g.0)
+items_found levels inner (suc n) tokens x e =
     chosen (closes tokens) _ _ (Some x) e
     (λ test found.
-    subst (λ (y : List MessageItem × List Lexeme). IsBody room tokens (body_of y.0) y.1) (same_some _ x found) (closes_found room tokens test))
+    subst (λ (y : List MessageItem × List Lexeme). IsBody levels tokens (body_of y.0) y.1) (same_some _ x found) (closes_found levels tokens test))
     (λ _ found.
-    let t = bind_some (item_at (message_at room) tokens) _ x found in
-    let r = bind_some (many closes (item_at (message_at room)) n t.0.1) _ x t.2 in
-    subst (λ (y : List MessageItem × List Lexeme). IsBody room tokens (body_of y.0) y.1) (same_some _ x r.2)
-    (item_found room inner tokens t.0 t.1 r.0.0 r.0.1 (items_found room inner n t.0.1 r.0 r.1)))
+    let t = bind_some (item_at (message_at levels) tokens) _ x found in
+    let r = bind_some (many closes (item_at (message_at levels)) n t.0.1) _ x t.2 in
+    subst (λ (y : List MessageItem × List Lexeme). IsBody levels tokens (body_of y.0) y.1) (same_some _ x r.2)
+    (item_found levels inner tokens t.0 t.1 r.0.0 r.0.1 (items_found levels inner n t.0.1 r.0 r.1)))
 
-message_found : (room : ℕ) → FindsMessages room
+message_found : (levels : ℕ) → FindsMessages levels
 unfolding message_at message_with all_until
 message_found zero tokens x e = cc
-message_found (suc room) tokens x e =
+message_found (suc levels) tokens x e =
     let k = bind_some (token_that (is_word (codes "message")) tokens) _ x e in
     let n = bind_some (token_that (of_kind Identifier) k.0.1) _ x k.2 in
     let o = bind_some (token_that (of_kind OpenBrace) n.0.1) _ x n.2 in
-    let b = bind_some (many closes (item_at (message_at room)) (length o.0.1) o.0.1) _ x o.2 in
+    let b = bind_some (many closes (item_at (message_at levels)) (length o.0.1) o.0.1) _ x o.2 in
     let c = bind_some (token_that (of_kind CloseBrace) b.0.1) _ x b.2 in
-    subst (λ (y : MessageTree × List Lexeme). IsMessage (suc room) tokens y.0 y.1) (same_some _ x c.2)
+    subst (λ (y : MessageTree × List Lexeme). IsMessage (suc levels) tokens y.0 y.1) (same_some _ x c.2)
     (a_message (word_found _ _ _ k.1) (token_found _ _ _ n.1) (token_found _ _ _ o.1)
-    (items_found room (message_found room) (length o.0.1) o.0.1 b.0 b.1) (token_found _ _ _ c.1))
+    (items_found levels (message_found levels) (length o.0.1) o.0.1 b.0 b.1) (token_found _ _ _ c.1))
 
 ends_found : (tokens : List Lexeme) → ends tokens ≡ true → AreStatements tokens []
 ends_found [] e = no_statements
@@ -183,11 +184,11 @@ statement_found tokens x e messages rest =
     subst (λ (y : Option MessageTree × List Lexeme). AreStatements tokens (option_to_list y.0 ++ messages)) here
     (file_semicolon (semicolon_found tokens test).1 rest'))
     (λ _ found.
-    let m = bind_some (message_at 64 tokens) _ x found in
+    let m = bind_some (message_at max_nesting tokens) _ x found in
     let here = same_some _ x m.2 in
     let rest' = subst (λ (y : Option MessageTree × List Lexeme). AreStatements y.1 messages) (sym here) rest in
     subst (λ (y : Option MessageTree × List Lexeme). AreStatements tokens (option_to_list y.0 ++ messages)) here
-    (file_message (message_found 64 tokens m.0 m.1) rest'))
+    (file_message (message_found max_nesting tokens m.0 m.1) rest'))
 
 statements_found : (n : ℕ) (tokens : List Lexeme) (x : List MessageTree × List Lexeme) → many ends statement_at n tokens ≡ Some x → AreStatements tokens x.0
 statements_found zero tokens x e =
@@ -219,7 +220,7 @@ syntax_found tokens x e =
     let s = bind_some (token_that (of_kind Semicolon) p.0.1) _ x p.2 in
     let g = guard_some (bytes_eq (joined_text q.0.1) (codes "proto3")) _ p.0 p.1 in
     let left = ap (λ (y : Unit {0} × List Lexeme). y.1) (same_some _ p.0 g.1) in
-    let text' = subst (IsText q.0.1 (joined_text q.0.1)) left (text_found q.0.1 (proto3_literal q.0.1 g.0)) in
+    let text' = subst (IsLiterals q.0.1 (joined_text q.0.1)) left (text_found q.0.1 (proto3_literal q.0.1 g.0)) in
     subst (λ (y : Unit {0} × List Lexeme). IsSyntax tokens y.1) (same_some _ x s.2)
     (a_syntax (word_found _ _ _ k.1) (token_found _ _ _ q.1) text' ((bytes_eq-Decides (joined_text q.0.1) (codes "proto3")).0 g.0) (token_found _ _ _ s.1))
 

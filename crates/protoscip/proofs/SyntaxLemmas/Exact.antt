@@ -15,10 +15,10 @@ use Rattle.protoscip.specs.Syntax.Terminal.{is_kind}
 use Rattle.protoscip.specs.Syntax.Tree.{Body, MessageTree}
 use Rattle.protoscip.specs.Syntax.Tree.Body.{NoMore, FieldThen, MessageThen}
 use Rattle.protoscip.specs.Syntax.Items.{body_of}
-use Rattle.protoscip.specs.Syntax.Derives.{IsToken, IsWord, IsText, IsSyntax, IsLabel, IsType, IsField, IsMessage, IsBody, AreStatements, IsFile}
-use Rattle.protoscip.specs.Syntax.Derives.IsToken.{token}
+use Rattle.protoscip.specs.Syntax.Derives.{IsTerminal, IsWord, IsLiterals, IsSyntax, IsLabel, IsType, IsField, IsMessage, IsBody, AreStatements, IsFile}
+use Rattle.protoscip.specs.Syntax.Derives.IsTerminal.{token}
 use Rattle.protoscip.specs.Syntax.Derives.IsWord.{word}
-use Rattle.protoscip.specs.Syntax.Derives.IsText.{last as last_literal, more as more_literals}
+use Rattle.protoscip.specs.Syntax.Derives.IsLiterals.{last as last_literal, more as more_literals}
 use Rattle.protoscip.specs.Syntax.Derives.IsSyntax.{syntax as a_syntax}
 use Rattle.protoscip.specs.Syntax.Derives.IsLabel.{repeated, optional, no_label}
 use Rattle.protoscip.specs.Syntax.Derives.IsType.{scalar as a_scalar}
@@ -28,12 +28,12 @@ use Rattle.protoscip.specs.Syntax.Derives.IsBody.{at_close, semicolon as a_semic
 use Rattle.protoscip.specs.Syntax.Derives.AreStatements.{at_end as no_statements, semicolon as file_semicolon, message as file_message}
 use Rattle.protoscip.specs.Syntax.Derives.IsFile.{file as a_file}
 use Rattle.protoscip.specs.Syntax.Reading.{others, first_is, of_kind, is_word, token_that, joined_text, after_text, proto3_at, syntax_at, label_at, type_at, field_at, many, all_until, item_at, closes, message_with, message_at, statement_at, ends, file_at}
-use Rattle.protoscip.proofs.Parsing.Tests.{is_kind-same, is_word-same, not_next-first_is, not_next_word-first_is, scalar-other}
-use Rattle.protoscip.proofs.Options.{same_some}
-use Rattle.protoscip.proofs.Parsing.Stops.{no_text, no_text_after}
-use Rattle.protoscip.proofs.Parsing.Shorter.{message_at-shorter, field_at-shorter}
+use Rattle.protoscip.proofs.SyntaxLemmas.Tests.{is_kind-same, is_word-same, not_next-first_is, not_next_word-first_is, scalar-other}
+use Rattle.protoscip.proofs.SyntaxLemmas.Steps.{same_some}
+use Rattle.protoscip.proofs.SyntaxLemmas.Stops.{no_text, no_text_after}
+use Rattle.protoscip.proofs.SyntaxLemmas.Shorter.{message_at-shorter, field_at-shorter}
 
-token_read : {kind : TokenKind} {a b : List Lexeme} {span : Span} → IsToken kind a span b → token_that (of_kind kind) a ≡ Some (span, b)
+token_read : {kind : TokenKind} {a b : List Lexeme} {span : Span} → IsTerminal kind a span b → token_that (of_kind kind) a ≡ Some (span, b)
 unfolding token_that
 token_read {kind} (token {t} e) = rw (is_kind-same kind t.kind e) refl
 
@@ -42,10 +42,10 @@ unfolding token_that
 word_read {spelling} (word {t} k s) = rw (is_word-same spelling t k s) refl
 
 -- what a token's kind says of other tests of it
-token_first : {kind : TokenKind} {a b : List Lexeme} {span : Span} → IsToken kind a span b → first_is (of_kind kind) a ≡ true
+token_first : {kind : TokenKind} {a b : List Lexeme} {span : Span} → IsTerminal kind a span b → first_is (of_kind kind) a ≡ true
 token_first {kind} (token {t} e) = is_kind-same kind t.kind e
 
-token_rest : {kind : TokenKind} {a b : List Lexeme} {span : Span} → IsToken kind a span b → others a ≡ b
+token_rest : {kind : TokenKind} {a b : List Lexeme} {span : Span} → IsTerminal kind a span b → others a ≡ b
 token_rest (token e) = refl
 
 word_first : {spelling : List ℕ} {a b : List Lexeme} {span : Span} → IsWord spelling a span b → first_is (is_word spelling) a ≡ true
@@ -54,11 +54,11 @@ word_first {spelling} (word {t} k s) = is_word-same spelling t k s
 word_token : {spelling : List ℕ} {a b : List Lexeme} {span : Span} → IsWord spelling a span b → token_that (of_kind Identifier) a ≡ Some (span, b)
 word_token (word k s) = token_read (token k)
 
-token_shorter : {kind : TokenKind} {a b : List Lexeme} {span : Span} → IsToken kind a span b → length b < length a
+token_shorter : {kind : TokenKind} {a b : List Lexeme} {span : Span} → IsTerminal kind a span b → length b < length a
 token_shorter (token e) = omega arith
 
 -- a token of one kind is of no other
-other_first : {kind : TokenKind} {a b : List Lexeme} {span : Span} (other : TokenKind) → is_kind other kind ≡ false → IsToken kind a span b
+other_first : {kind : TokenKind} {a b : List Lexeme} {span : Span} (other : TokenKind) → is_kind other kind ≡ false → IsTerminal kind a span b
     → first_is (of_kind other) a ≡ false
 other_first other differs (token {t} e) = rw e differs
 
@@ -71,11 +71,11 @@ word_other_word : {spelling : List ℕ} {a b : List Lexeme} {span : Span} (other
     → first_is (is_word other) a ≡ false
 word_other_word other differs (word {t} k s) = rw (is_kind-same Identifier t.kind k, s, differs) refl
 
-text_first : {a b : List Lexeme} {text : List ℕ} → IsText a text b → first_is (of_kind StringLiteral) a ≡ true
+text_first : {a b : List Lexeme} {text : List ℕ} → IsLiterals a text b → first_is (of_kind StringLiteral) a ≡ true
 text_first (last_literal {t} k n) = is_kind-same StringLiteral t.kind k
 text_first (more_literals {t} k rest) = is_kind-same StringLiteral t.kind k
 
-text_read : {a b : List Lexeme} {text : List ℕ} → IsText a text b → (joined_text a ≡ text) × (after_text a ≡ b)
+text_read : {a b : List Lexeme} {text : List ℕ} → IsLiterals a text b → (joined_text a ≡ text) × (after_text a ≡ b)
 unfolding joined_text after_text
 text_read (last_literal {t} {rest} k n) =
     let past = not_next-first_is StringLiteral rest n in
@@ -128,7 +128,7 @@ field_begins (a_field (repeated w) t n q i s) = word_begins (codes "repeated") r
 field_begins (a_field (optional w) t n q i s) = word_begins (codes "optional") refl w
 field_begins (a_field (no_label p r) t n q i s) = type_begins t
 
-message_begins : {room : ℕ} {a b : List Lexeme} {message : MessageTree} → IsMessage room a message b
+message_begins : {levels : ℕ} {a b : List Lexeme} {message : MessageTree} → IsMessage levels a message b
     → (closes a ≡ false) × (first_is (of_kind Semicolon) a ≡ false) × (first_is (is_word (codes "message")) a ≡ true) × (ends a ≡ false)
 message_begins (a_message (word {t} {rest} k s) n o b c) =
     let w : IsWord (codes "message") (t ∷ rest) t.span rest = word k s in
@@ -148,12 +148,12 @@ body_of-items_in (MessageThen heading inner others') = ap (MessageThen heading i
 mutual
   unfolding message_at message_with all_until item_at
 
-  message_read : {room : ℕ} {a b : List Lexeme} {message : MessageTree} → IsMessage room a message b → message_at room a ≡ Some (message, b)
-  message_read (a_message {room} {d = d} {body = body} k n o b c) =
+  message_read : {levels : ℕ} {a b : List Lexeme} {message : MessageTree} → IsMessage levels a message b → message_at levels a ≡ Some (message, b)
+  message_read (a_message {levels} {d = d} {body = body} k n o b c) =
       rw (word_read k, token_read n, token_read o, body_read b (length d) (omega arith), token_read c, body_of-items_in body) refl
 
-  body_read : {room : ℕ} {a b : List Lexeme} {body : Body} → IsBody room a body b → (n : ℕ) → length a ≤ n
-      → many closes (item_at (message_at room)) n a ≡ Some (items_in body, b)
+  body_read : {levels : ℕ} {a b : List Lexeme} {body : Body} → IsBody levels a body b → (n : ℕ) → length a ≤ n
+      → many closes (item_at (message_at levels)) n a ≡ Some (items_in body, b)
   body_read (at_close {t = t} k) zero h = rw (is_kind-same CloseBrace t.kind k) refl
   body_read (at_close {t = t} k) (suc n) h = rw (is_kind-same CloseBrace t.kind k) refl
   body_read (a_semicolon s rest) zero h = absurd (omega (arith, token_shorter s))

@@ -11,10 +11,10 @@ use Rattle.protoscip.specs.Syntax.Lexeme.{Lexeme, lexemes_of}
 use Rattle.protoscip.specs.Syntax.Tree.{Body, MessageTree, names_in, names_of}
 use Rattle.protoscip.specs.Syntax.Names.{Among}
 use Rattle.protoscip.specs.Syntax.Names.Among.{none, skip, name}
-use Rattle.protoscip.specs.Syntax.Derives.{IsToken, IsWord, IsText, IsSyntax, IsLabel, IsType, IsField, IsMessage, IsBody, AreStatements, IsFile, Derives}
-use Rattle.protoscip.specs.Syntax.Derives.IsToken.{token}
+use Rattle.protoscip.specs.Syntax.Derives.{IsTerminal, IsWord, IsLiterals, IsSyntax, IsLabel, IsType, IsField, IsMessage, IsBody, AreStatements, IsFile, Derives}
+use Rattle.protoscip.specs.Syntax.Derives.IsTerminal.{token}
 use Rattle.protoscip.specs.Syntax.Derives.IsWord.{word}
-use Rattle.protoscip.specs.Syntax.Derives.IsText.{last as last_literal, more as more_literals}
+use Rattle.protoscip.specs.Syntax.Derives.IsLiterals.{last as last_literal, more as more_literals}
 use Rattle.protoscip.specs.Syntax.Derives.IsSyntax.{syntax as a_syntax}
 use Rattle.protoscip.specs.Syntax.Derives.IsLabel.{repeated, optional, no_label}
 use Rattle.protoscip.specs.Syntax.Derives.IsType.{scalar as a_scalar}
@@ -24,16 +24,16 @@ use Rattle.protoscip.specs.Syntax.Derives.IsBody.{at_close, semicolon as a_semic
 use Rattle.protoscip.specs.Syntax.Derives.AreStatements.{at_end as no_statements, semicolon as file_semicolon, message as file_message}
 use Rattle.protoscip.specs.Syntax.Derives.IsFile.{file as a_file}
 
-past_token : {kind : TokenKind} {a b : List Lexeme} {span : Span} {spans : List Span} → IsToken kind a span b → Among spans b → Among spans a
+past_token : {kind : TokenKind} {a b : List Lexeme} {span : Span} {spans : List Span} → IsTerminal kind a span b → Among spans b → Among spans a
 past_token (token e) behind = skip behind
 
-named : {a b : List Lexeme} {span : Span} {spans : List Span} → IsToken Identifier a span b → Among spans b → Among (span ∷ spans) a
+named : {a b : List Lexeme} {span : Span} {spans : List Span} → IsTerminal Identifier a span b → Among spans b → Among (span ∷ spans) a
 named (token e) behind = name e behind
 
 past_word : {spelling : List ℕ} {a b : List Lexeme} {span : Span} {spans : List Span} → IsWord spelling a span b → Among spans b → Among spans a
 past_word (word k s) behind = skip behind
 
-past_text : {a b : List Lexeme} {text : List ℕ} {spans : List Span} → IsText a text b → Among spans b → Among spans a
+past_text : {a b : List Lexeme} {text : List ℕ} {spans : List Span} → IsLiterals a text b → Among spans b → Among spans a
 past_text (last_literal k n) behind = skip behind
 past_text (more_literals k rest) behind = skip (past_text rest behind)
 
@@ -52,11 +52,11 @@ field_named : {a b : List Lexeme} {field : Field} {spans : List Span} → IsFiel
 field_named (a_field l t n q i s) behind = past_label l (past_type t (named n (past_token q (past_token i (past_token s behind)))))
 
 mutual
-  message_named : {room : ℕ} {a b : List Lexeme} {message : MessageTree} → IsMessage room a message b → {spans : List Span} → Among spans b
+  message_named : {levels : ℕ} {a b : List Lexeme} {message : MessageTree} → IsMessage levels a message b → {spans : List Span} → Among spans b
       → Among (message.heading.name ∷ (names_in message.body ++ spans)) a
   message_named (a_message k n o b c) behind = past_word k (named n (past_token o (body_named b (past_token c behind))))
 
-  body_named : {room : ℕ} {a b : List Lexeme} {body : Body} → IsBody room a body b → {spans : List Span} → Among spans b → Among (names_in body ++ spans) a
+  body_named : {levels : ℕ} {a b : List Lexeme} {body : Body} → IsBody levels a body b → {spans : List Span} → Among spans b → Among (names_in body ++ spans) a
   body_named (at_close k) behind = behind
   body_named (a_semicolon s rest) behind = past_token s (body_named rest behind)
   body_named (plain f rest) behind = field_named f (body_named rest behind)

@@ -24,14 +24,6 @@ pub chosen : {A P : Type 0} (b : Bool) (x y z : A) → cond b x y ≡ z → (b �
 chosen true x y z e left right = left refl e
 chosen false x y z e left right = right refl e
 
-pub both_true : (a b : Bool) → (a && b) ≡ true → (a ≡ true) × (b ≡ true)
-both_true true b e = (refl, e)
-both_true false b e = cc
-
 pub either_true : {P : Type 0} (a b : Bool) → (a || b) ≡ true → (a ≡ true → P) → (b ≡ true → P) → P
 either_true true b e left right = left refl
 either_true false b e left right = right e
-
-pub both_false : (a b : Bool) → (a || b) ≡ false → (a ≡ false) × (b ≡ false)
-both_false true b e = cc
-both_false false b e = (refl, e)

@@ -10,7 +10,7 @@ use Rattle.protoscip.specs.Syntax.Derives.{NotNext, NotNextWord}
 use Rattle.protoscip.specs.Syntax.Derives.NotNext.{at_end as none_next, other as other_next}
 use Rattle.protoscip.specs.Syntax.Derives.NotNextWord.{at_end as no_word_next, other as other_word_next}
 use Rattle.protoscip.specs.Syntax.Reading.{first_is, of_kind, is_word}
-use Rattle.protoscip.proofs.Options.{both_true}
+use Rattle.std.proofs.lemmas.Bool.{and_parts}
 
 abbrev kinds : List TokenKind
 kinds =
@@ -62,7 +62,7 @@ other_kind wanted kind e same = let yes : is_kind wanted kind ≡ true = is_kind
 
 pub same_word : (word : List ℕ) (t : Lexeme) → is_word word t ≡ true → (t.kind ≡ Identifier) × (t.spelling ≡ word)
 same_word word t e =
-    let both = both_true (is_kind Identifier t.kind) (bytes_eq t.spelling word) e in
+    let both = and_parts (is_kind Identifier t.kind) (bytes_eq t.spelling word) e in
     (same_kind Identifier t.kind both.0, (bytes_eq-Decides t.spelling word).0 both.1)
 
 pub is_word-same : (word : List ℕ) (t : Lexeme) → t.kind ≡ Identifier → t.spelling ≡ word → is_word word t ≡ true

@@ -1,5 +1,5 @@
 use Rattle.std.proofs.Common.{◌≡◌, take}
-use Rattle.protoscip.proofs.declarations.copied.Given as goal
+use Rattle.protoscip.proofs.declarations.copy_scope.Given as goal
 
 -- the names of the scope so far
 abbrev pub invariant-loop-outer : goal.invariant-loop-outer

@@ -1,12 +1,34 @@
--- A list that ascends is the only one of its elements that does.
+-- Lemmas on the lists of a document: their orders are total, and a list that ascends is the only one of its elements that does.
+use Rattle.std.specs.Cmp.{IsTotalOrder, IsStrictWeakOrder}
+use Rattle.std.specs.Ordering.{is_lt}
+use Rattle.std.proofs.lemmas.Cmp.{on_total, then_total, nat_cmp_total, nat_list_cmp_total}
+use Rattle.std.proofs.lemmas.List.Sorted.{ranks_by, sorted_far, sum_by-IsPermutation, All-permutation}
+use Rattle.scip_model.specs.declared.records.Occurrence.{Occurrence}
+use Rattle.scip_model.specs.declared.records.Info.{Info}
+use Rattle.protoscip.specs.Document.{occurrence_cmp, info_cmp}
 use Rattle.std.proofs.Common.{◌≡◌, ℕ, suc, ◌+◌, inl, inr, Bool, true, false, cond, List, [], ◌∷◌, get_or, refl, ap, sym, ◌∙◌, arith, add-one}
 use Rattle.std.specs.List.{AllByRecursion, All, sum_by}
 use Rattle.std.specs.List.Sorted.{IsSortedBy, IsPermutation}
-use Rattle.std.specs.Cmp.{IsStrictWeakOrder}
-use Rattle.std.proofs.lemmas.List.Sorted.{sorted_far, sum_by-IsPermutation, All-permutation}
 use Rattle.std.proofs.lemmas.List.Elements.{recursion_from_All}
 use Rattle.std.proofs.lemmas.List.Sums.{sum_by-cons}
 use Rattle.std.proofs.lemmas.Bool.{cases_Bool}
+
+pub occurrences_total : IsTotalOrder occurrence_cmp
+occurrences_total =
+    then_total (on_total (λ (o : Occurrence). o.range.start_line) nat_cmp_total)
+    (then_total (on_total (λ (o : Occurrence). o.range.start_column) nat_cmp_total)
+    (then_total (on_total (λ (o : Occurrence). o.range.end_line) nat_cmp_total)
+    (then_total (on_total (λ (o : Occurrence). o.range.end_column) nat_cmp_total)
+    (on_total (λ (o : Occurrence). o.symbol) nat_list_cmp_total))))
+
+pub infos_total : IsTotalOrder info_cmp
+infos_total = on_total (λ (i : Info). i.symbol) nat_list_cmp_total
+
+pub occurrences_rank : IsStrictWeakOrder (λ x y. is_lt (occurrence_cmp x y))
+occurrences_rank = ranks_by occurrences_total (λ o. o)
+
+pub infos_rank : IsStrictWeakOrder (λ x y. is_lt (info_cmp x y))
+infos_rank = ranks_by infos_total (λ i. i)
 
 module _ {X : Type 0} (lt : X → X → Bool) (order : IsStrictWeakOrder lt) where
   -- no element is below one before it

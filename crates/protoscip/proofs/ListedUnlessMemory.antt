@@ -9,12 +9,11 @@ use Rattle.proto_lex.specs.declared.fault.LexFault.TheVariants as lexing
 use Rattle.proto_lex.specs.Text.{IsText, IsNoText}
 use Rattle.proto_lex.specs.Lexes.{Lexes}
 use Rattle.scip_model.specs.declared.records.Index.{Index}
-use Rattle.scip_wire.specs.Spelling.{spelling_of}
+use Rattle.scip_wire.specs.Spelling.{spelling_of, max_index_len}
 use Rattle.protoscip.specs.Syntax.Tree.{MessageTree}
 use Rattle.protoscip.specs.Syntax.Derives.{Derives}
 use Rattle.protoscip.specs.declared.fault.Fault.{Fault}
 use Rattle.protoscip.specs.declared.fault.Fault.TheVariants as fault
-use Rattle.protoscip.specs.declared.syntax.fault.SyntaxFault.TheVariants as syntax
 use Rattle.protoscip.specs.Declarations.{declarations_of}
 use Rattle.protoscip.specs.Duplicates.{NoClash}
 use Rattle.protoscip.specs.Dump.{IsSource, IsUnparsed, IsRefusal, IsListing, source_path}
@@ -54,17 +53,14 @@ module _ (bytes : List ℕ)
   listed-unless-memory listing (fault.Lex e) is (inr un) =
       let lexable = is.1.source.lexable in
       absurd (un.unlexed lexable.tokens lexable.comments lexable.lexes)
-  listed-unless-memory listing (fault.Syntax (syntax.NotProto3 at)) is refused = absurd (source-parsed is.1.tree is.1.source refused)
-  listed-unless-memory listing (fault.Syntax (syntax.TooDeep at)) is refused = absurd (source-parsed is.1.tree is.1.source refused)
-  listed-unless-memory listing (fault.Syntax (syntax.Grammar at)) is refused = absurd (source-parsed is.1.tree is.1.source refused)
-  listed-unless-memory listing (fault.Syntax syntax.Memory) is refused = absurd refused
+  listed-unless-memory listing (fault.Syntax e) is refused = absurd (source-parsed is.1.tree is.1.source refused.1)
   listed-unless-memory listing (fault.Duplicate first second) is refused =
       let tree = one_tree is.1.source.lexable.tokens is.1.tree refused.tree is.1.source.derives (derives-also is.1.tree refused.tree is.1.source refused.source) in
       let clashes = refused.clash.clashes in
       absurd (subst (λ (t : List MessageTree). NoClash (declarations_of bytes t)) tree is.1.no_clash refused.clash.first_index refused.clash.second_index clashes)
   listed-unless-memory listing fault.TooLarge is refused =
       let same = index-one source_path bytes is.0 refused.0 is.1 refused.1 one_lexing one_tree in
-      let small = subst (λ (i : Index). length (spelling_of i) ≤ 2147483647) same is.2 in
+      let small = subst (λ (i : Index). length (spelling_of i) ≤ max_index_len) same is.2 in
       let large = refused.2 in
       absurd (omega (arith, small, large))
   listed-unless-memory listing (fault.Write count) is refused = absurd refused

@@ -6,9 +6,10 @@ use Rattle.protoscip.specs.declared.syntax.tree.Field.{Field}
 use Rattle.protoscip.specs.declared.syntax.tree.MessageItem.{MessageItem}
 use Rattle.protoscip.specs.Syntax.Lexeme.{Lexeme}
 use Rattle.protoscip.specs.Syntax.Tree.{MessageTree}
+use Rattle.protoscip.specs.Syntax.Derives.{max_nesting}
 use Rattle.protoscip.specs.Syntax.Reading.{Read, others, first_is, of_kind, is_word, is_scalar, token_that, label_at, type_at, field_at, many, all_until, item_at, closes, message_with, message_at, statement_at}
-use Rattle.protoscip.proofs.Options.{bind_some, guard_some, kept_some, chosen}
-use Rattle.protoscip.proofs.Parsing.Many.{Falls}
+use Rattle.protoscip.proofs.SyntaxLemmas.Steps.{bind_some, guard_some, kept_some, chosen}
+use Rattle.protoscip.proofs.SyntaxLemmas.Many.{Falls}
 
 -- the rest behind a value that is read
 rest_of : {A : Type 0} {rest : List Lexeme} (a : A) (x : A × List Lexeme) → Some (a, rest) ≡ Some x → rest ≡ x.1
@@ -99,14 +100,14 @@ message_with-shorter items falls tokens x e =
     let left : c.0.1 ≡ x.1 = rest_of _ x c.2 in
     rw (← left) (omega (arith, token_that-shorter _ _ _ k.1, token_that-shorter _ _ _ n.1, token_that-shorter _ _ _ o.1, falls _ _ b.1, token_that-shorter _ _ _ c.1))
 
-pub message_at-shorter : (room : ℕ) (tokens : List Lexeme) (x : MessageTree × List Lexeme) → message_at room tokens ≡ Some x → length x.1 < length tokens
+pub message_at-shorter : (levels : ℕ) (tokens : List Lexeme) (x : MessageTree × List Lexeme) → message_at levels tokens ≡ Some x → length x.1 < length tokens
 unfolding message_at
 message_at-shorter zero tokens x e = cc
-message_at-shorter (suc room) tokens x e =
-    message_with-shorter _ (all_until-shorter closes _ (item_at-shorter (message_at room) (message_at-shorter room))) tokens x e
+message_at-shorter (suc levels) tokens x e =
+    message_with-shorter _ (all_until-shorter closes _ (item_at-shorter (message_at levels) (message_at-shorter levels))) tokens x e
 
-pub items-fall : (room : ℕ) → Falls (item_at (message_at room))
-items-fall room = item_at-shorter (message_at room) (message_at-shorter room)
+pub items-fall : (levels : ℕ) → Falls (item_at (message_at levels))
+items-fall levels = item_at-shorter (message_at levels) (message_at-shorter levels)
 
 pub statements-fall : Falls statement_at
 unfolding statement_at
@@ -114,6 +115,6 @@ statements-fall tokens x e =
     chosen (first_is (of_kind Semicolon) tokens) _ _ (Some x) e
     (λ test found. let left : others tokens ≡ x.1 = rest_of _ x found in rw (← left) (others-shorter _ tokens test))
     (λ _ found.
-    let m = bind_some (message_at 64 tokens) _ x found in
+    let m = bind_some (message_at max_nesting tokens) _ x found in
     let left : m.0.1 ≡ x.1 = rest_of _ x m.2 in
-    rw (← left) (message_at-shorter 64 _ _ m.1))
+    rw (← left) (message_at-shorter max_nesting _ _ m.1))

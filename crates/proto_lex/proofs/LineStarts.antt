@@ -204,8 +204,10 @@ pub line_at_point : (text starts : List ℕ) (offset count : ℕ) → starts ≡
 line_at_point text starts offset count e h p =
     let q = subst (λ (xs : List ℕ). IsPartitionPoint (λ start. leb start offset ≡ true) (λ start. leb start offset ≡ false) xs count) e p in
     let long : length starts ≡ length (line_starts text) = ap length e in
-    let some : 1 ≤ count = some_before text offset count q in
-    (some, record {
-      within = omega arith;
-      parted = (λ k d low high. leb-true _ _ (q.0 k d low (omega arith)), λ k d low high. behind _ _ (q.1 k d (omega arith) high));
-    })
+    let some : 1 ≤ count = some_before text offset count q in (
+      some,
+      record {
+        within = omega arith;
+        parted = (λ k d low high. leb-true _ _ (q.0 k d low (omega arith)), λ k d low high. behind _ _ (q.1 k d (omega arith) high));
+      },
+    )

@@ -98,6 +98,3 @@ pub fn lex<'a>(alloc: Global, text: &'a Text<'a>) -> Result<Tokens<'a>, LexFault
     let found = listed(alloc, text.as_str().as_bytes())?;
     Ok(Tokens::new(text, found.tokens, found.comments))
 }
-
-#[cfg(test)]
-mod tests;

@@ -100,6 +100,3 @@ impl<'a> Text<'a> {
             - 1
     }
 }
-
-#[cfg(test)]
-mod tests;

@@ -30,7 +30,7 @@ fn begins_long_unicode(bytes: &[u8]) -> bool
     }
 }
 
-/// How many bytes an escape takes behind its `\`. The digits that may follow are left, as
+/// How many bytes an escape takes after its `\`. The digits that may follow are left, as
 /// characters.
 fn escape_len(bytes: &[u8]) -> Option<usize>
     ensures value { result ≡ escape_len bytes.now }
@@ -78,11 +78,11 @@ pub(crate) fn literal_at(quote: u8, others: &[u8], opening: usize) -> Result<usi
 {
     let mut len = 1;
     let mut rest = others;
-    while let [first, behind @ ..] = rest {
+    while let [first, after @ ..] = rest {
         if *first == quote {
             return Ok(len + 1);
         }
-        let more = character_at(*first, behind, opening, opening + len)?;
+        let more = character_at(*first, after, opening, opening + len)?;
         rest = tail(rest, more);
         len += more;
     }

@@ -3,7 +3,7 @@
 ghost use Rattle.std.specs.Prelude.{◌≡◌, ℕ, ◌+◌, ◌<◌, ◌≤◌, ◌^◌, length, take};
 ghost use Rattle.std.specs.List.{list_all};
 ghost use Rattle.proto_lex.specs.Bytes.{is_digit, is_octal_digit, is_hex_digit};
-ghost use Rattle.proto_lex.specs.Numbers.{begins_hexadecimal, goes_on, run_behind, run_of, begins_number};
+ghost use Rattle.proto_lex.specs.Numbers.{begins_hexadecimal, goes_on, run_after, run_of, begins_number};
 ghost use Rattle.proto_lex.specs.Reading.{are_digits, are_hex_digits, is_zero_integer, is_integer, past_sign, is_exponent_or_none, ends_fraction, ends_whole, is_float, number_kind, number_at};
 
 use crate::fault::LexFault;
@@ -41,9 +41,9 @@ fn goes_on(may_hold_signs: bool, last: u8, next: u8) -> bool
         || may_hold_signs && is_exponent_mark(last) && is_plus_or_minus(next)
 }
 
-/// How many bytes a run, in which `first` stands, takes behind it.
-fn run_len_behind(may_hold_signs: bool, first: u8, others: &[u8]) -> usize
-    ensures value { result ≡ length (run_behind may_hold_signs first others.now) }
+/// How many bytes a run, in which `first` stands, takes after it.
+fn run_len_after(may_hold_signs: bool, first: u8, others: &[u8]) -> usize
+    ensures value { result ≡ length (run_after may_hold_signs first others.now) }
     ensures within { result ≤ length others.now }
 {
     let mut last = first;
@@ -65,7 +65,7 @@ fn run_of(bytes: &[u8]) -> &[u8]
 {
     match bytes {
         [first, others @ ..] => {
-            let len = run_len_behind(!begins_hexadecimal(bytes), *first, others);
+            let len = run_len_after(!begins_hexadecimal(bytes), *first, others);
             bytes.split_at(len + 1).0
         }
         [] => bytes,
@@ -121,7 +121,7 @@ fn is_exponent_or_none(bytes: &[u8]) -> bool
     }
 }
 
-/// Whether these bytes may follow the point of a number that has digits before it or behind it.
+/// Whether these bytes may follow the point of a number that has digits before it or after it.
 fn ends_fraction(bytes: &[u8]) -> bool
     ensures { result ≡ ends_fraction bytes.now }
 {

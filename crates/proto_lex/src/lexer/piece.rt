@@ -32,7 +32,7 @@ fn begins_close(bytes: &[u8]) -> bool
     matches!(bytes, [b'*', b'/', ..])
 }
 
-/// How many bytes a block comment takes, where these stand behind its `/*`.
+/// How many bytes a block comment takes, where these stand after its `/*`.
 fn block_len(others: &[u8]) -> Option<usize>
     requires { length others.now < 2 ^ 63 }
     ensures value { result ≡ block_at 2 others.now }
@@ -40,11 +40,11 @@ fn block_len(others: &[u8]) -> Option<usize>
 {
     let mut len = 2;
     let mut rest = others;
-    while let [_, behind @ ..] = rest {
+    while let [_, after @ ..] = rest {
         if begins_close(rest) {
             return Some(len + 2);
         }
-        rest = behind;
+        rest = after;
         len += 1;
     }
     None

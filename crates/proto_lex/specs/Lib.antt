@@ -2,18 +2,15 @@
 pub mod Text
 pub mod Position
 pub mod PositionLaws
-
 -- what spells tokens and comments
 pub mod Bytes
 pub mod Numbers
 pub mod Literals
 pub mod Comments
-
 -- the tokens and comments of a text, and why a text has none
 pub mod Lexes
 pub mod Lexed
 pub mod Faults
 pub mod LexLaws
-
 -- what the lexer's private functions give
 pub mod Reading

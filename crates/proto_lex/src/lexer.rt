@@ -1,11 +1,12 @@
 //! From a text to its tokens and comments.
 
-ghost use Rattle.std.specs.Prelude.{◌≡◌, ◌<◌, ◌^◌, ◌⊎◌, List, length, IfOk, IfErr, OnOk, IsOkUnless};
+ghost use Rattle.std.specs.Prelude.{◌≡◌, ◌≤◌, ◌⊎◌, List, length, IfOk, IfErr, OnOk, IsOkUnless};
 ghost use Rattle.proto_lex.specs.declared.token.Token.{Token};
 ghost use Rattle.proto_lex.specs.declared.token.Comment.{Comment};
 ghost use Rattle.proto_lex.specs.Faults.{IsFirstFault};
 ghost use Rattle.proto_lex.specs.Lexes.{Lexes};
 ghost use Rattle.proto_lex.specs.Reading.{pieces, with_last, mark_len, pieces_of, GivesPieces};
+ghost use Rattle.proto_lex.specs.Text.{max_text_length};
 
 mod bytes;
 mod literal;
@@ -53,7 +54,7 @@ fn mark_len(bytes: &[u8]) -> usize
 
 /// The tokens and comments of a text, or the fault that reading from left to right meets first.
 fn read_pieces(alloc: Global, bytes: &[u8]) -> Result<Pieces, LexFault>
-    requires { length bytes.now < 2 ^ 63 }
+    requires { length bytes.now ≤ max_text_length }
     ensures { GivesPieces (λ found. pieces found.tokens.items found.comments.items) result (pieces_of bytes.now) }
 {
     let mut found = Pieces {

@@ -137,13 +137,13 @@ fn runs_that_are_no_numbers(rt: HostRuntime) {
     );
 }
 
+/// A source, how many tokens it has, and these, filled up to three.
+type Case<'a> = (&'a str, usize, [(TokenKind, &'a str); 3]);
+
 /// The first case that has other tokens.
-fn first_other_tokens(
-    alloc: Global,
-    cases: &[(&str, &[(TokenKind, &str)])],
-) -> Result<Option<usize>, LexFault> {
-    for (index, (source, want)) in cases.iter().enumerate() {
-        if !has_tokens(alloc, source, want)? {
+fn first_misread(alloc: Global, cases: &[Case<'_>]) -> Result<Option<usize>, LexFault> {
+    for (index, (source, count, tokens)) in cases.iter().enumerate() {
+        if *count > 3 || !has_tokens(alloc, source, &tokens[..*count])? {
             return Ok(Some(index));
         }
     }
@@ -152,21 +152,26 @@ fn first_other_tokens(
 
 #[test]
 fn where_runs_end(rt: HostRuntime) -> Result<(), Fail> {
+    let none = (TokenKind::Dot, "");
     let identifier = TokenKind::Identifier;
     let integer = TokenKind::Integer;
     let float = TokenKind::Float;
-    let dot = TokenKind::Dot;
-    let plus = TokenKind::Plus;
-    let cases: [(&str, &[(TokenKind, &str)]); 7] = [
-        ("0xe+1", &[(integer, "0xe"), (plus, "+"), (integer, "1")]),
-        ("1+1", &[(integer, "1"), (plus, "+"), (integer, "1")]),
-        ("a.5", &[(identifier, "a"), (float, ".5")]),
-        ("a.b", &[(identifier, "a"), (dot, "."), (identifier, "b")]),
-        ("..5", &[(dot, "."), (float, ".5")]),
-        ("_a1 B_2", &[(identifier, "_a1"), (identifier, "B_2")]),
-        ("1/**/2", &[(integer, "1"), (integer, "2")]),
+    let dot = (TokenKind::Dot, ".");
+    let plus = (TokenKind::Plus, "+");
+    let cases = [
+        ("0xe+1", 3, [(integer, "0xe"), plus, (integer, "1")]),
+        ("1+1", 3, [(integer, "1"), plus, (integer, "1")]),
+        ("a.5", 2, [(identifier, "a"), (float, ".5"), none]),
+        ("a.b", 3, [(identifier, "a"), dot, (identifier, "b")]),
+        ("..5", 2, [dot, (float, ".5"), none]),
+        (
+            "_a1 B_2",
+            2,
+            [(identifier, "_a1"), (identifier, "B_2"), none],
+        ),
+        ("1/**/2", 2, [(integer, "1"), (integer, "2"), none]),
     ];
-    see_all(&rt, first_other_tokens(rt.alloc(), &cases)?);
+    see_all(&rt, first_misread(rt.alloc(), &cases)?);
     Ok(())
 }
 
@@ -283,16 +288,20 @@ fn every_sign(rt: HostRuntime) -> Result<(), Fail> {
     Ok(())
 }
 
+/// The first source that has a token.
+fn first_with_tokens(alloc: Global, sources: &[&str]) -> Result<Option<usize>, LexFault> {
+    for (index, source) in sources.iter().enumerate() {
+        if !has_tokens(alloc, source, &[])? {
+            return Ok(Some(index));
+        }
+    }
+    Ok(None)
+}
+
 #[test]
 fn texts_without_tokens(rt: HostRuntime) -> Result<(), Fail> {
-    let none: &[(TokenKind, &str)] = &[];
-    let cases = [
-        ("", none),
-        ("\u{FEFF}", none),
-        (" \t\n\x0B\x0C\r", none),
-        ("\u{FEFF}// end", none),
-    ];
-    see_all(&rt, first_other_tokens(rt.alloc(), &cases)?);
+    let sources = ["", "\u{FEFF}", " \t\n\x0B\x0C\r", "\u{FEFF}// end"];
+    see_all(&rt, first_with_tokens(rt.alloc(), &sources)?);
     Ok(())
 }
 

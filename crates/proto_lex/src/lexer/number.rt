@@ -1,10 +1,11 @@
 //! Integer and floating-point literals.
 
-ghost use Rattle.std.specs.Prelude.{◌≡◌, ℕ, ◌+◌, ◌<◌, ◌≤◌, ◌^◌, length, take};
+ghost use Rattle.std.specs.Prelude.{◌≡◌, ℕ, ◌+◌, ◌<◌, ◌≤◌, length, take};
 ghost use Rattle.std.specs.List.{list_all};
 ghost use Rattle.proto_lex.specs.Bytes.{is_digit, is_octal_digit, is_hex_digit};
 ghost use Rattle.proto_lex.specs.Numbers.{begins_hexadecimal, goes_on, run_after, run_of, begins_number};
 ghost use Rattle.proto_lex.specs.Reading.{are_digits, are_hex_digits, is_zero_integer, is_integer, past_sign, is_exponent_or_none, ends_fraction, ends_whole, is_float, number_kind, number_at};
+ghost use Rattle.proto_lex.specs.Text.{max_text_length};
 
 use crate::fault::LexFault;
 use crate::lexer::bytes::{
@@ -60,7 +61,7 @@ fn run_len_after(may_hold_signs: bool, first: u8, others: &[u8]) -> usize
 
 /// The run of a number that begins the bytes.
 fn run_of(bytes: &[u8]) -> &[u8]
-    requires { length bytes.now < 2 ^ 63 }
+    requires { length bytes.now ≤ max_text_length }
     ensures { result.now ≡ run_of bytes.now }
 {
     match bytes {
@@ -164,7 +165,7 @@ fn number_kind(run: &[u8]) -> Option<TokenKind>
 /// The number that begins the bytes, which stand at the offset `at`.
 #[tactic(auto, unfolding(crate::specs::Reading::number_at))]
 pub(crate) fn number_at(bytes: &[u8], at: usize) -> Result<Piece, LexFault>
-    requires { length bytes.now < 2 ^ 63 }
+    requires { length bytes.now ≤ max_text_length }
     ensures { result ≡ number_at at bytes.now }
 {
     let run = run_of(bytes);

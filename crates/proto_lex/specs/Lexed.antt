@@ -23,7 +23,7 @@ pub record IsPart (text : List ℕ) (span : Span) : Type 0 where
   pub starts_whole : IsCharBoundary text span.start
   pub ends_whole : IsCharBoundary text span.end
 
--- none of the spans is empty, and each begins at the place or behind it, and not before the end of the one before
+-- none of the spans is empty, and each begins at the place or after it, and not before the end of the one before
 abbrev pub AreInOrder : (place : ℕ) → List Span → Type 0
 AreInOrder place [] = Unit {0}
 AreInOrder place (span ∷ spans) = (place ≤ span.start) × (span.start < span.end) × AreInOrder span.end spans

@@ -1,7 +1,8 @@
 //! Lines and columns.
 
-ghost use Rattle.std.specs.Prelude.{◌≡◌, ◌^◌, ◌<◌, ◌≤◌, length, sum_by, IfOk, IfErr};
+ghost use Rattle.std.specs.Prelude.{◌≡◌, ◌<◌, ◌≤◌, length, sum_by, IfOk, IfErr};
 ghost use Rattle.proto_lex.specs.Position as spec;
+ghost use Rattle.proto_lex.specs.Text.{max_text_length};
 
 use crate::fault::LexFault;
 use std::alloc::Global;
@@ -47,9 +48,9 @@ fn code_units(encoding: Encoding, byte: u8) -> u32
     }
 }
 
-/// The offsets at which the lines of `text`, of less than 2^30 bytes, start.
+/// The offsets at which the lines of `text`, at most `MAX_TEXT_LENGTH` bytes, start.
 pub(crate) fn line_starts(alloc: Global, text: &[u8]) -> Result<Vec<u32>, LexFault>
-    requires { length text.now < 2 ^ 30 }
+    requires { length text.now ≤ max_text_length }
     ensures value { IfOk result (λ starts. starts.items ≡ spec.line_starts text.now) }
     ensures memory { IfErr result (λ fault. fault ≡ LexFault.Memory) }
 {
@@ -64,9 +65,9 @@ pub(crate) fn line_starts(alloc: Global, text: &[u8]) -> Result<Vec<u32>, LexFau
     Ok(starts)
 }
 
-/// The code units of `bytes`, less than 2^30 of a text in UTF-8, in `encoding`.
+/// The code units of `bytes`, which stand in a text, in `encoding`.
 pub(crate) fn columns(encoding: Encoding, bytes: &[u8]) -> u32
-    requires { length bytes.now < 2 ^ 30 }
+    requires { length bytes.now ≤ max_text_length }
     ensures { result ≡ sum_by (spec.code_units encoding) bytes.now }
 {
     let mut units = 0;

@@ -20,7 +20,7 @@ pub const MAX_TEXT_LENGTH: usize = 67_108_864;
 #[derive(Drop)]
 pub struct Text<'a> {
     text: &'a str,
-    // The offsets at which the lines start, in order: 0, and that behind each `\n`. A `u32` holds
+    // The offsets at which the lines start, in order: 0, and that after each `\n`. A `u32` holds
     // each offset of a text, in half the memory of a `usize`.
     line_starts: Vec<u32>,
 }
@@ -90,7 +90,7 @@ impl<'a> Text<'a> {
         }
     }
 
-    /// The line of `offset`, whose start is the last that is not behind it.
+    /// The line of `offset`, whose start is the last that is not after it.
     fn line_at(&self, offset: usize) -> usize
         ensures within { result < length (line_starts self.now) }
         ensures parted { IsPartitionPoint (λ start. start ≤ offset) (λ start. offset < start) (line_starts self.now) (result + 1) }
@@ -100,6 +100,3 @@ impl<'a> Text<'a> {
             - 1
     }
 }
-
-#[cfg(test)]
-mod tests;

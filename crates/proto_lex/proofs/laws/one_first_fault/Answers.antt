@@ -1,4 +1,4 @@
-use Rattle.proto_lex.proofs.FaultReads.{one_fault, no_fault, lexes_or_faults}
+use Rattle.proto_lex.proofs.FaultExact.{one_fault, no_fault, lexes_or_faults}
 use Rattle.proto_lex.proofs.laws.one_first_fault.Goals as goal
 
 pub returns-clause-one : goal.returns-clause-one

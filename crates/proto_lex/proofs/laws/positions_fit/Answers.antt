@@ -1,6 +1,6 @@
 use Rattle.std.proofs.Common.{take, arith}
 use Rattle.std.proofs.lemmas.List.{length-take}
-use Rattle.proto_lex.proofs.Positions.{column-le, byte_column-le}
+use Rattle.proto_lex.proofs.PositionLemmas.{column-le, byte_column-le}
 use Rattle.proto_lex.proofs.laws.positions_fit.Goals as goal
 
 pub returns-clause-columns : goal.returns-clause-columns

@@ -1,5 +1,5 @@
 use Rattle.std.proofs.Common.{arith}
-use Rattle.proto_lex.proofs.Positions.{units_so_far}
+use Rattle.proto_lex.proofs.PositionLemmas.{units_so_far}
 use Rattle.proto_lex.proofs.position.columns.Goals as goal
 
 pub overflow_add-units : goal.overflow_add-units

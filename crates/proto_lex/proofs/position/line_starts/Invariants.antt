@@ -6,5 +6,5 @@ use Rattle.proto_lex.proofs.position.line_starts.Given as goal
 abbrev pub invariant-loop-byte : goal.invariant-loop-byte
 invariant-loop-byte l = record {
   counted : l.offset ≡ l.byte-index;
-  so_far : l.starts.items ++ spec.behind_line_ends l.byte-index (drop l.byte-index l.text) ≡ spec.line_starts l.text;
+  so_far : l.starts.items ++ spec.later_line_starts l.byte-index (drop l.byte-index l.text) ≡ spec.line_starts l.text;
 }

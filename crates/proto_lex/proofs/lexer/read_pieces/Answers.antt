@@ -1,8 +1,8 @@
 use Rattle.std.proofs.Common.{◌∙◌, sym, arith, length-drop}
 use Rattle.std.proofs.lemmas.Bool.{eqb-true}
 use Rattle.std.proofs.lemmas.Result.{err_from_is_err_and}
-use Rattle.proto_lex.proofs.ListSteps.{starts_with, mark_within, goes_on, stops, ends, piece_bounds, gives_fault, some_left}
-use Rattle.proto_lex.proofs.lexer.listed.Goals as goal
+use Rattle.proto_lex.proofs.PiecesLemmas.{starts_with, mark_within, goes_on, stops, ends, piece_bounds, gives_fault, some_left}
+use Rattle.proto_lex.proofs.lexer.read_pieces.Goals as goal
 
 pub loop-rest-init : goal.loop-rest-init
 loop-rest-init c = record {
@@ -34,7 +34,7 @@ loop-rest-preserved c =
     let b = piece_bounds _ _ _ e in
     let left = some_left _ (sym c.is_empty.ensures ∙ c.loop-rest-test.true) in
     record {
-      read = rw (c.tail-rest-in-loop-rest.ensures, c.in_ok-keep.ensures.kept) (sym (goes_on _ _ _ _ left e) ∙ c.loop-rest.invariant.read);
+      read = rw (c.tail-rest-in-loop-rest.ensures, c.in_ok-push_piece.ensures.pushed) (sym (goes_on _ _ _ _ left e) ∙ c.loop-rest.invariant.read);
       counted = rw c.tail-rest-in-loop-rest.ensures (omega (arith, length-drop c.in_ok-piece.piece.len c.loop-rest.rest.now, b.0, b.1));
     }
 

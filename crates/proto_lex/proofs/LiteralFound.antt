@@ -1,16 +1,17 @@
 use Rattle.std.proofs.Common.{◌≡◌, ℕ, zero, suc, ◌+◌, ◌-◌, true, false, cond, ◌||◌, ◌&&◌, nat_eq, nat_le, Option, Some, None, Ok, List, [], ◌∷◌, ◌++◌, length, drop, refl, sym, ◌∙◌, ap, subst, arith, eqb-true, append_assoc}
 use Rattle.std.proofs.lemmas.List.{drop_at, length-append}
 use Rattle.std.specs.List.{list_all}
+use Rattle.std.proofs.lemmas.Option.{same_Some, none-some}
 use Rattle.proto_lex.specs.Bytes.{is_octal_digit, is_hex_digit, is_hex_mark}
 use Rattle.proto_lex.specs.Literals.{is_plain, is_escape_letter, IsEscape, letter, one_hex, one_octal, short_unicode, long_unicode, last_unicode, EndsLiteral, close, character, escape}
 use Rattle.proto_lex.specs.Reading.{begins_with_hex, begins_last_unicode, begins_long_unicode, escape_len, escaped, character_at, literal_at}
-use Rattle.proto_lex.proofs.Tools.{chosen, both, either, same_some, same_ok, none_not_some, err_not_ok, bind_ok}
-use Rattle.proto_lex.proofs.LiteralSteps.{character_positive}
-use Rattle.proto_lex.proofs.ByteClasses.{is_plain_from}
+use Rattle.proto_lex.proofs.ReadLemmas.{chosen, both, either, same_ok, err_not_ok, bind_ok}
+use Rattle.proto_lex.proofs.LiteralLemmas.{character_positive}
+use Rattle.proto_lex.proofs.ByteLemmas.{is_plain_from}
 
 -- Strings are read exactly as they are defined.
 
--- a front of bytes that is an escape behind its `\`, of so many bytes
+-- a front of bytes that is an escape after its `\`, of so many bytes
 pub record EscapeFront (bytes : List ℕ) (count : ℕ) : Type 0 where
   pub front : List ℕ
   pub rest : List ℕ
@@ -87,20 +88,20 @@ long_found (x ∷ (y ∷ (z ∷ others))) e =
     rw (eqb-true x 48 tx, eqb-true y 48 ty, eqb-true z 49 tz) (last_found others g)))))
 
 pub escape_found : (bytes : List ℕ) (count : ℕ) → escape_len bytes ≡ Some count → EscapeFront bytes count
-escape_found [] count e = none_not_some e
+escape_found [] count e = absurd (none-some _ e)
 escape_found (b ∷ others) count e =
     chosen (is_escape_letter b || is_octal_digit b) e
-    (λ t x. subst (λ (n : ℕ). EscapeFront (b ∷ others) n) (same_some x) (one_found b others t)) (λ _ x.
+    (λ t x. subst (λ (n : ℕ). EscapeFront (b ∷ others) n) (same_Some _ _ x) (one_found b others t)) (λ _ x.
     chosen (is_hex_mark b) x
     (λ t y. chosen (begins_with_hex 1 others) y
-    (λ h z. subst (λ (n : ℕ). EscapeFront (b ∷ others) n) (same_some z) (two_found b others t h)) (λ _ z. none_not_some z)) (λ _ y.
+    (λ h z. subst (λ (n : ℕ). EscapeFront (b ∷ others) n) (same_Some _ _ z) (two_found b others t h)) (λ _ z. absurd (none-some _ z))) (λ _ y.
     chosen (nat_eq b 117) y
     (λ t z. chosen (begins_with_hex 4 others) z
-    (λ h w. rw (eqb-true b 117 t) (subst (λ (n : ℕ). EscapeFront (117 ∷ others) n) (same_some w) (short_found others h))) (λ _ w. none_not_some w)) (λ _ z.
+    (λ h w. rw (eqb-true b 117 t) (subst (λ (n : ℕ). EscapeFront (117 ∷ others) n) (same_Some _ _ w) (short_found others h))) (λ _ w. absurd (none-some _ w))) (λ _ z.
     chosen (nat_eq b 85) z
     (λ t w. chosen (begins_long_unicode others) w
-    (λ h v. rw (eqb-true b 85 t) (subst (λ (n : ℕ). EscapeFront (85 ∷ others) n) (same_some v) (long_found others h))) (λ _ v. none_not_some v))
-    (λ _ w. none_not_some w))))
+    (λ h v. rw (eqb-true b 85 t) (subst (λ (n : ℕ). EscapeFront (85 ∷ others) n) (same_Some _ _ v) (long_found others h))) (λ _ v. absurd (none-some _ v)))
+    (λ _ w. absurd (none-some _ w)))))
 
 -- a front of bytes that ends a string, of so many bytes
 pub record LiteralFront (quote : ℕ) (bytes : List ℕ) (count : ℕ) : Type 0 where

@@ -3,23 +3,24 @@ use Rattle.std.proofs.lemmas.Bool.Decides.{nat_tests}
 use Rattle.std.proofs.lemmas.List.{take-append-drop}
 use Rattle.std.proofs.lemmas.List.Folds.{length-prefix_len}
 use Rattle.std.specs.List.{prefix_len}
+use Rattle.std.proofs.lemmas.Option.{same_Some, none-some}
 use Rattle.proto_lex.specs.Bytes.{is_blank, is_letter, is_word, is_quote, starts}
 use Rattle.proto_lex.specs.Numbers.{run_of, begins_number}
 use Rattle.proto_lex.specs.Comments.{IsComment, line, block}
 use Rattle.proto_lex.specs.Lexes.{sign_kind, identifier, integer, float, literal, sign, IsWhole, IsToken}
-use Rattle.proto_lex.specs.Reading.{◌>>=◌, is_in_line, is_integer, is_float, number_kind, token, numbered, number_at, literal_at, block_at, blocked, behind_first, slash_at, signed, piece_at}
+use Rattle.proto_lex.specs.Reading.{◌>>=◌, is_in_line, is_integer, is_float, number_kind, token, numbered, number_at, literal_at, block_at, blocked, past_first, slash_at, signed, piece_at}
 use Rattle.proto_lex.specs.declared.lexer.piece.Piece.{Piece}
 use Rattle.proto_lex.specs.declared.lexer.piece.PieceKind.{PieceKind}
 use Rattle.proto_lex.specs.declared.lexer.piece.PieceKind.TheVariants as piece
 use Rattle.proto_lex.specs.declared.token.TokenKind.{TokenKind}
 use Rattle.proto_lex.specs.declared.token.TokenKind.TheVariants as kind
 use Rattle.proto_lex.specs.declared.token.CommentKind.TheVariants as comment
-use Rattle.proto_lex.proofs.Tools.{chosen, same_some, same_ok, none_not_some, err_not_ok, bind_ok}
-use Rattle.proto_lex.proofs.Prefixes.{prefix_passes, prefix_stops}
-use Rattle.proto_lex.proofs.NumberForms.{integer_found, float_found}
-use Rattle.proto_lex.proofs.NumberSteps.{run_of-front}
-use Rattle.proto_lex.proofs.LiteralForms.{literal_found}
-use Rattle.proto_lex.proofs.CommentForms.{block_found}
+use Rattle.proto_lex.proofs.ReadLemmas.{chosen, same_ok, err_not_ok, bind_ok}
+use Rattle.proto_lex.proofs.PrefixLemmas.{prefix_passes, prefix_stops}
+use Rattle.proto_lex.proofs.NumberLemmas.{integer_found, float_found}
+use Rattle.proto_lex.proofs.NumberLemmas.{run_of-front}
+use Rattle.proto_lex.proofs.LiteralFound.{literal_found}
+use Rattle.proto_lex.proofs.CommentLemmas.{block_found}
 
 -- What is read at a place stands there.
 
@@ -57,20 +58,20 @@ sign_cases P b k e p1 p2 p3 p4 p5 p6 p7 p8 p9 p10 p11 p12 p13 p14 p15 p16 =
     chosen (nat_eq b 58) e13 (λ t x. is b k 58 kind.Colon t x p13) (λ _ e14.
     chosen (nat_eq b 43) e14 (λ t x. is b k 43 kind.Plus t x p14) (λ _ e15.
     chosen (nat_eq b 45) e15 (λ t x. is b k 45 kind.Minus t x p15) (λ _ e16.
-    chosen (nat_eq b 47) e16 (λ t x. is b k 47 kind.Slash t x p16) (λ _ x. none_not_some x))))))))))))))))
+    chosen (nat_eq b 47) e16 (λ t x. is b k 47 kind.Slash t x p16) (λ _ x. absurd (none-some _ x)))))))))))))))))
   where
     is : (b : ℕ) (k : TokenKind) (c : ℕ) (j : TokenKind) → nat_eq b c ≡ true → Some j ≡ Some k → P c j → P b k
-    is b k c j t x p = subst (λ (i : TokenKind). P b i) (same_some x) (subst (λ (a : ℕ). P a j) (sym (eqb-true b c t)) p)
+    is b k c j t x p = subst (λ (i : TokenKind). P b i) (same_Some _ _ x) (subst (λ (a : ℕ). P a j) (sym (eqb-true b c t)) p)
 
 -- numbers
 
 kind_found : (run rest : List ℕ) (k : TokenKind) → number_kind run ≡ Some k → run_of (run ++ rest) ≡ run → IsToken k run rest
 kind_found run rest k e w =
     chosen (is_integer run) e
-    (λ t x. subst (λ (j : TokenKind). IsToken j run rest) (same_some x) (record { spelled = integer (integer_found run t); whole = w })) (λ _ x.
+    (λ t x. subst (λ (j : TokenKind). IsToken j run rest) (same_Some _ _ x) (record { spelled = integer (integer_found run t); whole = w })) (λ _ x.
     chosen (is_float run) x
-    (λ t y. subst (λ (j : TokenKind). IsToken j run rest) (same_some y) (record { spelled = float (float_found run t); whole = w }))
-    (λ _ y. none_not_some y))
+    (λ t y. subst (λ (j : TokenKind). IsToken j run rest) (same_Some _ _ y) (record { spelled = float (float_found run t); whole = w }))
+    (λ _ y. absurd (none-some _ y)))
 
 numbered_found : (at : ℕ) (o : Option TokenKind) (len : ℕ) (p : Piece) → numbered at o len ≡ Ok p → (k : TokenKind) × (o ≡ Some k) × (token k len ≡ p)
 numbered_found at None len p e = err_not_ok e
@@ -114,7 +115,7 @@ blocked_found at None p e = err_not_ok e
 blocked_found at (Some len) p e =
     let q : Piece = record { kind = piece.Comment comment.Block; len = len } in (len, refl, same_ok q p (Ok q) refl e)
 
-closed_found : (at : ℕ) (others : List ℕ) (p : Piece) → starts (nat_eq 42) others ≡ true → blocked at (block_at 2 (behind_first others)) ≡ Ok p
+closed_found : (at : ℕ) (others : List ℕ) (p : Piece) → starts (nat_eq 42) others ≡ true → blocked at (block_at 2 (past_first others)) ≡ Ok p
     → Begins p (47 ∷ others)
 closed_found at [] p t e = absurd cc
 closed_found at (c ∷ others) p t e =

@@ -1,11 +1,11 @@
-use Rattle.std.proofs.Common.{◌≡◌, ℕ, true, false, cond, nat_eq, List, [], ◌∷◌, refl, sym, ◌∙◌, subst, eqb-true}
+use Rattle.std.proofs.Common.{◌≡◌, ℕ, true, false, cond, nat_eq, List, [], ◌∷◌, refl, sym, ◌∙◌, subst, eqb-true, ◌+◌, ◌-◌, ◌≤◌, Bool, not, length, drop, take, get_or, ap, arith, add-one}
 use Rattle.std.specs.List.{list_all}
 use Rattle.proto_lex.specs.Bytes.{is_digit, is_octal_digit, is_hex_mark, is_plus_or_minus, is_exponent_mark, starts}
-use Rattle.proto_lex.specs.Numbers.{IsInteger, decimal, octal, hexadecimal, Digits, digit, digits, IsExponentOrNone, no_exponent, unsigned, signed, IsFloat, whole, fraction, power, point_first}
+use Rattle.proto_lex.specs.Numbers.{IsInteger, decimal, octal, hexadecimal, Digits, digit, digits, IsExponentOrNone, no_exponent, unsigned, signed, IsFloat, whole, fraction, power, point_first, goes_on, run_after, run_of, begins_hexadecimal}
 use Rattle.proto_lex.specs.Reading.{past, are_digits, are_hex_digits, is_zero_integer, is_integer, past_sign, is_exponent_or_none, ends_fraction, ends_whole, is_float}
-use Rattle.proto_lex.proofs.Tools.{chosen, both}
-use Rattle.proto_lex.proofs.Prefixes.{past-cons, past-stop, past-all}
-use Rattle.proto_lex.proofs.ByteClasses.{nonzero_not_zero, nonzero_is_digit, digit_nonzero, octal_not_hex_mark, octal_is_digit, digit_not_point, digit_not_plus_or_minus, exponent_mark_not_digit, exponent_mark_not_point, hex_mark_not_digit, hex_mark_not_point, hex_mark_not_exponent_mark}
+use Rattle.proto_lex.proofs.ReadLemmas.{chosen, both, after-cons}
+use Rattle.proto_lex.proofs.PrefixLemmas.{past-cons, past-stop, past-all}
+use Rattle.proto_lex.proofs.ByteLemmas.{nonzero_not_zero, nonzero_is_digit, digit_nonzero, octal_not_hex_mark, octal_is_digit, digit_not_point, digit_not_plus_or_minus, exponent_mark_not_digit, exponent_mark_not_point, hex_mark_not_digit, hex_mark_not_point, hex_mark_not_exponent_mark}
 
 -- The tests of numbers accept exactly the forms of numbers.
 
@@ -24,14 +24,14 @@ integer_found (d ∷ others) e =
     (λ t x. subst (λ (b : ℕ). IsInteger (b ∷ others)) (sym (eqb-true d 48 t)) (zero_found others x))
     (λ t x. both (is_digit d) (list_all is_digit others) x (λ h hs. decimal (digit_nonzero d h t) hs))
 
-octal_read : (ds : List ℕ) → list_all is_octal_digit ds ≡ true → is_zero_integer ds ≡ true
-octal_read [] h = refl
-octal_read (x ∷ ds) h = both (is_octal_digit x) (list_all is_octal_digit ds) h (λ t ts. rw (octal_not_hex_mark x t) h)
+octal_exact : (ds : List ℕ) → list_all is_octal_digit ds ≡ true → is_zero_integer ds ≡ true
+octal_exact [] h = refl
+octal_exact (x ∷ ds) h = both (is_octal_digit x) (list_all is_octal_digit ds) h (λ t ts. rw (octal_not_hex_mark x t) h)
 
-pub integer_read : {run : List ℕ} → IsInteger run → is_integer run ≡ true
-integer_read (decimal {d} {ds} h hs) = rw (nonzero_not_zero d h, nonzero_is_digit d h) hs
-integer_read (octal {ds} h) = octal_read ds h
-integer_read (hexadecimal {x} {d} {ds} t h) = rw t h
+pub integer_exact : {run : List ℕ} → IsInteger run → is_integer run ≡ true
+integer_exact (decimal {d} {ds} h hs) = rw (nonzero_not_zero d h, nonzero_is_digit d h) hs
+integer_exact (octal {ds} h) = octal_exact ds h
+integer_exact (hexadecimal {x} {d} {ds} t h) = rw t h
 
 -- digits
 
@@ -64,9 +64,9 @@ are_digits-all : (ds : List ℕ) → are_digits ds ≡ true → list_all is_digi
 are_digits-all [] e = refl
 are_digits-all (d ∷ ds) e = e
 
-are_digits_read : {a b : List ℕ} → Digits a b → b ≡ [] → are_digits a ≡ true
-are_digits_read (digit {d} {others} h) e = rw (h, e) refl
-are_digits_read (digits {d} {ds} h r) e = rw h (are_digits-all ds (are_digits_read r e))
+are_digits_exact : {a b : List ℕ} → Digits a b → b ≡ [] → are_digits a ≡ true
+are_digits_exact (digit {d} {others} h) e = rw (h, e) refl
+are_digits_exact (digits {d} {ds} h r) e = rw h (are_digits-all ds (are_digits_exact r e))
 
 -- exponents
 
@@ -86,10 +86,10 @@ past_sign-digits : {a b : List ℕ} → Digits a b → past_sign a ≡ a
 past_sign-digits (digit {d} h) = rw (digit_not_plus_or_minus d h) refl
 past_sign-digits (digits {d} h r) = rw (digit_not_plus_or_minus d h) refl
 
-exponent_read : {bytes : List ℕ} → IsExponentOrNone bytes → is_exponent_or_none bytes ≡ true
-exponent_read no_exponent = refl
-exponent_read (unsigned {e} {ds} h r) = rw (h, past_sign-digits r) (are_digits_read r refl)
-exponent_read (signed {e} {s} {ds} h p r) = rw (h, p) (are_digits_read r refl)
+exponent_exact : {bytes : List ℕ} → IsExponentOrNone bytes → is_exponent_or_none bytes ≡ true
+exponent_exact no_exponent = refl
+exponent_exact (unsigned {e} {ds} h r) = rw (h, past_sign-digits r) (are_digits_exact r refl)
+exponent_exact (signed {e} {s} {ds} h p r) = rw (h, p) (are_digits_exact r refl)
 
 exponent_start : {bytes : List ℕ} → IsExponentOrNone bytes → starts is_digit bytes ≡ false
 exponent_start no_exponent = refl
@@ -127,20 +127,20 @@ float_found (b ∷ others) e =
     ends_found (past is_digit others)
     (subst (λ (left : List ℕ). Digits (b ∷ others) left) (past-cons is_digit b others h) (digits_found (b ∷ others) h)) w))
 
-digits_read : {bytes rest : List ℕ} → Digits bytes rest → starts is_digit rest ≡ false → ends_whole rest ≡ true → is_float bytes ≡ true
-digits_read (digit {d} {others} h) s w = rw (digit_not_point d h, h, past-stop is_digit others s) w
-digits_read (digits {d} {ds} h r) s w = rw (digit_not_point d h, h, digits_past r s) w
+digits_exact : {bytes rest : List ℕ} → Digits bytes rest → starts is_digit rest ≡ false → ends_whole rest ≡ true → is_float bytes ≡ true
+digits_exact (digit {d} {others} h) s w = rw (digit_not_point d h, h, past-stop is_digit others s) w
+digits_exact (digits {d} {ds} h r) s w = rw (digit_not_point d h, h, digits_past r s) w
 
-ends_read : {ds exponent : List ℕ} → Digits ds exponent → IsExponentOrNone exponent → ends_fraction ds ≡ true
-ends_read d x = rw (digits_past d (exponent_start x)) (exponent_read x)
+ends_exact : {ds exponent : List ℕ} → Digits ds exponent → IsExponentOrNone exponent → ends_fraction ds ≡ true
+ends_exact d x = rw (digits_past d (exponent_start x)) (exponent_exact x)
 
-pub float_read : {run : List ℕ} → IsFloat run → is_float run ≡ true
-float_read (whole {bytes} {exponent} d x) = digits_read d refl (rw (past-stop is_digit exponent (exponent_start x)) (exponent_read x))
-float_read (fraction d ds x) = digits_read d refl (ends_read ds x)
-float_read (power {bytes} {exponent} {e} d x) =
+pub float_exact : {run : List ℕ} → IsFloat run → is_float run ≡ true
+float_exact (whole {bytes} {exponent} d x) = digits_exact d refl (rw (past-stop is_digit exponent (exponent_start x)) (exponent_exact x))
+float_exact (fraction d ds x) = digits_exact d refl (ends_exact ds x)
+float_exact (power {bytes} {exponent} {e} d x) =
     let mark = exponent_first x e exponent refl in
-    digits_read d (exponent_mark_not_digit e mark) (rw (exponent_mark_not_point e mark) (exponent_read x))
-float_read (point_first d x) = rw (digits_start d) (ends_read d x)
+    digits_exact d (exponent_mark_not_digit e mark) (rw (exponent_mark_not_point e mark) (exponent_exact x))
+float_exact (point_first d x) = rw (digits_start d) (ends_exact d x)
 
 -- no run is both
 
@@ -158,6 +158,25 @@ integer_no_float (hexadecimal {x} {d} {ds} t h) =
 pub float_no_integer : {run : List ℕ} → IsFloat run → is_integer run ≡ false
 float_no_integer {run} f =
     elim (is_integer run) as (λ t. is_integer run ≡ t → t ≡ false) [
-      | true ↦ λ e. let no = integer_no_float (integer_found run e) in let yes = float_read f in cc
+      | true ↦ λ e. let no = integer_no_float (integer_found run e) in let yes = float_exact f in cc
       | false ↦ λ e. refl
     ] refl
+
+-- a run is the front of the bytes
+pub run_after-front : (m : Bool) (last : ℕ) (bytes : List ℕ) → take (length (run_after m last bytes)) bytes ≡ run_after m last bytes
+run_after-front m last [] = refl
+run_after-front m last (b ∷ others) = elim (goes_on m last b) as (λ t. take (length (cond t (b ∷ run_after m b others) [])) (b ∷ others) ≡ cond t (b ∷ run_after m b others) []) [
+  | true ↦ ap (λ xs. b ∷ xs) (run_after-front m b others)
+  | false ↦ refl
+]
+
+-- the run of bytes, from the length of what follows the first
+pub run_of-take : (bytes : List ℕ) (len : ℕ) → 1 ≤ length bytes
+    → len ≡ length (run_after (not (begins_hexadecimal bytes)) (get_or bytes 0 0) (take (length bytes - 1) (drop 1 bytes)))
+    → take (len + 1) bytes ≡ run_of bytes
+run_of-take [] len h e = absurd (omega arith)
+run_of-take (b ∷ others) len h e = rw (e, after-cons b others, add-one) (ap (λ xs. b ∷ xs) (run_after-front _ b others))
+
+pub run_of-front : (bytes : List ℕ) → take (length (run_of bytes)) bytes ≡ run_of bytes
+run_of-front [] = refl
+run_of-front (b ∷ others) = ap (λ xs. b ∷ xs) (run_after-front (not (begins_hexadecimal (b ∷ others))) b others)

@@ -1,4 +1,4 @@
--- The line starts of a text, and what the last one that isn't behind an offset says of the offset.
+-- The line starts of a text, and what the last one that isn't after an offset says of the offset.
 use Rattle.std.proofs.Common.{◌≡◌, ◌∙◌, sym, ap, refl, subst, ℕ, zero, suc, ◌+◌, ◌-◌, ◌<◌, ◌≤◌, List, [], ◌∷◌, ◌++◌, length, get_or, take, drop, Bool, true, false, not, cond, leb, leb-true, arith}
 use Rattle.std.specs.List.{after_last, suffix_len, count_by, sum_by}
 use Rattle.std.specs.List.Sorted.{IsPartitionPoint, IsNonDecreasingBy}
@@ -6,33 +6,33 @@ use Rattle.std.proofs.lemmas.Bool.Decides.{nat_tests}
 use Rattle.std.proofs.lemmas.List.{length-take, take-take, get_or-take, get_or_default, drop-take}
 use Rattle.std.proofs.lemmas.List.Sums.{sum_by-cons, sum_by-take-le, count_by-le-length, count_by_more_yes, suffix_len_is}
 use Rattle.std.proofs.lemmas.List.Sorted.{IsNonDecreasingBy-from_default}
-use Rattle.proto_lex.specs.Position.{is_line_end, behind_line_ends, line_starts, line_of, line_before, code_units, position_of}
+use Rattle.proto_lex.specs.Position.{is_line_end, later_line_starts, line_starts, line_of, line_before, code_units, position_of}
 use Rattle.proto_lex.specs.declared.position.Encoding.{Encoding}
 use Rattle.proto_lex.specs.declared.position.Position.{Position}
 
--- a line start behind a line end of the bytes at an offset
-pub record IsBehindEnd (at : ℕ) (bytes : List ℕ) (start : ℕ) : Type 0 where
+-- a line start after a line end of the bytes at an offset
+pub record IsAfterEnd (at : ℕ) (bytes : List ℕ) (start : ℕ) : Type 0 where
   pub index : ℕ
   pub counted : start ≡ at + index + 1
   pub within : index < length bytes
   pub ends : is_line_end (get_or bytes index 0) ≡ true
 
-one_further : (at b start : ℕ) (others : List ℕ) → IsBehindEnd (at + 1) others start → IsBehindEnd at (b ∷ others) start
+one_further : (at b start : ℕ) (others : List ℕ) → IsAfterEnd (at + 1) others start → IsAfterEnd at (b ∷ others) start
 one_further at b start others e = record { index = suc e.index; counted = omega (arith, e.counted); within = omega (arith, e.within); ends = e.ends }
 
-first_or_later : (at k b : ℕ) (others starts : List ℕ) → is_line_end b ≡ true → ((j : ℕ) → j < length starts → IsBehindEnd (at + 1) others (get_or starts j 0))
-    → k < length ((at + 1) ∷ starts) → IsBehindEnd at (b ∷ others) (get_or ((at + 1) ∷ starts) k 0)
+first_or_later : (at k b : ℕ) (others starts : List ℕ) → is_line_end b ≡ true → ((j : ℕ) → j < length starts → IsAfterEnd (at + 1) others (get_or starts j 0))
+    → k < length ((at + 1) ∷ starts) → IsAfterEnd at (b ∷ others) (get_or ((at + 1) ∷ starts) k 0)
 first_or_later at zero b others starts e later h = record { index = 0; counted = omega arith; within = omega arith; ends = e }
 first_or_later at (suc k) b others starts e later h = one_further at b (get_or starts k 0) others (later k (omega arith))
 
-each_behind : (at k : ℕ) (bytes : List ℕ) → k < length (behind_line_ends at bytes) → IsBehindEnd at bytes (get_or (behind_line_ends at bytes) k 0)
-each_behind at k [] = λ h. absurd (omega arith)
-each_behind at k (b ∷ others) =
-    let starts : List ℕ = behind_line_ends (at + 1) others in
+each_after : (at k : ℕ) (bytes : List ℕ) → k < length (later_line_starts at bytes) → IsAfterEnd at bytes (get_or (later_line_starts at bytes) k 0)
+each_after at k [] = λ h. absurd (omega arith)
+each_after at k (b ∷ others) =
+    let starts : List ℕ = later_line_starts (at + 1) others in
     elim (is_line_end b)
-    as (λ t. is_line_end b ≡ t → k < length (cond t ((at + 1) ∷ starts) starts) → IsBehindEnd at (b ∷ others) (get_or (cond t ((at + 1) ∷ starts) starts) k 0)) [
-      | true ↦ λ e h. first_or_later at k b others starts e (λ j i. each_behind (at + 1) j others i) h
-      | false ↦ λ e h. one_further at b (get_or starts k 0) others (each_behind (at + 1) k others h)
+    as (λ t. is_line_end b ≡ t → k < length (cond t ((at + 1) ∷ starts) starts) → IsAfterEnd at (b ∷ others) (get_or (cond t ((at + 1) ∷ starts) starts) k 0)) [
+      | true ↦ λ e h. first_or_later at k b others starts e (λ j i. each_after (at + 1) j others i) h
+      | false ↦ λ e h. one_further at b (get_or starts k 0) others (each_after (at + 1) k others h)
     ] refl
 
 -- they rise
@@ -44,14 +44,14 @@ rise_from at zero (suc j) starts later least h k = least j (omega arith)
 rise_from at (suc i) zero starts later least h k = absurd (omega arith)
 rise_from at (suc i) (suc j) starts later least h k = later i j (omega arith) (omega arith)
 
-at_least : (at k : ℕ) (bytes : List ℕ) → k < length (behind_line_ends at bytes) → at ≤ get_or (behind_line_ends at bytes) k 0
-at_least at k bytes h = let e = each_behind at k bytes h in omega (arith, e.counted)
+at_least : (at k : ℕ) (bytes : List ℕ) → k < length (later_line_starts at bytes) → at ≤ get_or (later_line_starts at bytes) k 0
+at_least at k bytes h = let e = each_after at k bytes h in omega (arith, e.counted)
 
-ends_rise : (at : ℕ) (bytes : List ℕ) (i j : ℕ) → i ≤ j → j < length (behind_line_ends at bytes)
-    → get_or (behind_line_ends at bytes) i 0 ≤ get_or (behind_line_ends at bytes) j 0
+ends_rise : (at : ℕ) (bytes : List ℕ) (i j : ℕ) → i ≤ j → j < length (later_line_starts at bytes)
+    → get_or (later_line_starts at bytes) i 0 ≤ get_or (later_line_starts at bytes) j 0
 ends_rise at [] i j h = λ k. absurd (omega arith)
 ends_rise at (b ∷ others) i j h =
-    let starts : List ℕ = behind_line_ends (at + 1) others in
+    let starts : List ℕ = later_line_starts (at + 1) others in
     elim (is_line_end b)
     as (λ t. j < length (cond t ((at + 1) ∷ starts) starts) → get_or (cond t ((at + 1) ∷ starts) starts) i 0 ≤ get_or (cond t ((at + 1) ∷ starts) starts) j 0) [
       | true ↦ λ k. rise_from (at + 1) i j starts (ends_rise (at + 1) others) (λ l m. at_least (at + 1) l others m) h k
@@ -59,17 +59,17 @@ ends_rise at (b ∷ others) i j h =
     ]
 
 starts_rise : (text : List ℕ) (i j : ℕ) → i ≤ j → j < length (line_starts text) → get_or (line_starts text) i 0 ≤ get_or (line_starts text) j 0
-starts_rise text i j h k = rise_from 0 i j (behind_line_ends 0 text) (ends_rise 0 text) (λ l m. omega arith) h k
+starts_rise text i j h k = rise_from 0 i j (later_line_starts 0 text) (ends_rise 0 text) (λ l m. omega arith) h k
 
 pub line_starts_rise : (text : List ℕ) → IsNonDecreasingBy (λ (start : ℕ). start) (line_starts text)
 line_starts_rise text = IsNonDecreasingBy-from_default (λ start. start) (line_starts text) 0 (λ i j h k. starts_rise text i j h k)
 
--- as many of them are not behind an offset as line ends stand before it
+-- as many of them are not after an offset as line ends stand before it
 
-none_so_far : (at offset : ℕ) (bytes : List ℕ) → offset ≤ at → count_by (λ start. leb start offset) (behind_line_ends at bytes) ≡ 0
+none_so_far : (at offset : ℕ) (bytes : List ℕ) → offset ≤ at → count_by (λ start. leb start offset) (later_line_starts at bytes) ≡ 0
 none_so_far at offset [] h = refl
 none_so_far at offset (b ∷ others) h =
-    let starts : List ℕ = behind_line_ends (at + 1) others in
+    let starts : List ℕ = later_line_starts (at + 1) others in
     let later : count_by (λ start. leb start offset) starts ≡ 0 = none_so_far (at + 1) offset others (omega arith) in
     let no : leb (at + 1) offset ≡ false = grind (arith, nat_tests) in
     elim (is_line_end b) as (λ t. count_by (λ start. leb start offset) (cond t ((at + 1) ∷ starts) starts) ≡ 0) [
@@ -78,11 +78,11 @@ none_so_far at offset (b ∷ others) h =
     ]
 
 counted_from : (at more offset : ℕ) (bytes : List ℕ) → offset ≡ at + more
-    → count_by (λ start. leb start offset) (behind_line_ends at bytes) ≡ count_by is_line_end (take more bytes)
+    → count_by (λ start. leb start offset) (later_line_starts at bytes) ≡ count_by is_line_end (take more bytes)
 counted_from at more offset [] e = elim more as (λ m. 0 ≡ count_by is_line_end (take m [])) [ zero ↦ refl | suc m ↦ refl ]
 counted_from at zero offset (b ∷ others) e = none_so_far at offset (b ∷ others) (omega arith)
 counted_from at (suc more) offset (b ∷ others) e =
-    let starts : List ℕ = behind_line_ends (at + 1) others in
+    let starts : List ℕ = later_line_starts (at + 1) others in
     let later : count_by (λ start. leb start offset) starts ≡ count_by is_line_end (take more others) = counted_from (at + 1) more offset others (omega arith) in
     let yes : leb (at + 1) offset ≡ true = grind (arith, nat_tests) in
     sym (sum_by-cons (λ c. cond {A = ℕ} (is_line_end c) 1 0) b (take more others)
@@ -95,7 +95,7 @@ count_at_point : (offset count : ℕ) (starts : List ℕ) → count ≤ length s
     → count_by (λ start. leb start offset) starts ≡ count
 count_at_point offset count [] h p = omega arith
 count_at_point offset zero (s ∷ starts) h p =
-    let behind : offset < s = p.1 0 0 (omega arith) (omega arith) in
+    let after : offset < s = p.1 0 0 (omega arith) (omega arith) in
     let no : leb s offset ≡ false = grind (arith, nat_tests) in
     sum_by-cons (λ start. cond {A = ℕ} (leb start offset) 1 0) s starts
     ∙ rw (no, count_at_point offset 0 starts (omega arith) (λ k d low high. absurd (omega arith), λ k d low high. p.1 (suc k) d (omega arith) (omega arith))) refl
@@ -114,7 +114,7 @@ pub record IsLineAt (text : List ℕ) (offset line : ℕ) : Type 0 where
 pub line_of-is : (text : List ℕ) (offset line : ℕ) → IsLineAt text offset line → line_of text offset ≡ line
 line_of-is text offset line h =
     let all = count_at_point offset (line + 1) (line_starts text) (omega (arith, h.within)) h.parted in
-    let split = sum_by-cons (λ start. cond {A = ℕ} (leb start offset) 1 0) 0 (behind_line_ends 0 text) in
+    let split = sum_by-cons (λ start. cond {A = ℕ} (leb start offset) 1 0) 0 (later_line_starts 0 text) in
     let later = counted_from 0 offset offset text (omega arith) in
     let first : leb 0 offset ≡ true = grind (arith, nat_tests) in
     let one : cond {A = ℕ} (leb 0 offset) 1 0 ≡ 1 = rw first refl in
@@ -157,8 +157,8 @@ end_before : (text : List ℕ) (line : ℕ) → line < length (line_starts text)
     → is_line_end (get_or text (get_or (line_starts text) line 0 - 1) 0) ≡ true
 end_before text zero h some = absurd (omega arith)
 end_before text (suc line) h some =
-    let e = each_behind 0 line text (omega arith) in
-    let index : get_or (behind_line_ends 0 text) line 0 - 1 ≡ e.index = omega (arith, e.counted) in
+    let e = each_after 0 line text (omega arith) in
+    let index : get_or (later_line_starts 0 text) line 0 - 1 ≡ e.index = omega (arith, e.counted) in
     rw index e.ends
 
 -- what stands before an offset on its line begins at the line's start
@@ -189,14 +189,14 @@ line-fits text offset line h = omega (arith, line_of-is text offset line h, coun
 
 -- where a search splits the starts at an offset, its line ends
 
-first_not_behind : (offset : ℕ) → leb 0 offset ≡ false → ⊥
-first_not_behind offset e = grind (arith, nat_tests)
+first_is_not_after : (offset : ℕ) → leb 0 offset ≡ false → ⊥
+first_is_not_after offset e = grind (arith, nat_tests)
 
-behind : (start offset : ℕ) → leb start offset ≡ false → offset < start
-behind start offset e = grind (arith, nat_tests)
+after : (start offset : ℕ) → leb start offset ≡ false → offset < start
+after start offset e = grind (arith, nat_tests)
 
 some_before : (text : List ℕ) (offset count : ℕ) → IsPartitionPoint (λ start. leb start offset ≡ true) (λ start. leb start offset ≡ false) (line_starts text) count → 1 ≤ count
-some_before text offset zero p = absurd (first_not_behind offset (p.1 0 0 (omega arith) (omega arith)))
+some_before text offset zero p = absurd (first_is_not_after offset (p.1 0 0 (omega arith) (omega arith)))
 some_before text offset (suc count) p = omega arith
 
 pub line_at_point : (text starts : List ℕ) (offset count : ℕ) → starts ≡ line_starts text → count ≤ length starts
@@ -204,8 +204,10 @@ pub line_at_point : (text starts : List ℕ) (offset count : ℕ) → starts ≡
 line_at_point text starts offset count e h p =
     let q = subst (λ (xs : List ℕ). IsPartitionPoint (λ start. leb start offset ≡ true) (λ start. leb start offset ≡ false) xs count) e p in
     let long : length starts ≡ length (line_starts text) = ap length e in
-    let some : 1 ≤ count = some_before text offset count q in
-    (some, record {
-      within = omega arith;
-      parted = (λ k d low high. leb-true _ _ (q.0 k d low (omega arith)), λ k d low high. behind _ _ (q.1 k d (omega arith) high));
-    })
+    let some : 1 ≤ count = some_before text offset count q in (
+      some,
+      record {
+        within = omega arith;
+        parted = (λ k d low high. leb-true _ _ (q.0 k d low (omega arith)), λ k d low high. after _ _ (q.1 k d (omega arith) high));
+      },
+    )

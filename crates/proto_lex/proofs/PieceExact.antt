@@ -10,13 +10,13 @@ use Rattle.proto_lex.specs.declared.lexer.piece.PieceKind.TheVariants as piece
 use Rattle.proto_lex.specs.declared.token.TokenKind.{TokenKind}
 use Rattle.proto_lex.specs.declared.token.TokenKind.TheVariants as kind
 use Rattle.proto_lex.specs.declared.token.CommentKind.{CommentKind}
-use Rattle.proto_lex.proofs.Tools.{both, either}
-use Rattle.proto_lex.proofs.Prefixes.{prefix_exact, one_more}
-use Rattle.proto_lex.proofs.ByteClasses.{letter_not_blank, digit_not_blank, digit_not_letter, quote_not_blank, quote_not_letter, quote_not_digit, quote_not_point, nonzero_is_digit}
-use Rattle.proto_lex.proofs.NumberForms.{integer_read, float_read, float_no_integer, digits_start}
-use Rattle.proto_lex.proofs.LiteralReads.{literal_read}
-use Rattle.proto_lex.proofs.CommentForms.{block_read}
-use Rattle.proto_lex.proofs.PieceForms.{Stands, sign_cases}
+use Rattle.proto_lex.proofs.ReadLemmas.{both, either}
+use Rattle.proto_lex.proofs.PrefixLemmas.{prefix_exact, one_more}
+use Rattle.proto_lex.proofs.ByteLemmas.{letter_not_blank, digit_not_blank, digit_not_letter, quote_not_blank, quote_not_letter, quote_not_digit, quote_not_point, nonzero_is_digit}
+use Rattle.proto_lex.proofs.NumberLemmas.{integer_exact, float_exact, float_no_integer, digits_start}
+use Rattle.proto_lex.proofs.LiteralExact.{literal_exact}
+use Rattle.proto_lex.proofs.CommentLemmas.{block_exact}
+use Rattle.proto_lex.proofs.PieceFound.{Stands, sign_cases}
 
 -- What stands at a place is read there.
 
@@ -58,18 +58,18 @@ number_place at (b ∷ others) t =
 integer_at : (at : ℕ) (word rest : List ℕ) → IsInteger word → run_of (word ++ rest) ≡ word
     → number_at at (word ++ rest) ≡ Ok (token kind.Integer (length word))
 unfolding number_at
-integer_at at word rest i w = rw (w, integer_read i) refl
+integer_at at word rest i w = rw (w, integer_exact i) refl
 
 float_at : (at : ℕ) (word rest : List ℕ) → IsFloat word → run_of (word ++ rest) ≡ word
     → number_at at (word ++ rest) ≡ Ok (token kind.Float (length word))
 unfolding number_at
-float_at at word rest f w = rw (w, float_no_integer f, float_read f) refl
+float_at at word rest f w = rw (w, float_no_integer f, float_exact f) refl
 
 -- signs
 
-slash_read : (at : ℕ) (rest : List ℕ) → starts (λ b. nat_eq b 47 || nat_eq b 42) rest ≡ false → slash_at at rest ≡ Ok (token kind.Slash 1)
-slash_read at [] h = refl
-slash_read at (c ∷ rest) h = rw (not_slash c h, not_star c h) refl
+slash_exact : (at : ℕ) (rest : List ℕ) → starts (λ b. nat_eq b 47 || nat_eq b 42) rest ≡ false → slash_at at rest ≡ Ok (token kind.Slash 1)
+slash_exact at [] h = refl
+slash_exact at (c ∷ rest) h = rw (not_slash c h, not_star c h) refl
   where
     not_slash : (c : ℕ) → (nat_eq c 47 || nat_eq c 42) ≡ false → nat_eq 47 c ≡ false
     not_slash c h = grind (arith, nat_tests)
@@ -77,13 +77,13 @@ slash_read at (c ∷ rest) h = rw (not_slash c h, not_star c h) refl
     not_star : (c : ℕ) → (nat_eq c 47 || nat_eq c 42) ≡ false → nat_eq 42 c ≡ false
     not_star c h = grind (arith, nat_tests)
 
-sign_read : (at b : ℕ) (k : TokenKind) (rest : List ℕ) → sign_kind b ≡ Some k → IsWhole k (b ∷ []) rest
+sign_exact : (at b : ℕ) (k : TokenKind) (rest : List ℕ) → sign_kind b ≡ Some k → IsWhole k (b ∷ []) rest
     → piece_at at (b ∷ rest) ≡ Ok (token k 1)
 unfolding piece_at
-sign_read at b k rest e =
+sign_exact at b k rest e =
     sign_cases (λ c j. IsWhole j (c ∷ []) rest → piece_at at (c ∷ rest) ≡ Ok (token j 1)) b k e
     (λ _. refl) (λ _. refl) (λ _. refl) (λ _. refl) (λ _. refl) (λ _. refl) (λ _. refl) (λ _. refl) (λ _. refl) (λ _. refl)
-    (λ _. refl) (λ w. rw w refl) (λ _. refl) (λ _. refl) (λ _. refl) (λ w. slash_read at rest w)
+    (λ _. refl) (λ w. rw w refl) (λ _. refl) (λ _. refl) (λ _. refl) (λ w. slash_exact at rest w)
 
 -- strings
 
@@ -95,41 +95,41 @@ pub quote_place : (at b : ℕ) (others : List ℕ) → is_quote b ≡ true
 unfolding piece_at
 quote_place at b others q = rw (quote_not_blank b q, quote_not_letter b q, quote_no_number b others q, q) refl
 
-pub string_read : (at b : ℕ) (others rest : List ℕ) → is_quote b ≡ true → (literal_at b at 0 1 (others ++ rest) ≡ Ok (1 + length others))
+pub string_exact : (at b : ℕ) (others rest : List ℕ) → is_quote b ≡ true → (literal_at b at 0 1 (others ++ rest) ≡ Ok (1 + length others))
     → piece_at at (b ∷ (others ++ rest)) ≡ Ok (token kind.StringLiteral (suc (length others)))
-string_read at b others rest q e = quote_place at b (others ++ rest) q ∙ rw (e, one_more (length others)) refl
+string_exact at b others rest q e = quote_place at b (others ++ rest) q ∙ rw (e, one_more (length others)) refl
 
 -- all tokens
 
-token_read : (at : ℕ) {k : TokenKind} {word : List ℕ} (rest : List ℕ) → Spells k word → IsWhole k word rest
+token_exact : (at : ℕ) {k : TokenKind} {word : List ℕ} (rest : List ℕ) → Spells k word → IsWhole k word rest
     → piece_at at (word ++ rest) ≡ Ok (token k (length word))
 unfolding piece_at
-token_read at rest (identifier {b} {others} t h) w =
+token_exact at rest (identifier {b} {others} t h) w =
     rw (letter_not_blank b t, t, prefix_exact is_word others rest h w, one_more (length others)) refl
-token_read at rest (integer {word} i) w =
+token_exact at rest (integer {word} i) w =
     number_place at (word ++ rest) (begins_number-append word rest (integer_begins i)) ∙ integer_at at word rest i w
-token_read at rest (float {word} f) w =
+token_exact at rest (float {word} f) w =
     number_place at (word ++ rest) (begins_number-append word rest (float_begins f)) ∙ float_at at word rest f w
-token_read at rest (literal {quote} {others} q r) w =
-    string_read at quote others rest q (literal_read quote at q r 1 rest)
-token_read at rest (sign {b} {k} e) w = sign_read at b k rest e w
+token_exact at rest (literal {quote} {others} q r) w =
+    string_exact at quote others rest q (literal_exact quote at q r 1 rest)
+token_exact at rest (sign {b} {k} e) w = sign_exact at b k rest e w
 
-comment_read : (at : ℕ) {k : CommentKind} {word rest : List ℕ} → IsComment k word rest
+comment_exact : (at : ℕ) {k : CommentKind} {word rest : List ℕ} → IsComment k word rest
     → piece_at at (word ++ rest) ≡ Ok (record { kind = piece.Comment k; len = length word })
 unfolding piece_at
-comment_read at (line {inside} {rest} h s) =
+comment_exact at (line {inside} {rest} h s) =
     let n : 1 + (1 + length inside) ≡ length (47 ∷ (47 ∷ inside)) = omega arith in
     rw (prefix_exact is_in_line inside rest h s, n) refl
-comment_read at (block {inside} {rest} r) =
+comment_exact at (block {inside} {rest} r) =
     let n : 2 + length inside ≡ length (47 ∷ (42 ∷ inside)) = omega arith in
-    rw (block_read 2 rest r, n) refl
+    rw (block_exact 2 rest r, n) refl
 
-pub piece_read : (at : ℕ) (k : PieceKind) (word rest : List ℕ) → Stands k word rest
+pub piece_exact : (at : ℕ) (k : PieceKind) (word rest : List ℕ) → Stands k word rest
     → piece_at at (word ++ rest) ≡ Ok (record { kind = k; len = length word })
 unfolding piece_at
-piece_read at piece.Blank word rest s = rw (s.1, s.2) refl
-piece_read at (piece.Comment k) word rest s = comment_read at s
-piece_read at (piece.Token k) word rest s = token_read at rest s.spelled s.whole
+piece_exact at piece.Blank word rest s = rw (s.1, s.2) refl
+piece_exact at (piece.Comment k) word rest s = comment_exact at s
+piece_exact at (piece.Token k) word rest s = token_exact at rest s.spelled s.whole
 
 -- no piece is empty
 begun_some : (word : List ℕ) → begins_number word ≡ true → 0 < length word

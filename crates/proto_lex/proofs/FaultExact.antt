@@ -7,8 +7,8 @@ use Rattle.proto_lex.specs.Numbers.{IsInteger, IsFloat, begins_number, run_of}
 use Rattle.proto_lex.specs.Literals.{IsEscape}
 use Rattle.proto_lex.specs.Comments.{EndsBlock}
 use Rattle.proto_lex.specs.Lexes.{sign_kind, Lexes}
-use Rattle.proto_lex.specs.Faults.{Holds, here, character, escape, IsStringFault, cut, nul, no_escape, IsFaultAt, unknown, no_number, no_close, no_string, Meets, fault, blank, comment, token, begins_mark, IsFirstFault, unmarked, marked}
-use Rattle.proto_lex.specs.Reading.{Read, ◌>>=◌, is_integer, is_float, number_kind, number_at, escape_len, character_at, literal_at, block_at, piece_at, Listed, list_of, kept, listed_at, mark_len, listed_of}
+use Rattle.proto_lex.specs.Faults.{StaysInString, here, character, escape, IsStringFault, cut, nul, no_escape, IsFaultAt, unknown, no_number, no_close, no_string, Meets, fault, blank, comment, token, begins_mark, IsFirstFault, unmarked, marked}
+use Rattle.proto_lex.specs.Reading.{Read, ◌>>=◌, is_integer, is_float, number_kind, number_at, escape_len, character_at, literal_at, block_at, piece_at, Pieces, pieces, with_first, pieces_at, mark_len, pieces_of}
 use Rattle.proto_lex.specs.declared.fault.LexFault.{LexFault}
 use Rattle.proto_lex.specs.declared.fault.LexFault.TheVariants.{BadByte, OpenString, BadEscape, BadNumber}
 use Rattle.proto_lex.specs.declared.lexer.piece.Piece.{Piece}
@@ -16,16 +16,17 @@ use Rattle.proto_lex.specs.declared.lexer.piece.PieceKind.{PieceKind}
 use Rattle.proto_lex.specs.declared.lexer.piece.PieceKind.TheVariants as piece
 use Rattle.proto_lex.specs.declared.token.Token.{Token}
 use Rattle.proto_lex.specs.declared.token.Comment.{Comment}
-use Rattle.proto_lex.proofs.Tools.{bind_of_err}
-use Rattle.proto_lex.proofs.NumberForms.{integer_found, float_found}
-use Rattle.proto_lex.proofs.LiteralSteps.{literal_first}
-use Rattle.proto_lex.proofs.LiteralForms.{escape_found}
-use Rattle.proto_lex.proofs.LiteralReads.{literal_plain, escape_read}
-use Rattle.proto_lex.proofs.CommentForms.{block_found}
-use Rattle.proto_lex.proofs.PieceForms.{Stands}
-use Rattle.proto_lex.proofs.PieceReads.{number_place, quote_place, piece_read, stands_some}
-use Rattle.proto_lex.proofs.TextForms.{listed_step, listed_fault, mark_cases, text_found, text_read}
-use Rattle.proto_lex.proofs.Faults.{ok_not_err, same_err, first_fault}
+use Rattle.proto_lex.proofs.ReadLemmas.{bind_of_err, ok_not_err, same_err}
+use Rattle.proto_lex.proofs.NumberLemmas.{integer_found, float_found}
+use Rattle.proto_lex.proofs.LiteralLemmas.{literal_first}
+use Rattle.proto_lex.proofs.LiteralFound.{escape_found}
+use Rattle.proto_lex.proofs.LiteralExact.{literal_plain, escape_exact}
+use Rattle.proto_lex.proofs.CommentLemmas.{block_found}
+use Rattle.proto_lex.proofs.PieceFound.{Stands}
+use Rattle.proto_lex.proofs.PieceExact.{number_place, quote_place, piece_exact, stands_some}
+use Rattle.proto_lex.proofs.LexesLemmas.{mark_cases, lexes_found, lexes_exact}
+use Rattle.proto_lex.proofs.PiecesLemmas.{pieces_step, pieces_fault}
+use Rattle.proto_lex.proofs.FaultFound.{first_fault_found}
 
 -- strings
 
@@ -35,15 +36,15 @@ record IsReadTo (quote opening len later : ℕ) (bytes left : List ℕ) : Type 0
   place : later ≡ opening + count
   read : literal_at quote opening 0 len bytes ≡ literal_at quote opening 0 count left
 
-holds_read : (quote opening len : ℕ) → is_quote quote ≡ true → {place later : ℕ} {bytes left : List ℕ} → Holds quote place bytes later left
+stays_exact : (quote opening len : ℕ) → is_quote quote ≡ true → {place later : ℕ} {bytes left : List ℕ} → StaysInString quote place bytes later left
     → place ≡ opening + len → IsReadTo quote opening len later bytes left
-holds_read quote opening len q here e = record { count = len; place = e; read = refl }
-holds_read quote opening len q (character {b = b} {others = others} p h) e =
-    let more = holds_read quote opening (len + 1) q h (omega arith) in
+stays_exact quote opening len q here e = record { count = len; place = e; read = refl }
+stays_exact quote opening len q (character {b = b} {others = others} p h) e =
+    let more = stays_exact quote opening (len + 1) q h (omega arith) in
     record { count = more.count; place = more.place; read = literal_plain quote opening len b others p ∙ more.read }
-holds_read quote opening len q (escape {letters = letters} {others = others} f h) e =
-    let more = holds_read quote opening (len + 1 + length letters) q h (omega arith) in
-    record { count = more.count; place = more.place; read = escape_read quote opening q f len others ∙ more.read }
+stays_exact quote opening len q (escape {letters = letters} {others = others} f h) e =
+    let more = stays_exact quote opening (len + 1 + length letters) q h (omega arith) in
+    record { count = more.count; place = more.place; read = escape_exact quote opening q f len others ∙ more.read }
 
 newline_faults : (opening at : ℕ) (others : List ℕ) → character_at opening at 10 others ≡ Err (OpenString opening)
 unfolding character_at
@@ -84,15 +85,15 @@ nul_is_no_quote quote q = grind (arith, nat_tests)
 backslash_is_no_quote : (quote : ℕ) → is_quote quote ≡ true → 92 ≢ quote
 backslash_is_no_quote quote q = grind (arith, nat_tests)
 
-string_fault_read : (quote opening len : ℕ) → is_quote quote ≡ true → {place : ℕ} {bytes : List ℕ} {f : LexFault}
+string_fault_exact : (quote opening len : ℕ) → is_quote quote ≡ true → {place : ℕ} {bytes : List ℕ} {f : LexFault}
     → IsStringFault quote opening place bytes f → place ≡ opening + len → literal_at quote opening 0 len bytes ≡ Err f
-string_fault_read quote opening len q (cut {left = left} h s) e =
-    let r = holds_read quote opening len q h e in r.read ∙ open_faults quote opening r.count q left s
-string_fault_read quote opening len q (nul h) e =
-    let r = holds_read quote opening len q h e in
+string_fault_exact quote opening len q (cut {left = left} h s) e =
+    let r = stays_exact quote opening len q h e in r.read ∙ open_faults quote opening r.count q left s
+string_fault_exact quote opening len q (nul h) e =
+    let r = stays_exact quote opening len q h e in
     rw r.place (r.read ∙ (literal_first quote opening r.count 0 _ (nul_is_no_quote quote q) ∙ bind_of_err _ (nul_faults opening (opening + r.count) _)))
-string_fault_read quote opening len q (no_escape {left = left} h none) e =
-    let r = holds_read quote opening len q h e in
+string_fault_exact quote opening len q (no_escape {left = left} h none) e =
+    let r = stays_exact quote opening len q h e in
     rw r.place (r.read ∙ (literal_first quote opening r.count 92 left (backslash_is_no_quote quote q)
     ∙ bind_of_err _ (escape_faults opening (opening + r.count) left (no_escape_len left none))))
 
@@ -127,16 +128,16 @@ no_sign b c e some =
       | false ↦ λ t. refl
     ] refl
 
-fault_read : {place : ℕ} {bytes : List ℕ} {f : LexFault} → IsFaultAt place bytes f → piece_at place bytes ≡ Err f
+fault_exact : {place : ℕ} {bytes : List ℕ} {f : LexFault} → IsFaultAt place bytes f → piece_at place bytes ≡ Err f
 unfolding piece_at
-fault_read (unknown {place} {b} {others} nb nl nd nq e) =
+fault_exact (unknown {place} {b} {others} nb nl nd nq e) =
     let point : nat_eq b 46 ≡ false = no_sign b 46 e (λ some. cc) in
     let slash : nat_eq b 47 ≡ false = no_sign b 47 e (λ some. cc) in
     rw (e, nb, nl, nd, point, nq, slash) refl
-fault_read (no_number {place} {bytes} t i f) = number_place place bytes t ∙ number_faults place bytes (no_kind (run_of bytes) i f)
-fault_read (no_close {place} {others} none) = rw (no_block_len others none) refl
-fault_read (no_string {place} {quote} {others} q s) =
-    quote_place place quote others q ∙ bind_of_err _ (string_fault_read quote place 1 q s refl)
+fault_exact (no_number {place} {bytes} t i f) = number_place place bytes t ∙ number_faults place bytes (no_kind (run_of bytes) i f)
+fault_exact (no_close {place} {others} none) = rw (no_block_len others none) refl
+fault_exact (no_string {place} {quote} {others} q s) =
+    quote_place place quote others q ∙ bind_of_err _ (string_fault_exact quote place 1 q s refl)
 
 fault_some : {place : ℕ} {bytes : List ℕ} {f : LexFault} → IsFaultAt place bytes f → 0 < length bytes
 fault_some (unknown nb nl nd nq e) = omega arith
@@ -150,39 +151,39 @@ fault_some (no_string q s) = omega arith
 
 -- the text
 
-fault_behind : (at : ℕ) (k : PieceKind) (word rest : List ℕ) (f : LexFault) → Stands k word rest → listed_at 0 (at + length word) rest ≡ Err f
-    → listed_at 0 at (word ++ rest) ≡ Err f
-fault_behind at k word rest f s e =
+fault_after : (at : ℕ) (k : PieceKind) (word rest : List ℕ) (f : LexFault) → Stands k word rest → pieces_at 0 (at + length word) rest ≡ Err f
+    → pieces_at 0 at (word ++ rest) ≡ Err f
+fault_after at k word rest f s e =
     let some = stands_some k word rest s in
     let long : 0 < length (word ++ rest) = omega (arith, length-append word rest) in
     let p : Piece = record { kind = k; len = length word } in
-    listed_step at (word ++ rest) p long (piece_read at k word rest s) some ∙ rw (drop_at word rest (length word) refl, e) refl
+    pieces_step at (word ++ rest) p long (piece_exact at k word rest s) some ∙ rw (drop_at word rest (length word) refl, e) refl
 
-meets_read : {at : ℕ} {bytes : List ℕ} {f : LexFault} → Meets at bytes f → listed_at 0 at bytes ≡ Err f
-meets_read (fault {place = at} {bytes = bytes} {f = f} h) = listed_fault at bytes f (fault_some h) (fault_read h)
-meets_read (blank {place = at} {b = b} {rest = rest} {f = f} t m) = fault_behind at piece.Blank (b ∷ []) rest f (b, refl, t) (meets_read m)
-meets_read (comment {place = at} {k = k} {word = word} {rest = rest} {f = f} s m) = fault_behind at (piece.Comment k) word rest f s (meets_read m)
-meets_read (token {place = at} {k = k} {word = word} {rest = rest} {f = f} s m) = fault_behind at (piece.Token k) word rest f s (meets_read m)
+meets_exact : {at : ℕ} {bytes : List ℕ} {f : LexFault} → Meets at bytes f → pieces_at 0 at bytes ≡ Err f
+meets_exact (fault {place = at} {bytes = bytes} {f = f} h) = pieces_fault at bytes f (fault_some h) (fault_exact h)
+meets_exact (blank {place = at} {b = b} {rest = rest} {f = f} t m) = fault_after at piece.Blank (b ∷ []) rest f (b, refl, t) (meets_exact m)
+meets_exact (comment {place = at} {k = k} {word = word} {rest = rest} {f = f} s m) = fault_after at (piece.Comment k) word rest f s (meets_exact m)
+meets_exact (token {place = at} {k = k} {word = word} {rest = rest} {f = f} s m) = fault_after at (piece.Token k) word rest f s (meets_exact m)
 
-pub fault_of_text : {text : List ℕ} {f : LexFault} → IsFirstFault text f → listed_of text ≡ Err f
-unfolding listed_of
-fault_of_text (unmarked {text} {f} n m) =
+pub first_fault_exact : {text : List ℕ} {f : LexFault} → IsFirstFault text f → pieces_of text ≡ Err f
+unfolding pieces_of
+first_fault_exact (unmarked {text} {f} n m) =
     mark_cases text
-    (λ e. rw e (meets_read m))
+    (λ e. rw e (meets_exact m))
     (λ rest e. let no : begins_mark (239 ∷ (187 ∷ (191 ∷ rest))) ≡ false = rw e at n in absurd cc)
-fault_of_text (marked m) = meets_read m
+first_fault_exact (marked m) = meets_exact m
 
 -- the laws
 
 pub one_fault : {text : List ℕ} {f g : LexFault} → IsFirstFault text f → IsFirstFault text g → f ≡ g
-one_fault {text} {f} {g} a b = same_err f g (listed_of text) (fault_of_text a) (fault_of_text b)
+one_fault {text} {f} {g} a b = same_err f g (pieces_of text) (first_fault_exact a) (first_fault_exact b)
 
 pub no_fault : {text : List ℕ} {f : LexFault} {tokens : List Token} {comments : List Comment} → Lexes text tokens comments → IsFirstFault text f → ⊥
-no_fault a b = ok_not_err (sym (text_read a) ∙ fault_of_text b)
+no_fault a b = ok_not_err (sym (lexes_exact a) ∙ first_fault_exact b)
 
 pub lexes_or_faults : (text : List ℕ) → ((tokens : List Token) × (comments : List Comment) × Lexes text tokens comments) ⊎ ((f : LexFault) × IsFirstFault text f)
 lexes_or_faults text =
-    elim (listed_of text) as (λ r. listed_of text ≡ r → ((tokens : List Token) × (comments : List Comment) × Lexes text tokens comments) ⊎ ((f : LexFault) × IsFirstFault text f)) [
-      | Ok l ↦ λ e. inl (l.tokens, l.comments, text_found text l e)
-      | Err f ↦ λ e. inr (f, first_fault text f e)
+    elim (pieces_of text) as (λ r. pieces_of text ≡ r → ((tokens : List Token) × (comments : List Comment) × Lexes text tokens comments) ⊎ ((f : LexFault) × IsFirstFault text f)) [
+      | Ok l ↦ λ e. inl (l.tokens, l.comments, lexes_found text l e)
+      | Err f ↦ λ e. inr (f, first_fault_found text f e)
     ] refl

@@ -8,7 +8,7 @@ use Rattle.std.proofs.Math.Seq.{get_or-append_seam}
 use Rattle.std.specs.Prelude.{IsUtf8, IsCharBoundary}
 use Rattle.std.specs.List.{list_all, AllByRecursion}
 use Rattle.proto_lex.specs.Bytes.{is_blank, is_letter, is_word, is_quote, is_digit, starts}
-use Rattle.proto_lex.specs.Numbers.{goes_on, run_behind, run_of, begins_hexadecimal, begins_number}
+use Rattle.proto_lex.specs.Numbers.{goes_on, run_after, run_of, begins_hexadecimal, begins_number}
 use Rattle.proto_lex.specs.Literals.{EndsLiteral, close, character, escape}
 use Rattle.proto_lex.specs.Comments.{IsComment, line, block, EndsBlock}
 use Rattle.proto_lex.specs.Comments as comments
@@ -21,9 +21,9 @@ use Rattle.proto_lex.specs.declared.token.CommentKind.{CommentKind}
 use Rattle.proto_lex.specs.declared.span.Span.{Span}
 use Rattle.proto_lex.specs.declared.lexer.piece.PieceKind.{PieceKind}
 use Rattle.proto_lex.specs.declared.lexer.piece.PieceKind.TheVariants as piece
-use Rattle.proto_lex.proofs.Tools.{both, either}
-use Rattle.proto_lex.proofs.PieceForms.{Stands, sign_cases}
-use Rattle.proto_lex.proofs.PieceReads.{integer_begins, float_begins, stands_some}
+use Rattle.proto_lex.proofs.ReadLemmas.{both, either}
+use Rattle.proto_lex.proofs.PieceFound.{Stands, sign_cases}
+use Rattle.proto_lex.proofs.PieceExact.{integer_begins, float_begins, stands_some}
 
 -- Tokens and comments stand between characters.
 
@@ -51,10 +51,10 @@ words_ascii (c ∷ others) t = both (is_word c) (list_all is_word others) t (λ 
     word_low : (c : ℕ) → is_word c ≡ true → nat_le c 127 ≡ true
     word_low c u = grind (arith, nat_tests)
 
-run_ascii : (m : Bool) (last : ℕ) (bytes : List ℕ) → list_all (λ c. nat_le c 127) (run_behind m last bytes) ≡ true
+run_ascii : (m : Bool) (last : ℕ) (bytes : List ℕ) → list_all (λ c. nat_le c 127) (run_after m last bytes) ≡ true
 run_ascii m last [] = refl
 run_ascii m last (b ∷ others) =
-    elim (goes_on m last b) as (λ t. goes_on m last b ≡ t → list_all (λ c. nat_le c 127) (cond t (b ∷ run_behind m b others) []) ≡ true) [
+    elim (goes_on m last b) as (λ t. goes_on m last b ≡ t → list_all (λ c. nat_le c 127) (cond t (b ∷ run_after m b others) []) ≡ true) [
       | true ↦ λ e. rw (low m last b e, run_ascii m b others) refl
       | false ↦ λ e. refl
     ] refl
@@ -109,10 +109,10 @@ token_ascii rest (float {word} f) w = number_ascii word rest (float_begins f) w
 token_ascii rest (literal {quote} q r) w = more_front quote (literal_ascii quote q r)
 token_ascii rest (sign {b} {k} e) w = record { front = []; last = b; parts = refl; ascii = sign_low b k e }
 
--- behind such a word the text may be cut
+-- after such a word the text may be cut
 
-cut_behind : (word rest : List ℕ) → IsUtf8 (word ++ rest) → EndsInAscii word → IsCharBoundary (word ++ rest) (length word)
-cut_behind word rest u e =
+cut_after : (word rest : List ℕ) → IsUtf8 (word ++ rest) → EndsInAscii word → IsCharBoundary (word ++ rest) (length word)
+cut_after word rest u e =
     let same : word ++ rest ≡ e.front ++ e.last ∷ rest = ap (λ w. w ++ rest) e.parts ∙ append_assoc e.front (e.last ∷ []) rest in
     let here = IsCharBoundary-after_ascii (e.front ++ e.last ∷ rest) (length e.front) (subst IsUtf8 same u)
     (omega (arith, length-append e.front (e.last ∷ rest))) (rw (get_or-append_seam e.front e.last rest 0) e.ascii) in
@@ -133,18 +133,18 @@ cut_line word (c ∷ rest) s =
 
 cut_comment : {k : CommentKind} {word rest : List ℕ} → IsComment k word rest → IsUtf8 (word ++ rest) → IsCharBoundary (word ++ rest) (length word)
 cut_comment (line {inside} {rest} h s) u = cut_line (47 ∷ (47 ∷ inside)) rest s
-cut_comment (block {inside} {rest} r) u = cut_behind (47 ∷ (42 ∷ inside)) rest u (more_front 47 (more_front 42 (block_ascii r)))
+cut_comment (block {inside} {rest} r) u = cut_after (47 ∷ (42 ∷ inside)) rest u (more_front 47 (more_front 42 (block_ascii r)))
 
 blank_low : (b : ℕ) → is_blank b ≡ true → b < 128
 blank_low b t = grind (arith, nat_tests)
 
 cut : (k : PieceKind) (word rest : List ℕ) → Stands k word rest → IsUtf8 (word ++ rest) → IsCharBoundary (word ++ rest) (length word)
-cut piece.Blank word rest s u = cut_behind word rest u (record { front = []; last = s.0; parts = s.1; ascii = blank_low s.0 s.2 })
+cut piece.Blank word rest s u = cut_after word rest u (record { front = []; last = s.0; parts = s.1; ascii = blank_low s.0 s.2 })
 cut (piece.Comment k) word rest s u = cut_comment s u
-cut (piece.Token k) word rest s u = cut_behind word rest u (token_ascii rest s.spelled s.whole)
+cut (piece.Token k) word rest s u = cut_after word rest u (token_ascii rest s.spelled s.whole)
 
-utf8_behind : (k : PieceKind) (word rest : List ℕ) → Stands k word rest → IsUtf8 (word ++ rest) → IsUtf8 rest
-utf8_behind k word rest s u =
+utf8_after : (k : PieceKind) (word rest : List ℕ) → Stands k word rest → IsUtf8 (word ++ rest) → IsUtf8 rest
+utf8_after k word rest s u =
     subst IsUtf8 (drop_at word rest (length word) refl) (IsUtf8-drop (word ++ rest) (length word) u (cut k word rest s u))
 
 -- a piece of the text
@@ -172,14 +172,14 @@ part_word text front word rest at e n =
     let count : at + length word - at ≡ length word = omega arith in
     rw (left, count) (take_at word rest (length word) refl)
 
--- the bytes behind a piece are the rest of the text
-rest_behind : (text front word rest : List ℕ) (at : ℕ) → text ≡ front ++ (word ++ rest) → at ≡ length front → drop (at + length word) text ≡ rest
-rest_behind text front word rest at e n =
+-- the bytes after a piece are the rest of the text
+rest_after : (text front word rest : List ℕ) (at : ℕ) → text ≡ front ++ (word ++ rest) → at ≡ length front → drop (at + length word) text ≡ rest
+rest_after text front word rest at e n =
     let split : text ≡ (front ++ word) ++ rest = e ∙ sym (append_assoc front word rest) in
     let count : length (front ++ word) ≡ at + length word = omega (arith, n, length-append front word) in
     ap (λ xs. drop (at + length word) xs) split ∙ drop_at (front ++ word) rest (at + length word) count
 
--- what stands first is apart from what begins where it ends, or behind
+-- what stands first is apart from what begins where it ends, or after
 
 token_first : (span : Span) (comments : List Comment) → AreInOrder span.end (map (λ c. c.span) comments) → AllByRecursion (λ (c : Comment). AreApart span c.span) comments
 token_first span [] o = tt
@@ -218,12 +218,12 @@ placed_from : (text front : List ℕ) {at : ℕ} {bytes : List ℕ} {tokens : Li
     → IsUtf8 bytes → LexesFrom at bytes tokens comments → ArePlaced text at tokens comments
 placed_from text front e n u at_end = record { tokens_in = tt; spelled_in = tt; comments_in = tt; comments_spelled_in = tt; apart_in = tt; token_order = tt; comment_order = tt }
 placed_from text front e n u (blank {at} {b} {rest} {tokens} {comments} t r) =
-    let v = utf8_behind piece.Blank (b ∷ []) rest (b, refl, t) u in
+    let v = utf8_after piece.Blank (b ∷ []) rest (b, refl, t) u in
     let split : text ≡ (front ++ b ∷ []) ++ rest = e ∙ sym (append_assoc front (b ∷ []) rest) in
     let count : at + 1 ≡ length (front ++ b ∷ []) = omega (arith, n, length-append front (b ∷ [])) in
     placed_before text at (at + 1) tokens comments (omega arith) (placed_from text (front ++ b ∷ []) split count v r)
 placed_from text front e n u (comment {at} {k} {word} {rest} {tokens} {comments} s r) =
-    let v = utf8_behind (piece.Comment k) word rest s u in
+    let v = utf8_after (piece.Comment k) word rest s u in
     let some = stands_some (piece.Comment k) word rest s in
     let split : text ≡ (front ++ word) ++ rest = e ∙ sym (append_assoc front word rest) in
     let count : at + length word ≡ length (front ++ word) = omega (arith, n, length-append front word) in
@@ -233,13 +233,13 @@ placed_from text front e n u (comment {at} {k} {word} {rest} {tokens} {comments}
       tokens_in = p.tokens_in;
       spelled_in = p.spelled_in;
       comments_in = (part_of_text, p.comments_in);
-      comments_spelled_in = (rw (part_word text front word rest at e n, rest_behind text front word rest at e n) s, p.comments_spelled_in);
+      comments_spelled_in = (rw (part_word text front word rest at e n, rest_after text front word rest at e n) s, p.comments_spelled_in);
       apart_in = comment_first (part at (length word)) k tokens comments p.token_order p.apart_in;
       token_order = in_order_before at (at + length word) (map (λ t. t.span) tokens) (omega arith) p.token_order;
       comment_order = (omega arith, part_of_text.some, p.comment_order);
     }
 placed_from text front e n u (token {at} {k} {word} {rest} {tokens} {comments} s r) =
-    let v = utf8_behind (piece.Token k) word rest s u in
+    let v = utf8_after (piece.Token k) word rest s u in
     let some = stands_some (piece.Token k) word rest s in
     let split : text ≡ (front ++ word) ++ rest = e ∙ sym (append_assoc front word rest) in
     let count : at + length word ≡ length (front ++ word) = omega (arith, n, length-append front word) in

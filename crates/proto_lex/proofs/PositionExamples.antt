@@ -4,15 +4,15 @@ use Rattle.std.specs.Prelude.{codes}
 use Rattle.proto_lex.specs.Position.{position_of}
 use Rattle.proto_lex.specs.declared.position.Encoding.TheVariants.{Utf8, Utf16}
 
--- a name on the second line, behind a comment that holds a character of two bytes
-abbrev behind_comment : List ℕ
-behind_comment = codes "x\n/* " ++ (195 ∷ 169 ∷ []) ++ codes " */ message A {}"
+-- a name on the second line, after a comment that holds a character of two bytes
+abbrev after_comment : List ℕ
+after_comment = codes "x\n/* " ++ (195 ∷ 169 ∷ []) ++ codes " */ message A {}"
 
-name_behind_comment_utf8 : position_of Utf8 behind_comment 19 ≡ record { line = 1; column = 17 }
-name_behind_comment_utf8 = refl
+name_after_comment_utf8 : position_of Utf8 after_comment 19 ≡ record { line = 1; column = 17 }
+name_after_comment_utf8 = refl
 
-name_behind_comment_utf16 : position_of Utf16 behind_comment 19 ≡ record { line = 1; column = 16 }
-name_behind_comment_utf16 = refl
+name_after_comment_utf16 : position_of Utf16 after_comment 19 ≡ record { line = 1; column = 16 }
+name_after_comment_utf16 = refl
 
 -- a byte order mark, a character of four bytes, `\r`, `\r\n`, `z`
 abbrev wide : List ℕ

@@ -3,7 +3,7 @@ use Rattle.std.proofs.lemmas.Bool.Decides.{nat_tests}
 use Rattle.proto_lex.specs.Reading.{Read, ◌>>=◌, literal_at, character_at, escape_len, escaped}
 use Rattle.proto_lex.specs.declared.fault.LexFault.{LexFault}
 use Rattle.proto_lex.specs.declared.fault.LexFault.TheVariants.{OpenString}
-use Rattle.proto_lex.proofs.Tools.{chosen, err_not_ok, behind-cons, bind_of_ok, bind_of_err}
+use Rattle.proto_lex.proofs.ReadLemmas.{chosen, err_not_ok, after-cons, bind_of_ok, bind_of_err}
 
 -- the bytes that are known to be in the string may be left out
 pub literal_skip : (quote opening skip len : ℕ) (bytes : List ℕ)
@@ -50,7 +50,7 @@ pub literal_step : (quote opening len more : ℕ) (bytes : List ℕ) → 1 ≤ l
     → literal_at quote opening 0 len bytes ≡ literal_at quote opening 0 (len + more) (drop more bytes)
 literal_step quote opening len more [] h ne e = absurd (omega arith)
 literal_step quote opening len more (b ∷ others) h ne e =
-    literal_step-cons quote opening len more b others ne (rw (behind-cons b others) at e)
+    literal_step-cons quote opening len more b others ne (rw (after-cons b others) at e)
 
 -- a character that isn't one is the string's fault
 pub literal_fault : (quote opening len : ℕ) (bytes : List ℕ) (fault : LexFault) → 1 ≤ length bytes → get_or bytes 0 0 ≢ quote
@@ -58,7 +58,7 @@ pub literal_fault : (quote opening len : ℕ) (bytes : List ℕ) (fault : LexFau
     → literal_at quote opening 0 len bytes ≡ Err fault
 literal_fault quote opening len [] fault h ne e = absurd (omega arith)
 literal_fault quote opening len (b ∷ others) fault h ne e =
-    literal_first quote opening len b others ne ∙ bind_of_err _ (rw (behind-cons b others) at e)
+    literal_first quote opening len b others ne ∙ bind_of_err _ (rw (after-cons b others) at e)
 
 -- the quote ends it
 pub literal_close : (quote opening len : ℕ) (bytes : List ℕ) → 1 ≤ length bytes → get_or bytes 0 0 ≡ quote

@@ -3,24 +3,24 @@ use Rattle.std.proofs.lemmas.Bool.Decides.{nat_tests}
 use Rattle.std.proofs.lemmas.List.{length-append}
 use Rattle.std.specs.List.{list_all, prefix_len}
 use Rattle.proto_lex.specs.Bytes.{is_letter, is_digit, is_octal_digit, is_hex_digit, is_word, is_plus_or_minus, is_exponent_mark, is_hex_mark, starts}
-use Rattle.proto_lex.specs.Numbers.{IsInteger, decimal, octal, hexadecimal, Digits, digit, digits, IsExponentOrNone, no_exponent, unsigned, signed, IsFloat, whole, fraction, power, point_first, begins_hexadecimal, goes_on, run_behind, run_of, begins_number}
+use Rattle.proto_lex.specs.Numbers.{IsInteger, decimal, octal, hexadecimal, Digits, digit, digits, IsExponentOrNone, no_exponent, unsigned, signed, IsFloat, whole, fraction, power, point_first, begins_hexadecimal, goes_on, run_after, run_of, begins_number}
 use Rattle.proto_lex.specs.Lexes.{Spells, identifier, integer, float, literal, sign, IsToken}
 use Rattle.proto_lex.specs.Reading.{number_kind, token, numbered, number_at, piece_at}
 use Rattle.proto_lex.specs.declared.lexer.piece.Piece.{Piece}
 use Rattle.proto_lex.specs.declared.lexer.piece.PieceKind.TheVariants as piece
 use Rattle.proto_lex.specs.declared.token.TokenKind.{TokenKind}
 use Rattle.proto_lex.specs.declared.token.TokenKind.TheVariants as kind
-use Rattle.proto_lex.proofs.Tools.{both, same_ok, err_not_ok}
-use Rattle.proto_lex.proofs.ByteClasses.{letter_not_blank}
-use Rattle.proto_lex.proofs.LiteralReads.{literal_read}
-use Rattle.proto_lex.proofs.ListSteps.{piece_bounds}
-use Rattle.proto_lex.proofs.PieceReads.{begins_number-append, number_place, integer_begins, float_begins, string_read, piece_read}
-use Rattle.proto_lex.proofs.NumberForms.{digits_start}
+use Rattle.proto_lex.proofs.ReadLemmas.{both, same_ok, err_not_ok}
+use Rattle.proto_lex.proofs.ByteLemmas.{letter_not_blank}
+use Rattle.proto_lex.proofs.LiteralExact.{literal_exact}
+use Rattle.proto_lex.proofs.PiecesLemmas.{piece_bounds}
+use Rattle.proto_lex.proofs.PieceExact.{begins_number-append, number_place, integer_begins, float_begins, string_exact, piece_exact}
+use Rattle.proto_lex.proofs.NumberLemmas.{digits_start}
 
 -- No longer spelling of a token stands at its place.
 
 -- a run takes each letter, digit, `_` and `.`, whatever stands before it
-run_more : (m : Bool) (last b : ℕ) (others : List ℕ) → goes_on m last b ≡ true → length (run_behind m last (b ∷ others)) ≡ suc (length (run_behind m b others))
+run_more : (m : Bool) (last b : ℕ) (others : List ℕ) → goes_on m last b ≡ true → length (run_after m last (b ∷ others)) ≡ suc (length (run_after m b others))
 run_more m last b others e = rw e refl
 
 word_goes_on : (m : Bool) (last b : ℕ) → is_word b ≡ true → goes_on m last b ≡ true
@@ -41,9 +41,9 @@ mark_goes_on m last b t = word_goes_on m last b (mark_word b t)
 sign_goes_on : (e s : ℕ) → is_exponent_mark e ≡ true → is_plus_or_minus s ≡ true → goes_on true e s ≡ true
 sign_goes_on e s t p = grind (arith, nat_tests)
 
--- a run takes at least so many of these bytes, whatever stands before them and behind them
+-- a run takes at least so many of these bytes, whatever stands before them and after them
 abbrev Takes : Bool → List ℕ → Type 0
-Takes m bytes = (last : ℕ) (tail : List ℕ) → length bytes ≤ length (run_behind m last (bytes ++ tail))
+Takes m bytes = (last : ℕ) (tail : List ℕ) → length bytes ≤ length (run_after m last (bytes ++ tail))
 
 takes_none : (m : Bool) → Takes m []
 takes_none m = λ last tail. omega arith
@@ -141,11 +141,11 @@ run_long : (m : Bool) (word tail : List ℕ) → not (begins_hexadecimal (word +
 run_long m [] tail e k = omega arith
 run_long m (b ∷ others) tail e k =
     let most = run_most m 0 b (others ++ tail) in
-    let here : length (run_of (b ∷ (others ++ tail))) ≡ suc (length (run_behind m b (others ++ tail))) = ap (λ n. suc (length (run_behind n b (others ++ tail)))) e in
+    let here : length (run_of (b ∷ (others ++ tail))) ≡ suc (length (run_after m b (others ++ tail))) = ap (λ n. suc (length (run_after n b (others ++ tail)))) e in
     omega (arith, here, most, k 0 tail)
   where
-    run_most : (m : Bool) (last b : ℕ) (xs : List ℕ) → length (run_behind m last (b ∷ xs)) ≤ suc (length (run_behind m b xs))
-    run_most m last b xs = elim (goes_on m last b) as (λ t. length (cond t (b ∷ run_behind m b xs) []) ≤ suc (length (run_behind m b xs))) [
+    run_most : (m : Bool) (last b : ℕ) (xs : List ℕ) → length (run_after m last (b ∷ xs)) ≤ suc (length (run_after m b xs))
+    run_most m last b xs = elim (goes_on m last b) as (λ t. length (cond t (b ∷ run_after m b xs) []) ≤ suc (length (run_after m b xs))) [
       | true ↦ omega arith
       | false ↦ omega arith
     ]
@@ -188,7 +188,7 @@ longest at tail p (float {word} f) e =
     number_longest at true word tail p (float_begins f) (rw (float_no_hex tail f) refl) (takes_float f) e
 longest at tail p (literal {quote} {others} q r) e =
     let s : Piece = token kind.StringLiteral (suc (length others)) in
-    let same : s ≡ p = same_ok s p (piece_at at (quote ∷ (others ++ tail))) (string_read at quote others tail q (literal_read quote at q r 1 tail)) e in
+    let same : s ≡ p = same_ok s p (piece_at at (quote ∷ (others ++ tail))) (string_exact at quote others tail q (literal_exact quote at q r 1 tail)) e in
     omega (arith, ap (λ (r : Piece). r.len) same)
 longest at tail p (sign {b} t) e = omega (arith, (piece_bounds at (b ∷ tail) p e).0)
 
@@ -199,5 +199,5 @@ no_length (b ∷ more) e = absurd (omega arith)
 pub no_longer : (k other : TokenKind) (word rest more tail : List ℕ) → IsToken k word rest → rest ≡ more ++ tail → Spells other (word ++ more) → more ≡ []
 no_longer k other word rest more tail t e s =
     let split : word ++ rest ≡ (word ++ more) ++ tail = ap (λ xs. word ++ xs) e ∙ sym (append_assoc word more tail) in
-    let read = subst (λ (xs : List ℕ). piece_at 0 xs ≡ Ok (token k (length word))) split (piece_read 0 (piece.Token k) word rest t) in
+    let read = subst (λ (xs : List ℕ). piece_at 0 xs ≡ Ok (token k (length word))) split (piece_exact 0 (piece.Token k) word rest t) in
     no_length more (omega (arith, longest 0 tail (token k (length word)) s read, length-append word more))

@@ -6,7 +6,7 @@ use Rattle.std.proofs.lemmas.List.{take_more, take_all, drop_at, append-nil, get
 use Rattle.std.proofs.lemmas.Str.{IsUtf8-take, IsUtf8-drop, IsCharBoundary-after_ascii}
 use Rattle.std.proofs.lemmas.Bool.{eqb-true}
 use Rattle.proto_lex.specs.Position.{is_line_end}
-use Rattle.proto_lex.proofs.Positions.{after_last_push}
+use Rattle.proto_lex.proofs.PositionLemmas.{after_last_push}
 
 -- a text is what ends with its last line end, if it has one, and then what stands after
 record Parts (text : List ℕ) : Type 0 where

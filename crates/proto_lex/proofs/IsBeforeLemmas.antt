@@ -6,7 +6,7 @@ use Rattle.proto_lex.specs.Position.{is_line_end, code_units, position_after, po
 use Rattle.proto_lex.specs.declared.position.Encoding.{Encoding}
 use Rattle.proto_lex.specs.declared.position.Encoding.TheVariants.{Utf8, Utf16}
 use Rattle.proto_lex.specs.declared.position.Position.{Position}
-use Rattle.proto_lex.proofs.Positions.{after_line_end, after_other}
+use Rattle.proto_lex.proofs.PositionLemmas.{after_line_end, after_other}
 
 -- no later line, and where it is the same, no greater column
 record IsNotAfter (p q : Position) : Type 0 where

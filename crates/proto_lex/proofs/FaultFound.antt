@@ -1,11 +1,12 @@
 use Rattle.std.proofs.Common.{◌≡◌, ℕ, zero, suc, ◌+◌, ◌-◌, ◌<◌, Bool, true, false, cond, ◌||◌, ◌&&◌, ◌⊎◌, inl, inr, nat_eq, Option, Some, None, Ok, Err, List, [], ◌∷◌, ◌++◌, length, drop, refl, sym, ◌∙◌, ap, subst, arith, eqb-true, add-zero}
 use Rattle.std.proofs.lemmas.List.{drop_at}
+use Rattle.std.proofs.lemmas.Option.{none-some}
 use Rattle.proto_lex.specs.Bytes.{is_blank, is_letter, is_digit, is_quote, starts}
 use Rattle.proto_lex.specs.Numbers.{begins_number, run_of}
 use Rattle.proto_lex.specs.Literals.{is_plain, IsEscape}
 use Rattle.proto_lex.specs.Lexes.{sign_kind}
 use Rattle.proto_lex.specs.Faults.{here, character, escape, IsStringFault, cut, nul, no_escape, IsFaultAt, unknown, no_number, no_close, no_string, Meets, fault, blank, comment, token, begins_mark, IsFirstFault, unmarked, marked}
-use Rattle.proto_lex.specs.Reading.{Read, ◌>>=◌, is_in_line, is_integer, is_float, number_kind, numbered, number_at, escape_len, escaped, character_at, literal_at, block_at, blocked, behind_first, slash_at, signed, piece_at, Listed, kept, listed_at, mark_len, listed_of}
+use Rattle.proto_lex.specs.Reading.{Read, ◌>>=◌, is_in_line, is_integer, is_float, number_kind, numbered, number_at, escape_len, escaped, character_at, literal_at, block_at, blocked, past_first, slash_at, signed, piece_at, Pieces, with_first, pieces_at, mark_len, pieces_of}
 use Rattle.proto_lex.specs.Reading as reading
 use Rattle.proto_lex.specs.declared.fault.LexFault.{LexFault}
 use Rattle.proto_lex.specs.declared.fault.LexFault.TheVariants.{Memory, BadByte, OpenString, OpenComment, BadEscape, BadNumber}
@@ -14,33 +15,22 @@ use Rattle.proto_lex.specs.declared.lexer.piece.PieceKind.{PieceKind}
 use Rattle.proto_lex.specs.declared.lexer.piece.PieceKind.TheVariants as piece
 use Rattle.proto_lex.specs.declared.token.TokenKind.{TokenKind}
 use Rattle.proto_lex.specs.declared.token.TokenKind.TheVariants as kind
-use Rattle.proto_lex.proofs.Tools.{chosen, none_not_some, same_ok, err_not_ok}
-use Rattle.proto_lex.proofs.ByteClasses.{is_plain_from}
-use Rattle.proto_lex.proofs.NumberForms.{integer_read, float_read}
-use Rattle.proto_lex.proofs.LiteralSteps.{character_positive}
-use Rattle.proto_lex.proofs.LiteralForms.{EscapeFront, escape_found, escaped_found}
-use Rattle.proto_lex.proofs.LiteralReads.{escape_some}
-use Rattle.proto_lex.proofs.CommentForms.{block_read}
-use Rattle.proto_lex.proofs.PieceForms.{Stands, Begins, piece_found}
-use Rattle.proto_lex.proofs.PieceReads.{stands_some}
-use Rattle.proto_lex.proofs.TextForms.{drop_behind, mark_cases}
+use Rattle.proto_lex.proofs.ReadLemmas.{chosen, same_ok, err_not_ok, ok_not_err, same_err, bind_err}
+use Rattle.proto_lex.proofs.ByteLemmas.{is_plain_from}
+use Rattle.proto_lex.proofs.NumberLemmas.{integer_exact, float_exact}
+use Rattle.proto_lex.proofs.LiteralLemmas.{character_positive}
+use Rattle.proto_lex.proofs.LiteralFound.{EscapeFront, escape_found, escaped_found}
+use Rattle.proto_lex.proofs.LiteralExact.{escape_some}
+use Rattle.proto_lex.proofs.CommentLemmas.{block_exact}
+use Rattle.proto_lex.proofs.PieceFound.{Stands, Begins, piece_found}
+use Rattle.proto_lex.proofs.PieceExact.{stands_some}
+use Rattle.proto_lex.proofs.LexesLemmas.{mark_cases}
+use Rattle.proto_lex.proofs.PiecesLemmas.{drop_after}
 
 -- The fault that is read is the one that the text meets first.
 
-pub ok_not_err : {A P : Type 0} {d : LexFault} {x : A} → Ok x ≡ Err d → P
-ok_not_err e = absurd cc
-
-pub same_err : {A : Type 0} (c d : LexFault) (r : Read A) → r ≡ Err c → r ≡ Err d → c ≡ d
-same_err c d r e f = cc
-
 abbrev failed : LexFault → Read ℕ
 failed f = Err f
-
--- a chain that fails, fails at its first step or behind it
-bind_err : {A B P : Type 0} (r : Read A) (f : A → Read B) (d : LexFault) → (r >>= f) ≡ Err d
-    → (r ≡ Err d → P) → ((x : A) → r ≡ Ok x → f x ≡ Err d → P) → P
-bind_err (Ok x) f d e p q = q x refl e
-bind_err (Err c) f d e p q = let same : c ≡ d = cc in p (ap Err same)
 
 -- strings
 
@@ -75,7 +65,7 @@ character_fault quote opening at b others f e =
     (λ t z. let g = escaped_fault at (escape_len others) f z in
     rw (eqb-true b 92 t) (subst (λ (d : LexFault). IsStringFault quote opening at (92 ∷ others) d) g.1
     (no_escape here (λ letters rest form parts.
-    none_not_some (sym g.0 ∙ (ap escape_len parts ∙ (escape_some form rest).1))))))
+    absurd (none-some _ (sym g.0 ∙ (ap escape_len parts ∙ (escape_some form rest).1)))))))
     (λ _ z. ok_not_err z)))
 
 backslash_before : (quote opening at more count : ℕ) (others : List ℕ) (f : LexFault) → EscapeFront others count → more ≡ count + 1
@@ -133,8 +123,8 @@ numbered_fault at (Some k) len f e = ok_not_err e
 
 no_kind : (run : List ℕ) → number_kind run ≡ None → (is_integer run ≡ false) × (is_float run ≡ false)
 no_kind run e =
-    chosen (is_integer run) e (λ _ x. none_not_some (sym x)) (λ i x.
-    chosen (is_float run) x (λ _ y. none_not_some (sym y)) (λ f _. (i, f)))
+    chosen (is_integer run) e (λ _ x. absurd (none-some _ (sym x))) (λ i x.
+    chosen (is_float run) x (λ _ y. absurd (none-some _ (sym y))) (λ f _. (i, f)))
 
 number_fault : (at : ℕ) (bytes : List ℕ) (f : LexFault) → begins_number bytes ≡ true → number_at at bytes ≡ Err f → IsFaultAt at bytes f
 unfolding number_at
@@ -142,20 +132,20 @@ number_fault at bytes f t e =
     let m = numbered_fault at (number_kind (run_of bytes)) (length (run_of bytes)) f e in
     let k = no_kind (run_of bytes) m.0 in
     subst (λ (d : LexFault). IsFaultAt at bytes d) m.1
-    (no_number t (λ i. let yes = integer_read i in let no = k.0 in cc) (λ i. let yes = float_read i in let no = k.1 in cc))
+    (no_number t (λ i. let yes = integer_exact i in let no = k.0 in cc) (λ i. let yes = float_exact i in let no = k.1 in cc))
 
 blocked_fault : (at : ℕ) (o : Option ℕ) (f : LexFault) → blocked at o ≡ Err f → (o ≡ None) × (OpenComment at ≡ f)
 blocked_fault at None f e = (refl, same_err (OpenComment at) f (blocked at None) refl e)
 blocked_fault at (Some len) f e = ok_not_err e
 
-open_fault : (at : ℕ) (others : List ℕ) (f : LexFault) → starts (nat_eq 42) others ≡ true → blocked at (block_at 2 (behind_first others)) ≡ Err f
+open_fault : (at : ℕ) (others : List ℕ) (f : LexFault) → starts (nat_eq 42) others ≡ true → blocked at (block_at 2 (past_first others)) ≡ Err f
     → IsFaultAt at (47 ∷ others) f
 open_fault at [] f t e = absurd cc
 open_fault at (c ∷ others) f t e =
     let same : 42 ≡ c = eqb-true 42 c t in
     let m = blocked_fault at (block_at 2 others) f e in
     subst (λ (d : LexFault). IsFaultAt at (47 ∷ (c ∷ others)) d) m.1 (rw (← same) (no_close (λ inside rest r parts.
-    none_not_some (sym m.0 ∙ (ap (block_at 2) parts ∙ block_read 2 rest r)))))
+    absurd (none-some _ (sym m.0 ∙ (ap (block_at 2) parts ∙ block_exact 2 rest r))))))
 
 slash_fault : (at : ℕ) (others : List ℕ) (f : LexFault) → slash_at at others ≡ Err f → IsFaultAt at (47 ∷ others) f
 slash_fault at others f e =
@@ -203,25 +193,25 @@ piece_before : (at b : ℕ) (others : List ℕ) (p : Piece) (f : LexFault) → B
     → Meets (at + 1 + (p.len - 1)) (drop (p.len - 1) others) f → Meets at (b ∷ others) f
 piece_before at b others p f h some r =
     let n : at + 1 + (p.len - 1) ≡ at + length h.word = omega (arith, h.counted) in
-    let left : drop (p.len - 1) others ≡ h.rest = drop_behind p.len b others some ∙ (ap (λ xs. drop p.len xs) h.parts ∙ drop_at h.word h.rest p.len h.counted) in
+    let left : drop (p.len - 1) others ≡ h.rest = drop_after p.len b others some ∙ (ap (λ xs. drop p.len xs) h.parts ∙ drop_at h.word h.rest p.len h.counted) in
     let from : Meets (at + length h.word) h.rest f = rw (n, left) at r in
     subst (λ (xs : List ℕ). Meets at xs f) (sym h.parts) (placed at p.kind h.word h.rest f h.stands from)
 
-listed_fault_found : (skip at : ℕ) (bytes : List ℕ) (f : LexFault) → listed_at skip at bytes ≡ Err f → Meets (at + skip) (drop skip bytes) f
-unfolding listed_at
-listed_fault_found zero at [] f e = ok_not_err e
-listed_fault_found (suc skip) at [] f e = ok_not_err e
-listed_fault_found (suc skip) at (b ∷ others) f e =
+pieces_fault_found : (skip at : ℕ) (bytes : List ℕ) (f : LexFault) → pieces_at skip at bytes ≡ Err f → Meets (at + skip) (drop skip bytes) f
+unfolding pieces_at
+pieces_fault_found zero at [] f e = ok_not_err e
+pieces_fault_found (suc skip) at [] f e = ok_not_err e
+pieces_fault_found (suc skip) at (b ∷ others) f e =
     let n : at + 1 + skip ≡ at + suc skip = omega arith in
-    rw n at (listed_fault_found skip (at + 1) others f e)
-listed_fault_found zero at (b ∷ others) f e =
-    rw add-zero (bind_err (piece_at at (b ∷ others)) (λ p. listed_at (p.len - 1) (at + 1) others >>= λ listed. Ok (kept p.kind at p.len listed)) f e
+    rw n at (pieces_fault_found skip (at + 1) others f e)
+pieces_fault_found zero at (b ∷ others) f e =
+    rw add-zero (bind_err (piece_at at (b ∷ others)) (λ p. pieces_at (p.len - 1) (at + 1) others >>= λ later. Ok (with_first p.kind at p.len later)) f e
     (λ x. fault (piece_fault at b others f x))
-    (λ p x y. bind_err (listed_at (p.len - 1) (at + 1) others) (λ listed. Ok (kept p.kind at p.len listed)) f y
+    (λ p x y. bind_err (pieces_at (p.len - 1) (at + 1) others) (λ later. Ok (with_first p.kind at p.len later)) f y
     (λ z.
     let h = piece_found at (b ∷ others) p x in
     let some : 0 < p.len = omega (arith, h.counted, stands_some p.kind h.word h.rest h.stands) in
-    piece_before at b others p f h some (listed_fault_found (p.len - 1) (at + 1) others f z))
+    piece_before at b others p f h some (pieces_fault_found (p.len - 1) (at + 1) others f z))
     (λ _ _ z. ok_not_err z)))
 
 no_mark : (text : List ℕ) → mark_len text ≡ 0 → begins_mark text ≡ false
@@ -234,19 +224,19 @@ no_mark (a ∷ (b ∷ (c ∷ rest))) e =
       | false ↦ λ _. refl
     ] e
 
-pub first_fault : (text : List ℕ) (f : LexFault) → listed_of text ≡ Err f → IsFirstFault text f
-unfolding listed_of
-first_fault text f e =
+pub first_fault_found : (text : List ℕ) (f : LexFault) → pieces_of text ≡ Err f → IsFirstFault text f
+unfolding pieces_of
+first_fault_found text f e =
     mark_cases text
-    (λ m. unmarked (no_mark text m) (listed_fault_found 0 0 text f (rw m at e)))
-    (λ rest m. subst (λ (t : List ℕ). IsFirstFault t f) (sym m) (marked (listed_fault_found 0 3 rest f (rw m at e))))
+    (λ m. unmarked (no_mark text m) (pieces_fault_found 0 0 text f (rw m at e)))
+    (λ rest m. subst (λ (t : List ℕ). IsFirstFault t f) (sym m) (marked (pieces_fault_found 0 3 rest f (rw m at e))))
 
 -- what a failed reading tells of the text
-pub given_fault : (text : List ℕ) (f : LexFault) → (f ≡ Memory) ⊎ (listed_of text ≡ Err f) → (f ≡ Memory) ⊎ IsFirstFault text f
+pub given_fault : (text : List ℕ) (f : LexFault) → (f ≡ Memory) ⊎ (pieces_of text ≡ Err f) → (f ≡ Memory) ⊎ IsFirstFault text f
 given_fault text f (inl memory) = inl memory
-given_fault text f (inr e) = inr (first_fault text f e)
+given_fault text f (inr e) = inr (first_fault_found text f e)
 
 -- a text that lexes fails for want of memory alone
-pub only_memory : (f : LexFault) (read : Read Listed) (l : Listed) → (f ≡ Memory) ⊎ (read ≡ Err f) → read ≡ Ok l → f ≡ Memory
+pub only_memory : (f : LexFault) (read : Read Pieces) (l : Pieces) → (f ≡ Memory) ⊎ (read ≡ Err f) → read ≡ Ok l → f ≡ Memory
 only_memory f read l (inl memory) g = memory
 only_memory f read l (inr e) g = ok_not_err (sym g ∙ e)

@@ -2,9 +2,9 @@ use Rattle.std.proofs.Common.{◌≡◌, ℕ, suc, ◌+◌, Bool, true, false, c
 use Rattle.std.specs.List.{list_all, prefix_len}
 use Rattle.proto_lex.specs.Bytes.{starts}
 use Rattle.proto_lex.specs.Reading.{past}
-use Rattle.proto_lex.proofs.Tools.{both}
+use Rattle.proto_lex.proofs.ReadLemmas.{both}
 
--- The bytes at the front that pass a test, and those behind them.
+-- The bytes at the front that pass a test, and those after them.
 
 -- adding to a front is a step of it
 pub one_add : (n : ℕ) → 1 + n ≡ n + 1

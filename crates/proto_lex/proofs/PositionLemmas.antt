@@ -22,7 +22,7 @@ pushed_by p xs y false e = rw (reverse-append xs (y ∷ []), e) (pushed_kept xs 
 pub after_last_push : {X : Type 0} (p : X → Bool) (xs : List X) (y : X) → after_last p (xs ++ y ∷ []) ≡ cond (p y) [] (after_last p xs ++ y ∷ [])
 after_last_push p xs y = pushed_by p xs y (p y) refl
 
--- the position behind one more byte
+-- the position after one more byte
 pub after_line_end : (encoding : Encoding) (text : List ℕ) (byte : ℕ) → is_line_end byte ≡ true → position_after encoding (text ++ byte ∷ []) ≡ record { line = (position_after encoding text).line + 1; column = 0 }
 after_line_end encoding text byte e = rw (sum_by_push, after_last_push is_line_end text byte, e) refl
 

@@ -13,7 +13,7 @@ def program():
     """The built program, which is proved and built first where it isn't as new as its sources."""
     script = os.path.join(TOP, "protoscip")
     subprocess.run([script, "--version"], check=True, stdout=subprocess.DEVNULL)
-    return os.path.join(TOP, "crates", "protoscip", "out", "protoscip")
+    return os.path.join(TOP, "crates", "protoscip_cli", "out", "protoscip_cli")
 
 
 def found(name, package):

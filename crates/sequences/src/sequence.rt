@@ -1,4 +1,4 @@
-//! A list of records.
+//! A list.
 
 ghost use Rattle.std.specs.Prelude.{◌≡◌, ◌++◌, [], ◌∷◌, OnOk, IfErr, OnErr};
 

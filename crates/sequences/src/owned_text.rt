@@ -1,4 +1,4 @@
-//! A text of a record.
+//! A text.
 
 ghost use Rattle.std.specs.Prelude.{◌≡◌, [], IfOk};
 ghost use Rattle.std.specs.String.{string_bytes};

@@ -23,6 +23,7 @@ pub mod LongestTokenLemmas
 pub mod PiecesLemmas
 pub mod LexesLemmas
 pub mod LexedLemmas
+pub mod CommentTextExamples
 -- the first fault: what is read is the text's (found), and the text's is read (exact)
 pub mod FaultFound
 pub mod FaultExact

@@ -12,5 +12,6 @@ pub mod Lexes
 pub mod Lexed
 pub mod Faults
 pub mod LexLaws
+pub mod CommentTexts
 -- what the lexer's private functions give
 pub mod Reading

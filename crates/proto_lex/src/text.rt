@@ -44,7 +44,7 @@ impl<'a> Text<'a> {
     ///
     /// - `TooLong`: the bytes are more than `MAX_TEXT_LENGTH`. This is tried first.
     /// - `NotUtf8`: they are not UTF-8, with the offset at which the first ill-formed sequence begins.
-    /// - `Memory`: memory ran out. Only bytes that are a text come so far.
+    /// - `Memory`: memory ran out for the line starts, which are made last.
     pub fn new(alloc: Global, bytes: &'a [u8]) -> Result<Text<'a>, LexFault>
         ensures text { IfOk result (λ text. IsText bytes.now × (text ≡ bytes.now)) }
         ensures fault { IfErr result (λ fault. (fault ≡ LexFault.Memory) ⊎ IsNoText bytes.now fault) }

@@ -2,7 +2,7 @@
 //! specification's lexical elements give by hand.
 
 use crate::calls::{see, see_all, text_of, tokens_of};
-use proto_lex::{CommentKind, LexFault, TokenKind, Tokens};
+use proto_lex::{Comment, CommentKind, LexFault, Token, TokenKind, Tokens};
 use std::alloc::Global;
 use std::test::Fail;
 
@@ -26,7 +26,10 @@ fn are_spelled(found: &Tokens<'_>, want: &[(TokenKind, &str)]) -> bool {
 fn has_tokens(alloc: Global, source: &str, want: &[(TokenKind, &str)]) -> Result<bool, LexFault> {
     let text = text_of(alloc, source.as_bytes())?;
     let found = tokens_of(alloc, &text)?;
-    Ok(found.text().as_str() == source && are_spelled(&found, want))
+    if found.text().as_str() != source {
+        return Ok(false);
+    }
+    Ok(are_spelled(&found, want))
 }
 
 /// The first source that isn't one token of this kind.
@@ -219,11 +222,11 @@ fn escapes_that_are_none(rt: HostRuntime) {
 }
 
 /// Whether the comments have these kinds, starts and ends.
-fn are_comments(found: &Tokens<'_>, want: &[(CommentKind, usize, usize)]) -> bool {
-    if found.comments().len() != want.len() {
+fn are_comments(found: &[Comment], want: &[(CommentKind, usize, usize)]) -> bool {
+    if found.len() != want.len() {
         return false;
     }
-    for (comment, (kind, start, end)) in found.comments().iter().zip(want) {
+    for (comment, (kind, start, end)) in found.iter().zip(want) {
         let span = comment.span;
         if comment.kind != *kind || span.start != *start || span.end != *end {
             return false;
@@ -233,11 +236,11 @@ fn are_comments(found: &Tokens<'_>, want: &[(CommentKind, usize, usize)]) -> boo
 }
 
 /// Whether the tokens have these starts and ends.
-fn are_placed(found: &Tokens<'_>, want: &[(usize, usize)]) -> bool {
-    if found.tokens().len() != want.len() {
+fn are_placed(found: &[Token], want: &[(usize, usize)]) -> bool {
+    if found.len() != want.len() {
         return false;
     }
-    for (token, (start, end)) in found.tokens().iter().zip(want) {
+    for (token, (start, end)) in found.iter().zip(want) {
         if token.span.start != *start || token.span.end != *end {
             return false;
         }
@@ -245,18 +248,36 @@ fn are_placed(found: &Tokens<'_>, want: &[(usize, usize)]) -> bool {
     true
 }
 
+/// Whether a source has these tokens and comments.
+fn has_places(
+    alloc: Global,
+    source: &[u8],
+    tokens: &[(usize, usize)],
+    comments: &[(CommentKind, usize, usize)],
+) -> Result<bool, LexFault> {
+    let text = text_of(alloc, source)?;
+    let found = tokens_of(alloc, &text)?;
+    if !are_placed(found.tokens(), tokens) {
+        return Ok(false);
+    }
+    Ok(are_comments(found.comments(), comments))
+}
+
 #[test]
 fn comments_and_their_places(rt: HostRuntime) -> Result<(), Fail> {
-    let text = text_of(rt.alloc(), b"/* /* */ a // b\r\n/**/c//")?;
-    let found = tokens_of(rt.alloc(), &text)?;
-    let want = [
+    let source = b"/* /* */ a // b\r\n/**/c//";
+    let comments = [
         (CommentKind::Block, 0, 8),
         (CommentKind::Line, 11, 16),
         (CommentKind::Block, 17, 21),
         (CommentKind::Line, 22, 24),
     ];
-    see(&rt, are_comments(&found, &want), "comments");
-    see(&rt, are_placed(&found, &[(9, 10), (21, 22)]), "tokens");
+    let tokens = [(9, 10), (21, 22)];
+    see(
+        &rt,
+        has_places(rt.alloc(), source, &tokens, &comments)?,
+        "places",
+    );
     Ok(())
 }
 
@@ -307,13 +328,10 @@ fn texts_without_tokens(rt: HostRuntime) -> Result<(), Fail> {
 
 #[test]
 fn mark_takes_three_bytes(rt: HostRuntime) -> Result<(), Fail> {
-    let text = text_of(rt.alloc(), b"\xEF\xBB\xBFmessage")?;
-    let found = tokens_of(rt.alloc(), &text)?;
-    see(&rt, are_placed(&found, &[(3, 10)]), "span");
-    see(
-        &rt,
-        are_spelled(&found, &[(TokenKind::Identifier, "message")]),
-        "kind",
-    );
+    let source = "\u{FEFF}message";
+    let placed = has_places(rt.alloc(), source.as_bytes(), &[(3, 10)], &[])?;
+    see(&rt, placed, "span");
+    let identifier = (TokenKind::Identifier, "message");
+    see(&rt, has_tokens(rt.alloc(), source, &[identifier])?, "kind");
     Ok(())
 }

@@ -63,7 +63,8 @@ pub fn run<R: Feed, W: Sink, M: Sink>(
 }
 
 /// Says in one line why the program stops, and gives the exit status. Where memory doesn't suffice
-/// for the line, that is what it says.
+/// for the line, that is what it says. Where the line is cut off, no line end follows it, which tests
+/// show.
 pub fn report<M: Sink>(alloc: Global, fault: &Fault, messages: &mut M) -> u8
     ensures status { (result ≡ status_of fault.now) ⊎ (result ≡ status_of Memory) }
     ensures said { Heard (M.failures messages.old) (M.failures messages.new)

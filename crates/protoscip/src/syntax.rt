@@ -19,7 +19,7 @@ pub use tree::{Field, File, Message, MessageItem};
 /// The tree that the tokens derive.
 ///
 /// It is Ok exactly where they derive one, but for want of memory. Otherwise the fault is the one
-/// that reading from left to right meets first.
+/// that reading from left to right meets first; no clause says which that is, tests show it.
 pub fn parse(alloc: Global, tokens: &Tokens<'_>) -> Result<File, SyntaxFault>
     ensures found { IfOk result (λ tree. Derives tokens.now.text tokens.now.tokens tree) }
     ensures only { (tree : List MessageTree) → Derives tokens.now.text tokens.now.tokens tree

@@ -17,8 +17,8 @@ use crate::output::write_text;
 use scip_model::{Feed, Sink, write_all};
 use std::alloc::{AllocError, Global};
 
-/// Does what was asked for, and gives the exit status; where memory ran out before that was known, it
-/// says so. What the stream of messages doesn't take is lost.
+/// Does what was asked for, and gives the exit status; where memory ran out while the command line was
+/// read, it says so. What the stream of messages doesn't take is lost.
 pub fn run<R: Feed, W: Sink, M: Sink>(
     alloc: Global,
     asked: &Result<Request, AllocError>,

@@ -48,7 +48,7 @@ pub fn request_of(alloc: Global, words: &Vec<String>) -> Result<Request, AllocEr
 }
 
 /// What the words of a command line ask for, the first of them the program's name. Where the system
-/// gives none, they are no text, which is refused, or memory ran out.
+/// gives an error in their place, a word isn't UTF-8, which is refused, or memory ran out.
 pub fn request_of_process(
     alloc: Global,
     words: io::Result<Vec<String>>,
@@ -75,7 +75,7 @@ fn refuse_other_text(alloc: Global) -> Result<Request, AllocError>
     )
 }
 
-/// What follows from an answer of `clap` that is no program.
+/// What an answer of `clap` other than a program asks for.
 fn answer(alloc: Global, error: &Error) -> Result<Request, AllocError>
     ensures { IfOk result (λ r. (kind_of error.now ≢ ErrorKind.OutOfMemory) × Prints (kind_of error.now) r) }
 {

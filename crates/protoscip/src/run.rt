@@ -17,8 +17,8 @@ use crate::output::write_text;
 use scip_model::{Feed, Sink, write_all};
 use std::alloc::{AllocError, Global};
 
-/// Does what was asked for, and gives the exit status; where memory ran out before that was known, it
-/// says so. What the stream of messages doesn't take is lost.
+/// Does what was asked for, and gives the exit status; where memory ran out while the command line was
+/// read, it says so. What the stream of messages doesn't take is lost.
 pub fn run<R: Feed, W: Sink, M: Sink>(
     alloc: Global,
     asked: &Result<Request, AllocError>,
@@ -63,7 +63,8 @@ pub fn run<R: Feed, W: Sink, M: Sink>(
 }
 
 /// Says in one line why the program stops, and gives the exit status. Where memory doesn't suffice
-/// for the line, that is what it says.
+/// for the line, that is what it says. Where the line is cut off, no line end follows it, which tests
+/// show.
 pub fn report<M: Sink>(alloc: Global, fault: &Fault, messages: &mut M) -> u8
     ensures status { (result ≡ status_of fault.now) ⊎ (result ≡ status_of Memory) }
     ensures said { Heard (M.failures messages.old) (M.failures messages.new)

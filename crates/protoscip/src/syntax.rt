@@ -19,7 +19,8 @@ pub use tree::{Field, File, Message, MessageItem};
 /// The tree that the tokens derive.
 ///
 /// It is Ok exactly where they derive one, but for want of memory. Otherwise the fault is the one
-/// that reading from left to right meets first.
+/// that reading from left to right meets first. Which fault that is, and its offset, is shown by
+/// tests.
 pub fn parse(alloc: Global, tokens: &Tokens<'_>) -> Result<File, SyntaxFault>
     ensures found { IfOk result (λ tree. Derives tokens.now.text tokens.now.tokens tree) }
     ensures only { (tree : List MessageTree) → Derives tokens.now.text tokens.now.tokens tree

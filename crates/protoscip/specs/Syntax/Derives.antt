@@ -82,7 +82,7 @@ mutual
     nested : {levels : ℕ} {a b c : List Lexeme} {message : MessageTree} {others : Body}
         → IsMessage levels a message b → IsBody levels b others c → IsBody levels a (MessageThen message.heading message.body others) c
 
--- "Proto file": what stands behind the syntax statement, up to the end: messages and `;`.
+-- "Proto file": what follows the syntax statement, up to the end: messages and `;`.
 pub data AreStatements : List Lexeme → List MessageTree → Type 0 where
   at_end : AreStatements [] []
   semicolon : {a b : List Lexeme} {span : Span} {messages : List MessageTree}

@@ -128,7 +128,7 @@ impl<'t> Parser<'t> {
         })
     }
 
-    /// What stands before a message's closing brace.
+    /// The items of a message, up to its closing brace.
     #[cycle(parser)]
     fn items(&mut self, alloc: Global, levels: usize) -> Result<Vec<MessageItem>, SyntaxFault>
         ensures { Gives (λ x. x.items) self.new result (all_until closes (item_at (message_at levels)) self.old) }

@@ -1,7 +1,7 @@
 // A library to be preloaded. It refuses one allocation of the process, the one whose number stands in
 // REFUSE_ALLOCATION (from 1), and makes the file that REFUSED_NOTE names when it does. And it writes a
 // line into the file that ASKED_NOTE names, where an allocation asks for more than the process can have a
-// use for: more than 1 MiB and 32 bytes for each byte that it holds at that time.
+// use for: more than ASKED_AT_LEAST bytes and 32 bytes for each byte that it holds at that time.
 //
 // So much room grows with what was read: a list that doubles asks for twice what it holds, a list of
 // tokens for 24 bytes for each byte of a text at most. A length that a few bytes only claim isn't held.
@@ -23,18 +23,27 @@ extern void *__libc_realloc(void *old, size_t size);
 extern void *__libc_memalign(size_t alignment, size_t size);
 extern void __libc_free(void *old);
 
-enum { ROOM_AT_LEAST = 1 << 20, ROOM_FOR_A_BYTE = 32 };
+enum { ASKED_FOR_A_BYTE = 32 };
 
 static unsigned long refused_number;
+static unsigned long asked_at_least;
 static unsigned long seen;
 static size_t held;
 static int is_ready;
 
+// The number that this variable holds, or 0.
+static unsigned long number_in(const char *variable) {
+    unsigned long number = 0;
+    const char *digit = getenv(variable);
+    for (; digit != NULL && *digit >= '0' && *digit <= '9'; digit++)
+        number = 10 * number + (unsigned long)(*digit - '0');
+    return number;
+}
+
 static void prepare(void) {
     is_ready = 1;
-    const char *number = getenv("REFUSE_ALLOCATION");
-    for (; number != NULL && *number >= '0' && *number <= '9'; number++)
-        refused_number = 10 * refused_number + (unsigned long)(*number - '0');
+    refused_number = number_in("REFUSE_ALLOCATION");
+    asked_at_least = number_in("ASKED_AT_LEAST");
 }
 
 // Opens the file that this variable names, or answers -1.
@@ -45,7 +54,7 @@ static int note(const char *variable) {
 
 static void judge(size_t asked) {
     size_t holds = __atomic_load_n(&held, __ATOMIC_SEQ_CST);
-    if (asked <= ROOM_AT_LEAST || (asked - ROOM_AT_LEAST) / ROOM_FOR_A_BYTE <= holds)
+    if (asked <= asked_at_least || (asked - asked_at_least) / ASKED_FOR_A_BYTE <= holds)
         return;
     int file = note("ASKED_NOTE");
     if (file >= 0) {

@@ -89,14 +89,14 @@ metadata_exact bytes m d =
 pub varint_shortens : (bytes : List ℕ) (x : ℕ × List ℕ) → varint_at 10 bytes ≡ Some x → length x.1 < length bytes
 varint_shortens bytes x e = varint_falls (varint_found 10 bytes x e)
 
-packed_in_found : (room : ℕ) (bytes s t : List ℕ) → fold_in (varint_at 10) packed_step room bytes s ≡ Some t → (ns : List ℕ) × (ArePacked bytes ns) × (t ≡ s ++ ns)
+packed_in_found : (bound : ℕ) (bytes s t : List ℕ) → fold_in (varint_at 10) packed_step bound bytes s ≡ Some t → (ns : List ℕ) × (ArePacked bytes ns) × (t ≡ s ++ ns)
 unfolding fold_in packed_step
 packed_in_found zero [] s t e = ([], ArePacked.none, sym (same_Some s t e) ∙ sym (append-nil s))
-packed_in_found (suc room) [] s t e = ([], ArePacked.none, sym (same_Some s t e) ∙ sym (append-nil s))
+packed_in_found (suc bound) [] s t e = ([], ArePacked.none, sym (same_Some s t e) ∙ sym (append-nil s))
 packed_in_found zero (byte ∷ bytes) s t e = absurd (cc)
-packed_in_found (suc room) (byte ∷ bytes) s t e =
+packed_in_found (suc bound) (byte ∷ bytes) s t e =
     let x = bind_some (varint_at 10 (byte ∷ bytes)) _ t e in
-    let h = packed_in_found room x.0.1 (s ++ low_32_bits x.0.0 ∷ []) t x.2 in
+    let h = packed_in_found bound x.0.1 (s ++ low_32_bits x.0.0 ∷ []) t x.2 in
     (low_32_bits x.0.0 ∷ h.0, ArePacked.next (varint_found 10 (byte ∷ bytes) x.0 x.1) h.1, h.2 ∙ append_assoc s (low_32_bits x.0.0 ∷ []) h.0)
 
 packed_exact_on : {bytes ns : List ℕ} → ArePacked bytes ns → (s : List ℕ) → fold_at (varint_at 10) packed_step bytes s ≡ Some (s ++ ns)
@@ -283,15 +283,15 @@ checked_of None r h = split (fits r) (λ t. absurd (h (checked_found r r (cond-t
 checked_of (Some x) r h = ap Some h.1 ∙ sym (checked_exact r h.0)
 
 -- packed numbers that are added to others
-packed_in_after : (room : ℕ) (bytes s t : List ℕ) → fold_in (varint_at 10) packed_step room bytes (s ++ t) ≡ (fold_in (varint_at 10) packed_step room bytes t >>= add_more s)
+packed_in_after : (bound : ℕ) (bytes s t : List ℕ) → fold_in (varint_at 10) packed_step bound bytes (s ++ t) ≡ (fold_in (varint_at 10) packed_step bound bytes t >>= add_more s)
 unfolding fold_in packed_step
 packed_in_after zero [] s t = refl
 packed_in_after zero (byte ∷ bytes) s t = refl
-packed_in_after (suc room) [] s t = refl
-packed_in_after (suc room) (byte ∷ bytes) s t =
+packed_in_after (suc bound) [] s t = refl
+packed_in_after (suc bound) (byte ∷ bytes) s t =
     bind_same (varint_at 10 (byte ∷ bytes)) _ _ (λ x _.
-    ap (fold_in (varint_at 10) packed_step room x.1) (append_assoc s t (low_32_bits x.0 ∷ []))
-    ∙ packed_in_after room x.1 s (t ++ low_32_bits x.0 ∷ []))
+    ap (fold_in (varint_at 10) packed_step bound x.1) (append_assoc s t (low_32_bits x.0 ∷ []))
+    ∙ packed_in_after bound x.1 s (t ++ low_32_bits x.0 ∷ []))
     ∙ sym (bind_assoc (varint_at 10 (byte ∷ bytes)) _ (add_more s))
 
 pub fold_of_packed : (bytes numbers : List ℕ) → fold_at (varint_at 10) packed_step bytes numbers ≡ (packed_at bytes >>= add_more numbers)

@@ -11,25 +11,25 @@ use Rattle.scip_wire.proofs.OptionLemmas.{bind_some, chosen, guard_some, guard_n
 
 -- ---- varints
 
-pub varint_found : (room : ℕ) (bytes : List ℕ) (x : ℕ × List ℕ) → varint_at room bytes ≡ Some x → IsVarint room bytes x.0 x.1
+pub varint_found : (limit : ℕ) (bytes : List ℕ) (x : ℕ × List ℕ) → varint_at limit bytes ≡ Some x → IsVarint limit bytes x.0 x.1
 unfolding varint_at
 varint_found zero bytes x e = absurd (cc)
-varint_found (suc room) [] x e = absurd (cc)
-varint_found (suc room) (byte ∷ bytes) x e =
-    let P : ℕ × List ℕ → Type 0 = λ y. IsVarint (suc room) (byte ∷ bytes) y.0 y.1 in
+varint_found (suc limit) [] x e = absurd (cc)
+varint_found (suc limit) (byte ∷ bytes) x e =
+    let P : ℕ × List ℕ → Type 0 = λ y. IsVarint (suc limit) (byte ∷ bytes) y.0 y.1 in
     chosen (nat_lt byte 128) _ _ _ e
     (λ small same. subst P (same_Some _ x same) (last (ltb-true byte 128 small)))
     (λ large rest.
-    let h = bind_some (varint_at room bytes) _ x rest in
+    let h = bind_some (varint_at limit bytes) _ x rest in
     let g = guard_some (nat_lt h.0.0 (2 ^ 57)) _ x h.2 in
-    subst P (same_Some _ x g.1) (more (ltb-false byte 128 large) (ltb-true h.0.0 (2 ^ 57) g.0) (varint_found room bytes h.0 h.1)))
+    subst P (same_Some _ x g.1) (more (ltb-false byte 128 large) (ltb-true h.0.0 (2 ^ 57) g.0) (varint_found limit bytes h.0 h.1)))
 
-pub varint_exact : {room value : ℕ} {bytes rest : List ℕ} → IsVarint room bytes value rest → varint_at room bytes ≡ Some (value, rest)
+pub varint_exact : {limit value : ℕ} {bytes rest : List ℕ} → IsVarint limit bytes value rest → varint_at limit bytes ≡ Some (value, rest)
 unfolding varint_at
 varint_exact (last small) = rw (lt-ltb _ 128 small) refl
 varint_exact (more large high v) = rw (le-ltb _ 128 large, varint_exact v, lt-ltb _ (2 ^ 57) high) refl
 
-pub varint_falls : {room value : ℕ} {bytes rest : List ℕ} → IsVarint room bytes value rest → length rest < length bytes
+pub varint_falls : {limit value : ℕ} {bytes rest : List ℕ} → IsVarint limit bytes value rest → length rest < length bytes
 varint_falls (last small) = omega arith
 varint_falls (more large high v) = omega (arith, varint_falls v)
 

@@ -18,7 +18,7 @@ use Rattle.scip_wire.proofs.GivesLemmas.{fails_too}
 
 module _ {S A : Type 0} (read : List ℕ → Option (A × List ℕ)) (step : S → A → Option S)
     (falls : (bytes : List ℕ) (x : A × List ℕ) → read bytes ≡ Some x → length x.1 < length bytes) where
-  -- more room than bytes changes nothing
+  -- a greater bound than the number of bytes changes nothing
   pub fold_enough : (n m : ℕ) (bytes : List ℕ) (s : S) → length bytes ≤ n → length bytes ≤ m → fold_in read step n bytes s ≡ fold_in read step m bytes s
   unfolding fold_in
   fold_enough zero zero [] s h k = refl
@@ -60,16 +60,16 @@ pub field_shortens : (bytes : List ℕ) (x : Field × List ℕ) → field_at byt
 field_shortens bytes x e = field_falls (field_found bytes x e)
 
 module _ {S : Type 0} (step : S → Field → Option S) where
-  fields_in_found : (room : ℕ) (bytes : List ℕ) (s t : S) → fold_in field_at step room bytes s ≡ Some t
+  fields_in_found : (bound : ℕ) (bytes : List ℕ) (s t : S) → fold_in field_at step bound bytes s ≡ Some t
       → (fields : List Field) × (HasFields bytes fields) × (changed step fields s ≡ Some t)
   unfolding fold_in
   fields_in_found zero [] s t e = ([], none, e)
-  fields_in_found (suc room) [] s t e = ([], none, e)
+  fields_in_found (suc bound) [] s t e = ([], none, e)
   fields_in_found zero (byte ∷ bytes) s t e = absurd (cc)
-  fields_in_found (suc room) (byte ∷ bytes) s t e =
+  fields_in_found (suc bound) (byte ∷ bytes) s t e =
       let x = bind_some (field_at (byte ∷ bytes)) _ t e in
       let u = bind_some (step s x.0.0) _ t x.2 in
-      let h = fields_in_found room x.0.1 u.0 t u.2 in
+      let h = fields_in_found bound x.0.1 u.0 t u.2 in
       (x.0.0 ∷ h.0, next (field_found (byte ∷ bytes) x.0 x.1) h.1, bind_at (step s x.0.0) _ u.0 u.1 ∙ h.2)
 
   pub fields_found : (bytes : List ℕ) (s t : S) → fold_at field_at step bytes s ≡ Some t

@@ -8,21 +8,21 @@ use Rattle.scip_wire.specs.Saturated.{fields_len}
 use Rattle.scip_wire.proofs.SpelledVarintLemmas.{group_last, group_more}
 
 -- a number is the value of its shortest varint, whatever follows
-groups_are : (room n : ℕ) (rest : List ℕ) → n < 2 * 128 ^ room → n < 2 ^ 64 → IsVarint (suc room) (varint_of_groups room n ++ rest) n rest
+groups_are : (further n : ℕ) (rest : List ℕ) → n < 2 * 128 ^ further → n < 2 ^ 64 → IsVarint (suc further) (varint_of_groups further n ++ rest) n rest
 groups_are zero n rest fits small =
     let here : IsVarint 1 (n ∷ rest) n rest = last (omega arith) in
     subst (λ bytes. IsVarint 1 (bytes ++ rest) n rest) (sym (group_last 0 n (omega arith))) here
-groups_are (suc room) n rest fits small =
+groups_are (suc further) n rest fits small =
     elim (cases_lt n 128) [
-      | inl h ↦ subst (λ bytes. IsVarint (suc (suc room)) (bytes ++ rest) n rest) (sym (group_last (suc room) n h)) (last h)
+      | inl h ↦ subst (λ bytes. IsVarint (suc (suc further)) (bytes ++ rest) n rest) (sym (group_last (suc further) n h)) (last h)
       | inr h ↦
-          let high : n / 128 < 2 * 128 ^ room = omega (arith, pow-suc 128 room) in
-          let inner = groups_are room (n / 128) rest high (omega arith) in
-          let step : IsVarint (suc (suc room)) ((n % 128 + 128) ∷ (varint_of_groups room (n / 128) ++ rest)) (n % 128 + 128 - 128 + 128 * (n / 128)) rest =
+          let high : n / 128 < 2 * 128 ^ further = omega (arith, pow-suc 128 further) in
+          let inner = groups_are further (n / 128) rest high (omega arith) in
+          let step : IsVarint (suc (suc further)) ((n % 128 + 128) ∷ (varint_of_groups further (n / 128) ++ rest)) (n % 128 + 128 - 128 + 128 * (n / 128)) rest =
           more (omega arith) (omega arith) inner in
           let value : n % 128 + 128 - 128 + 128 * (n / 128) ≡ n = omega arith in
-          let at_value = subst (λ v. IsVarint (suc (suc room)) ((n % 128 + 128) ∷ (varint_of_groups room (n / 128) ++ rest)) v rest) value step in
-          subst (λ bytes. IsVarint (suc (suc room)) (bytes ++ rest) n rest) (sym (group_more room n h)) at_value
+          let at_value = subst (λ v. IsVarint (suc (suc further)) ((n % 128 + 128) ∷ (varint_of_groups further (n / 128) ++ rest)) v rest) value step in
+          subst (λ bytes. IsVarint (suc (suc further)) (bytes ++ rest) n rest) (sym (group_more further n h)) at_value
     ]
 
 pub varint_is : (n : ℕ) (rest : List ℕ) → n < 2 ^ 64 → IsVarint 10 (varint n ++ rest) n rest

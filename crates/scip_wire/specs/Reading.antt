@@ -21,10 +21,10 @@ o >>= f = option_and_then f o
 
 unfoldable pub varint_at : ℕ → List ℕ → Option (ℕ × List ℕ)
 varint_at zero bytes = None
-varint_at (suc room) [] = None
-varint_at (suc room) (byte ∷ bytes) =
+varint_at (suc limit) [] = None
+varint_at (suc limit) (byte ∷ bytes) =
     cond (nat_lt byte 128) (Some (byte, bytes))
-    (varint_at room bytes >>= λ high. cond (nat_lt high.0 (2 ^ 57)) (Some (byte - 128 + 128 * high.0, high.1)) None)
+    (varint_at limit bytes >>= λ high. cond (nat_lt high.0 (2 ^ 57)) (Some (byte - 128 + 128 * high.0, high.1)) None)
 
 unfoldable pub piece_at : ℕ → List ℕ → Option (List ℕ × List ℕ)
 piece_at size bytes = cond (nat_le size (length bytes)) (Some (take size bytes, drop size bytes)) None
@@ -54,9 +54,9 @@ changed step (x ∷ xs) s = step s x >>= changed step xs
 unfoldable pub fold_in : {S A : Type 0} → (List ℕ → Option (A × List ℕ)) → (S → A → Option S) → ℕ → List ℕ → S → Option S
 fold_in read step zero [] s = Some s
 fold_in read step zero (byte ∷ bytes) s = None
-fold_in read step (suc room) [] s = Some s
-fold_in read step (suc room) (byte ∷ bytes) s =
-    read (byte ∷ bytes) >>= λ item. step s item.0 >>= fold_in read step room item.1
+fold_in read step (suc bound) [] s = Some s
+fold_in read step (suc bound) (byte ∷ bytes) s =
+    read (byte ∷ bytes) >>= λ item. step s item.0 >>= fold_in read step bound item.1
 
 unfoldable pub fold_at : {S A : Type 0} → (List ℕ → Option (A × List ℕ)) → (S → A → Option S) → List ℕ → S → Option S
 fold_at read step bytes s = fold_in read step (length bytes) bytes s

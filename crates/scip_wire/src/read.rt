@@ -15,10 +15,6 @@ mod metadata;
 mod occurrence;
 mod range;
 mod record_fault;
-#[cfg(test)]
-mod samples;
-#[cfg(test)]
-mod tests;
 mod text;
 mod tool_info;
 mod varint;

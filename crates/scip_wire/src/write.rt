@@ -9,12 +9,6 @@ ghost use Rattle.scip_wire.specs.Writing.{Leaves};
 use crate::spell::Encode;
 use crate::write_fault::{SpellFault, TooLarge, WriteFault};
 use scip_model::{Index, Sink, write_all};
-
-#[cfg(test)]
-pub(crate) mod samples;
-#[cfg(test)]
-mod tests;
-
 use std::alloc::Global;
 
 /// The most bytes that an index may have: the Protocol Buffers libraries' own limit.

@@ -8,7 +8,7 @@ use crate::read::field::{Field, read_field};
 use crate::wire_fault::WireFault;
 use std::alloc::Global;
 
-/// A message, which starts without fields and takes in record after record.
+/// A message that is made of its records: one without fields, into which they are merged in turn.
 pub trait Decode: Drop + Sized {
     ghost use Rattle.std.specs.Prelude.{◌≡◌, ◌≤◌, Option};
     ghost use Rattle.scip_wire.specs.Fields.{Field};
@@ -23,8 +23,9 @@ pub trait Decode: Drop + Sized {
     fn empty(alloc: Global) -> Self
         ensures { result ≡ none };
 
-    /// Takes in a record of the input, from `start` up to `end`. A field that isn't known, or that
-    /// has another wire type, changes nothing. After an error the message is of no use.
+    /// Merges a record of the input, from `start` up to `end`, into the message. A field that
+    /// isn't known, or that has another wire type, changes nothing. After an error the message is
+    /// of no use.
     fn merge_field(
         &mut self,
         alloc: Global,

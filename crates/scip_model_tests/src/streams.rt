@@ -2,11 +2,10 @@
 
 ghost use Rattle.std.specs.Prelude.{◌≡◌, IfOk};
 
-use super::*;
-use crate::sink::{CutOff, write_all};
+use crate::see::see;
+use scip_model::{CutOff, Failed, Feed, Sink, Std, write_all};
 use std::io;
-use std::io::ErrorKind;
-use std::process::Abort;
+use std::io::{ErrorKind, Read, Write};
 use std::test::Fail;
 
 /// A stream that takes and gives one byte a call, and fails from the third call on.
@@ -38,43 +37,47 @@ impl Write for Brittle {
 }
 
 impl Read for Brittle {
-    fn read(&mut self, room: &mut [u8]) -> io::Result<usize> {
-        if room.is_empty() { Ok(0) } else { self.call() }
+    fn read(&mut self, buffer: &mut [u8]) -> io::Result<usize> {
+        if buffer.is_empty() {
+            Ok(0)
+        } else {
+            self.call()
+        }
     }
 }
 
 #[test]
 fn vector_takes_all(rt: HostRuntime) -> Result<(), Fail> {
-    // The vector has its room already: one that can't grow would fail as a writer does.
+    // The vector has its memory already: one that can't grow would fail as a writer does.
     let mut sink = Std::new(Vec::with_capacity(rt.alloc(), 7)?);
     write_all(&mut sink, b"one ")?;
     write_all(&mut sink, b"")?;
     write_all(&mut sink, b"two")?;
     let bytes = sink.into_inner();
-    assert_eq!(rt; bytes.as_slice(), b"one two".as_slice());
+    see(&rt, bytes.as_slice() == b"one two".as_slice(), "bytes");
     Ok(())
 }
 
 #[test]
-fn slice_gives_all_and_ends(rt: HostRuntime) -> Result<(), Fail> {
+fn slice_gives_all_and_ends(rt: HostRuntime) {
     let bytes: &[u8] = b"abcde";
     let mut feed = Std::new(bytes);
-    let mut room = [0; 3];
-    assert_eq!(rt; feed.read(&mut room), Ok(3));
-    assert_eq!(rt; room, *b"abc");
-    assert_eq!(rt; feed.read(&mut room), Ok(2));
-    assert_eq!(rt; room, *b"dec");
-    assert_eq!(rt; feed.read(&mut room), Ok(0));
-    Ok(())
+    let mut buffer = [0; 3];
+    see(&rt, feed.read(&mut buffer) == Ok(3), "first");
+    see(&rt, buffer == *b"abc", "first bytes");
+    see(&rt, feed.read(&mut buffer) == Ok(2), "last");
+    see(&rt, buffer == *b"dec", "last bytes");
+    see(&rt, feed.read(&mut buffer) == Ok(0), "end");
 }
 
 #[test]
 fn failures_are_passed_on(rt: HostRuntime) {
     let mut sink = Std::new(Brittle { calls: 0 });
-    assert_eq!(rt; write_all(&mut sink, b"abc"), Err(CutOff { written: 2 }));
-    assert_eq!(rt; sink.write(b"abc"), Err(Failed));
+    let cut_off = write_all(&mut sink, b"abc");
+    see(&rt, cut_off == Err(CutOff { written: 2 }), "cut off");
+    see(&rt, sink.write(b"abc") == Err(Failed), "write");
     let mut feed = Std::new(Brittle { calls: 1 });
-    let mut room = [0; 3];
-    assert_eq!(rt; feed.read(&mut room), Ok(1));
-    assert_eq!(rt; feed.read(&mut room), Err(Failed));
+    let mut buffer = [0; 3];
+    see(&rt, feed.read(&mut buffer) == Ok(1), "one byte");
+    see(&rt, feed.read(&mut buffer) == Err(Failed), "read");
 }

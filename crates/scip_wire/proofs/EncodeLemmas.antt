@@ -1,5 +1,5 @@
 -- `Encode`: a message is its fields, one after another.
-use Rattle.std.proofs.Common.{◌≡◌, ℕ, ◌+◌, ◌-◌, ◌^◌, min, List, [], ◌∷◌, ◌++◌, length, refl, sym, ap, ◌∙◌, arith, subst, ℤ, append_assoc, length-append}
+use Rattle.std.proofs.Common.{◌≡◌, ℕ, ◌+◌, ◌-◌, ◌^◌, min, List, ◌++◌, length, sym, ap, ◌∙◌, arith, subst, ℤ, append_assoc, length-append}
 use Rattle.std.proofs.lemmas.Grind.{flat_map-append}
 use Rattle.scip_wire.specs.Fields.{Field}
 use Rattle.scip_wire.specs.Spelling.{bytes_of, field_bytes, int_fields}

@@ -1,22 +1,29 @@
-pub mod PositionRows
-pub mod Positions
-pub mod Rising
-pub mod Utf16
-pub mod LineParts
-pub mod CommentSteps
-pub mod LiteralSteps
-pub mod NumberSteps
-pub mod Tools
-pub mod ByteClasses
-pub mod Prefixes
-pub mod NumberForms
-pub mod CommentForms
-pub mod LiteralForms
-pub mod LiteralReads
-pub mod PieceForms
-pub mod PieceReads
-pub mod TextForms
-pub mod ListSteps
-pub mod Places
-pub mod Longest
-pub mod Faults
+-- texts and positions
+pub mod PositionLemmas
+pub mod PositionExamples
+pub mod LineStartLemmas
+pub mod IsBeforeLemmas
+pub mod LineBeforeLemmas
+pub mod CodeUnitLemmas
+-- bytes, and reads that may fail
+pub mod ByteLemmas
+pub mod PrefixLemmas
+pub mod ReadLemmas
+-- numbers, strings and block comments: what is read is one (found), and what is one is read (exact)
+pub mod NumberLemmas
+pub mod LiteralLemmas
+pub mod LiteralFound
+pub mod LiteralExact
+pub mod CommentLemmas
+-- what stands at a place: what is read stands there (found), and what stands there is read (exact)
+pub mod PieceFound
+pub mod PieceExact
+pub mod LongestTokenLemmas
+-- the tokens and comments of a text, and where they stand in it
+pub mod PiecesLemmas
+pub mod LexesLemmas
+pub mod LexedLemmas
+pub mod CommentTextExamples
+-- the first fault: what is read is the text's (found), and the text's is read (exact)
+pub mod FaultFound
+pub mod FaultExact

@@ -11,7 +11,7 @@ abbrev pub begins_close : List ℕ → Bool
 begins_close [] = false
 begins_close (b ∷ others) = nat_eq b 42 && starts (nat_eq 47) others
 
--- what stands behind the `/*` of a block comment: it ends with its first `*/`
+-- what stands after the `/*` of a block comment: it ends with its first `*/`
 pub data EndsBlock : List ℕ → Type 0 where
   close : EndsBlock (42 ∷ (47 ∷ []))
   inside : {b : ℕ} {others : List ℕ} → begins_close (b ∷ others) ≡ false → EndsBlock others → EndsBlock (b ∷ others)

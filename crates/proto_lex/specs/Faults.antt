@@ -6,27 +6,27 @@ use Rattle.proto_lex.specs.Literals.{is_plain, IsEscape}
 use Rattle.proto_lex.specs.Comments.{EndsBlock, IsComment}
 use Rattle.proto_lex.specs.Lexes.{sign_kind, IsToken}
 use Rattle.proto_lex.specs.declared.fault.LexFault.{LexFault}
-use Rattle.proto_lex.specs.declared.fault.LexFault.TheVariants.{Memory, BadByte, OpenString, OpenComment, BadEscape, BadNumber}
+use Rattle.proto_lex.specs.declared.fault.LexFault.TheVariants.{BadByte, OpenString, OpenComment, BadEscape, BadNumber}
 use Rattle.proto_lex.specs.declared.token.TokenKind.{TokenKind}
 use Rattle.proto_lex.specs.declared.token.CommentKind.{CommentKind}
 
--- in a string, the bytes behind a place are characters and escapes up to a later place, behind which these are left
-pub data Holds (quote : ℕ) : (place : ℕ) (bytes : List ℕ) (later : ℕ) (left : List ℕ) → Type 0 where
-  here : {place : ℕ} {bytes : List ℕ} → Holds quote place bytes place bytes
+-- in a string, the bytes after a place are characters and escapes up to a later place, after which these are left
+pub data StaysInString (quote : ℕ) : (place : ℕ) (bytes : List ℕ) (later : ℕ) (left : List ℕ) → Type 0 where
+  here : {place : ℕ} {bytes : List ℕ} → StaysInString quote place bytes place bytes
   character : {place later b : ℕ} {others left : List ℕ}
-      → is_plain quote b ≡ true → Holds quote (place + 1) others later left → Holds quote place (b ∷ others) later left
+      → is_plain quote b ≡ true → StaysInString quote (place + 1) others later left → StaysInString quote place (b ∷ others) later left
   escape : {place later : ℕ} {letters others left : List ℕ}
-      → IsEscape letters → Holds quote (place + (1 + length letters)) others later left → Holds quote place (92 ∷ (letters ++ others)) later left
+      → IsEscape letters → StaysInString quote (place + (1 + length letters)) others later left → StaysInString quote place (92 ∷ (letters ++ others)) later left
 
 -- why what opens a string at `opening` is none, where these bytes stand from `place` on
 pub data IsStringFault (quote opening : ℕ) : (place : ℕ) → List ℕ → LexFault → Type 0 where
   -- a \n or the end of the text comes first
   cut : {place later : ℕ} {bytes left : List ℕ}
-      → Holds quote place bytes later left → starts (λ b. not (nat_eq b 10)) left ≡ false → IsStringFault quote opening place bytes (OpenString opening)
+      → StaysInString quote place bytes later left → starts (λ b. not (nat_eq b 10)) left ≡ false → IsStringFault quote opening place bytes (OpenString opening)
   -- a NUL
-  nul : {place later : ℕ} {bytes left : List ℕ} → Holds quote place bytes later (0 ∷ left) → IsStringFault quote opening place bytes (BadByte later)
+  nul : {place later : ℕ} {bytes left : List ℕ} → StaysInString quote place bytes later (0 ∷ left) → IsStringFault quote opening place bytes (BadByte later)
   -- a `\` that begins no escape
-  no_escape : {place later : ℕ} {bytes left : List ℕ} → Holds quote place bytes later (92 ∷ left)
+  no_escape : {place later : ℕ} {bytes left : List ℕ} → StaysInString quote place bytes later (92 ∷ left)
       → ((letters rest : List ℕ) → IsEscape letters → left ≡ letters ++ rest → ⊥) → IsStringFault quote opening place bytes (BadEscape later)
 
 -- why no blank, comment or token stands at a place, where these bytes are the rest of the text
@@ -40,7 +40,7 @@ pub data IsFaultAt : (place : ℕ) → List ℕ → LexFault → Type 0 where
   no_string : {place quote : ℕ} {others : List ℕ} {fault : LexFault} → is_quote quote ≡ true → IsStringFault quote place (place + 1) others fault
       → IsFaultAt place (quote ∷ others) fault
 
--- the bytes behind a place are blanks, comments and tokens up to this fault
+-- the bytes after a place are blanks, comments and tokens up to this fault
 pub data Meets : (place : ℕ) → List ℕ → LexFault → Type 0 where
   fault : {place : ℕ} {bytes : List ℕ} {f : LexFault} → IsFaultAt place bytes f → Meets place bytes f
   blank : {place b : ℕ} {rest : List ℕ} {f : LexFault} → is_blank b ≡ true → Meets (place + 1) rest f → Meets place (b ∷ rest) f
@@ -54,12 +54,7 @@ abbrev pub begins_mark : List ℕ → Bool
 begins_mark (a ∷ (b ∷ (c ∷ _))) = nat_eq a 239 && nat_eq b 187 && nat_eq c 191
 begins_mark _ = false
 
--- the first fault of the text, behind a byte order mark where it begins with one (that the first counts is the profile's)
+-- the first fault of the text, after a byte order mark where it begins with one (that the first counts is the profile's)
 pub data IsFirstFault : List ℕ → LexFault → Type 0 where
   unmarked : {text : List ℕ} {f : LexFault} → begins_mark text ≡ false → Meets 0 text f → IsFirstFault text f
   marked : {rest : List ℕ} {f : LexFault} → Meets 3 rest f → IsFirstFault (239 ∷ (187 ∷ (191 ∷ rest))) f
-
--- the text's first fault, or that memory ran out
-abbrev pub IsFaultOf : List ℕ → LexFault → Type 0
-IsFaultOf text Memory = Unit {0}
-IsFaultOf text f = IsFirstFault text f

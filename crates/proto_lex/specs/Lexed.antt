@@ -1,6 +1,7 @@
 -- A text with its tokens and comments, and what is known of their places.
-use Rattle.std.specs.Prelude.{ℕ, ◌<◌, ◌≤◌, List, [], ◌∷◌, length, map, All, IsCharBoundary}
+use Rattle.std.specs.Prelude.{ℕ, ◌<◌, ◌≤◌, ◌⊎◌, List, [], ◌∷◌, length, drop, map, All, IsCharBoundary}
 use Rattle.std.specs.List.{slice_range}
+use Rattle.proto_lex.specs.Comments.{IsComment}
 use Rattle.proto_lex.specs.Lexes.{Spells, Lexes}
 use Rattle.proto_lex.specs.declared.span.Span.{Span}
 use Rattle.proto_lex.specs.declared.token.Token.{Token}
@@ -22,10 +23,14 @@ pub record IsPart (text : List ℕ) (span : Span) : Type 0 where
   pub starts_whole : IsCharBoundary text span.start
   pub ends_whole : IsCharBoundary text span.end
 
--- none of the spans is empty, and each begins at the place or behind it, and not before the end of the one before
+-- none of the spans is empty, and each begins at the place or after it, and not before the end of the one before
 abbrev pub AreInOrder : (place : ℕ) → List Span → Type 0
 AreInOrder place [] = Unit {0}
 AreInOrder place (span ∷ spans) = (place ≤ span.start) × (span.start < span.end) × AreInOrder span.end spans
+
+-- one of the two spans ends before the other begins, or where it does
+abbrev pub AreApart : Span → Span → Type 0
+AreApart a b = (a.end ≤ b.start) ⊎ (b.end ≤ a.start)
 
 -- the tokens and comments are those of the text
 pub record IsLexed (text : List ℕ) (tokens : List Token) (comments : List Comment) : Type 0 where
@@ -33,5 +38,7 @@ pub record IsLexed (text : List ℕ) (tokens : List Token) (comments : List Comm
   pub token_parts : All (λ t. IsPart text t.span) tokens
   pub spelled : All (λ t. Spells t.kind (part_of text t.span)) tokens
   pub comment_parts : All (λ c. IsPart text c.span) comments
+  pub comments_spelled : All (λ c. IsComment c.kind (part_of text c.span) (drop c.span.end text)) comments
   pub tokens_in_order : AreInOrder 0 (map (λ t. t.span) tokens)
   pub comments_in_order : AreInOrder 0 (map (λ c. c.span) comments)
+  pub apart : All (λ t. All (λ c. AreApart t.span c.span) comments) tokens

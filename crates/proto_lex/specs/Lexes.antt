@@ -60,7 +60,7 @@ pub record IsToken (k : TokenKind) (word rest : List ℕ) : Type 0 where
 abbrev pub part : (at count : ℕ) → Span
 part at count = record { start = at; end = at + count }
 
--- the bytes behind a place in a text are blanks, comments and tokens in turn, with these tokens and comments
+-- the bytes after a place in a text are blanks, comments and tokens in turn, with these tokens and comments
 pub data LexesFrom : (at : ℕ) (bytes : List ℕ) → List Token → List Comment → Type 0 where
   at_end : {at : ℕ} → LexesFrom at [] [] []
   blank : {at b : ℕ} {rest : List ℕ} {tokens : List Token} {comments : List Comment}

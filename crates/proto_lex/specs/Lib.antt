@@ -1,11 +1,17 @@
+-- texts, and the positions in them
+pub mod Text
 pub mod Position
 pub mod PositionLaws
-pub mod Text
+-- what spells tokens and comments
 pub mod Bytes
-pub mod Comments
-pub mod Faults
-pub mod Lexed
-pub mod Lexes
-pub mod Literals
 pub mod Numbers
+pub mod Literals
+pub mod Comments
+-- the tokens and comments of a text, and why a text has none
+pub mod Lexes
+pub mod Lexed
+pub mod Faults
+pub mod LexLaws
+pub mod CommentTexts
+-- what the lexer's private functions give
 pub mod Reading

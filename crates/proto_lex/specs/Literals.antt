@@ -12,7 +12,7 @@ is_plain quote b = not (nat_eq b quote || nat_eq b 10 || nat_eq b 0 || nat_eq b 
 abbrev pub is_escape_letter : ℕ → Bool
 is_escape_letter b = list_any (nat_eq b) (codes "abfnrtv?") || nat_eq b 92 || is_quote b
 
--- what stands behind the `\` of an escape
+-- what stands after the `\` of an escape
 pub data IsEscape : List ℕ → Type 0 where
   letter : {b : ℕ} → is_escape_letter b ≡ true → IsEscape (b ∷ [])
   one_hex : {x a : ℕ} → is_hex_mark x ≡ true → list_all is_hex_digit (a ∷ []) ≡ true → IsEscape (x ∷ (a ∷ []))
@@ -29,7 +29,7 @@ pub data IsEscape : List ℕ → Type 0 where
   last_unicode : {a b c d : ℕ} → list_all is_hex_digit (a ∷ (b ∷ (c ∷ (d ∷ [])))) ≡ true
       → IsEscape (85 ∷ (48 ∷ (48 ∷ (49 ∷ (48 ∷ (a ∷ (b ∷ (c ∷ (d ∷ [])))))))))
 
--- what stands behind the opening quote: characters and escapes, and then the same quote
+-- what stands after the opening quote: characters and escapes, and then the same quote
 pub data EndsLiteral (quote : ℕ) : List ℕ → Type 0 where
   close : EndsLiteral quote (quote ∷ [])
   character : {b : ℕ} {others : List ℕ} → is_plain quote b ≡ true → EndsLiteral quote others → EndsLiteral quote (b ∷ others)

@@ -44,13 +44,13 @@ abbrev pub goes_on : Bool → ℕ → ℕ → Bool
 goes_on may_hold_signs last next =
     is_word next || nat_eq next 46 || may_hold_signs && is_exponent_mark last && is_plus_or_minus next
 
--- the longest part that the run takes of the bytes behind `last`
-abbrev pub run_behind : Bool → ℕ → List ℕ → List ℕ
-run_behind may_hold_signs last [] = []
-run_behind may_hold_signs last (b ∷ others) =
-    cond (goes_on may_hold_signs last b) (b ∷ run_behind may_hold_signs b others) []
+-- the longest part that the run takes of the bytes after `last`
+abbrev pub run_after : Bool → ℕ → List ℕ → List ℕ
+run_after may_hold_signs last [] = []
+run_after may_hold_signs last (b ∷ others) =
+    cond (goes_on may_hold_signs last b) (b ∷ run_after may_hold_signs b others) []
 
 -- the run of a number that begins the bytes
 abbrev pub run_of : List ℕ → List ℕ
 run_of [] = []
-run_of (b ∷ others) = b ∷ run_behind (not (begins_hexadecimal (b ∷ others))) b others
+run_of (b ∷ others) = b ∷ run_after (not (begins_hexadecimal (b ∷ others))) b others

@@ -1,4 +1,4 @@
-use Rattle.std.specs.Prelude.{◌≡◌, ℕ, zero, suc, ◌+◌, ◌-◌, Bool, true, false, ◌||◌, ◌&&◌, not, cond, Option, Some, None, Result, Ok, Err, List, [], ◌∷◌, ◌++◌, length, take, drop, nat_eq, nat_le}
+use Rattle.std.specs.Prelude.{◌≡◌, ℕ, zero, suc, ◌+◌, ◌-◌, ◌⊎◌, Bool, true, false, ◌||◌, ◌&&◌, not, cond, Option, Some, None, Result, Ok, Err, List, [], ◌∷◌, ◌++◌, length, take, drop, nat_eq, nat_le}
 use Rattle.std.specs.List.{list_all, prefix_len}
 use Rattle.proto_lex.specs.Bytes.{is_blank, is_letter, is_digit, is_octal_digit, is_hex_digit, is_word, is_plus_or_minus, is_exponent_mark, is_hex_mark, is_quote, starts}
 use Rattle.proto_lex.specs.Numbers.{begins_number, run_of}
@@ -27,7 +27,7 @@ abbrev pub ◌>>=◌ : {A B : Type 0} → Read A → (A → Read B) → Read B
 Ok x >>= next = next x
 Err fault >>= next = Err fault
 
--- the bytes behind those at the front that pass
+-- the bytes after those at the front that pass
 abbrev pub past : (ℕ → Bool) → List ℕ → List ℕ
 past test bytes = drop (prefix_len test bytes) bytes
 
@@ -99,7 +99,7 @@ begins_long_unicode (a ∷ (b ∷ (c ∷ others))) =
     nat_eq a 48 && nat_eq b 48 && cond (nat_eq c 48) (begins_with_hex 5 others) (nat_eq c 49 && begins_last_unicode others)
 begins_long_unicode _ = false
 
--- how many bytes an escape takes behind its `\`; a second hexadecimal digit, and a second and third octal one, are
+-- how many bytes an escape takes after its `\`; a second hexadecimal digit, and a second and third octal one, are
 -- read as characters
 abbrev pub escape_len : List ℕ → Option ℕ
 escape_len [] = None
@@ -140,14 +140,14 @@ blocked at (Some len) = Ok (record { kind = piece.Comment comment.Block; len = l
 
 -- what stands at a place
 
-abbrev pub behind_first : List ℕ → List ℕ
-behind_first [] = []
-behind_first (b ∷ others) = others
+abbrev pub past_first : List ℕ → List ℕ
+past_first [] = []
+past_first (b ∷ others) = others
 
 abbrev pub slash_at : ℕ → List ℕ → Read Piece
 slash_at at others =
     cond (starts (nat_eq 47) others) (Ok (record { kind = piece.Comment comment.Line; len = 1 + prefix_len is_in_line others })) (
-    cond (starts (nat_eq 42) others) (blocked at (block_at 2 (behind_first others))) (Ok (token kind.Slash 1)))
+    cond (starts (nat_eq 42) others) (blocked at (block_at 2 (past_first others))) (Ok (token kind.Slash 1)))
 
 abbrev pub signed : ℕ → Option TokenKind → Read Piece
 signed at None = Err (BadByte at)
@@ -165,45 +165,45 @@ piece_at at (b ∷ others) =
 
 -- the whole text
 
-pub record Listed : Type 0 where
+pub record Pieces : Type 0 where
   pub tokens : List Token
   pub comments : List Comment
 
-abbrev pub list_of : List Token → List Comment → Listed
-list_of tokens comments = record { tokens = tokens; comments = comments }
+abbrev pub pieces : List Token → List Comment → Pieces
+pieces tokens comments = record { tokens = tokens; comments = comments }
 
--- what was listed before, and what comes behind it
-abbrev pub behind : Listed → Read Listed → Read Listed
-behind front (Err fault) = Err fault
-behind front (Ok listed) = Ok (list_of (front.tokens ++ listed.tokens) (front.comments ++ listed.comments))
+-- the pieces read so far, and those after them
+abbrev pub joined : Pieces → Read Pieces → Read Pieces
+joined front (Err fault) = Err fault
+joined front (Ok later) = Ok (pieces (front.tokens ++ later.tokens) (front.comments ++ later.comments))
 
--- what was listed before, and the piece at a span
-abbrev pub also : Listed → PieceKind → Span → Listed
-also front piece.Blank span = front
-also front (piece.Comment k) span = record front { comments = front.comments ++ record { kind = k; span = span } ∷ [] }
-also front (piece.Token k) span = record front { tokens = front.tokens ++ record { kind = k; span = span } ∷ [] }
+-- the pieces read so far, and the one at a span
+abbrev pub with_last : Pieces → PieceKind → Span → Pieces
+with_last front piece.Blank span = front
+with_last front (piece.Comment k) span = record front { comments = front.comments ++ record { kind = k; span = span } ∷ [] }
+with_last front (piece.Token k) span = record front { tokens = front.tokens ++ record { kind = k; span = span } ∷ [] }
 
-abbrev pub kept : PieceKind → ℕ → ℕ → Listed → Listed
-kept piece.Blank at len listed = listed
-kept (piece.Comment k) at len listed = record listed { comments = record { kind = k; span = part at len } ∷ listed.comments }
-kept (piece.Token k) at len listed = record listed { tokens = record { kind = k; span = part at len } ∷ listed.tokens }
+-- a piece, and those after it
+abbrev pub with_first : PieceKind → ℕ → ℕ → Pieces → Pieces
+with_first piece.Blank at len later = later
+with_first (piece.Comment k) at len later = record later { comments = record { kind = k; span = part at len } ∷ later.comments }
+with_first (piece.Token k) at len later = record later { tokens = record { kind = k; span = part at len } ∷ later.tokens }
 
--- what is listed from a place on, where the next `skip` bytes belong to what was listed before
-unfoldable pub listed_at : (skip at : ℕ) → List ℕ → Read Listed
-listed_at skip at [] = Ok (list_of [] [])
-listed_at (suc skip) at (b ∷ others) = listed_at skip (at + 1) others
-listed_at zero at (b ∷ others) =
-    piece_at at (b ∷ others) >>= λ p. listed_at (p.len - 1) (at + 1) others >>= λ listed. Ok (kept p.kind at p.len listed)
+-- the pieces from a place on, where the next `skip` bytes belong to the piece before
+unfoldable pub pieces_at : (skip at : ℕ) → List ℕ → Read Pieces
+pieces_at skip at [] = Ok (pieces [] [])
+pieces_at (suc skip) at (b ∷ others) = pieces_at skip (at + 1) others
+pieces_at zero at (b ∷ others) =
+    piece_at at (b ∷ others) >>= λ p. pieces_at (p.len - 1) (at + 1) others >>= λ later. Ok (with_first p.kind at p.len later)
 
 abbrev pub mark_len : List ℕ → ℕ
 mark_len (a ∷ (b ∷ (c ∷ rest))) = cond (nat_eq a 239 && nat_eq b 187 && nat_eq c 191) 3 0
 mark_len _ = 0
 
-unfoldable pub listed_of : List ℕ → Read Listed
-listed_of text = listed_at 0 (mark_len text) (drop (mark_len text) text)
+unfoldable pub pieces_of : List ℕ → Read Pieces
+pieces_of text = pieces_at 0 (mark_len text) (drop (mark_len text) text)
 
 -- memory ran out, or the answer is what is read
-abbrev pub GivesList : {X : Type 0} → (X → Listed) → Result X LexFault → Read Listed → Type 0
-GivesList view (Ok x) read = read ≡ Ok (view x)
-GivesList view (Err Memory) read = Unit {0}
-GivesList view (Err fault) read = read ≡ Err fault
+abbrev pub GivesPieces : {X : Type 0} → (X → Pieces) → Result X LexFault → Read Pieces → Type 0
+GivesPieces view (Ok x) read = read ≡ Ok (view x)
+GivesPieces view (Err fault) read = (fault ≡ Memory) ⊎ (read ≡ Err fault)

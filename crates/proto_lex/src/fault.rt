@@ -8,7 +8,7 @@ use thiserror::Error;
 /// Offsets are byte offsets from the text's start.
 #[derive(Clone, Copy, Debug, Drop, PartialEq, Eq, Error)]
 pub enum LexFault {
-    /// The bytes are more than 67,108,864.
+    /// The bytes are more than `MAX_TEXT_LENGTH`.
     #[error("TooLong")]
     TooLong,
     /// The bytes are not UTF-8: the first byte of the first sequence that is ill-formed.

@@ -1,12 +1,12 @@
 //! From a text to its tokens and comments.
 
-ghost use Rattle.std.specs.Prelude.{◌≡◌, ℕ, ◌<◌, ◌^◌, ◌++◌, [], List, length, IfOk, IfErr, OnOk, IsOkUnless};
+ghost use Rattle.std.specs.Prelude.{◌≡◌, ◌≤◌, ◌⊎◌, List, length, IfOk, IfErr, OnOk, IsOkUnless};
 ghost use Rattle.proto_lex.specs.declared.token.Token.{Token};
 ghost use Rattle.proto_lex.specs.declared.token.Comment.{Comment};
-ghost use Rattle.proto_lex.specs.declared.token.TokenKind.{TokenKind};
-ghost use Rattle.proto_lex.specs.Faults.{IsFaultOf};
-ghost use Rattle.proto_lex.specs.Lexes.{Lexes, IsToken, Spells};
-ghost use Rattle.proto_lex.specs.Reading.{list_of, also, mark_len, listed_of, GivesList};
+ghost use Rattle.proto_lex.specs.Faults.{IsFirstFault};
+ghost use Rattle.proto_lex.specs.Lexes.{Lexes};
+ghost use Rattle.proto_lex.specs.Reading.{pieces, with_last, mark_len, pieces_of, GivesPieces};
+ghost use Rattle.proto_lex.specs.Text.{max_text_length};
 
 mod bytes;
 mod literal;
@@ -24,14 +24,14 @@ use std::alloc::Global;
 
 /// The tokens and comments of the front of a text.
 #[derive(Drop)]
-struct Found {
+struct Pieces {
     tokens: Vec<Token>,
     comments: Vec<Comment>,
 }
 
 /// Adds what stands at `span`, if it is a token or a comment.
-fn keep(found: &mut Found, kind: PieceKind, span: Span) -> Result<(), LexFault>
-    ensures kept { OnOk result (list_of found.new.tokens.items found.new.comments.items ≡ also (list_of found.old.tokens.items found.old.comments.items) kind span) }
+fn push_piece(found: &mut Pieces, kind: PieceKind, span: Span) -> Result<(), LexFault>
+    ensures pushed { OnOk result (pieces found.new.tokens.items found.new.comments.items ≡ with_last (pieces found.old.tokens.items found.old.comments.items) kind span) }
     ensures memory { IfErr result (λ fault. fault ≡ LexFault.Memory) }
 {
     match kind {
@@ -53,11 +53,11 @@ fn mark_len(bytes: &[u8]) -> usize
 }
 
 /// The tokens and comments of a text, or the fault that reading from left to right meets first.
-fn listed(alloc: Global, bytes: &[u8]) -> Result<Found, LexFault>
-    requires { length bytes.now < 2 ^ 63 }
-    ensures { GivesList (λ found. list_of found.tokens.items found.comments.items) result (listed_of bytes.now) }
+fn read_pieces(alloc: Global, bytes: &[u8]) -> Result<Pieces, LexFault>
+    requires { length bytes.now ≤ max_text_length }
+    ensures { GivesPieces (λ found. pieces found.tokens.items found.comments.items) result (pieces_of bytes.now) }
 {
-    let mut found = Found {
+    let mut found = Pieces {
         tokens: Vec::new(alloc),
         comments: Vec::new(alloc),
     };
@@ -66,7 +66,7 @@ fn listed(alloc: Global, bytes: &[u8]) -> Result<Found, LexFault>
     while !rest.is_empty() {
         let piece = piece_at(rest, at)?;
         let end = at + piece.len;
-        keep(&mut found, piece.kind, Span { start: at, end })?;
+        push_piece(&mut found, piece.kind, Span { start: at, end })?;
         rest = tail(rest, piece.len);
         at = end;
     }
@@ -85,7 +85,7 @@ fn listed(alloc: Global, bytes: &[u8]) -> Result<Found, LexFault>
 /// - `BadNumber`: a number's run that has none of the forms of numbers, with its start.
 ///
 /// `Memory` comes where memory runs out, for any text.
-pub fn lex<'a>(alloc: Global, text: &Text<'a>) -> Result<Tokens<'a>, LexFault>
+pub fn lex<'a>(alloc: Global, text: &'a Text<'a>) -> Result<Tokens<'a>, LexFault>
     ensures text { IfOk result (λ found. found.text ≡ text.now) }
     ensures found { IfOk result (λ found. Lexes text.now found.tokens found.comments) }
 
@@ -94,29 +94,8 @@ pub fn lex<'a>(alloc: Global, text: &Text<'a>) -> Result<Tokens<'a>, LexFault>
         → IsOkUnless result LexFault.Memory }
     ensures only { (tokens : List Token) → (comments : List Comment) → Lexes text.now tokens comments
         → IfOk result (λ found. found ≡ record { text = text.now; tokens = tokens; comments = comments }) }
-    ensures fault { IfErr result (λ fault. IsFaultOf text.now fault) }
+    ensures fault { IfErr result (λ fault. (fault ≡ LexFault.Memory) ⊎ IsFirstFault text.now fault) }
 {
-    let text = text.as_str();
-    let found = listed(alloc, text.as_bytes())?;
+    let found = read_pieces(alloc, text.as_str().as_bytes())?;
     Ok(Tokens::new(text, found.tokens, found.comments))
 }
-
-/// A text has at most one lexing.
-pub fn one_lexing()
-    ensures tokens { (text : List ℕ) → (tokens : List Token) → (others : List Token)
-        → (comments : List Comment) → (remarks : List Comment)
-        → Lexes text tokens comments → Lexes text others remarks → tokens ≡ others }
-    ensures comments { (text : List ℕ) → (tokens : List Token) → (others : List Token)
-        → (comments : List Comment) → (remarks : List Comment)
-        → Lexes text tokens comments → Lexes text others remarks → comments ≡ remarks }
-{}
-
-/// Where a token stands, no longer spelling of a token stands.
-pub fn longest_token()
-    ensures { (kind : TokenKind) → (other : TokenKind)
-        → (word : List ℕ) → (rest : List ℕ) → (more : List ℕ) → (tail : List ℕ)
-        → IsToken kind word rest → rest ≡ more ++ tail → Spells other (word ++ more) → more ≡ [] }
-{}
-
-#[cfg(test)]
-mod tests;

@@ -2,6 +2,7 @@
 #![tactic(auto)]
 
 mod fault;
+mod laws;
 mod lexer;
 mod position;
 mod span;
@@ -10,8 +11,11 @@ mod token;
 mod tokens;
 
 pub use fault::LexFault;
-pub use lexer::{lex, longest_token, one_lexing};
-pub use position::{Encoding, Position, columns_count_utf16, positions_fit, positions_rise};
+pub use laws::{
+    columns_count_utf16, longest_token, one_first_fault, one_lexing, positions_fit, positions_rise,
+};
+pub use lexer::lex;
+pub use position::{Encoding, Position};
 pub use span::Span;
 pub use text::{MAX_TEXT_LENGTH, Text};
 pub use token::{Comment, CommentKind, Token, TokenKind};

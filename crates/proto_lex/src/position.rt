@@ -1,8 +1,11 @@
 //! Lines and columns.
 
-ghost use Rattle.std.specs.Prelude.{◌≡◌, ◌^◌, ◌<◌, ◌≤◌, length};
+ghost use Rattle.std.specs.Prelude.{◌≡◌, ◌<◌, ◌≤◌, length, sum_by, IfOk, IfErr};
 ghost use Rattle.proto_lex.specs.Position as spec;
-ghost use Rattle.proto_lex.specs.PositionLaws.{CharactersRise, BytesRise, LinesFit, ColumnsFit, ByteColumnsFit, ColumnsCountUtf16, Utf16ColumnsFit};
+ghost use Rattle.proto_lex.specs.Text.{max_text_length};
+
+use crate::fault::LexFault;
+use std::alloc::Global;
 
 /// The unit in which a column is counted.
 #[derive(Clone, Copy, Debug, PartialEq, Eq)]
@@ -45,38 +48,31 @@ fn code_units(encoding: Encoding, byte: u8) -> u32
     }
 }
 
-/// The position behind `text`, of less than 2^30 bytes.
-pub(crate) fn position_after(encoding: Encoding, text: &[u8]) -> Position
-    requires { length text.now < 2 ^ 30 }
-    ensures { result ≡ spec.position_after encoding text.now }
+/// The offsets at which the lines of `text`, at most `MAX_TEXT_LENGTH` bytes, start.
+pub(crate) fn line_starts(alloc: Global, text: &[u8]) -> Result<Vec<u32>, LexFault>
+    requires { length text.now ≤ max_text_length }
+    ensures value { IfOk result (λ starts. starts.items ≡ spec.line_starts text.now) }
+    ensures memory { IfErr result (λ fault. fault ≡ LexFault.Memory) }
 {
-    let mut position = Position { line: 0, column: 0 };
+    let mut starts = vec![in alloc; 0]?;
+    let mut offset = 0;
     for &byte in text {
+        offset += 1;
         if is_line_end(byte) {
-            position.line += 1;
-            position.column = 0;
-        } else {
-            position.column += code_units(encoding, byte);
+            starts.push(offset)?;
         }
     }
-    position
+    Ok(starts)
 }
 
-/// A law: positions of one text keep the order of their offsets.
-pub fn positions_rise()
-    ensures characters { CharactersRise }
-    ensures bytes { BytesRise }
-{}
-
-/// A law: lines and columns are no larger than their offsets allow.
-pub fn positions_fit()
-    ensures lines { LinesFit }
-    ensures columns { ColumnsFit }
-    ensures bytes { ByteColumnsFit }
-{}
-
-/// A law: a column in UTF-16 is the length that the line's part before it has in UTF-16.
-pub fn columns_count_utf16()
-    ensures count { ColumnsCountUtf16 }
-    ensures fit { Utf16ColumnsFit }
-{}
+/// The code units of `bytes`, which stand in a text, in `encoding`.
+pub(crate) fn columns(encoding: Encoding, bytes: &[u8]) -> u32
+    requires { length bytes.now ≤ max_text_length }
+    ensures { result ≡ sum_by (spec.code_units encoding) bytes.now }
+{
+    let mut units = 0;
+    for &byte in bytes {
+        units += code_units(encoding, byte);
+    }
+    units
+}

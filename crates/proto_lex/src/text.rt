@@ -1,23 +1,28 @@
 //! Texts of sources.
 
-ghost use Rattle.std.specs.Prelude.{◌≡◌, ◌<◌, ◌≤◌, length, IfOk, IfErr, IsOk, IsCharBoundary};
-ghost use Rattle.proto_lex.specs.Position.{position_of};
+ghost use Rattle.std.specs.Prelude.{◌≡◌, ◌+◌, ◌<◌, ◌≤◌, ◌⊎◌, length, IfOk, IfErr, IsOkUnless, IsCharBoundary};
+ghost use Rattle.std.specs.List.Sorted.{IsPartitionPoint};
+ghost use Rattle.proto_lex.specs.Position.{line_starts, position_of};
 ghost use Rattle.proto_lex.specs.Text.{IsText, IsNoText};
 
 use crate::fault::LexFault;
-use crate::position::{Encoding, Position, position_after};
+use crate::position::{Encoding, Position, columns, line_starts};
 use std::alloc::Global;
 use std::marker::Model;
 
 /// The most bytes of a text.
 pub const MAX_TEXT_LENGTH: usize = 67_108_864;
 
-/// The text of a source: at most `MAX_TEXT_LENGTH` bytes of UTF-8, which it borrows.
+/// The text of a source: at most `MAX_TEXT_LENGTH` bytes of UTF-8, which it borrows, and where its
+/// lines start.
 ///
 /// Contracts see a text as the list of its bytes.
 #[derive(Drop)]
 pub struct Text<'a> {
     text: &'a str,
+    // The offsets at which the lines start, in order: 0, and that after each `\n`. A `u32` holds
+    // each offset of a text, in half the memory of a `usize`.
+    line_starts: Vec<u32>,
 }
 
 impl<'a> Model for Text<'a> {
@@ -25,30 +30,34 @@ impl<'a> Model for Text<'a> {
 
     ghost Value = { List ℕ };
 
+    ghost use Rattle.std.specs.Prelude.{◌≡◌};
     ghost use Rattle.proto_lex.specs.Text.{IsText};
+    ghost use Rattle.proto_lex.specs.Position as spec;
 
     ghost view = { λ inside. inside.text.now };
 
-    ghost invariant = { λ inside. IsText inside.text.now };
+    ghost invariant = { λ inside. IsText inside.text.now × (inside.line_starts.items ≡ spec.line_starts inside.text.now) };
 }
 
 impl<'a> Text<'a> {
-    /// The text of these bytes, which are not copied.
+    /// The text of these bytes, which are not copied. Its line starts take memory, four bytes a line.
     ///
     /// - `TooLong`: the bytes are more than `MAX_TEXT_LENGTH`. This is tried first.
     /// - `NotUtf8`: they are not UTF-8, with the offset at which the first ill-formed sequence begins.
-    ///
-    /// It takes no memory.
-    pub fn new(_alloc: Global, bytes: &'a [u8]) -> Result<Text<'a>, LexFault>
+    /// - `Memory`: memory ran out for the line starts, which are made last.
+    pub fn new(alloc: Global, bytes: &'a [u8]) -> Result<Text<'a>, LexFault>
         ensures text { IfOk result (λ text. IsText bytes.now × (text ≡ bytes.now)) }
-        ensures fault { IfErr result (λ fault. IsNoText bytes.now fault) }
-        ensures accepted { IsText bytes.now → IsOk result }
+        ensures fault { IfErr result (λ fault. (fault ≡ LexFault.Memory) ⊎ IsNoText bytes.now fault) }
+        ensures accepted { IsText bytes.now → IsOkUnless result LexFault.Memory }
     {
         if bytes.len() > MAX_TEXT_LENGTH {
             return Err(LexFault::TooLong);
         }
         match str::from_utf8(bytes) {
-            Ok(text) => Ok(Text { text }),
+            Ok(text) => Ok(Text {
+                text,
+                line_starts: line_starts(alloc, bytes)?,
+            }),
             Err(error) => Err(LexFault::NotUtf8(error.valid_up_to())),
         }
     }
@@ -73,9 +82,21 @@ impl<'a> Text<'a> {
         requires { IsCharBoundary self.now offset }
         ensures { result ≡ position_of encoding self.now offset }
     {
-        position_after(encoding, &self.text.as_bytes()[..offset])
+        let line = self.line_at(offset);
+        let start = self.line_starts[line] as usize;
+        Position {
+            line: line as u32,
+            column: columns(encoding, &self.text.as_bytes()[start..offset]),
+        }
+    }
+
+    /// The line of `offset`, whose start is the last that is not after it.
+    fn line_at(&self, offset: usize) -> usize
+        ensures within { result < length (line_starts self.now) }
+        ensures parted { IsPartitionPoint (λ start. start ≤ offset) (λ start. offset < start) (line_starts self.now) (result + 1) }
+    {
+        self.line_starts
+            .partition_point(|start| *start as usize <= offset)
+            - 1
     }
 }
-
-#[cfg(test)]
-mod tests;

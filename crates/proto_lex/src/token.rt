@@ -59,7 +59,7 @@ pub struct Token {
 pub enum CommentKind {
     /// From `//` up to, and without, the next `\n` or the end of the text.
     Line,
-    /// From `/*` up to, and with, the next `*/` behind these two characters.
+    /// From `/*` up to, and with, the next `*/` after these two characters.
     Block,
 }
 

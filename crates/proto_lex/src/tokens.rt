@@ -1,9 +1,11 @@
 //! A text with its tokens and comments.
 
-ghost use Rattle.std.specs.Prelude.{◌≡◌, ℕ, ◌<◌, length, map, All, IfSome, slice_get};
+ghost use Rattle.std.specs.Prelude.{◌≡◌, ℕ, ◌<◌, length, drop, map, All, IfSome, slice_get};
+ghost use Rattle.proto_lex.specs.Comments.{IsComment};
 ghost use Rattle.proto_lex.specs.Lexes.{Spells, Lexes};
-ghost use Rattle.proto_lex.specs.Lexed.{IsPart, AreInOrder, IsLexed, part_of};
+ghost use Rattle.proto_lex.specs.Lexed.{IsPart, AreInOrder, AreApart, IsLexed, part_of};
 
+use crate::text::Text;
 use crate::token::{Comment, Token};
 use std::marker::Model;
 
@@ -13,7 +15,7 @@ use std::marker::Model;
 /// comments, both in the order in which they stand.
 #[derive(Drop)]
 pub struct Tokens<'a> {
-    text: &'a str,
+    text: &'a Text<'a>,
     tokens: Vec<Token>,
     comments: Vec<Comment>,
 }
@@ -29,7 +31,7 @@ impl<'a> Model for Tokens<'a> {
 }
 
 impl<'a> Tokens<'a> {
-    pub(crate) fn new(text: &'a str, tokens: Vec<Token>, comments: Vec<Comment>) -> Tokens<'a>
+    pub(crate) fn new(text: &'a Text<'a>, tokens: Vec<Token>, comments: Vec<Comment>) -> Tokens<'a>
         requires { IsLexed text.now tokens.items comments.items }
         ensures { result ≡ record { text = text.now; tokens = tokens.items; comments = comments.items } }
     {
@@ -40,8 +42,8 @@ impl<'a> Tokens<'a> {
         }
     }
 
-    /// The text that was lexed.
-    pub fn text(&self) -> &'a str
+    /// The text that was lexed, which gives the positions of what stands in it.
+    pub fn text(&self) -> &'a Text<'a>
         ensures { result.now ≡ self.now.text }
     {
         self.text
@@ -62,6 +64,12 @@ impl<'a> Tokens<'a> {
         ensures value { result.now ≡ self.now.comments }
         ensures parts { All (λ c. IsPart self.now.text c.span) self.now.comments }
         ensures in_order { AreInOrder 0 (map (λ c. c.span) self.now.comments) }
+
+        // A line comment goes up to the end of its line, a block comment up to its first `*/`.
+        ensures spelled { All (λ c. IsComment c.kind (part_of self.now.text c.span) (drop c.span.end self.now.text)) self.now.comments }
+
+        // No token overlaps a comment.
+        ensures apart { All (λ t. All (λ c. AreApart t.span c.span) self.now.comments) self.now.tokens }
     {
         &self.comments
     }
@@ -73,6 +81,6 @@ impl<'a> Tokens<'a> {
         ensures spelled { IfSome (slice_get self.now.tokens index) (λ t. Spells t.kind result.now) }
     {
         let span = self.tokens[index].span;
-        &self.text[span.start..span.end]
+        &self.text.as_str()[span.start..span.end]
     }
 }

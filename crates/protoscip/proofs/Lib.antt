@@ -1,16 +1,19 @@
-pub mod Exclusion
-pub mod CommandLines
-pub mod Backticks
-pub mod ClashLemmas
-pub mod Options
-pub mod Parsing
-pub mod Orders
-pub mod Walks
-pub mod Naming
-pub mod Kept
-pub mod Refusals
-pub mod Sources
-pub mod Ordered
+-- The command line
+pub mod CommandLineLemmas
+-- A source's bytes, its tree, and what it declares
+pub mod SourceLemmas
+pub mod SyntaxLemmas
+pub mod DeclarationLemmas
+pub mod DuplicateLemmas
+-- The index of a source
+pub mod SymbolLemmas
+pub mod DocumentLemmas
+pub mod IndexLemmas
+-- Its dump, and why there is none
+pub mod RefusalLemmas
+pub mod DumpLemmas
+-- The laws
 pub mod OneSymbol
 pub mod OneIndex
 pub mod NoTies
+pub mod ListedUnlessMemory

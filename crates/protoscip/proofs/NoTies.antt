@@ -25,9 +25,8 @@ use Rattle.protoscip.specs.Duplicates.{Clashes, NoClash}
 use Rattle.protoscip.specs.Symbols.{file_symbol_text, symbol_text}
 use Rattle.protoscip.specs.Document.{IsOrdered, occurrence_cmp, declaration_occurrence, file_occurrence, info_cmp, declaration_info, file_info}
 use Rattle.protoscip.specs.DumpLaws.{OccurrencesDontTie, EntriesDontTie}
-use Rattle.protoscip.proofs.Naming.{both}
-use Rattle.protoscip.proofs.Orders.{occurrences_total, infos_total}
-use Rattle.protoscip.proofs.Ordered.{Ascends, ascends-of}
+use Rattle.protoscip.proofs.DeclarationLemmas.{AllByRecursion-append}
+use Rattle.protoscip.proofs.DocumentLemmas.{occurrences_total, infos_total, Ascends, ascends-of}
 use Rattle.protoscip.proofs.OneSymbol.{one-declaration, no-declaration}
 use Rattle.protoscip.proofs.OneIndex.{both-equal}
 
@@ -42,14 +41,14 @@ dotted-in text scope NoMore = tt
 dotted-in text scope (FieldThen field others) = (refl, dotted-in text scope others)
 dotted-in text scope (MessageThen heading inner others) = (
   refl,
-  both IsDotted (declared_in text (within text scope heading.name) inner) (declared_in text scope others)
+  AllByRecursion-append IsDotted (declared_in text (within text scope heading.name) inner) (declared_in text scope others)
       (dotted-in text (within text scope heading.name) inner) (dotted-in text scope others),
 )
 
 dotted-of : (text : List ℕ) (tree : List MessageTree) → AllByRecursion IsDotted (declarations_of text tree)
 dotted-of text [] = tt
 dotted-of text (message ∷ messages) =
-    both IsDotted (declared_by text [] message) (declarations_of text messages)
+    AllByRecursion-append IsDotted (declared_by text [] message) (declarations_of text messages)
     (refl, dotted-in text (within text [] message.heading.name) message.body) (dotted-of text messages)
 
 -- the first has another full name than the others

@@ -20,8 +20,7 @@ use Rattle.protoscip.specs.declared.declarations.Declaration.{Declaration}
 use Rattle.protoscip.specs.Declarations.{declarations_of}
 use Rattle.protoscip.specs.Document.{occurrence_cmp, occurrences_of, declaration_symbol, declaration_occurrence, definition_role, info_cmp, infos_of, file_info, declaration_info, IsDocumentOf, IsIndexOf}
 use Rattle.protoscip.specs.Dump.{IsIndexOfSource}
-use Rattle.protoscip.proofs.Orders.{occurrences_total, occurrences_rank, infos_total, infos_rank}
-use Rattle.protoscip.proofs.Ordered.{ordered-one}
+use Rattle.protoscip.proofs.DocumentLemmas.{occurrences_total, occurrences_rank, infos_total, infos_rank, ordered-one}
 use Rattle.protoscip.proofs.OneSymbol.{one-declaration, no-declaration}
 
 -- ---- occurrences

@@ -5,8 +5,8 @@ use Rattle.std.proofs.lemmas.List.{append_cancel_left}
 use Rattle.std.specs.List.{list_all}
 use Rattle.protoscip.specs.declared.declarations.DeclarationKind.{DeclarationKind}
 use Rattle.protoscip.specs.declared.declarations.DeclarationKind.TheVariants.{Message, Field}
-use Rattle.protoscip.specs.Symbols.{is_identifier_character, is_simple_identifier, doubled, name_text, descriptors_text, package_text, file_symbol_text, symbol_text}
-use Rattle.protoscip.proofs.Backticks.{other, backtick}
+use Rattle.protoscip.specs.Symbols.{is_identifier_character, is_simple_identifier, escaped_text, name_text, descriptors_text, package_text, file_symbol_text, symbol_text}
+use Rattle.protoscip.proofs.SymbolLemmas.{other, backtick}
 
 parts : {X : Type 0} {x y : X} {xs ys : List X} → x ∷ xs ≡ y ∷ ys → (x ≡ y) × (xs ≡ ys)
 parts e = (cc, cc)
@@ -18,10 +18,10 @@ joined p q = cc
 behind : ℕ → List ℕ → List ℕ
 behind x rest = cond (eqb x 96) (96 ∷ rest) rest
 
-begins : (x : ℕ) (xs rest : List ℕ) → doubled (x ∷ xs) ++ rest ≡ x ∷ behind x (doubled xs ++ rest)
+begins : (x : ℕ) (xs rest : List ℕ) → escaped_text (x ∷ xs) ++ rest ≡ x ∷ behind x (escaped_text xs ++ rest)
 unfolding behind
 begins x xs rest = elim (cases_Bool (eqb x 96)) [
-  | inl t ↦ rw (backtick x xs t) (rw t (ap (λ z. z ∷ 96 ∷ (doubled xs ++ rest)) (sym (eqb-true x 96 t))))
+  | inl t ↦ rw (backtick x xs t) (rw t (ap (λ z. z ∷ 96 ∷ (escaped_text xs ++ rest)) (sym (eqb-true x 96 t))))
   | inr f ↦ rw (other x xs f) (rw f refl)
 ]
 
@@ -55,7 +55,7 @@ module _ (a b : ℕ) (rest left : List ℕ) (a_is : IsMark a) (b_is : IsMark b) 
   runs (x ∷ xs) (y ∷ ys) p q e = let more = runs xs ys (and_parts _ _ p).1 (and_parts _ _ q).1 (parts e).1 in (joined (parts e).0 more.0, more.1)
 
   -- doubled backticks and others, up to a backtick before a mark
-  between : (xs ys : List ℕ) → doubled xs ++ (96 ∷ a ∷ rest) ≡ doubled ys ++ (96 ∷ b ∷ left) → (xs ≡ ys) × (a ∷ rest ≡ b ∷ left)
+  between : (xs ys : List ℕ) → escaped_text xs ++ (96 ∷ a ∷ rest) ≡ escaped_text ys ++ (96 ∷ b ∷ left) → (xs ≡ ys) × (a ∷ rest ≡ b ∷ left)
   between [] [] e = (refl, (parts e).1)
   between [] (y ∷ ys) e =
       let first = parts (e ∙ begins y ys (96 ∷ b ∷ left)) in
@@ -65,16 +65,16 @@ module _ (a b : ℕ) (rest left : List ℕ) (a_is : IsMark a) (b_is : IsMark b) 
       absurd (eqb-false b 96 b_is.quoted (parts (first.1 ∙ backtick-behind x _ (sym first.0))).0)
   between (x ∷ xs) (y ∷ ys) e =
       let first = parts (sym (begins x xs (96 ∷ a ∷ rest)) ∙ e ∙ begins y ys (96 ∷ b ∷ left)) in
-      let more = between xs ys (behind-one x _ _ (first.1 ∙ ap (λ z. behind z (doubled ys ++ (96 ∷ b ∷ left))) (sym first.0))) in
+      let more = between xs ys (behind-one x _ _ (first.1 ∙ ap (λ z. behind z (escaped_text ys ++ (96 ∷ b ∷ left))) (sym first.0))) in
       (joined first.0 more.0, more.1)
 
 simple-text : (name : List ℕ) → is_simple_identifier name ≡ true → name_text name ≡ name
-simple-text name is = cond-true (is_simple_identifier name) name (codes "`" ++ doubled name ++ codes "`") is
+simple-text name is = cond-true (is_simple_identifier name) name (codes "`" ++ escaped_text name ++ codes "`") is
 
-quoted-text : (name rest : List ℕ) → is_simple_identifier name ≡ false → name_text name ++ rest ≡ 96 ∷ (doubled name ++ (96 ∷ rest))
+quoted-text : (name rest : List ℕ) → is_simple_identifier name ≡ false → name_text name ++ rest ≡ 96 ∷ (escaped_text name ++ (96 ∷ rest))
 quoted-text name rest is =
-    ap (λ (t : List ℕ). t ++ rest) (cond-false (is_simple_identifier name) name (codes "`" ++ doubled name ++ codes "`") is)
-    ∙ ap (λ (t : List ℕ). 96 ∷ t) (append_assoc (doubled name) (96 ∷ []) rest)
+    ap (λ (t : List ℕ). t ++ rest) (cond-false (is_simple_identifier name) name (codes "`" ++ escaped_text name ++ codes "`") is)
+    ∙ ap (λ (t : List ℕ). 96 ∷ t) (append_assoc (escaped_text name) (96 ∷ []) rest)
 
 not-quoted : (name rest left : List ℕ) → is_simple_identifier name ≡ true → name ++ rest ≡ 96 ∷ left → ⊥
 not-quoted [] rest left is e = cc
@@ -91,7 +91,7 @@ named a b rest left x y p q e = elim (cases_Bool (is_simple_identifier x)) [
         | inr t ↦ absurd (not-quoted x (a ∷ rest) _ s (e' ∙ quoted-text y (b ∷ left) t))
       ]
   | inr s ↦
-      let e' : 96 ∷ (doubled x ++ (96 ∷ a ∷ rest)) ≡ name_text y ++ (b ∷ left) = sym (quoted-text x (a ∷ rest) s) ∙ e in
+      let e' : 96 ∷ (escaped_text x ++ (96 ∷ a ∷ rest)) ≡ name_text y ++ (b ∷ left) = sym (quoted-text x (a ∷ rest) s) ∙ e in
       elim (cases_Bool (is_simple_identifier y)) [
         | inl t ↦ absurd (not-quoted y (b ∷ left) _ t (sym (e' ∙ ap (λ (l : List ℕ). l ++ (b ∷ left)) (simple-text y t))))
         | inr t ↦ between a b rest left p q x y (parts (e' ∙ quoted-text y (b ∷ left) t)).1

@@ -84,10 +84,10 @@ info_cmp = on (λ (i : Info). i.symbol) (slice_cmp nat_cmp)
 
 -- ---- the index
 
--- a list has exactly what is due, each as often as it is due, and ascends by an order
-pub record IsOrdered {X : Type 0} (cmp : X → X → Ordering) (due listed : List X) : Type 0 where
-  pub complete : IsPermutation due listed
-  pub ascends : IsSorted cmp listed
+-- a list has exactly the wanted elements, each as often as it is wanted, in ascending order
+pub record IsOrdered {X : Type 0} (cmp : X → X → Ordering) (wanted list : List X) : Type 0 where
+  pub complete : IsPermutation wanted list
+  pub ascends : IsSorted cmp list
 
 -- a document of a source: of its path, text and declarations (`scip.proto`, Document; columns count bytes)
 pub record IsDocumentOf (path text : List ℕ) (declarations : List Declaration) (document : Document) : Type 0 where

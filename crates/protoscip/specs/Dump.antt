@@ -1,5 +1,5 @@
 -- What a dump answers of a source: its listing, or why there is none.
-use Rattle.std.specs.Prelude.{◌≡◌, ℕ, ◌<◌, ◌≤◌, ◌⊎◌, List, [], length, take, Result, Ok, Err, codes}
+use Rattle.std.specs.Prelude.{◌≡◌, ◌≢◌, ℕ, ◌<◌, ◌≤◌, ◌⊎◌, List, length, Option, Result, Ok, Err, codes}
 use Rattle.proto_lex.specs.declared.token.Token.{Token}
 use Rattle.proto_lex.specs.declared.token.Comment.{Comment}
 use Rattle.proto_lex.specs.declared.span.Span.{Span}
@@ -7,9 +7,10 @@ use Rattle.proto_lex.specs.declared.fault.LexFault.{LexFault}
 use Rattle.proto_lex.specs.Text.{IsText, IsNoText}
 use Rattle.proto_lex.specs.Lexes.{Lexes}
 use Rattle.proto_lex.specs.Faults.{IsFirstFault}
-use Rattle.scip_model.specs.Streams.{one_more}
+use Rattle.scip_model.specs.WholeReads.{IsReadFault, IsReadThrough}
+use Rattle.scip_model.specs.WholeWrites.{IsWritten, IsCutOff}
 use Rattle.scip_model.specs.declared.records.Index.{Index}
-use Rattle.scip_wire.specs.Spelling.{spelling_of}
+use Rattle.scip_wire.specs.Spelling.{spelling_of, max_index_len}
 use Rattle.protoscip.specs.declared.fault.Fault.{Fault}
 use Rattle.protoscip.specs.declared.syntax.fault.SyntaxFault.{SyntaxFault}
 use Rattle.protoscip.specs.declared.syntax.fault.SyntaxFault.TheVariants.{Memory as SyntaxMemory}
@@ -20,15 +21,10 @@ use Rattle.protoscip.specs.Declarations.{declarations_of}
 use Rattle.protoscip.specs.Duplicates.{Clash, NoClash}
 use Rattle.protoscip.specs.Document.{IsIndexOf}
 use Rattle.protoscip.specs.DumpText.{dump_text}
-use Rattle.protoscip.specs.Source.{IsReadFault, IsReadThrough}
 
 -- the path under which a dump, and what is said of its fault, shows its source
 abbrev pub source_path : List ℕ
 source_path = codes "input.proto"
-
--- the most bytes of an index
-abbrev pub max_index_length : ℕ
-max_index_length = 2147483647
 
 -- bytes that are a text and lex
 pub record IsLexable (bytes : List ℕ) : Type 0 where
@@ -73,8 +69,7 @@ IsLexRefusal bytes fault = IsNoText bytes fault ⊎ IsUnlexed bytes fault
 -- why bytes that lex have no tree. (Want of memory is `Fault::Memory`. Which of the other faults comes, and its offset,
 -- isn't said here.)
 abbrev pub IsSyntaxRefusal : List ℕ → SyntaxFault → Type 0
-IsSyntaxRefusal bytes SyntaxMemory = ⊥
-IsSyntaxRefusal bytes fault = IsUnparsed bytes
+IsSyntaxRefusal bytes fault = (fault ≢ SyntaxMemory) × IsUnparsed bytes
 
 -- why bytes have no listing: the first of these, in this order, that is so; or memory ran out.
 -- (Read and Write are no faults of the bytes.)
@@ -84,29 +79,30 @@ IsRefusal bytes Read = ⊥
 IsRefusal bytes (Lex fault) = IsLexRefusal bytes fault
 IsRefusal bytes (Syntax fault) = IsSyntaxRefusal bytes fault
 IsRefusal bytes (Duplicate first second) = HasClash bytes first second
-IsRefusal bytes TooLarge = (index : Index) × IsIndexOfSource source_path bytes index × (max_index_length < length (spelling_of index))
+IsRefusal bytes TooLarge = (index : Index) × IsIndexOfSource source_path bytes index × (max_index_len < length (spelling_of index))
 IsRefusal bytes (Write count) = ⊥
 
 -- the listing of a source: that of its index, where that isn't too large
 abbrev pub IsListing : List ℕ → List ℕ → Type 0
-IsListing bytes listing = (index : Index) × IsIndexOfSource source_path bytes index × (length (spelling_of index) ≤ max_index_length) × (listing ≡ dump_text index)
+IsListing bytes listing = (index : Index) × IsIndexOfSource source_path bytes index × (length (spelling_of index) ≤ max_index_len) × (listing ≡ dump_text index)
 
--- what a dump of these bytes answers, and what it writes: the listing; nothing where it refuses the bytes, a read failed
--- or memory ran out; and where the writer failed, as much of the listing as went out
+-- what a dump of these bytes answers, and what it has to write: the listing, which goes out whole or is cut off; or why
+-- there is none. (Read says nothing of the bytes.)
 abbrev pub Dumps : List ℕ → List ℕ → Result (Unit {0}) Fault → Type 0
-Dumps bytes written (Ok done) = IsListing bytes written
-Dumps bytes written (Err Read) = written ≡ []
-Dumps bytes written (Err (Write count)) = (listing : List ℕ) × IsListing bytes listing × (count < length listing) × (written ≡ take count listing)
-Dumps bytes written (Err fault) = (written ≡ []) × IsRefusal bytes fault
+Dumps bytes due (Ok done) = IsListing bytes due
+Dumps bytes due (Err (Write count)) = IsListing bytes due
+Dumps bytes due (Err Read) = Unit {0}
+Dumps bytes due (Err fault) = IsRefusal bytes fault
 
--- the reader, before and after: it was read to its end; at Read, why it wasn't; at Memory, nothing is said
+-- the reader, before and after: it was read to its end; at Read, why it wasn't; at Memory, no read failed
 abbrev pub LeavesReader : {R : Type 0} → (failures reads ends : R → ℕ) → R → R → Result (Unit {0}) Fault → Type 0
-LeavesReader failures reads ends before after (Err Memory) = Unit {0}
+LeavesReader failures reads ends before after (Err Memory) = failures after ≡ failures before
 LeavesReader failures reads ends before after (Err Read) = IsReadFault failures reads ends before after
 LeavesReader failures reads ends before after other = IsReadThrough failures ends before after
 
--- the writer, before and after: no write failed; at Write, one did; and after any other refusal it is as it was
-abbrev pub LeavesWriter : {W : Type 0} → (failures : W → ℕ) → W → W → Result (Unit {0}) Fault → Type 0
-LeavesWriter failures before after (Ok done) = failures after ≡ failures before
-LeavesWriter failures before after (Err (Write count)) = failures after ≡ one_more (failures before)
-LeavesWriter failures before after (Err fault) = after ≡ before
+-- the writer, before and after: what was due went out; at Write, it was cut off; after any other fault the writer is as
+-- it was
+abbrev pub LeavesWriter : {W : Type 0} → (contents : W → Option (List ℕ)) → (failures : W → ℕ) → W → W → List ℕ → Result (Unit {0}) Fault → Type 0
+LeavesWriter contents failures before after due (Ok done) = IsWritten contents failures before after due
+LeavesWriter contents failures before after due (Err (Write count)) = IsCutOff contents failures before after due count
+LeavesWriter contents failures before after due (Err fault) = after ≡ before

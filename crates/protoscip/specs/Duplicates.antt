@@ -4,7 +4,7 @@ use Rattle.std.specs.Prelude.{◌≡◌, ℕ, ◌<◌, ◌≤◌, List, slice_ge
 use Rattle.protoscip.specs.declared.declarations.Declaration.{Declaration}
 use Rattle.proto_lex.specs.declared.span.Span.{Span}
 
--- the declarations at two indices have one full name, and the second stands behind the first
+-- the declarations at two indices have one full name, and the second comes later in the list
 pub record Clashes (declarations : List Declaration) (first second : ℕ) : Type 0 where
   pub behind : first < second
   pub earlier : Declaration

@@ -3,6 +3,7 @@ use Rattle.std.specs.Prelude.{ℕ, List, ◌++◌, Option, Some, None, codes}
 use Rattle.std.specs.Fmt.{decimal}
 use Rattle.proto_lex.specs.declared.fault.LexFault.{LexFault}
 use Rattle.proto_lex.specs.declared.fault.LexFault.TheVariants as lexing
+use Rattle.proto_lex.specs.Text.{max_text_length}
 use Rattle.protoscip.specs.declared.syntax.fault.SyntaxFault.{SyntaxFault}
 use Rattle.protoscip.specs.declared.syntax.fault.SyntaxFault.TheVariants as syntax
 use Rattle.protoscip.specs.declared.source.SourceFault.{SourceFault}
@@ -32,7 +33,7 @@ syntax_name syntax.Memory = codes "Memory"
 -- where the fault stands in its source, if it stands there; a source that is too long is too long
 -- from the first byte past the limit on
 abbrev pub lex_offset : LexFault → Option ℕ
-lex_offset lexing.TooLong = Some 67108864
+lex_offset lexing.TooLong = Some max_text_length
 lex_offset (lexing.NotUtf8 at) = Some at
 lex_offset (lexing.BadByte at) = Some at
 lex_offset (lexing.OpenString at) = Some at

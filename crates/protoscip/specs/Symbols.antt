@@ -14,12 +14,12 @@ abbrev pub is_simple_identifier : List ℕ → Bool
 is_simple_identifier name = not (length name == 0) && list_all is_identifier_character name
 
 -- a text with each backtick doubled
-abbrev pub doubled : List ℕ → List ℕ
-doubled = flat_map (λ b. if nat_eq b 96 then codes "``" else b ∷ [])
+abbrev pub escaped_text : List ℕ → List ℕ
+escaped_text = flat_map (λ b. if nat_eq b 96 then codes "``" else b ∷ [])
 
 -- a name in a descriptor: as it is where it is a simple identifier, and else between backticks
 abbrev pub name_text : List ℕ → List ℕ
-name_text name = if is_simple_identifier name then name else codes "`" ++ doubled name ++ codes "`"
+name_text name = if is_simple_identifier name then name else codes "`" ++ escaped_text name ++ codes "`"
 
 -- what follows the name in a declaration's last descriptor: a type's or a term's mark
 abbrev pub suffix_of : DeclarationKind → List ℕ

@@ -1,11 +1,14 @@
 //! The command line.
-ghost use Rattle.std.specs.Prelude.{◌≡◌, ◌≢◌, IfOk, map, string_bytes};
+ghost use Rattle.std.specs.Prelude.{◌≡◌, ◌≢◌, IfOk, IfErr, IsErr, map, string_bytes};
+ghost use Rattle.std.specs.IoError.{error_kind};
+ghost use Rattle.std.specs.declared.io.ErrorKind.TheVariants.{OutOfMemory as Memory};
 ghost use Rattle.clap.specs.Words.{app_of, fault_of, kind_of};
 ghost use Rattle.protoscip.specs.CommandLine.{Asks, IsRefused, Prints, command_line};
 
 use clap::error::ErrorKind;
 use clap::{Command, Error};
 use std::alloc::{AllocError, Global};
+use std::io;
 
 /// What a command line asks for.
 #[derive(Debug, Drop)]
@@ -44,8 +47,25 @@ pub fn request_of(alloc: Global, words: &Vec<String>) -> Result<Request, AllocEr
     }
 }
 
+/// What the words of a command line ask for, the first of them the program's name. Where the system
+/// gives an error in their place, a word isn't UTF-8, which is refused, or memory ran out.
+pub fn request_of_process(
+    alloc: Global,
+    words: io::Result<Vec<String>>,
+) -> Result<Request, AllocError>
+    ensures words { IfOk words (λ words. IfOk result (Asks (map string_bytes words.items))) }
+    ensures other_text { IfErr words (λ _. IfOk result IsRefused) }
+    ensures memory { IfErr words (λ error. error_kind error ≡ Memory → IsErr result) }
+{
+    match words {
+        Ok(words) => request_of(alloc, &words),
+        Err(error) if error.kind() == io::ErrorKind::OutOfMemory => Err(AllocError),
+        Err(_) => refuse_other_text(alloc),
+    }
+}
+
 /// Refuses a command line that isn't text, which the system allows.
-pub fn refuse_other_text(alloc: Global) -> Result<Request, AllocError>
+fn refuse_other_text(alloc: Global) -> Result<Request, AllocError>
     ensures { IfOk result IsRefused }
 {
     let message = "invalid UTF-8 was detected in one or more arguments";
@@ -55,7 +75,7 @@ pub fn refuse_other_text(alloc: Global) -> Result<Request, AllocError>
     )
 }
 
-/// What follows from an answer of `clap` that is no program.
+/// What an answer of `clap` other than a program asks for.
 fn answer(alloc: Global, error: &Error) -> Result<Request, AllocError>
     ensures { IfOk result (λ r. (kind_of error.now ≢ ErrorKind.OutOfMemory) × Prints (kind_of error.now) r) }
 {
@@ -69,6 +89,3 @@ fn answer(alloc: Global, error: &Error) -> Result<Request, AllocError>
         Ok(Request::Print(text))
     }
 }
-
-#[cfg(test)]
-mod tests;

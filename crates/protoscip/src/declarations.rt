@@ -55,7 +55,8 @@ fn push_dotted(out: &mut String, scope: &[OwnedText], name: &str) -> Result<(), 
     }
 }
 
-fn copied(alloc: Global, scope: &[OwnedText]) -> Result<Vec<OwnedText>, AllocError>
+/// A copy of the names of a scope.
+fn copy_scope(alloc: Global, scope: &[OwnedText]) -> Result<Vec<OwnedText>, AllocError>
     ensures { IfOk result (λ copy. copy.items ≡ scope.now) }
 {
     let mut copy = Vec::new(alloc);
@@ -75,7 +76,7 @@ fn within(
     requires { IsPart text.now name }
     ensures { IfOk result (λ inner. inner ≡ within text.now scope.now name) }
 {
-    let mut inner = copied(alloc, scope)?;
+    let mut inner = copy_scope(alloc, scope)?;
     inner.push(OwnedText::copy_of(alloc, spelling_at(text, name))?)?;
     Ok(Sequence::from_vec(inner))
 }
@@ -89,7 +90,7 @@ fn declaration_at(
     name: Span,
 ) -> Result<Declaration, AllocError>
     requires { IsPart text.now name }
-    ensures { IfOk result (λ declared. declared ≡ declaration_at text.now kind scope.now name) }
+    ensures { IfOk result (λ declaration. declaration ≡ declaration_at text.now kind scope.now name) }
 {
     let simple_name = spelling_at(text, name);
     let mut full_name = String::new(alloc);
@@ -97,7 +98,7 @@ fn declaration_at(
     Ok(Declaration {
         kind,
         full_name: OwnedText::from_string(full_name),
-        scope: Sequence::from_vec(copied(alloc, scope)?),
+        scope: Sequence::from_vec(copy_scope(alloc, scope)?),
         simple_name: OwnedText::copy_of(alloc, simple_name)?,
         name,
     })
@@ -138,7 +139,7 @@ pub fn declarations_of(
     file: &File,
 ) -> Result<Vec<Declaration>, AllocError>
     requires { AllByRecursion (IsPart text.now) (names_of file.now) }
-    ensures { IfOk result (λ declared. declared.items ≡ declarations_of text.now file.now) }
+    ensures { IfOk result (λ declarations. declarations.items ≡ declarations_of text.now file.now) }
 {
     let mut declarations = Vec::new(alloc);
     for message in &file.messages {

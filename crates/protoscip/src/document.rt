@@ -81,7 +81,7 @@ fn occurrences(
     declarations: &[Declaration],
 ) -> Result<Sequence<Occurrence>, AllocError>
     requires { All (λ d. IsPart text.now d.name) declarations.now }
-    ensures { IfOk result (λ listed. IsOrdered occurrence_cmp (occurrences_of path.now text.now declarations.now) listed) }
+    ensures { IfOk result (IsOrdered occurrence_cmp (occurrences_of path.now text.now declarations.now)) }
 {
     let mut occurrences = Vec::new(alloc);
     occurrences.push(file_occurrence(alloc, path)?)?;
@@ -124,7 +124,7 @@ fn infos(
     path: &str,
     declarations: &[Declaration],
 ) -> Result<Sequence<Info>, AllocError>
-    ensures { IfOk result (λ listed. IsOrdered info_cmp (infos_of path.now declarations.now) listed) }
+    ensures { IfOk result (IsOrdered info_cmp (infos_of path.now declarations.now)) }
 {
     let mut infos = Vec::new(alloc);
     infos.push(file_info(alloc, path)?)?;

@@ -15,8 +15,8 @@ fn first_with(declarations: &[Declaration], full_name: &str) -> Option<usize>
         .position(|declaration| declaration.full_name.as_str() == full_name)
 }
 
-/// Of the pairs of declarations with one full name, the one whose second stands first, with the
-/// earliest first: where their names stand.
+/// Of the pairs of declarations with one full name, the one whose second name comes earliest, and of
+/// those the one whose first name does: the places of the two names.
 ///
 /// The time is quadratic in the number of declarations.
 pub fn first_clash(declarations: &[Declaration]) -> Option<(Span, Span)>

@@ -4,7 +4,7 @@ ghost use Rattle.protoscip.specs.Faults.{fault_line, line_of, lex_name, lex_offs
 
 use crate::source::SourceFault;
 use crate::syntax::SyntaxFault;
-use proto_lex::{LexFault, Span};
+use proto_lex::{LexFault, MAX_TEXT_LENGTH, Span};
 use scip_wire::SpellFault;
 use std::alloc::{AllocError, AllocFailed, Global};
 use thiserror::Error;
@@ -15,7 +15,7 @@ pub enum Fault {
     /// Memory ran out.
     #[error("Memory")]
     Memory,
-    /// A read failed, or 16,777,216 reads gave no end.
+    /// A read failed, or `MAX_READS` reads met no end.
     #[error("Read")]
     Read,
     /// The source is no text, or has no lexing.
@@ -32,7 +32,7 @@ pub enum Fault {
         /// The name of the later one.
         second: Span,
     },
-    /// The index would have more than 2,147,483,647 bytes.
+    /// The index would have more than `MAX_INDEX_LEN` bytes.
     #[error("TooLarge")]
     TooLarge,
     /// A write failed after this many bytes.
@@ -157,7 +157,7 @@ fn offset_of_lex(fault: &LexFault) -> Option<usize>
     ensures { result ≡ lex_offset fault.now }
 {
     match *fault {
-        LexFault::TooLong => Some(67_108_864),
+        LexFault::TooLong => Some(MAX_TEXT_LENGTH),
         LexFault::NotUtf8(offset)
         | LexFault::BadByte(offset)
         | LexFault::OpenString(offset)
@@ -207,6 +207,3 @@ fn name_of_syntax(fault: &SyntaxFault) -> &'static str
         SyntaxFault::Memory => "Memory",
     }
 }
-
-#[cfg(test)]
-mod tests;

@@ -7,7 +7,7 @@ use scip_model::{Sink, write_all};
 
 /// Writes a text.
 ///
-/// - `Write(count)`: a write failed when `count` bytes had gone out.
+/// - `Write(count)`: a write failed after `count` bytes of the text were written.
 pub fn write_text<W: Sink>(out: &mut W, text: &str) -> Result<(), Fault>
     ensures { Writes W.contents W.failures out.old out.new text.now result }
 {

@@ -1,11 +1,11 @@
 //! What the program does with its streams, and the exit status that it ends with.
 
-ghost use Rattle.std.specs.Prelude.{◌≡◌, ◌⊎◌, ◌++◌, ℕ, List, Some, Result, IfSome, codes};
+ghost use Rattle.std.specs.Prelude.{◌≡◌, ◌⊎◌, ◌++◌, ℕ, List, Some, Result, Err, IfSome, IfOk, IfErr, codes};
 ghost use Rattle.std.specs.Io.KnownBytes.{Appends};
 ghost use Rattle.protoscip.specs.CommandLine.{IsDump, printed_text, refused_text};
 ghost use Rattle.protoscip.specs.Dump.{Dumps, LeavesReader, LeavesWriter};
 ghost use Rattle.protoscip.specs.Output.{Writes};
-ghost use Rattle.protoscip.specs.Source.{IsReadBriefly};
+ghost use Rattle.scip_model.specs.WholeReads.{IsReadBriefly};
 ghost use Rattle.protoscip.specs.Faults.{status_of};
 ghost use Rattle.protoscip.specs.Messages.{Heard, Said, Tells};
 ghost use Rattle.protoscip.specs.declared.fault.Fault.TheVariants.{Memory};
@@ -15,43 +15,46 @@ use crate::dump::{SOURCE_PATH, dump};
 use crate::fault::Fault;
 use crate::output::write_text;
 use scip_model::{Feed, Sink, write_all};
-use std::alloc::Global;
+use std::alloc::{AllocError, Global};
 
-/// Does what was asked for, and gives the exit status. What the stream of messages doesn't take is
-/// lost.
+/// Does what was asked for, and gives the exit status; where memory ran out while the command line was
+/// read, it says so. What the stream of messages doesn't take is lost.
 pub fn run<R: Feed, W: Sink, M: Sink>(
     alloc: Global,
-    request: &Request,
+    asked: &Result<Request, AllocError>,
     input: &mut R,
     out: &mut W,
     messages: &mut M,
 ) -> u8
     // Help and the version are printed, or a write failed, and that is said.
-    ensures printed { IfSome (printed_text request.now) (λ text. (done : Result (Unit {0}) Fault)
+    ensures printed { IfOk asked.now (λ request. IfSome (printed_text request) (λ text. (done : Result (Unit {0}) Fault)
         × Writes W.contents W.failures out.old out.new text done
         × Tells M.contents M.failures messages.old messages.new done result
-        × (input.new ≡ input.old)) }
+        × (input.new ≡ input.old))) }
     // Of a refused command line it is said why.
-    ensures refused { IfSome (refused_text request.now) (λ text. (result ≡ 2)
+    ensures refused { IfOk asked.now (λ request. IfSome (refused_text request) (λ text. (result ≡ 2)
         × Heard (M.failures messages.old) (M.failures messages.new)
         (Appends (M.contents messages.old) (M.contents messages.new) text)
-        × (input.new ≡ input.old) × (out.new ≡ out.old)) }
+        × (input.new ≡ input.old) × (out.new ≡ out.old))) }
     // What `dump` promises of its answer, and what becomes of that.
-    ensures dumped { IsDump request.now → (done : Result (Unit {0}) Fault)
-        × ((bytes : List ℕ) → R.remaining input.old ≡ Some bytes
-        → (written : List ℕ) × Appends (W.contents out.old) (W.contents out.new) written × Dumps bytes written done)
+    ensures dumped { IfOk asked.now (λ request. IsDump request → (done : Result (Unit {0}) Fault)
+        × ((due : List ℕ) × LeavesWriter W.contents W.failures out.old out.new due done
+        × ((bytes : List ℕ) → R.remaining input.old ≡ Some bytes → Dumps bytes due done))
         × LeavesReader R.failures R.reads R.ends input.old input.new done
         × IsReadBriefly R.reads input.old input.new
-        × LeavesWriter W.failures out.old out.new done
-        × Tells M.contents M.failures messages.old messages.new done result }
+        × Tells M.contents M.failures messages.old messages.new done result) }
+    // Nothing was asked for, since memory ran out, and that is said.
+    ensures unknown { IfErr asked.now (λ _. (input.new ≡ input.old) × (out.new ≡ out.old)
+        × Tells M.contents M.failures messages.old messages.new (Err Memory) result) }
 {
-    let done = match request {
-        Request::Dump => dump(alloc, input, out),
-        Request::Print(text) => write_text(out, text.as_str()),
-        Request::Refuse(text) => {
+    let done = match asked {
+        Ok(Request::Dump) => dump(alloc, input, out),
+        Ok(Request::Print(text)) => write_text(out, text.as_str()),
+        Ok(Request::Refuse(text)) => {
             let _ = write_all(messages, text.as_bytes());
             return 2;
         }
+        Err(AllocError) => Err(Fault::Memory),
     };
     match done {
         Ok(()) => 0,
@@ -60,7 +63,8 @@ pub fn run<R: Feed, W: Sink, M: Sink>(
 }
 
 /// Says in one line why the program stops, and gives the exit status. Where memory doesn't suffice
-/// for the line, that is what it says.
+/// for the line, that is what it says. Where the line is cut off, no line end follows it, which tests
+/// show.
 pub fn report<M: Sink>(alloc: Global, fault: &Fault, messages: &mut M) -> u8
     ensures status { (result ≡ status_of fault.now) ⊎ (result ≡ status_of Memory) }
     ensures said { Heard (M.failures messages.old) (M.failures messages.new)
@@ -88,6 +92,3 @@ fn say<M: Sink>(messages: &mut M, line: &str)
         let _ = write_all(messages, b"\n");
     }
 }
-
-#[cfg(test)]
-mod tests;

@@ -1,17 +1,18 @@
 //! Reading a source to its end.
 
 ghost use Rattle.std.specs.Prelude.{◌≡◌, ◌≤◌, ◌+◌, ◌-◌, ◌++◌, ℕ, List, Some, take, length, min, IfOk, IfErr, OnOk};
-ghost use Rattle.protoscip.specs.Source.{kept, IsReadFault, IsReadThrough, IsReadBriefly};
+ghost use Rattle.scip_model.specs.WholeReads.{IsReadThrough, IsReadFault, IsReadBriefly};
+ghost use Rattle.protoscip.specs.Source.{kept_bytes};
 
 use proto_lex::MAX_TEXT_LENGTH;
-use scip_model::{Failed, Feed};
+use scip_model::{Failed, Feed, MAX_READS};
 use std::alloc::{AllocError, Global};
 
-/// The most reads into room for bytes: the end has to come within them.
-pub const MAX_READS: u32 = 16_777_216;
+/// How many bytes are read at a time, at most.
+const BUFFER_LENGTH: usize = 16_384;
 
-/// How many bytes are read at a time.
-const ROOM: usize = 16_384;
+// A source of the greatest length can be read to its end, and one that is longer is found to be so.
+const _: () = prove!(BUFFER_LENGTH as u64 * MAX_READS as u64 > MAX_TEXT_LENGTH as u64);
 
 /// Why a source isn't read to its end.
 #[derive(Clone, Copy, Debug, PartialEq, Eq)]
@@ -33,10 +34,10 @@ impl From<AllocError> for SourceFault {
     }
 }
 
-/// Keeps bytes, up to one more than a text may have.
-fn keep(bytes: &mut Vec<u8>, part: &[u8]) -> Result<(), AllocError>
+/// Appends bytes, as far as they are kept: up to one more than a text may have.
+fn append_kept(bytes: &mut Vec<u8>, part: &[u8]) -> Result<(), AllocError>
     requires { length bytes.old.items ≤ MAX_TEXT_LENGTH + 1 }
-    ensures { OnOk result (bytes.new.items ≡ kept (bytes.old.items ++ part.now)) }
+    ensures { OnOk result (bytes.new.items ≡ kept_bytes (bytes.old.items ++ part.now)) }
 {
     let space = MAX_TEXT_LENGTH + 1 - bytes.len();
     if part.len() <= space {
@@ -51,22 +52,23 @@ fn keep(bytes: &mut Vec<u8>, part: &[u8]) -> Result<(), AllocError>
 ///
 /// - `Read`: a read failed, or `MAX_READS` reads gave no end.
 pub fn read_source<R: Feed>(alloc: Global, source: &mut R) -> Result<Vec<u8>, SourceFault>
-    ensures bytes { IfOk result (λ bytes. (all : List ℕ) → R.remaining source.old ≡ Some all → bytes.items ≡ kept all) }
+    ensures bytes { IfOk result (λ bytes. (all : List ℕ) → R.remaining source.old ≡ Some all → bytes.items ≡ kept_bytes all) }
     ensures through { OnOk result (IsReadThrough R.failures R.ends source.old source.new) }
     ensures read { result ≡ Err SourceFault.Read → IsReadFault R.failures R.reads R.ends source.old source.new }
+    ensures memory { result ≡ Err SourceFault.Memory → R.failures source.new ≡ R.failures source.old }
     ensures briefly { IsReadBriefly R.reads source.old source.new }
 {
-    let mut room = [0u8; ROOM];
+    let mut buffer = [0u8; BUFFER_LENGTH];
     let mut bytes = Vec::new(alloc);
     'reads: for _read in 0..MAX_READS {
-        let count = match source.read(&mut room) {
+        let count = match source.read(&mut buffer) {
             Ok(count) => count,
             Err(Failed) => return Err(SourceFault::Read),
         };
         if count == 0 {
             return Ok(bytes);
         }
-        keep(&mut bytes, &room[..count])?;
+        append_kept(&mut bytes, &buffer[..count])?;
     }
     Err(SourceFault::Read)
 }

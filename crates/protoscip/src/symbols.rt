@@ -1,10 +1,9 @@
 //! Symbols as text, by the grammar in the comment of `scip.proto`'s `Symbol`.
 
-ghost use Rattle.std.specs.Prelude.{◌≡◌, ◌++◌, ℕ, List, OnOk, IfOk};
+ghost use Rattle.std.specs.Prelude.{◌≡◌, ◌++◌, OnOk, IfOk};
 ghost use Rattle.std.specs.List.{list_all};
 ghost use Rattle.std.specs.String.{string_bytes};
-ghost use Rattle.protoscip.specs.declared.declarations.DeclarationKind.{DeclarationKind};
-ghost use Rattle.protoscip.specs.Symbols.{is_identifier_character, is_simple_identifier, doubled, name_text, suffix_of, descriptors_text, file_symbol_text, symbol_text};
+ghost use Rattle.protoscip.specs.Symbols.{is_identifier_character, is_simple_identifier, escaped_text, name_text, suffix_of, descriptors_text, file_symbol_text, symbol_text};
 
 use crate::declarations::DeclarationKind;
 use scip_model::OwnedText;
@@ -29,8 +28,8 @@ fn is_simple_identifier(name: &str) -> bool
 }
 
 /// Appends a text with each backtick doubled.
-fn push_doubled(out: &mut String, text: &str) -> Result<(), AllocError>
-    ensures { OnOk result (string_bytes out.new ≡ string_bytes out.old ++ doubled text.now) }
+fn push_escaped(out: &mut String, text: &str) -> Result<(), AllocError>
+    ensures { OnOk result (string_bytes out.new ≡ string_bytes out.old ++ escaped_text text.now) }
 {
     let mut rest = text;
     'backticks: while let Some((front, after)) = rest.split_once('`') {
@@ -49,7 +48,7 @@ fn push_name(out: &mut String, name: &str) -> Result<(), AllocError>
         out.push_str(name)
     } else {
         out.push_str("`")?;
-        push_doubled(out, name)?;
+        push_escaped(out, name)?;
         out.push_str("`")
     }
 }
@@ -111,18 +110,3 @@ pub fn symbol_of(
     push_descriptors(&mut out, kind, scope, name)?;
     Ok(OwnedText::from_string(out))
 }
-
-/// A law: a text is the symbol of one file at most, or of one declaration's kind, scope and name,
-/// and never of both.
-pub fn one_symbol()
-    ensures files { (path : List ℕ) → (other : List ℕ)
-        → file_symbol_text path ≡ file_symbol_text other → path ≡ other }
-    ensures declarations { (kind : DeclarationKind) → (other_kind : DeclarationKind)
-        → (scope : List (List ℕ)) → (other_scope : List (List ℕ))
-        → (name : List ℕ) → (other_name : List ℕ)
-        → symbol_text kind scope name ≡ symbol_text other_kind other_scope other_name
-        → (kind ≡ other_kind) × (scope ≡ other_scope) × (name ≡ other_name) }
-    ensures apart { (path : List ℕ)
-        → (kind : DeclarationKind) → (scope : List (List ℕ)) → (name : List ℕ)
-        → file_symbol_text path ≡ symbol_text kind scope name → ⊥ }
-{}

@@ -3,18 +3,15 @@
 
 mod failed;
 mod feed;
-mod owned_text;
 mod range;
 mod records;
-mod sequence;
 mod sink;
 mod std_streams;
 
 pub use failed::Failed;
-pub use feed::Feed;
-pub use owned_text::OwnedText;
+pub use feed::{Feed, MAX_READS};
 pub use range::{MAX_RANGE_NUMBER, Range};
 pub use records::{Document, Index, Info, Metadata, Occurrence, ToolInfo};
-pub use sequence::Sequence;
+pub use sequences::{OwnedText, Sequence};
 pub use sink::{CutOff, Sink, write_all};
 pub use std_streams::Std;

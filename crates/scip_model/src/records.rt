@@ -1,8 +1,7 @@
 //! The records of an index: the fields of `scip.proto` that this project keeps.
 
-use crate::owned_text::OwnedText;
 use crate::range::Range;
-use crate::sequence::Sequence;
+use sequences::{OwnedText, Sequence};
 
 /// An index (`scip.proto`, `Index`).
 #[derive(Debug, Drop)]

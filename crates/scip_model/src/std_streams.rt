@@ -6,10 +6,6 @@ ghost use Rattle.scip_model.specs.StdStreams.{inner_of, failures_of, reads_of, e
 use crate::failed::Failed;
 use crate::feed::Feed;
 use crate::sink::Sink;
-
-#[cfg(test)]
-mod tests;
-
 use std::io::{Read, Write};
 
 /// A writer of `std::io` that is a [`Sink`], or a reader that is a [`Feed`].

@@ -14,14 +14,14 @@ pub record Field : Type 0 where
   pub number : ℕ
   pub payload : Payload
 
--- A varint of at most `room` bytes (Encoding, Base 128 Varints): seven bits a byte, the lowest
+-- A varint of at most `limit` bytes (Encoding, Base 128 Varints): seven bits a byte, the lowest
 -- first, the top bit set on all but the last. What is above the first seven bits has at most 57,
 -- so that all has at most 64: a tenth byte is at most 1. Needless bytes are allowed.
 pub data IsVarint : ℕ → List ℕ → ℕ → List ℕ → Type 0 where
-  last : {room byte : ℕ} {rest : List ℕ} → byte < 128 → IsVarint (suc room) (byte ∷ rest) byte rest
-  more : {room byte high : ℕ} {bytes rest : List ℕ}
-      → 128 ≤ byte → high < 2 ^ 57 → IsVarint room bytes high rest
-      → IsVarint (suc room) (byte ∷ bytes) (byte - 128 + 128 * high) rest
+  last : {limit byte : ℕ} {rest : List ℕ} → byte < 128 → IsVarint (suc limit) (byte ∷ rest) byte rest
+  more : {limit byte high : ℕ} {bytes rest : List ℕ}
+      → 128 ≤ byte → high < 2 ^ 57 → IsVarint limit bytes high rest
+      → IsVarint (suc limit) (byte ∷ bytes) (byte - 128 + 128 * high) rest
 
 -- A payload of a wire type: a varint, eight bytes, bytes behind their length, or four bytes.
 -- Of the other types, groups (3 and 4) among them, there is none.

@@ -2,7 +2,7 @@
 use Rattle.std.specs.Prelude.{ℕ, ℤ, pos, zero, suc, ◌+◌, ◌-◌, ◌*◌, ◌/◌, ◌%◌, ◌^◌, Bool, cond, nat_eq, nat_lt, nat_le, ◌&&◌, List, [], ◌∷◌, ◌++◌, length, take, drop, Option, Some, None, option_and_then}
 use Rattle.std.specs.Int.{w32, cast_signed}
 use Rattle.std.specs.Str.{is_utf8}
-use Rattle.scip_model.specs.Range.{RangeNumbers}
+use Rattle.scip_model.specs.Range.{RangeNumbers, max_range_number}
 use Rattle.scip_model.specs.declared.records.Index.{Index}
 use Rattle.scip_model.specs.declared.records.Metadata.{Metadata}
 use Rattle.scip_model.specs.declared.records.ToolInfo.{ToolInfo}
@@ -21,10 +21,10 @@ o >>= f = option_and_then f o
 
 unfoldable pub varint_at : ℕ → List ℕ → Option (ℕ × List ℕ)
 varint_at zero bytes = None
-varint_at (suc room) [] = None
-varint_at (suc room) (byte ∷ bytes) =
+varint_at (suc limit) [] = None
+varint_at (suc limit) (byte ∷ bytes) =
     cond (nat_lt byte 128) (Some (byte, bytes))
-    (varint_at room bytes >>= λ high. cond (nat_lt high.0 (2 ^ 57)) (Some (byte - 128 + 128 * high.0, high.1)) None)
+    (varint_at limit bytes >>= λ high. cond (nat_lt high.0 (2 ^ 57)) (Some (byte - 128 + 128 * high.0, high.1)) None)
 
 unfoldable pub piece_at : ℕ → List ℕ → Option (List ℕ × List ℕ)
 piece_at size bytes = cond (nat_le size (length bytes)) (Some (take size bytes, drop size bytes)) None
@@ -54,9 +54,9 @@ changed step (x ∷ xs) s = step s x >>= changed step xs
 unfoldable pub fold_in : {S A : Type 0} → (List ℕ → Option (A × List ℕ)) → (S → A → Option S) → ℕ → List ℕ → S → Option S
 fold_in read step zero [] s = Some s
 fold_in read step zero (byte ∷ bytes) s = None
-fold_in read step (suc room) [] s = Some s
-fold_in read step (suc room) (byte ∷ bytes) s =
-    read (byte ∷ bytes) >>= λ item. step s item.0 >>= fold_in read step room item.1
+fold_in read step (suc bound) [] s = Some s
+fold_in read step (suc bound) (byte ∷ bytes) s =
+    read (byte ∷ bytes) >>= λ item. step s item.0 >>= fold_in read step bound item.1
 
 unfoldable pub fold_at : {S A : Type 0} → (List ℕ → Option (A × List ℕ)) → (S → A → Option S) → List ℕ → S → Option S
 fold_at read step bytes s = fold_in read step (length bytes) bytes s
@@ -175,7 +175,7 @@ numbers_in (Fixed32 _) = Some []
 
 -- the range of these numbers, each of which has to fit
 abbrev pub fits : RangeNumbers → Bool
-fits r = nat_le r.start_line 2147483647 && nat_le r.start_column 2147483647 && nat_le r.end_line 2147483647 && nat_le r.end_column 2147483647
+fits r = nat_le r.start_line max_range_number && nat_le r.start_column max_range_number && nat_le r.end_line max_range_number && nat_le r.end_column max_range_number
 
 unfoldable pub checked_range : RangeNumbers → Option RangeNumbers
 checked_range r = cond (fits r) (Some r) None

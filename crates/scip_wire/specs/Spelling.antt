@@ -10,12 +10,12 @@ use Rattle.scip_model.specs.declared.records.Occurrence.{Occurrence}
 use Rattle.scip_model.specs.declared.records.Info.{Info}
 use Rattle.scip_wire.specs.Fields.{Payload, Varint, Fixed64, Delimited, Fixed32, Field}
 
--- The shortest varint of a number of at most `room + 1` groups (Encoding, Base 128 Varints):
+-- The shortest varint of a number of at most `further + 1` groups (Encoding, Base 128 Varints):
 -- seven bits a byte, the lowest first, the top bit set on all but the last.
 unfoldable pub varint_of_groups : ℕ → ℕ → List ℕ
 varint_of_groups zero n = n ∷ []
-varint_of_groups (suc room) n =
-    if nat_lt n 128 then n ∷ [] else ((n % 128 + 128) ∷ varint_of_groups room (n / 128))
+varint_of_groups (suc further) n =
+    if nat_lt n 128 then n ∷ [] else ((n % 128 + 128) ∷ varint_of_groups further (n / 128))
 
 -- of a number below 2 ^ 64: ten groups at most
 abbrev pub varint : ℕ → List ℕ
@@ -118,6 +118,10 @@ index_fields i =
     optional_message_fields 1 metadata_fields i.metadata
     ++ repeated_message_fields 2 document_fields i.documents
     ++ repeated_message_fields 3 info_fields i.external_symbols
+
+-- the most bytes that an index may have: the Protocol Buffers libraries' own limit
+abbrev pub max_index_len : ℕ
+max_index_len = 2147483647
 
 -- the spelling of an index
 abbrev pub spelling_of : Index → List ℕ

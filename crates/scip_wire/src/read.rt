@@ -6,7 +6,6 @@ ghost use Rattle.scip_wire.specs.Decodes.{Decodes};
 ghost use Rattle.scip_wire.specs.Gives.{Gives};
 ghost use Rattle.scip_wire.specs.Reading.{index_at};
 
-mod cause;
 mod document;
 mod field;
 mod index;
@@ -15,10 +14,7 @@ mod message;
 mod metadata;
 mod occurrence;
 mod range;
-#[cfg(test)]
-mod samples;
-#[cfg(test)]
-mod tests;
+mod record_fault;
 mod text;
 mod tool_info;
 mod varint;

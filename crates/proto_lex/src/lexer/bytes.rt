@@ -124,7 +124,7 @@ fn digits_len(bytes: &[u8]) -> usize
     bytes.iter().take_while(|b| is_digit(**b)).count()
 }
 
-/// The bytes behind the digits that they begin with.
+/// The bytes after the digits that they begin with.
 pub(crate) fn past_digits(bytes: &[u8]) -> &[u8]
     ensures { result.now ≡ past is_digit bytes.now }
 {

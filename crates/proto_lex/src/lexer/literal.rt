@@ -1,8 +1,9 @@
 //! String literals.
 
-ghost use Rattle.std.specs.Prelude.{◌≡◌, ℕ, ◌+◌, ◌<◌, ◌≤◌, ◌^◌, length, IfOk, IfSome};
+ghost use Rattle.std.specs.Prelude.{◌≡◌, ℕ, ◌+◌, ◌<◌, ◌≤◌, length, IfOk, IfSome};
 ghost use Rattle.proto_lex.specs.Literals.{is_escape_letter};
 ghost use Rattle.proto_lex.specs.Reading.{begins_with_hex, begins_long_unicode, escape_len, character_at, literal_at};
+ghost use Rattle.proto_lex.specs.Text.{max_text_length};
 
 use crate::fault::LexFault;
 use crate::lexer::bytes::{all_hex_digits, is_octal_digit, tail};
@@ -30,7 +31,7 @@ fn begins_long_unicode(bytes: &[u8]) -> bool
     }
 }
 
-/// How many bytes an escape takes behind its `\`. The digits that may follow are left, as
+/// How many bytes an escape takes after its `\`. The digits that may follow are left, as
 /// characters.
 fn escape_len(bytes: &[u8]) -> Option<usize>
     ensures value { result ≡ escape_len bytes.now }
@@ -55,7 +56,7 @@ fn escape_len(bytes: &[u8]) -> Option<usize>
 /// It stands at `at`, before `others`, in a string that opens at `opening`.
 #[tactic(auto, unfolding(crate::specs::Reading::character_at))]
 fn character_at(first: u8, others: &[u8], opening: usize, at: usize) -> Result<usize, LexFault>
-    requires { length others.now < 2 ^ 63 }
+    requires { length others.now ≤ max_text_length }
     ensures value { result ≡ character_at opening at first others.now }
     ensures within { IfOk result (λ len. len ≤ length others.now + 1) }
 {
@@ -72,17 +73,17 @@ fn character_at(first: u8, others: &[u8], opening: usize, at: usize) -> Result<u
 
 /// How many bytes the string takes that opens with `quote` at `opening`, before `others`.
 pub(crate) fn literal_at(quote: u8, others: &[u8], opening: usize) -> Result<usize, LexFault>
-    requires { opening + length others.now < 2 ^ 63 }
+    requires { opening + length others.now ≤ max_text_length }
     ensures value { result ≡ literal_at quote opening 0 1 others.now }
     ensures within { IfOk result (λ len. len ≤ length others.now + 1) }
 {
     let mut len = 1;
     let mut rest = others;
-    while let [first, behind @ ..] = rest {
+    while let [first, after @ ..] = rest {
         if *first == quote {
             return Ok(len + 1);
         }
-        let more = character_at(*first, behind, opening, opening + len)?;
+        let more = character_at(*first, after, opening, opening + len)?;
         rest = tail(rest, more);
         len += more;
     }

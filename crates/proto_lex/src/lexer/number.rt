@@ -1,10 +1,11 @@
 //! Integer and floating-point literals.
 
-ghost use Rattle.std.specs.Prelude.{◌≡◌, ℕ, ◌+◌, ◌<◌, ◌≤◌, ◌^◌, length, take};
+ghost use Rattle.std.specs.Prelude.{◌≡◌, ℕ, ◌+◌, ◌<◌, ◌≤◌, length, take};
 ghost use Rattle.std.specs.List.{list_all};
 ghost use Rattle.proto_lex.specs.Bytes.{is_digit, is_octal_digit, is_hex_digit};
-ghost use Rattle.proto_lex.specs.Numbers.{begins_hexadecimal, goes_on, run_behind, run_of, begins_number};
+ghost use Rattle.proto_lex.specs.Numbers.{begins_hexadecimal, goes_on, run_after, run_of, begins_number};
 ghost use Rattle.proto_lex.specs.Reading.{are_digits, are_hex_digits, is_zero_integer, is_integer, past_sign, is_exponent_or_none, ends_fraction, ends_whole, is_float, number_kind, number_at};
+ghost use Rattle.proto_lex.specs.Text.{max_text_length};
 
 use crate::fault::LexFault;
 use crate::lexer::bytes::{
@@ -41,9 +42,9 @@ fn goes_on(may_hold_signs: bool, last: u8, next: u8) -> bool
         || may_hold_signs && is_exponent_mark(last) && is_plus_or_minus(next)
 }
 
-/// How many bytes a run, in which `first` stands, takes behind it.
-fn run_len_behind(may_hold_signs: bool, first: u8, others: &[u8]) -> usize
-    ensures value { result ≡ length (run_behind may_hold_signs first others.now) }
+/// How many bytes a run, in which `first` stands, takes after it.
+fn run_len_after(may_hold_signs: bool, first: u8, others: &[u8]) -> usize
+    ensures value { result ≡ length (run_after may_hold_signs first others.now) }
     ensures within { result ≤ length others.now }
 {
     let mut last = first;
@@ -60,12 +61,12 @@ fn run_len_behind(may_hold_signs: bool, first: u8, others: &[u8]) -> usize
 
 /// The run of a number that begins the bytes.
 fn run_of(bytes: &[u8]) -> &[u8]
-    requires { length bytes.now < 2 ^ 63 }
+    requires { length bytes.now ≤ max_text_length }
     ensures { result.now ≡ run_of bytes.now }
 {
     match bytes {
         [first, others @ ..] => {
-            let len = run_len_behind(!begins_hexadecimal(bytes), *first, others);
+            let len = run_len_after(!begins_hexadecimal(bytes), *first, others);
             bytes.split_at(len + 1).0
         }
         [] => bytes,
@@ -121,7 +122,7 @@ fn is_exponent_or_none(bytes: &[u8]) -> bool
     }
 }
 
-/// Whether these bytes may follow the point of a number that has digits before it or behind it.
+/// Whether these bytes may follow the point of a number that has digits before it or after it.
 fn ends_fraction(bytes: &[u8]) -> bool
     ensures { result ≡ ends_fraction bytes.now }
 {
@@ -164,7 +165,7 @@ fn number_kind(run: &[u8]) -> Option<TokenKind>
 /// The number that begins the bytes, which stand at the offset `at`.
 #[tactic(auto, unfolding(crate::specs::Reading::number_at))]
 pub(crate) fn number_at(bytes: &[u8], at: usize) -> Result<Piece, LexFault>
-    requires { length bytes.now < 2 ^ 63 }
+    requires { length bytes.now ≤ max_text_length }
     ensures { result ≡ number_at at bytes.now }
 {
     let run = run_of(bytes);

@@ -1,9 +1,10 @@
 //! What stands at a place of a text: a blank, a comment or a token.
 
-ghost use Rattle.std.specs.Prelude.{◌≡◌, ℕ, ◌+◌, ◌<◌, ◌≤◌, ◌^◌, length, IfOk, IfSome};
+ghost use Rattle.std.specs.Prelude.{◌≡◌, ℕ, ◌+◌, ◌<◌, ◌≤◌, length, IfOk, IfSome};
 ghost use Rattle.proto_lex.specs.Comments.{begins_close};
 ghost use Rattle.proto_lex.specs.Lexes.{sign_kind};
 ghost use Rattle.proto_lex.specs.Reading.{token, block_at, slash_at, piece_at};
+ghost use Rattle.proto_lex.specs.Text.{max_text_length};
 
 use crate::fault::LexFault;
 use crate::lexer::bytes::{is_blank, is_letter, is_quote, line_len, word_len};
@@ -32,19 +33,19 @@ fn begins_close(bytes: &[u8]) -> bool
     matches!(bytes, [b'*', b'/', ..])
 }
 
-/// How many bytes a block comment takes, where these stand behind its `/*`.
+/// How many bytes a block comment takes, where these stand after its `/*`.
 fn block_len(others: &[u8]) -> Option<usize>
-    requires { length others.now < 2 ^ 63 }
+    requires { length others.now ≤ max_text_length }
     ensures value { result ≡ block_at 2 others.now }
     ensures within { IfSome result (λ len. len ≤ length others.now + 2) }
 {
     let mut len = 2;
     let mut rest = others;
-    while let [_, behind @ ..] = rest {
+    while let [_, after @ ..] = rest {
         if begins_close(rest) {
             return Some(len + 2);
         }
-        rest = behind;
+        rest = after;
         len += 1;
     }
     None
@@ -85,7 +86,7 @@ fn token(kind: TokenKind, len: usize) -> Piece
 
 /// The comment or the sign that a `/` begins at `at`, before `others`.
 fn slash_at(others: &[u8], at: usize) -> Result<Piece, LexFault>
-    requires { length others.now < 2 ^ 63 }
+    requires { length others.now ≤ max_text_length }
     ensures { result ≡ slash_at at others.now }
 {
     match others {
@@ -107,7 +108,7 @@ fn slash_at(others: &[u8], at: usize) -> Result<Piece, LexFault>
 /// What these bytes begin with, which stand at `at`.
 #[tactic(auto, unfolding(crate::specs::Reading::piece_at))]
 pub(crate) fn piece_at(bytes: &[u8], at: usize) -> Result<Piece, LexFault>
-    requires { at + length bytes.now < 2 ^ 63 }
+    requires { at + length bytes.now ≤ max_text_length }
     ensures { result ≡ piece_at at bytes.now }
 {
     let [first, others @ ..] = bytes else {

@@ -12,8 +12,8 @@ use Rattle.protoscip.specs.Syntax.Tree.{Body, MessageTree}
 use Rattle.protoscip.specs.Syntax.Tree.Body.{NoMore, FieldThen, MessageThen}
 
 -- One token of the kind.
-pub data IsToken (kind : TokenKind) : List Lexeme → Span → List Lexeme → Type 0 where
-  token : {t : Lexeme} {rest : List Lexeme} → t.kind ≡ kind → IsToken kind (t ∷ rest) t.span rest
+pub data IsTerminal (kind : TokenKind) : List Lexeme → Span → List Lexeme → Type 0 where
+  token : {t : Lexeme} {rest : List Lexeme} → t.kind ≡ kind → IsTerminal kind (t ∷ rest) t.span rest
 
 -- One identifier that is spelled so.
 pub data IsWord (word : List ℕ) : List Lexeme → Span → List Lexeme → Type 0 where
@@ -34,15 +34,15 @@ abbrev pub between_quotes : List ℕ → List ℕ
 between_quotes spelling = take (length spelling - 2) (drop 1 spelling)
 
 -- "String literals": one or more, as many as stand there, joined.
-pub data IsText : List Lexeme → List ℕ → List Lexeme → Type 0 where
-  last : {t : Lexeme} {rest : List Lexeme} → t.kind ≡ StringLiteral → NotNext StringLiteral rest → IsText (t ∷ rest) (between_quotes t.spelling) rest
-  more : {t : Lexeme} {rest after : List Lexeme} {text : List ℕ} → t.kind ≡ StringLiteral → IsText rest text after
-      → IsText (t ∷ rest) (between_quotes t.spelling ++ text) after
+pub data IsLiterals : List Lexeme → List ℕ → List Lexeme → Type 0 where
+  last : {t : Lexeme} {rest : List Lexeme} → t.kind ≡ StringLiteral → NotNext StringLiteral rest → IsLiterals (t ∷ rest) (between_quotes t.spelling) rest
+  more : {t : Lexeme} {rest after : List Lexeme} {text : List ℕ} → t.kind ≡ StringLiteral → IsLiterals rest text after
+      → IsLiterals (t ∷ rest) (between_quotes t.spelling ++ text) after
 
 -- "Syntax": the word, `=`, literals that spell `proto3` when joined, `;`.
 pub data IsSyntax : List Lexeme → List Lexeme → Type 0 where
   syntax : {a b c d e : List Lexeme} {keyword equals semicolon : Span} {text : List ℕ}
-      → IsWord (codes "syntax") a keyword b → IsToken Equals b equals c → IsText c text d → text ≡ codes "proto3" → IsToken Semicolon d semicolon e
+      → IsWord (codes "syntax") a keyword b → IsTerminal Equals b equals c → IsLiterals c text d → text ≡ codes "proto3" → IsTerminal Semicolon d semicolon e
       → IsSyntax a e
 
 -- "Normal field": `repeated`, `optional`, or no label.
@@ -58,33 +58,37 @@ pub data IsType : List Lexeme → Span → List Lexeme → Type 0 where
 -- "Normal field": label, type, name, `=`, number, `;`.
 pub data IsField : List Lexeme → Field → List Lexeme → Type 0 where
   field : {a b c d e f g : List Lexeme} {label : Option Span} {type_name name equals number semicolon : Span}
-      → IsLabel a label b → IsType b type_name c → IsToken Identifier c name d → IsToken Equals d equals e → IsToken Integer e number f → IsToken Semicolon f semicolon g
+      → IsLabel a label b → IsType b type_name c → IsTerminal Identifier c name d → IsTerminal Equals d equals e → IsTerminal Integer e number f → IsTerminal Semicolon f semicolon g
       → IsField a (record { label = label; type_name = type_name; name = name; number = number; semicolon = semicolon }) g
 
+-- how many messages may stand inside one another (the profile's)
+abbrev pub max_nesting : ℕ
+max_nesting = 64
+
 mutual
-  -- "Message definition": the word, a name, and a body in braces. At most `room` messages stand inside one another, itself the outermost.
+  -- "Message definition": the word, a name, and a body in braces. At most `levels` messages stand inside one another, itself the outermost.
   pub data IsMessage : ℕ → List Lexeme → MessageTree → List Lexeme → Type 0 where
-    message : {room : ℕ} {a b c d e f : List Lexeme} {keyword name open_brace close_brace : Span} {body : Body}
-        → IsWord (codes "message") a keyword b → IsToken Identifier b name c → IsToken OpenBrace c open_brace d → IsBody room d body e → IsToken CloseBrace e close_brace f
-        → IsMessage (suc room) a (record { heading = record { keyword = keyword; name = name; open_brace = open_brace }; body = body }) f
+    message : {levels : ℕ} {a b c d e f : List Lexeme} {keyword name open_brace close_brace : Span} {body : Body}
+        → IsWord (codes "message") a keyword b → IsTerminal Identifier b name c → IsTerminal OpenBrace c open_brace d → IsBody levels d body e → IsTerminal CloseBrace e close_brace f
+        → IsMessage (suc levels) a (record { heading = record { keyword = keyword; name = name; open_brace = open_brace }; body = body }) f
 
-  -- What stands before the closing brace: messages, fields and `;`. At most `room` messages stand inside one another.
+  -- What stands before the closing brace: messages, fields and `;`. At most `levels` messages stand inside one another.
   pub data IsBody : ℕ → List Lexeme → Body → List Lexeme → Type 0 where
-    at_close : {room : ℕ} {t : Lexeme} {rest : List Lexeme} → t.kind ≡ CloseBrace → IsBody room (t ∷ rest) NoMore (t ∷ rest)
-    semicolon : {room : ℕ} {a b c : List Lexeme} {span : Span} {others : Body}
-        → IsToken Semicolon a span b → IsBody room b others c → IsBody room a others c
-    plain : {room : ℕ} {a b c : List Lexeme} {field : Field} {others : Body}
-        → IsField a field b → IsBody room b others c → IsBody room a (FieldThen field others) c
-    nested : {room : ℕ} {a b c : List Lexeme} {message : MessageTree} {others : Body}
-        → IsMessage room a message b → IsBody room b others c → IsBody room a (MessageThen message.heading message.body others) c
+    at_close : {levels : ℕ} {t : Lexeme} {rest : List Lexeme} → t.kind ≡ CloseBrace → IsBody levels (t ∷ rest) NoMore (t ∷ rest)
+    semicolon : {levels : ℕ} {a b c : List Lexeme} {span : Span} {others : Body}
+        → IsTerminal Semicolon a span b → IsBody levels b others c → IsBody levels a others c
+    plain : {levels : ℕ} {a b c : List Lexeme} {field : Field} {others : Body}
+        → IsField a field b → IsBody levels b others c → IsBody levels a (FieldThen field others) c
+    nested : {levels : ℕ} {a b c : List Lexeme} {message : MessageTree} {others : Body}
+        → IsMessage levels a message b → IsBody levels b others c → IsBody levels a (MessageThen message.heading message.body others) c
 
--- "Proto file": what stands behind the syntax statement, up to the end: messages and `;`. 64 messages may stand inside one another (the profile's).
+-- "Proto file": what follows the syntax statement, up to the end: messages and `;`.
 pub data AreStatements : List Lexeme → List MessageTree → Type 0 where
   at_end : AreStatements [] []
   semicolon : {a b : List Lexeme} {span : Span} {messages : List MessageTree}
-      → IsToken Semicolon a span b → AreStatements b messages → AreStatements a messages
+      → IsTerminal Semicolon a span b → AreStatements b messages → AreStatements a messages
   message : {a b : List Lexeme} {message : MessageTree} {messages : List MessageTree}
-      → IsMessage 64 a message b → AreStatements b messages → AreStatements a (message ∷ messages)
+      → IsMessage max_nesting a message b → AreStatements b messages → AreStatements a (message ∷ messages)
 
 pub data IsFile : List Lexeme → List MessageTree → Type 0 where
   file : {a b : List Lexeme} {messages : List MessageTree} → IsSyntax a b → AreStatements b messages → IsFile a messages

@@ -9,7 +9,7 @@ use Rattle.protoscip.specs.declared.syntax.tree.MessageItem.{MessageItem}
 use Rattle.protoscip.specs.declared.syntax.tree.MessageItem.TheVariants.{Message, Field as FieldItem}
 use Rattle.protoscip.specs.Syntax.Lexeme.{Lexeme}
 use Rattle.protoscip.specs.Syntax.Terminal.{is_kind, is_scalar_word}
-use Rattle.protoscip.specs.Syntax.Derives.{between_quotes}
+use Rattle.protoscip.specs.Syntax.Derives.{between_quotes, max_nesting}
 use Rattle.protoscip.specs.Syntax.Tree.{MessageTree}
 use Rattle.protoscip.specs.Syntax.Items.{body_of}
 
@@ -116,12 +116,12 @@ message_with items tokens = do
 
 unfoldable pub message_at : ℕ → Read MessageTree
 message_at zero tokens = None
-message_at (suc room) tokens = message_with (all_until closes (item_at (message_at room))) tokens
+message_at (suc levels) tokens = message_with (all_until closes (item_at (message_at levels))) tokens
 
 unfoldable pub statement_at : Read (Option MessageTree)
 statement_at tokens =
     cond (first_is (of_kind Semicolon) tokens) (Some (None, others tokens))
-    (message_at 64 tokens >>= λ m. Some (Some m.0, m.1))
+    (message_at max_nesting tokens >>= λ m. Some (Some m.0, m.1))
 
 abbrev pub ends : List Lexeme → Bool
 ends [] = true

@@ -6,7 +6,8 @@ use thiserror::Error;
 /// Why the tokens of a text derive no tree of the grammar.
 ///
 /// Offsets are byte offsets from the text's start, of the first token that can't stand at its
-/// place, or the text's length where tokens are missing.
+/// place, or the text's length where tokens are missing. Which fault that is, and its offset, is
+/// shown by tests.
 #[derive(Clone, Copy, Debug, Drop, PartialEq, Eq, Error)]
 pub enum SyntaxFault {
     /// The first token is not the word `syntax` (its offset), or the syntax statement's literals

@@ -12,6 +12,9 @@ use crate::syntax::tree::{Field, Message, MessageItem};
 use proto_lex::{Span, TokenKind};
 use std::alloc::{AllocError, Global};
 
+/// How many messages may stand inside one another.
+const MAX_NESTING: usize = 64;
+
 impl<'t> Parser<'t> {
     /// A file: the syntax statement, then messages and `;` (proto3 specification, "Proto file").
     #[tactic(auto, unfolding(crate::specs::Syntax::Reading::file_at))]
@@ -23,7 +26,7 @@ impl<'t> Parser<'t> {
     }
 
     /// The syntax statement (proto3 specification, "Syntax").
-    #[tactic(auto, using(crate::proofs::Parsing::Stops::no_token), unfolding(crate::specs::Syntax::Reading::syntax_at))]
+    #[tactic(auto, using(crate::proofs::SyntaxLemmas::Stops::no_token), unfolding(crate::specs::Syntax::Reading::syntax_at))]
     fn syntax(&mut self, alloc: Global) -> Result<(), SyntaxFault>
         ensures { Gives (λ x. x) self.new result (syntax_at self.old) }
     {
@@ -39,7 +42,7 @@ impl<'t> Parser<'t> {
     }
 
     /// String literals that spell `proto3` when joined.
-    #[tactic(auto, using(crate::proofs::Parsing::Stops::no_literal), unfolding(crate::specs::Syntax::Reading::proto3_at))]
+    #[tactic(auto, using(crate::proofs::SyntaxLemmas::Stops::no_literal), unfolding(crate::specs::Syntax::Reading::proto3_at))]
     fn proto3(&mut self, alloc: Global) -> Result<(), SyntaxFault>
         ensures { Gives (λ x. x) self.new result (proto3_at self.old) }
     {
@@ -85,7 +88,7 @@ impl<'t> Parser<'t> {
         let mut messages = Vec::new(alloc);
         'statements: while !self.is_at_end() {
             let message = self.statement(alloc)?;
-            keep(&mut messages, message)?;
+            push_item(&mut messages, message)?;
         }
         Ok(messages)
     }
@@ -99,23 +102,23 @@ impl<'t> Parser<'t> {
             self.next();
             return Ok(None);
         }
-        Ok(Some(self.message(alloc, 64)?))
+        Ok(Some(self.message(alloc, MAX_NESTING)?))
     }
 
-    /// A message, with fewer than `room` messages inside one another in it (proto3 specification,
+    /// A message, with fewer than `levels` messages inside one another in it (proto3 specification,
     /// "Message definition").
     #[cycle(parser)]
     #[tactic(auto, unfolding(crate::specs::Syntax::Reading::message_at, crate::specs::Syntax::Reading::message_with))]
-    fn message(&mut self, alloc: Global, room: usize) -> Result<Message, SyntaxFault>
-        ensures { Gives (λ x. x) self.new result (message_at room self.old) }
+    fn message(&mut self, alloc: Global, levels: usize) -> Result<Message, SyntaxFault>
+        ensures { Gives (λ x. x) self.new result (message_at levels self.old) }
     {
-        if room == 0 {
+        if levels == 0 {
             return Err(SyntaxFault::TooDeep(self.offset()));
         }
         let keyword = self.word("message")?;
         let name = self.token(TokenKind::Identifier)?;
         let open_brace = self.token(TokenKind::OpenBrace)?;
-        let items = self.items(alloc, room - 1)?;
+        let items = self.items(alloc, levels - 1)?;
         self.token(TokenKind::CloseBrace)?;
         Ok(Message {
             keyword,
@@ -125,15 +128,15 @@ impl<'t> Parser<'t> {
         })
     }
 
-    /// What stands before a message's closing brace.
+    /// The items of a message, up to its closing brace.
     #[cycle(parser)]
-    fn items(&mut self, alloc: Global, room: usize) -> Result<Vec<MessageItem>, SyntaxFault>
-        ensures { Gives (λ x. x.items) self.new result (all_until closes (item_at (message_at room)) self.old) }
+    fn items(&mut self, alloc: Global, levels: usize) -> Result<Vec<MessageItem>, SyntaxFault>
+        ensures { Gives (λ x. x.items) self.new result (all_until closes (item_at (message_at levels)) self.old) }
     {
         let mut items = Vec::new(alloc);
         'items: while !self.is_at(TokenKind::CloseBrace) {
-            let item = self.item(alloc, room)?;
-            keep(&mut items, item)?;
+            let item = self.item(alloc, levels)?;
+            push_item(&mut items, item)?;
         }
         Ok(items)
     }
@@ -141,15 +144,15 @@ impl<'t> Parser<'t> {
     /// One item of a message, or a lone `;`. The first word says what it is.
     #[cycle(parser)]
     #[tactic(auto, unfolding(crate::specs::Syntax::Reading::item_at))]
-    fn item(&mut self, alloc: Global, room: usize) -> Result<Option<MessageItem>, SyntaxFault>
-        ensures { Gives (λ x. x) self.new result (item_at (message_at room) self.old) }
+    fn item(&mut self, alloc: Global, levels: usize) -> Result<Option<MessageItem>, SyntaxFault>
+        ensures { Gives (λ x. x) self.new result (item_at (message_at levels) self.old) }
     {
         if self.is_at(TokenKind::Semicolon) {
             self.next();
             return Ok(None);
         }
         if self.is_at_word("message") {
-            return Ok(Some(MessageItem::Message(self.message(alloc, room)?)));
+            return Ok(Some(MessageItem::Message(self.message(alloc, levels)?)));
         }
         Ok(Some(MessageItem::Field(self.field()?)))
     }
@@ -201,7 +204,7 @@ impl<'t> Parser<'t> {
 }
 
 /// Puts the item at the end, if there is one.
-fn keep<T: Drop>(items: &mut Vec<T>, item: Option<T>) -> Result<(), AllocError>
+fn push_item<T: Drop>(items: &mut Vec<T>, item: Option<T>) -> Result<(), AllocError>
     ensures { OnOk result (items.new.items ≡ items.old.items ++ option_to_list item) }
 {
     if let Some(item) = item {

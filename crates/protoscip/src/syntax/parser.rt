@@ -1,6 +1,7 @@
 //! The parser's place among the tokens.
 
-ghost use Rattle.std.specs.Prelude.{◌≡◌, option_map};
+ghost use Rattle.std.specs.Prelude.{◌≡◌, option_map, slice_get, length, IfSome};
+ghost use Rattle.std.specs.Option.{option_map_or};
 ghost use Rattle.protoscip.specs.Syntax.Gives.{Gives};
 ghost use Rattle.protoscip.specs.Syntax.Derives.{between_quotes};
 ghost use Rattle.protoscip.specs.Syntax.Reading.{first, others, first_is, of_kind, is_word, is_scalar, token_that, ends};
@@ -63,6 +64,16 @@ impl<'t> Lexeme<'t> {
     }
 }
 
+/// The offset of the token at a place, or the text's length.
+fn offset_at(tokens: &Tokens<'_>, place: usize) -> usize
+    ensures { result ≡ option_map_or (λ t. t.span.start) (slice_get tokens.now.tokens place) (length tokens.now.text) }
+{
+    match tokens.tokens().get(place) {
+        Some(token) => token.span.start,
+        None => tokens.text().len(),
+    }
+}
+
 /// A place among the tokens of a text. Contracts see the tokens behind it, with their spellings.
 #[derive(Drop)]
 pub struct Parser<'t> {
@@ -112,7 +123,7 @@ impl<'t> Parser<'t> {
     }
 
     /// Goes behind the next token, if there is one.
-    #[tactic(auto, using(crate::proofs::Parsing::Places::others_drop))]
+    #[tactic(auto, using(crate::proofs::SyntaxLemmas::Places::others_drop))]
     fn advance(&mut self)
         ensures { self.new ≡ others self.old }
     {
@@ -122,11 +133,10 @@ impl<'t> Parser<'t> {
     }
 
     /// The offset of the next token, or the text's length.
-    pub fn offset(&self) -> usize {
-        match self.peek() {
-            Some(lexeme) => lexeme.span.start,
-            None => self.tokens.text().len(),
-        }
+    pub fn offset(&self) -> usize
+        ensures { IfSome (first self.now) (λ t. result ≡ t.span.start) }
+    {
+        offset_at(self.tokens, self.next)
     }
 
     /// Whether no token is left.

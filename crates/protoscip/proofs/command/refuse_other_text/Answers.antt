@@ -2,7 +2,7 @@ use Rattle.std.proofs.Common.{subst}
 use Rattle.std.proofs.lemmas.Result.{IfOk-weaker}
 use Rattle.clap.specs.declared.error.kind.ErrorKind.{ErrorKind}
 use Rattle.protoscip.specs.CommandLine.{Prints}
-use Rattle.protoscip.proofs.CommandLines.{refuses}
+use Rattle.protoscip.proofs.CommandLineLemmas.{refuses}
 use Rattle.protoscip.proofs.command.refuse_other_text.Goals as goal
 
 pub returns : goal.returns

@@ -1,7 +1,7 @@
 use Rattle.std.proofs.Common.{◌∙◌, ap, ap₂, sym, subst, map, string_bytes}
 use Rattle.std.proofs.lemmas.Result.{IfOk-weaker}
 use Rattle.clap.specs.Words.{Kinds, HasKind, fault_of, is_simple_and_free}
-use Rattle.protoscip.proofs.CommandLines.{asks_answer, asks_dump, command_line_is_simple}
+use Rattle.protoscip.proofs.CommandLineLemmas.{asks_answer, asks_dump, command_line_is_simple}
 use Rattle.protoscip.proofs.command.request_of.Goals as goal
 
 pub returns-in-Ok : goal.returns-in-Ok

@@ -3,7 +3,7 @@ use Rattle.protoscip.specs.declared.syntax.tree.MessageItem.TheVariants.{Message
 use Rattle.protoscip.specs.Syntax.Items.{body_of}
 use Rattle.protoscip.specs.Syntax.Tree.{MessageTree}
 use Rattle.proto_lex.specs.Lexed.{IsPart}
-use Rattle.protoscip.proofs.Walks.{left_at, nested-smaller, names-message, names-field, told-message, told-field}
+use Rattle.protoscip.proofs.DeclarationLemmas.{left_at, nested-smaller, names-message, names-field, told-message, told-field}
 use Rattle.protoscip.proofs.declarations.+declare_message.Goals as goal
 use Rattle.protoscip.proofs.declarations.+declare_message.Goals.{in-Message+in_ok-declare_message-in-Message, in-Field+in_ok-declaration_at-in-Field+in_ok-push-in-Field}
 

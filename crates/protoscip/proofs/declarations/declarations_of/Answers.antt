@@ -1,5 +1,5 @@
 use Rattle.proto_lex.specs.Lexed.{IsPart}
-use Rattle.protoscip.proofs.Walks.{left_at, names-top, told-top}
+use Rattle.protoscip.proofs.DeclarationLemmas.{left_at, names-top, told-top}
 use Rattle.protoscip.proofs.declarations.declarations_of.Goals as goal
 
 pub declare_message-requires : goal.declare_message-requires

@@ -3,7 +3,7 @@ use Rattle.std.specs.Ordering.{is_lt}
 use Rattle.std.proofs.lemmas.List.{take_all}
 use Rattle.std.proofs.lemmas.List.Sorted.{answers_always}
 use Rattle.protoscip.specs.Document.{info_cmp, infos_of}
-use Rattle.protoscip.proofs.Orders.{infos_rank}
+use Rattle.protoscip.proofs.DocumentLemmas.{infos_rank}
 use Rattle.protoscip.proofs.document.infos.Goals as goal
 
 pub returns : goal.returns

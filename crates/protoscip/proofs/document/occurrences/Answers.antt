@@ -3,7 +3,7 @@ use Rattle.std.specs.Ordering.{is_lt}
 use Rattle.std.proofs.lemmas.List.{take_all}
 use Rattle.std.proofs.lemmas.List.Sorted.{answers_always}
 use Rattle.protoscip.specs.Document.{occurrence_cmp, occurrences_of}
-use Rattle.protoscip.proofs.Orders.{occurrences_rank}
+use Rattle.protoscip.proofs.DocumentLemmas.{occurrences_rank}
 use Rattle.protoscip.proofs.document.occurrences.Goals as goal
 
 pub returns : goal.returns

@@ -2,7 +2,7 @@ use Rattle.std.proofs.Common.{◌≡◌, length, refl, sym, ◌∙◌, arith, su
 use Rattle.std.proofs.lemmas.Option.{slice_get_read, slice_get_within}
 use Rattle.protoscip.specs.declared.declarations.Declaration.{Declaration}
 use Rattle.protoscip.specs.Duplicates.{Clash}
-use Rattle.protoscip.proofs.ClashLemmas.{is_named, none-more, clash-found}
+use Rattle.protoscip.proofs.DuplicateLemmas.{is_named, none-more, clash-found}
 use Rattle.protoscip.proofs.duplicates.first_clash.Goals as goal
 
 pub returns-in-Some : goal.returns-in-Some

@@ -1,4 +1,4 @@
-use Rattle.protoscip.proofs.ClashLemmas.{NoClashBelow}
+use Rattle.protoscip.proofs.DuplicateLemmas.{NoClashBelow}
 use Rattle.protoscip.proofs.duplicates.first_clash.Given as goal
 
 abbrev pub invariant-loop-index : goal.invariant-loop-index

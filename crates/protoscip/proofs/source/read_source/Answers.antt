@@ -2,8 +2,8 @@ use Rattle.std.proofs.Common.{◌≡◌, ℕ, ◌<◌, ◌≤◌, ◌++◌, List
 use Rattle.std.proofs.lemmas.List.{append-nil}
 use Rattle.scip_model.specs.Streams.{one_more}
 use Rattle.scip_model.specs.declared.failed.Failed.{Failed}
-use Rattle.protoscip.specs.Source.{kept}
-use Rattle.protoscip.proofs.Kept.{kept-more, kept-few, one-more-read, no-end, consumed, nothing-left, reads-full, more-reads}
+use Rattle.protoscip.specs.Source.{kept_bytes, max_kept_length}
+use Rattle.protoscip.proofs.SourceLemmas.{kept_bytes-more, kept_bytes-few, one-more-read, no-end, consumed, nothing-left, reads-full, more-reads}
 use Rattle.protoscip.proofs.source.read_source.Goals as goal
 
 pub reads-init : goal.reads-init
@@ -24,7 +24,7 @@ returns-then-count-eq0-clause-bytes g c = λ all e.
     let none : take c.in-Ok.count c.read.new.room ≡ [] = ap (λ n. take n c.read.new.room) c.if-count-eq0.true in
     let end : after.0 ≡ [] = nothing-left _ after.0 after.1 (c.in-Ok.ensures.bytes.1 c.if-count-eq0.true (omega arith)) in
     let all_given : all ≡ before.0 = before.3 ∙ ap (λ l. before.0 ++ l) (after.2 ∙ (ap (λ l. l ++ after.0) none ∙ end)) ∙ append-nil before.0 in
-    before.4 ∙ ap kept (sym all_given)
+    before.4 ∙ ap kept_bytes (sym all_given)
 
 pub reads-preserved : goal.reads-preserved
 reads-preserved g c =
@@ -39,9 +39,9 @@ reads-preserved g c =
             after.0,
             after.1,
             before.3 ∙ ap (λ l. before.0 ++ l) after.2 ∙ sym (append_assoc before.0 taken after.0),
-            c.in_ok-keep.ensures ∙ kept-more before.0 taken c.reads.bytes.items before.4,
+            c.in_ok-append_kept.ensures ∙ kept_bytes-more before.0 taken c.reads.bytes.items before.4,
           );
-      few = subst (λ (l : List ℕ). length l ≤ 67108865) (sym c.in_ok-keep.ensures) (kept-few _);
+      few = subst (λ (l : List ℕ). length l ≤ max_kept_length) (sym c.in_ok-append_kept.ensures) (kept_bytes-few _);
       failures = c.in-Ok.ensures.failures ∙ c.reads.invariant.failures;
       no_reads = λ none. absurd (omega arith);
       reads = λ _. one-more-read _ _ _ c.reads._read c.reads.invariant.no_reads c.reads.invariant.reads read;

@@ -1,7 +1,7 @@
 use Rattle.std.proofs.lemmas.Result.{err_from_is_err_and}
 use Rattle.protoscip.specs.Syntax.Derives.{IsFile}
-use Rattle.protoscip.proofs.Parsing.Found.{file_found}
-use Rattle.protoscip.proofs.Parsing.Exact.{same_tree, only_memory}
+use Rattle.protoscip.proofs.SyntaxLemmas.Found.{file_found}
+use Rattle.protoscip.proofs.SyntaxLemmas.Exact.{same_tree, only_memory}
 use Rattle.protoscip.proofs.syntax.parse.Goals as goal
 
 pub returns-clause-found : goal.returns-clause-found

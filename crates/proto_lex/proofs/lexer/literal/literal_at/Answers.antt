@@ -1,7 +1,7 @@
 use Rattle.std.proofs.Common.{◌∙◌, Err, ap, sym, arith, length-drop}
 use Rattle.std.proofs.lemmas.Result.{err_from_is_err_and}
-use Rattle.proto_lex.proofs.LiteralSteps.{literal_step, literal_fault, literal_close, literal_end, character_positive}
-use Rattle.proto_lex.proofs.Tools.{length-behind}
+use Rattle.proto_lex.proofs.LiteralLemmas.{literal_step, literal_fault, literal_close, literal_end, character_positive}
+use Rattle.proto_lex.proofs.ReadLemmas.{length-after}
 use Rattle.proto_lex.proofs.lexer.literal.literal_at.Goals as goal
 
 pub returns-then-first-quote-clause-value : goal.returns-then-first-quote-clause-value
@@ -25,7 +25,7 @@ loop-rest-preserved c =
     let step = literal_step _ _ _ _ _ c.in-len1-up.len_at_least c.if-first-quote.false read in
     record {
       read = rw c.tail-rest.ensures (sym step ∙ c.loop-rest.invariant.read);
-      counted = rw c.tail-rest.ensures (omega (arith, length-drop c.in_ok-more.more c.loop-rest.rest.now, c.in_ok-more.ensures.within, length-behind c.loop-rest.rest.now c.in-len1-up.len_at_least));
+      counted = rw c.tail-rest.ensures (omega (arith, length-drop c.in_ok-more.more c.loop-rest.rest.now, c.in_ok-more.ensures.within, length-after c.loop-rest.rest.now c.in-len1-up.len_at_least));
     }
 
 pub returns-clause-value : goal.returns-clause-value

@@ -1,4 +1,4 @@
 use Rattle.scip_wire.proofs.read.varint.+varint_of.Given as goal
 
 abbrev pub decreases-varint_of : goal.decreases-varint_of
-decreases-varint_of l = l.room
+decreases-varint_of l = l.limit

@@ -1,7 +1,7 @@
 use Rattle.std.proofs.Common.{◌≡◌, ◌++◌, true, false, sym, ◌∙◌, ap, append_assoc, append-nil}
 use Rattle.proto_lex.specs.declared.token.TokenKind.TheVariants.{StringLiteral}
 use Rattle.protoscip.specs.Syntax.Reading.{first_is, of_kind}
-use Rattle.protoscip.proofs.Parsing.Stops.{no_text, no_text_after, text_goes_on, after_goes_on}
+use Rattle.protoscip.proofs.SyntaxLemmas.Stops.{no_text, no_text_after, text_goes_on, after_goes_on}
 use Rattle.protoscip.proofs.syntax.parser.Parser.literals.Goals as goal
 
 pub literals-preserved : goal.literals-preserved

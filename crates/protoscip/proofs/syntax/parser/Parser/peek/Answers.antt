@@ -1,5 +1,5 @@
 use Rattle.std.proofs.Common.{◌≡◌, Some, slice_get}
-use Rattle.protoscip.proofs.Parsing.Places.{slice_get-got, first-lexemes_of}
+use Rattle.protoscip.proofs.SyntaxLemmas.Places.{slice_get-got, first-lexemes_of}
 use Rattle.protoscip.proofs.syntax.parser.Parser.peek.Goals as goal
 
 pub returns : goal.returns

@@ -1,8 +1,8 @@
 use Rattle.std.proofs.Common.{◌≡◌, true, false}
 use Rattle.std.proofs.lemmas.Result.{err_from_is_err_and}
 use Rattle.protoscip.specs.Syntax.Reading.{statement_at, ends}
-use Rattle.protoscip.proofs.Parsing.Many.{Fails-of, goes_on, is_done, stops}
-use Rattle.protoscip.proofs.Parsing.Shorter.{statements-fall}
+use Rattle.protoscip.proofs.SyntaxLemmas.Many.{Fails-of, goes_on, is_done, stops}
+use Rattle.protoscip.proofs.SyntaxLemmas.Shorter.{statements-fall}
 use Rattle.protoscip.proofs.syntax.parser.Parser.statements.Goals as goal
 
 pub statements-smaller : goal.statements-smaller
@@ -11,7 +11,7 @@ statements-smaller c = statements-fall c.statements.self (c.in_ok-message.messag
 pub statements-preserved : goal.statements-preserved
 statements-preserved c =
     let more : ends c.statements.self ≡ false = cc in
-    rw c.in_ok-keep.ensures
+    rw c.in_ok-push_item.ensures
     (goes_on ends statement_at statements-fall c.statements.messages.items c.in_ok-message.message c.statements.self c.statement.new.self _
     c.statements.invariant more c.in_ok-message.ensures)
 

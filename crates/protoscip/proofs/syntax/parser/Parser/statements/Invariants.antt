@@ -1,6 +1,6 @@
 use Rattle.std.proofs.Common.{◌≡◌, length}
 use Rattle.protoscip.specs.Syntax.Reading.{statement_at, all_until, ends}
-use Rattle.protoscip.proofs.Parsing.Many.{with_front}
+use Rattle.protoscip.proofs.SyntaxLemmas.Many.{with_front}
 use Rattle.protoscip.proofs.syntax.parser.Parser.statements.Given as goal
 
 abbrev pub invariant-statements : goal.invariant-statements

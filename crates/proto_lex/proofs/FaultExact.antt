@@ -1,0 +1,189 @@
+-- The fault that a text meets first is the one that is read.
+use Rattle.std.proofs.Common.{◌≡◌, ◌≢◌, ℕ, ◌+◌, ◌<◌, Bool, true, false, not, cond, ◌||◌, ◌&&◌, ◌⊎◌, inl, inr, nat_eq, Option, Some, None, Ok, Err, List, [], ◌∷◌, ◌++◌, length, drop, refl, sym, ◌∙◌, ap, subst, arith, eqb-true}
+use Rattle.std.proofs.lemmas.Bool.Decides.{nat_tests}
+use Rattle.std.proofs.lemmas.List.{drop_at, length-append}
+use Rattle.proto_lex.specs.Bytes.{is_blank, is_letter, is_digit, is_quote, starts}
+use Rattle.proto_lex.specs.Numbers.{IsInteger, IsFloat, begins_number, run_of}
+use Rattle.proto_lex.specs.Literals.{IsEscape}
+use Rattle.proto_lex.specs.Comments.{EndsBlock}
+use Rattle.proto_lex.specs.Lexes.{sign_kind, Lexes}
+use Rattle.proto_lex.specs.Faults.{StaysInString, here, character, escape, IsStringFault, cut, nul, no_escape, IsFaultAt, unknown, no_number, no_close, no_string, Meets, fault, blank, comment, token, begins_mark, IsFirstFault, unmarked, marked}
+use Rattle.proto_lex.specs.Reading.{Read, ◌>>=◌, is_integer, is_float, number_kind, number_at, escape_len, character_at, literal_at, block_at, piece_at, Pieces, pieces, with_first, pieces_at, mark_len, pieces_of}
+use Rattle.proto_lex.specs.declared.fault.LexFault.{LexFault}
+use Rattle.proto_lex.specs.declared.fault.LexFault.TheVariants.{BadByte, OpenString, BadEscape, BadNumber}
+use Rattle.proto_lex.specs.declared.lexer.piece.Piece.{Piece}
+use Rattle.proto_lex.specs.declared.lexer.piece.PieceKind.{PieceKind}
+use Rattle.proto_lex.specs.declared.lexer.piece.PieceKind.TheVariants as piece
+use Rattle.proto_lex.specs.declared.token.Token.{Token}
+use Rattle.proto_lex.specs.declared.token.Comment.{Comment}
+use Rattle.proto_lex.proofs.ReadLemmas.{bind_of_err, ok_not_err, same_err}
+use Rattle.proto_lex.proofs.NumberLemmas.{integer_found, float_found}
+use Rattle.proto_lex.proofs.LiteralLemmas.{literal_first}
+use Rattle.proto_lex.proofs.LiteralFound.{escape_found}
+use Rattle.proto_lex.proofs.LiteralExact.{literal_plain, escape_exact}
+use Rattle.proto_lex.proofs.CommentLemmas.{block_found}
+use Rattle.proto_lex.proofs.PieceFound.{Stands}
+use Rattle.proto_lex.proofs.PieceExact.{number_place, quote_place, piece_exact, stands_some}
+use Rattle.proto_lex.proofs.LexesLemmas.{mark_cases, lexes_found, lexes_exact}
+use Rattle.proto_lex.proofs.PiecesLemmas.{pieces_step, pieces_fault}
+use Rattle.proto_lex.proofs.FaultFound.{first_fault_found}
+
+-- strings
+
+-- how much of a string was read where these bytes are left
+record IsReadTo (quote opening len later : ℕ) (bytes left : List ℕ) : Type 0 where
+  count : ℕ
+  place : later ≡ opening + count
+  read : literal_at quote opening 0 len bytes ≡ literal_at quote opening 0 count left
+
+stays_exact : (quote opening len : ℕ) → is_quote quote ≡ true → {place later : ℕ} {bytes left : List ℕ} → StaysInString quote place bytes later left
+    → place ≡ opening + len → IsReadTo quote opening len later bytes left
+stays_exact quote opening len q here e = record { count = len; place = e; read = refl }
+stays_exact quote opening len q (character {b = b} {others = others} p h) e =
+    let more = stays_exact quote opening (len + 1) q h (omega arith) in
+    record { count = more.count; place = more.place; read = literal_plain quote opening len b others p ∙ more.read }
+stays_exact quote opening len q (escape {letters = letters} {others = others} f h) e =
+    let more = stays_exact quote opening (len + 1 + length letters) q h (omega arith) in
+    record { count = more.count; place = more.place; read = escape_exact quote opening q f len others ∙ more.read }
+
+newline_faults : (opening at : ℕ) (others : List ℕ) → character_at opening at 10 others ≡ Err (OpenString opening)
+unfolding character_at
+newline_faults opening at others = refl
+
+nul_faults : (opening at : ℕ) (others : List ℕ) → character_at opening at 0 others ≡ Err (BadByte at)
+unfolding character_at
+nul_faults opening at others = refl
+
+no_escape_len : (left : List ℕ) → ((letters rest : List ℕ) → IsEscape letters → left ≡ letters ++ rest → ⊥) → escape_len left ≡ None
+no_escape_len left none =
+    elim (escape_len left) as (λ o. escape_len left ≡ o → o ≡ None) [
+      | None ↦ λ e. refl
+      | Some count ↦ λ e. let f = escape_found left count e in absurd (none f.front f.rest f.form f.parts)
+    ] refl
+
+escape_faults : (opening at : ℕ) (left : List ℕ) → escape_len left ≡ None → character_at opening at 92 left ≡ Err (BadEscape at)
+unfolding character_at
+escape_faults opening at left e = rw e refl
+
+open_faults : (quote opening len : ℕ) → is_quote quote ≡ true → (left : List ℕ) → starts (λ b. not (nat_eq b 10)) left ≡ false
+    → literal_at quote opening 0 len left ≡ Err (OpenString opening)
+unfolding literal_at
+open_faults quote opening len q [] s = refl
+open_faults quote opening len q (b ∷ others) s =
+    let newline : b ≡ 10 = is_newline b s in
+    rw newline (literal_first quote opening len 10 others (not_quote quote q) ∙ bind_of_err _ (newline_faults opening (opening + len) others))
+  where
+    is_newline : (b : ℕ) → not (nat_eq b 10) ≡ false → b ≡ 10
+    is_newline b s = grind (arith, nat_tests)
+
+    not_quote : (quote : ℕ) → is_quote quote ≡ true → 10 ≢ quote
+    not_quote quote q = grind (arith, nat_tests)
+
+nul_is_no_quote : (quote : ℕ) → is_quote quote ≡ true → 0 ≢ quote
+nul_is_no_quote quote q = grind (arith, nat_tests)
+
+backslash_is_no_quote : (quote : ℕ) → is_quote quote ≡ true → 92 ≢ quote
+backslash_is_no_quote quote q = grind (arith, nat_tests)
+
+string_fault_exact : (quote opening len : ℕ) → is_quote quote ≡ true → {place : ℕ} {bytes : List ℕ} {f : LexFault}
+    → IsStringFault quote opening place bytes f → place ≡ opening + len → literal_at quote opening 0 len bytes ≡ Err f
+string_fault_exact quote opening len q (cut {left = left} h s) e =
+    let r = stays_exact quote opening len q h e in r.read ∙ open_faults quote opening r.count q left s
+string_fault_exact quote opening len q (nul h) e =
+    let r = stays_exact quote opening len q h e in
+    rw r.place (r.read ∙ (literal_first quote opening r.count 0 _ (nul_is_no_quote quote q) ∙ bind_of_err _ (nul_faults opening (opening + r.count) _)))
+string_fault_exact quote opening len q (no_escape {left = left} h none) e =
+    let r = stays_exact quote opening len q h e in
+    rw r.place (r.read ∙ (literal_first quote opening r.count 92 left (backslash_is_no_quote quote q)
+    ∙ bind_of_err _ (escape_faults opening (opening + r.count) left (no_escape_len left none))))
+
+-- what stands at a place
+
+no_kind : (run : List ℕ) → (IsInteger run → ⊥) → (IsFloat run → ⊥) → number_kind run ≡ None
+no_kind run i f = rw (not_integer run i, not_float run f) refl
+  where
+    not_integer : (run : List ℕ) → (IsInteger run → ⊥) → is_integer run ≡ false
+    not_integer run i =
+        elim (is_integer run) as (λ t. is_integer run ≡ t → t ≡ false) [ true ↦ λ e. absurd (i (integer_found run e)) | false ↦ λ e. refl ] refl
+
+    not_float : (run : List ℕ) → (IsFloat run → ⊥) → is_float run ≡ false
+    not_float run f =
+        elim (is_float run) as (λ t. is_float run ≡ t → t ≡ false) [ true ↦ λ e. absurd (f (float_found run e)) | false ↦ λ e. refl ] refl
+
+number_faults : (at : ℕ) (bytes : List ℕ) → number_kind (run_of bytes) ≡ None → number_at at bytes ≡ Err (BadNumber at)
+unfolding number_at
+number_faults at bytes e = rw e refl
+
+no_block_len : (others : List ℕ) → ((inside rest : List ℕ) → EndsBlock inside → others ≡ inside ++ rest → ⊥) → block_at 2 others ≡ None
+no_block_len others none =
+    elim (block_at 2 others) as (λ o. block_at 2 others ≡ o → o ≡ None) [
+      | None ↦ λ e. refl
+      | Some len ↦ λ e. let f = (block_found 2 len others e).2 in absurd (none f.front f.rest f.ends f.parts)
+    ] refl
+
+no_sign : (b c : ℕ) → sign_kind b ≡ None → (sign_kind c ≡ None → ⊥) → nat_eq b c ≡ false
+no_sign b c e some =
+    elim (nat_eq b c) as (λ t. nat_eq b c ≡ t → t ≡ false) [
+      | true ↦ λ t. absurd (some (rw (eqb-true b c t) at e))
+      | false ↦ λ t. refl
+    ] refl
+
+fault_exact : {place : ℕ} {bytes : List ℕ} {f : LexFault} → IsFaultAt place bytes f → piece_at place bytes ≡ Err f
+unfolding piece_at
+fault_exact (unknown {place} {b} {others} nb nl nd nq e) =
+    let point : nat_eq b 46 ≡ false = no_sign b 46 e (λ some. cc) in
+    let slash : nat_eq b 47 ≡ false = no_sign b 47 e (λ some. cc) in
+    rw (e, nb, nl, nd, point, nq, slash) refl
+fault_exact (no_number {place} {bytes} t i f) = number_place place bytes t ∙ number_faults place bytes (no_kind (run_of bytes) i f)
+fault_exact (no_close {place} {others} none) = rw (no_block_len others none) refl
+fault_exact (no_string {place} {quote} {others} q s) =
+    quote_place place quote others q ∙ bind_of_err _ (string_fault_exact quote place 1 q s refl)
+
+fault_some : {place : ℕ} {bytes : List ℕ} {f : LexFault} → IsFaultAt place bytes f → 0 < length bytes
+fault_some (unknown nb nl nd nq e) = omega arith
+fault_some (no_number {bytes = bytes} t i f) = some bytes t
+  where
+    some : (bytes : List ℕ) → begins_number bytes ≡ true → 0 < length bytes
+    some [] t = absurd cc
+    some (b ∷ others) t = omega arith
+fault_some (no_close none) = omega arith
+fault_some (no_string q s) = omega arith
+
+-- the text
+
+fault_after : (at : ℕ) (k : PieceKind) (word rest : List ℕ) (f : LexFault) → Stands k word rest → pieces_at 0 (at + length word) rest ≡ Err f
+    → pieces_at 0 at (word ++ rest) ≡ Err f
+fault_after at k word rest f s e =
+    let some = stands_some k word rest s in
+    let long : 0 < length (word ++ rest) = omega (arith, length-append word rest) in
+    let p : Piece = record { kind = k; len = length word } in
+    pieces_step at (word ++ rest) p long (piece_exact at k word rest s) some ∙ rw (drop_at word rest (length word) refl, e) refl
+
+meets_exact : {at : ℕ} {bytes : List ℕ} {f : LexFault} → Meets at bytes f → pieces_at 0 at bytes ≡ Err f
+meets_exact (fault {place = at} {bytes = bytes} {f = f} h) = pieces_fault at bytes f (fault_some h) (fault_exact h)
+meets_exact (blank {place = at} {b = b} {rest = rest} {f = f} t m) = fault_after at piece.Blank (b ∷ []) rest f (b, refl, t) (meets_exact m)
+meets_exact (comment {place = at} {k = k} {word = word} {rest = rest} {f = f} s m) = fault_after at (piece.Comment k) word rest f s (meets_exact m)
+meets_exact (token {place = at} {k = k} {word = word} {rest = rest} {f = f} s m) = fault_after at (piece.Token k) word rest f s (meets_exact m)
+
+pub first_fault_exact : {text : List ℕ} {f : LexFault} → IsFirstFault text f → pieces_of text ≡ Err f
+unfolding pieces_of
+first_fault_exact (unmarked {text} {f} n m) =
+    mark_cases text
+    (λ e. rw e (meets_exact m))
+    (λ rest e. let no : begins_mark (239 ∷ (187 ∷ (191 ∷ rest))) ≡ false = rw e at n in absurd cc)
+first_fault_exact (marked m) = meets_exact m
+
+-- the laws
+
+pub one_fault : {text : List ℕ} {f g : LexFault} → IsFirstFault text f → IsFirstFault text g → f ≡ g
+one_fault {text} {f} {g} a b = same_err f g (pieces_of text) (first_fault_exact a) (first_fault_exact b)
+
+pub no_fault : {text : List ℕ} {f : LexFault} {tokens : List Token} {comments : List Comment} → Lexes text tokens comments → IsFirstFault text f → ⊥
+no_fault a b = ok_not_err (sym (lexes_exact a) ∙ first_fault_exact b)
+
+pub lexes_or_faults : (text : List ℕ) → ((tokens : List Token) × (comments : List Comment) × Lexes text tokens comments) ⊎ ((f : LexFault) × IsFirstFault text f)
+lexes_or_faults text =
+    elim (pieces_of text) as (λ r. pieces_of text ≡ r → ((tokens : List Token) × (comments : List Comment) × Lexes text tokens comments) ⊎ ((f : LexFault) × IsFirstFault text f)) [
+      | Ok l ↦ λ e. inl (l.tokens, l.comments, lexes_found text l e)
+      | Err f ↦ λ e. inr (f, first_fault_found text f e)
+    ] refl

@@ -1,0 +1,5 @@
+use Rattle.proto_lex.proofs.LongestTokenLemmas.{no_longer}
+use Rattle.proto_lex.proofs.laws.longest_token.Goals as goal
+
+pub returns : goal.returns
+returns c = no_longer

@@ -1,5 +1,0 @@
-use Rattle.proto_lex.proofs.Longest.{no_longer}
-use Rattle.proto_lex.proofs.lexer.longest_token.Goals as goal
-
-pub returns : goal.returns
-returns c = no_longer

@@ -1,0 +1,337 @@
+//! Worked sources. The kinds, the spellings and the offsets are those that the proto3
+//! specification's lexical elements give by hand.
+
+use crate::calls::{see, see_all, text_of, tokens_of};
+use proto_lex::{Comment, CommentKind, LexFault, Token, TokenKind, Tokens};
+use std::alloc::Global;
+use std::test::Fail;
+
+/// Whether the tokens have these kinds and spellings.
+fn are_spelled(found: &Tokens<'_>, want: &[(TokenKind, &str)]) -> bool {
+    if found.tokens().len() != want.len() {
+        return false;
+    }
+    for (index, (kind, spelling)) in want.iter().enumerate() {
+        if index >= found.tokens().len() {
+            return false;
+        }
+        if found.tokens()[index].kind != *kind || found.slice(index) != *spelling {
+            return false;
+        }
+    }
+    true
+}
+
+/// Whether a source has these tokens.
+fn has_tokens(alloc: Global, source: &str, want: &[(TokenKind, &str)]) -> Result<bool, LexFault> {
+    let text = text_of(alloc, source.as_bytes())?;
+    let found = tokens_of(alloc, &text)?;
+    if found.text().as_str() != source {
+        return Ok(false);
+    }
+    Ok(are_spelled(&found, want))
+}
+
+/// The first source that isn't one token of this kind.
+fn first_not_one(
+    alloc: Global,
+    kind: TokenKind,
+    sources: &[&str],
+) -> Result<Option<usize>, LexFault> {
+    for (index, source) in sources.iter().enumerate() {
+        if !has_tokens(alloc, source, &[(kind, source)])? {
+            return Ok(Some(index));
+        }
+    }
+    Ok(None)
+}
+
+/// The fault of a source, if it has one.
+fn fault_of(alloc: Global, source: &[u8]) -> Option<LexFault> {
+    match text_of(alloc, source) {
+        Ok(text) => tokens_of(alloc, &text).err(),
+        Err(fault) => Some(fault),
+    }
+}
+
+/// The first case with another fault.
+fn first_other_fault(alloc: Global, cases: &[(&[u8], LexFault)]) -> Option<usize> {
+    for (index, (source, want)) in cases.iter().enumerate() {
+        if fault_of(alloc, source) != Some(*want) {
+            return Some(index);
+        }
+    }
+    None
+}
+
+/// The first source without this fault.
+fn first_without(alloc: Global, want: LexFault, sources: &[&str]) -> Option<usize> {
+    for (index, source) in sources.iter().enumerate() {
+        if fault_of(alloc, source.as_bytes()) != Some(want) {
+            return Some(index);
+        }
+    }
+    None
+}
+
+#[test]
+fn faults_and_their_offsets(rt: HostRuntime) {
+    let cases = [
+        (b"@".as_slice(), LexFault::BadByte(0)),
+        (b"\"abc", LexFault::OpenString(0)),
+        (b"/* x", LexFault::OpenComment(0)),
+        (b"08", LexFault::BadNumber(0)),
+        (b"\"\\q\"", LexFault::BadEscape(1)),
+        (b"\xFF", LexFault::NotUtf8(0)),
+        (b"\xEF\xBB\xBF\xEF\xBB\xBF", LexFault::BadByte(3)),
+        (b"a\xEF\xBB\xBF", LexFault::BadByte(1)),
+        (b"syntax = \"pro\0to3\";", LexFault::BadByte(13)),
+        (b"a 'b\nc'", LexFault::OpenString(2)),
+        (b"x /* /* */ */", LexFault::BadByte(11)),
+        (b"a\n/*/", LexFault::OpenComment(2)),
+        (b"a \xC3\xA9", LexFault::BadByte(2)),
+        (b"1\xC3\xA9", LexFault::BadByte(1)),
+        (b"'\"", LexFault::OpenString(0)),
+        (b"a\0", LexFault::BadByte(1)),
+    ];
+    see_all(&rt, first_other_fault(rt.alloc(), &cases));
+}
+
+#[test]
+fn fault_that_is_met_first(rt: HostRuntime) {
+    let cases = [
+        (b"\"\\q".as_slice(), LexFault::BadEscape(1)),
+        (b"\"\0", LexFault::BadByte(1)),
+        (b"\"\\", LexFault::BadEscape(1)),
+        (b"\"\\\n\"", LexFault::BadEscape(1)),
+        (b"\"\\\0\"", LexFault::BadEscape(1)),
+        (b"\"a\n\\q\"", LexFault::OpenString(0)),
+        (b"08 @", LexFault::BadNumber(0)),
+        (b"@ 08", LexFault::BadByte(0)),
+        (b"// @\n@", LexFault::BadByte(5)),
+    ];
+    see_all(&rt, first_other_fault(rt.alloc(), &cases));
+}
+
+#[test]
+fn forms_of_numbers(rt: HostRuntime) -> Result<(), Fail> {
+    let integers = ["0", "00", "07", "1", "120", "0x1F", "0XaB9", "0xe"];
+    see_all(
+        &rt,
+        first_not_one(rt.alloc(), TokenKind::Integer, &integers)?,
+    );
+    let floats = [
+        "1.", "1.5", ".5", "1e5", "1E+5", "1e-50", "1.e5", "08.5", "09e1", "1.5e10", ".5E-3",
+        "0.0", "0e0",
+    ];
+    see_all(&rt, first_not_one(rt.alloc(), TokenKind::Float, &floats)?);
+    Ok(())
+}
+
+#[test]
+fn runs_that_are_no_numbers(rt: HostRuntime) {
+    let sources = [
+        "08", "1_0", "0x", "0xg", "0x1.8", "1..2", "1.0f", "1e", "1e+", "12a", "0b1", "1.2.3",
+        "1e5.", "1e+5e+3", ".5.", "1.5e", "00x1",
+    ];
+    see_all(
+        &rt,
+        first_without(rt.alloc(), LexFault::BadNumber(0), &sources),
+    );
+}
+
+/// A source, how many tokens it has, and these, filled up to three.
+type Case<'a> = (&'a str, usize, [(TokenKind, &'a str); 3]);
+
+/// The first case that has other tokens.
+fn first_misread(alloc: Global, cases: &[Case<'_>]) -> Result<Option<usize>, LexFault> {
+    for (index, (source, count, tokens)) in cases.iter().enumerate() {
+        if *count > 3 || !has_tokens(alloc, source, &tokens[..*count])? {
+            return Ok(Some(index));
+        }
+    }
+    Ok(None)
+}
+
+#[test]
+fn where_runs_end(rt: HostRuntime) -> Result<(), Fail> {
+    let none = (TokenKind::Dot, "");
+    let identifier = TokenKind::Identifier;
+    let integer = TokenKind::Integer;
+    let float = TokenKind::Float;
+    let dot = (TokenKind::Dot, ".");
+    let plus = (TokenKind::Plus, "+");
+    let cases = [
+        ("0xe+1", 3, [(integer, "0xe"), plus, (integer, "1")]),
+        ("1+1", 3, [(integer, "1"), plus, (integer, "1")]),
+        ("a.5", 2, [(identifier, "a"), (float, ".5"), none]),
+        ("a.b", 3, [(identifier, "a"), dot, (identifier, "b")]),
+        ("..5", 2, [dot, (float, ".5"), none]),
+        (
+            "_a1 B_2",
+            2,
+            [(identifier, "_a1"), (identifier, "B_2"), none],
+        ),
+        ("1/**/2", 2, [(integer, "1"), (integer, "2"), none]),
+    ];
+    see_all(&rt, first_misread(rt.alloc(), &cases)?);
+    Ok(())
+}
+
+#[test]
+fn forms_of_strings(rt: HostRuntime) -> Result<(), Fail> {
+    let sources = [
+        r#""""#,
+        r#""a'b""#,
+        r#"'a"b'"#,
+        r#""é/*//""#,
+        r#""\a\b\f\n\r\t\v\\\'\"\?""#,
+        r#"'\x1'"#,
+        r#""\x1Fg\X0g\xFFF""#,
+        r#""\0\12\377\777\1238""#,
+        r#""\u00e9\uD800""#,
+        r#""\U0000ABCD\U000FFFFF\U0010FFFF""#,
+    ];
+    see_all(
+        &rt,
+        first_not_one(rt.alloc(), TokenKind::StringLiteral, &sources)?,
+    );
+    Ok(())
+}
+
+#[test]
+fn escapes_that_are_none(rt: HostRuntime) {
+    let sources = [
+        r#""\q""#,
+        r#""\x""#,
+        r#""\xg""#,
+        r#""\8""#,
+        r#""\A""#,
+        r#""\u123""#,
+        r#""\u123g""#,
+        r#""\U0010FFF""#,
+        r#""\U00110000""#,
+        r#""\U0001000""#,
+        r#""\U0100FFFF""#,
+        r#""\ ""#,
+    ];
+    see_all(
+        &rt,
+        first_without(rt.alloc(), LexFault::BadEscape(1), &sources),
+    );
+}
+
+/// Whether the comments have these kinds, starts and ends.
+fn are_comments(found: &[Comment], want: &[(CommentKind, usize, usize)]) -> bool {
+    if found.len() != want.len() {
+        return false;
+    }
+    for (comment, (kind, start, end)) in found.iter().zip(want) {
+        let span = comment.span;
+        if comment.kind != *kind || span.start != *start || span.end != *end {
+            return false;
+        }
+    }
+    true
+}
+
+/// Whether the tokens have these starts and ends.
+fn are_placed(found: &[Token], want: &[(usize, usize)]) -> bool {
+    if found.len() != want.len() {
+        return false;
+    }
+    for (token, (start, end)) in found.iter().zip(want) {
+        if token.span.start != *start || token.span.end != *end {
+            return false;
+        }
+    }
+    true
+}
+
+/// Whether a source has these tokens and comments.
+fn has_places(
+    alloc: Global,
+    source: &[u8],
+    tokens: &[(usize, usize)],
+    comments: &[(CommentKind, usize, usize)],
+) -> Result<bool, LexFault> {
+    let text = text_of(alloc, source)?;
+    let found = tokens_of(alloc, &text)?;
+    if !are_placed(found.tokens(), tokens) {
+        return Ok(false);
+    }
+    Ok(are_comments(found.comments(), comments))
+}
+
+#[test]
+fn comments_and_their_places(rt: HostRuntime) -> Result<(), Fail> {
+    let source = b"/* /* */ a // b\r\n/**/c//";
+    let comments = [
+        (CommentKind::Block, 0, 8),
+        (CommentKind::Line, 11, 16),
+        (CommentKind::Block, 17, 21),
+        (CommentKind::Line, 22, 24),
+    ];
+    let tokens = [(9, 10), (21, 22)];
+    see(
+        &rt,
+        has_places(rt.alloc(), source, &tokens, &comments)?,
+        "places",
+    );
+    Ok(())
+}
+
+#[test]
+fn every_sign(rt: HostRuntime) -> Result<(), Fail> {
+    let want = [
+        (TokenKind::Semicolon, ";"),
+        (TokenKind::Equals, "="),
+        (TokenKind::OpenBrace, "{"),
+        (TokenKind::CloseBrace, "}"),
+        (TokenKind::OpenBracket, "["),
+        (TokenKind::CloseBracket, "]"),
+        (TokenKind::OpenParenthesis, "("),
+        (TokenKind::CloseParenthesis, ")"),
+        (TokenKind::Less, "<"),
+        (TokenKind::Greater, ">"),
+        (TokenKind::Comma, ","),
+        (TokenKind::Dot, "."),
+        (TokenKind::Colon, ":"),
+        (TokenKind::Plus, "+"),
+        (TokenKind::Minus, "-"),
+        (TokenKind::Slash, "/"),
+    ];
+    see(
+        &rt,
+        has_tokens(rt.alloc(), ";={}[]()<>,.:+-/", &want)?,
+        "signs",
+    );
+    Ok(())
+}
+
+/// The first source that has a token.
+fn first_with_tokens(alloc: Global, sources: &[&str]) -> Result<Option<usize>, LexFault> {
+    for (index, source) in sources.iter().enumerate() {
+        if !has_tokens(alloc, source, &[])? {
+            return Ok(Some(index));
+        }
+    }
+    Ok(None)
+}
+
+#[test]
+fn texts_without_tokens(rt: HostRuntime) -> Result<(), Fail> {
+    let sources = ["", "\u{FEFF}", " \t\n\x0B\x0C\r", "\u{FEFF}// end"];
+    see_all(&rt, first_with_tokens(rt.alloc(), &sources)?);
+    Ok(())
+}
+
+#[test]
+fn mark_takes_three_bytes(rt: HostRuntime) -> Result<(), Fail> {
+    let source = "\u{FEFF}message";
+    let placed = has_places(rt.alloc(), source.as_bytes(), &[(3, 10)], &[])?;
+    see(&rt, placed, "span");
+    let identifier = (TokenKind::Identifier, "message");
+    see(&rt, has_tokens(rt.alloc(), source, &[identifier])?, "kind");
+    Ok(())
+}

@@ -1,0 +1,75 @@
+//! An index with a text of 100,000 bytes, which no call may refuse for its size, and whose writing
+//! asks for no more memory than it needs.
+
+use crate::decoded::{decoded, only_document, spelled};
+use crate::samples::one_document;
+use crate::see::see;
+use scip_model::{Index, Std};
+use scip_wire::{WriteFault, encoded_len, write_index};
+use std::alloc::{AllocError, Global};
+use std::io;
+use std::io::Write;
+use std::test::Fail;
+
+/// How many bytes the text has.
+const TEXT: usize = 100_000;
+
+/// How many bytes the index has: the document's record and in it the text's, each with a tag of one
+/// byte and a length of three.
+const INDEX: usize = 100_008;
+
+/// A writer that takes all, and counts its calls and bytes.
+#[derive(Drop)]
+struct Counting {
+    calls: u32,
+    bytes: usize,
+}
+
+impl Write for Counting {
+    fn write(&mut self, bytes: &[u8]) -> io::Result<usize> {
+        self.calls = self.calls.wrapping_add(1);
+        self.bytes = self.bytes.wrapping_add(bytes.len());
+        Ok(bytes.len())
+    }
+
+    fn flush(&mut self) -> io::Result<()> {
+        Ok(())
+    }
+}
+
+/// A text of so many bytes.
+fn text_of(alloc: Global, size: usize) -> Result<String, AllocError> {
+    let mut text = String::with_capacity(alloc, size)?;
+    for _ in 0..size {
+        text.push('x')?;
+    }
+    Ok(text)
+}
+
+/// What `write_index` answers, and its writer. After `Memory` it is called again with a new one.
+fn written(alloc: Global, index: &Index) -> (Result<(), WriteFault>, Counting) {
+    let mut sink = Std::new(Counting { calls: 0, bytes: 0 });
+    let mut answer = write_index(alloc, index, &mut sink);
+    if answer == Err(WriteFault::Memory) {
+        answer = write_index(alloc, index, &mut sink);
+    }
+    (answer, sink.into_inner())
+}
+
+#[test]
+fn a_long_text_is_written_at_once_and_read(rt: HostRuntime) -> Result<(), Fail> {
+    let text = text_of(rt.alloc(), TEXT)?;
+    let index = one_document(rt.alloc(), text.as_str())?;
+    see(&rt, encoded_len(&index)? as usize == INDEX, "length");
+    let bytes = spelled(rt.alloc(), &index)?;
+    see(&rt, bytes.len() == INDEX, "spelled");
+    see(&rt, bytes.capacity() < 2 * INDEX, "memory");
+    let (answer, writer) = written(rt.alloc(), &index);
+    see(&rt, answer == Ok(()), "written");
+    see(&rt, writer.calls == 1, "one write");
+    see(&rt, writer.bytes == INDEX, "all bytes");
+    let again = decoded(rt.alloc(), &bytes)?;
+    let path = &only_document(&again)?.relative_path;
+    see(&rt, path.as_str() == text.as_str(), "read");
+    Ok(())
+}

@@ -1,0 +1,130 @@
+//! Bytes that are refused, with the fault that comes first, worked out by hand from the Protocol
+//! Buffers encoding and `scip.proto`.
+
+use crate::decoded::decoded;
+use crate::samples::{MESSAGE, UNPACKED};
+use crate::see::see;
+use scip_wire::WireFault;
+use std::alloc::Global;
+use std::process::Abort;
+use std::test::Fail;
+
+/// Bytes, and the fault that they are refused with.
+type Refusal<'a> = (&'a [u8], WireFault);
+
+/// Sees that bytes are refused with a fault.
+fn see_refused(rt: &impl Abort, alloc: Global, bytes: &[u8], want: WireFault) {
+    let refused = match decoded(alloc, bytes) {
+        Ok(_) => false,
+        Err(fault) => fault == want,
+    };
+    assert!(rt; refused, "{want}: {bytes:?}");
+}
+
+/// Sees that each of these is refused.
+fn see_refusals(rt: &impl Abort, alloc: Global, refusals: &[Refusal<'_>]) {
+    for (bytes, want) in refusals {
+        see_refused(rt, alloc, bytes, *want);
+    }
+}
+
+/// Sees that each shorter beginning of the bytes, longer than `from`, is refused with a fault.
+fn see_cuts_refused(rt: &impl Abort, alloc: Global, bytes: &[u8], from: usize, want: WireFault) {
+    for (end, _) in bytes.iter().enumerate() {
+        if from < end {
+            see_refused(rt, alloc, &bytes[..end], want);
+        }
+    }
+}
+
+#[test]
+fn cut_bytes_are_refused(rt: HostRuntime) -> Result<(), Fail> {
+    see_cuts_refused(&rt, rt.alloc(), UNPACKED, 0, WireFault::Truncated(0));
+    let bytes = MESSAGE.as_slice();
+    let (metadata, _) = bytes.split_at(30);
+    let first = decoded(rt.alloc(), metadata)?;
+    see(&rt, first.metadata.is_some(), "metadata");
+    see(&rt, first.documents.as_slice().is_empty(), "documents");
+    see_cuts_refused(&rt, rt.alloc(), metadata, 0, WireFault::Truncated(0));
+    see_cuts_refused(&rt, rt.alloc(), bytes, 30, WireFault::Truncated(30));
+    Ok(())
+}
+
+#[test]
+fn faults_of_tags(rt: HostRuntime) {
+    let refusals: [Refusal<'_>; 11] = [
+        (b"\x0B", WireFault::Group(0)),
+        (b"\x0C", WireFault::Group(0)),
+        (b"\x00", WireFault::FieldZero(0)),
+        (b"\x03", WireFault::FieldZero(0)),
+        (b"\x0E", WireFault::WireType(0)),
+        (b"\x0F", WireFault::WireType(0)),
+        (b"\x0A", WireFault::Truncated(0)),
+        (b"\x80\x80\x80\x80\x10", WireFault::Varint(0)),
+        (b"\x80\x80\x80\x80\x13", WireFault::Varint(0)),
+        (
+            b"\x08\xFF\xFF\xFF\xFF\xFF\xFF\xFF\xFF\xFF\x02",
+            WireFault::Varint(0),
+        ),
+        (b"\x12\x01\x0B\x00", WireFault::Group(2)),
+    ];
+    see_refusals(&rt, rt.alloc(), &refusals);
+}
+
+#[test]
+fn faults_of_messages(rt: HostRuntime) {
+    let refusals: [Refusal<'_>; 6] = [
+        (b"\x0A\x00\x0A\x00", WireFault::Repeated(2)),
+        (b"\x0A\x04\x12\x00\x12\x00", WireFault::Repeated(4)),
+        (b"\x12\x03\x0A\x01\xFF", WireFault::Utf8(2)),
+        (b"\x12\x06\x12\x04\x0A\x02\x01\x08", WireFault::BadRange(2)),
+        (
+            b"\x12\x09\x12\x07\x0A\x05\x01\x02\x03\x04\x05",
+            WireFault::BadRange(2),
+        ),
+        (
+            b"\x12\x10\x12\x0E\x0A\x0C\x01\x08\xFF\xFF\xFF\xFF\xFF\xFF\xFF\xFF\xFF\x01",
+            WireFault::BadRange(2),
+        ),
+    ];
+    see_refusals(&rt, rt.alloc(), &refusals);
+}
+
+#[test]
+fn lengths_that_bytes_only_claim(rt: HostRuntime) {
+    let refusals: [Refusal<'_>; 5] = [
+        (b"\x12\xFF\xFF\xFF\xFF\x07", WireFault::Truncated(0)),
+        (
+            b"\x12\xFF\xFF\xFF\xFF\xFF\xFF\xFF\xFF\xFF\x01",
+            WireFault::Truncated(0),
+        ),
+        (b"\x12\x04\x12\x02\x0A\x05", WireFault::Truncated(4)),
+        (b"\x12\x05\x12\x03\x0A\x01\x80", WireFault::Truncated(4)),
+        (b"\x12\x06\x12\x04\x0A\x02\x01\x80", WireFault::Truncated(4)),
+    ];
+    see_refusals(&rt, rt.alloc(), &refusals);
+}
+
+#[test]
+fn the_first_of_two_faults(rt: HostRuntime) {
+    let refusals: [Refusal<'_>; 7] = [
+        // A second metadata's own length is checked first, its content not at all.
+        (b"\x0A\x00\x0A\x05\x00", WireFault::Truncated(2)),
+        (b"\x0A\x00\x0A\x02\x0B\x00", WireFault::Repeated(2)),
+        // One of another wire type doesn't count.
+        (b"\x08\x01\x0A\x00\x08\x01\x0A\x00", WireFault::Repeated(6)),
+        // A range is judged once the occurrence's other records were read.
+        (
+            b"\x12\x08\x12\x06\x0A\x01\x01\x12\x05x",
+            WireFault::Truncated(7),
+        ),
+        (
+            b"\x12\x08\x12\x06\x0A\x01\x01\x12\x01\xFF",
+            WireFault::Utf8(7),
+        ),
+        (b"\x12\x05\x12\x03\x12\x01\xFF", WireFault::Utf8(4)),
+        // A text that a later one replaces has to be UTF-8 too.
+        (b"\x12\x06\x0A\x01\xFF\x0A\x01a", WireFault::Utf8(2)),
+    ];
+    see_refusals(&rt, rt.alloc(), &refusals);
+}

@@ -4,3 +4,6 @@ mod OnceLemmas
 mod CoreMachineLemmas
 mod CoreRunLemmas
 mod CoreFieldsLemmas
+-- lanes: the numbers that they are given, and the rule of a deque
+mod LaneNumbersLemmas
+mod LaneLemmas

@@ -1,3 +1,6 @@
 pub mod Once
 pub mod CoreMachine
 pub mod CoreFields
+pub mod Lane
+pub mod LaneEnds
+pub mod StolenCases

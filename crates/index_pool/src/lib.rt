@@ -4,11 +4,13 @@
 mod core_machine;
 mod gate;
 mod job;
+mod lanes;
 mod laws;
 mod workers;
 
 pub use core_machine::{Core, Event, NotPossible};
 pub use gate::{Gate, NoGate};
 pub use job::Job;
+pub use lanes::{LaneOwner, LaneThief, Stolen, lane};
 pub use laws::{core_loses_no_number, core_takes_each_number};
 pub use workers::{MAX_INPUTS, MAX_WORKERS, Workers};

@@ -4,3 +4,5 @@ pub mod CoreFields
 pub mod Lane
 pub mod LaneEnds
 pub mod StolenCases
+pub mod Phase
+pub mod PhaseSteps

@@ -1,12 +1,14 @@
 -- The numbers that a lane is given.
-use Rattle.std.proofs.Common.{◌≡◌, ◌≢◌, ℕ, zero, suc, ◌+◌, ◌*◌, ◌/◌, ◌%◌, ◌<◌, ◌≤◌, ◌==◌, Bool, List, [], ◌∷◌, ◌++◌, length, filter, cond, true, false, refl, sym, ap, ◌∙◌, subst, ⊎_elim, eq-eqb, ne_eqb, add-one, append-nil, arith}
+use Rattle.std.proofs.Common.{◌≡◌, ◌≢◌, ℕ, zero, suc, ◌+◌, ◌*◌, ◌/◌, ◌%◌, ◌<◌, ◌≤◌, ◌==◌, Bool, List, [], ◌∷◌, ◌++◌, length, filter, cond, All, sum_by, nat_lt, if◌then◌else◌, zero-add, true, false, refl, sym, ap, ◌∙◌, subst, ⊎_elim, eq-eqb, ne_eqb, add-one, append-nil, arith}
 use Rattle.std.proofs.lemmas.List.{length_push}
-use Rattle.std.proofs.lemmas.List.Elements.{filter-append}
-use Rattle.std.proofs.lemmas.Bool.Decides.{eqb_tells}
+use Rattle.std.proofs.lemmas.List.Elements.{filter-append, All-filter, All-from_get_or}
+use Rattle.std.proofs.lemmas.List.Sums.{sum_by_push}
+use Rattle.std.proofs.lemmas.List.FromFn.{length-range_with_len, get_or-range_with_len}
+use Rattle.std.proofs.lemmas.Bool.Decides.{eqb_tells, nat_tests}
 use Rattle.std.proofs.Math.Nat.{mul-le-mul_right, lt_of_mul-lt-mul_right, le-div_iff_mul-le}
 use Rattle.std.specs.List.{range_with_len}
 use Rattle.index_pool.specs.Lane.{lane_numbers}
-use Rattle.index_pool.proofs.OnceLemmas.{range_more}
+use Rattle.index_pool.proofs.OnceLemmas.{range_more, sum_by-range_more}
 
 -- the numbers of lane w of so many
 module _ (lanes w : ℕ) where
@@ -56,3 +58,58 @@ module _ (lanes w : ℕ) where
       let some : 0 < lanes = omega arith in
       let c : length (lane_numbers number lanes w) ≤ n / lanes = (le-div_iff_mul-le some).1 b in
       omega arith
+
+-- the weights of the numbers of the first c lanes, added up
+pub lanes_weight : (ℕ → ℕ) → ℕ → ℕ → ℕ → ℕ
+lanes_weight h n lanes zero = 0
+lanes_weight h n lanes (suc c) = lanes_weight h n lanes c + sum_by h (lane_numbers n lanes c)
+
+pub lanes_weight_more : (h : ℕ → ℕ) (n lanes c : ℕ) → lanes_weight h n lanes (c + 1) ≡ lanes_weight h n lanes c + sum_by h (lane_numbers n lanes c)
+unfolding lanes_weight
+lanes_weight_more h n lanes c = rw add-one refl
+
+pub lanes_weight_one : (h : ℕ → ℕ) (n lanes : ℕ) → lanes_weight h n lanes 1 ≡ sum_by h (lane_numbers n lanes 0)
+unfolding lanes_weight
+lanes_weight_one h n lanes = zero-add _
+
+-- one more number goes to one lane
+one_number_more : (h : ℕ → ℕ) (n lanes c : ℕ) → lanes_weight h (n + 1) lanes c ≡ lanes_weight h n lanes c + (if nat_lt (n % lanes) c then h n else 0)
+unfolding lanes_weight
+one_number_more h n lanes zero = grind (arith, nat_tests)
+one_number_more h n lanes (suc c) = ⊎_elim
+    (λ (yes : (((n % lanes) == c) ≡ true) × (n % lanes ≡ c)).
+    let a = one_number_more h n lanes c in
+    let b = ap (sum_by h) (lane_more_own lanes c n yes.1) ∙ sum_by_push h (lane_numbers n lanes c) n in
+    let out : (if nat_lt (n % lanes) c then h n else 0) ≡ 0 = grind (arith, nat_tests) in
+    let in' : (if nat_lt (n % lanes) (suc c) then h n else 0) ≡ h n = grind (arith, nat_tests) in omega arith)
+    (λ (no : (((n % lanes) == c) ≡ false) × (n % lanes ≢ c)).
+    let a = one_number_more h n lanes c in
+    let b = ap (sum_by h) (lane_more_other lanes c n no.1) in
+    let other = no.1 in
+    let same : (if nat_lt (n % lanes) (suc c) then h n else 0) ≡ (if nat_lt (n % lanes) c then h n else 0) = grind (arith, nat_tests) in omega arith)
+    (eqb_tells (n % lanes) c)
+
+no_numbers : (h : ℕ → ℕ) (lanes c : ℕ) → lanes_weight h 0 lanes c ≡ 0
+unfolding lanes_weight
+no_numbers h lanes zero = refl
+no_numbers h lanes (suc c) = let a = no_numbers h lanes c in let b = ap (sum_by h) (lane_none lanes c) in omega arith
+
+-- the lanes share the numbers below n
+pub lanes_cover : (h : ℕ → ℕ) (n lanes : ℕ) → 0 < lanes → lanes_weight h n lanes lanes ≡ sum_by h (range_with_len 0 n)
+lanes_cover h zero lanes some = no_numbers h lanes lanes
+lanes_cover h (suc n) lanes some =
+    let a = lanes_cover h n lanes some in
+    let b = one_number_more h n lanes lanes in
+    let c = sum_by-range_more h n in
+    let within : n % lanes < lanes = omega arith in
+    let d : (if nat_lt (n % lanes) lanes then h n else 0) ≡ h n = grind (arith, nat_tests) in
+    let e : lanes_weight h (n + 1) lanes lanes ≡ sum_by h (range_with_len 0 (n + 1)) = omega arith in
+    subst (λ m. lanes_weight h m lanes lanes ≡ sum_by h (range_with_len 0 m)) (add-one n) e
+
+pub lane_below : (n lanes w : ℕ) → All (λ k. k < n) (lane_numbers n lanes w)
+unfolding lane_numbers
+lane_below n lanes w = All-filter (λ k. (k % lanes) == w) (λ k. k < n) (range_with_len 0 n)
+    (All-from_get_or (λ k. k < n) (range_with_len 0 n) 0 (λ i within. (
+    let count = length-range_with_len 0 n in
+    let below : i < n = omega arith in
+    subst (λ k. k < n) (sym (get_or-range_with_len 0 n i 0 below)) (omega arith))))

@@ -7,3 +7,8 @@ mod CoreFieldsLemmas
 -- lanes: the numbers that they are given, and the rule of a deque
 mod LaneNumbersLemmas
 mod LaneLemmas
+mod LaneEndsLemmas
+-- phases: results, the recursion over threads, and the results in order
+mod ResultsLemmas
+mod LevelsLemmas
+mod InOrderLemmas

@@ -1,5 +1,5 @@
 -- Sums over the numbers below a bound, and how often a number stands in a list.
-use Rattle.std.proofs.Common.{◌≡◌, ℕ, zero, suc, ◌+◌, ◌<◌, ◌==◌, List, [], ◌∷◌, ◌++◌, length, drop, slice_index, sum_by, cond, nat_lt, if◌then◌else◌, refl, sym, ap, ◌∙◌, add-zero, zero-add, add-one, add-suc, arith, rules}
+use Rattle.std.proofs.Common.{◌≡◌, ◌≢◌, ℕ, zero, suc, ◌+◌, ◌<◌, ◌≤◌, ◌==◌, List, [], ◌∷◌, ◌++◌, length, drop, slice_index, sum_by, cond, nat_lt, if◌then◌else◌, refl, sym, ap, ◌∙◌, add-zero, zero-add, add-one, add-suc, arith, rules}
 use Rattle.std.proofs.lemmas.List.Sums.{sum_by-cons, sum_by-append, sum_by_push}
 use Rattle.std.proofs.lemmas.Bool.Decides.{nat_tests}
 use Rattle.std.specs.List.{range_with_len, flat_map}
@@ -35,3 +35,15 @@ sum_by-flat_map h f (x ∷ xs) = sum_by-append h (f x) (flat_map f xs) ∙ (ap (
 pub sum_by-front : (h : ℕ → ℕ) (xs : List ℕ) → 0 < length xs → sum_by h (drop 1 xs) + h (slice_index xs 0) ≡ sum_by h xs
 sum_by-front h [] some = absurd (omega arith)
 sum_by-front h (x ∷ xs) some = let e = sum_by-cons h x xs in omega arith
+
+pub only_at_own : (number : ℕ) → only_at number number ≡ 1
+only_at_own number = grind (arith, nat_tests)
+
+pub only_at_other : (number x : ℕ) → x ≢ number → only_at number x ≡ 0
+only_at_other number x other = grind (arith, nat_tests)
+
+pub below_from_one : (number n : ℕ) → 1 ≤ (if nat_lt number n then 1 else 0) → number < n
+below_from_one number n one = grind (arith, nat_tests)
+
+pub one_below : (number n : ℕ) → number < n → ◌≡◌ {A = ℕ} (if nat_lt number n then 1 else 0) 1
+one_below number n below = grind (arith, nat_tests)

@@ -55,6 +55,14 @@ pub record Gathers {A : Type 0} (gives : ℕ → A → Type 0) (post : Post) (la
   pub answers : AllGiven gives all.results.items
   pub weighed : (h : ℕ → ℕ) → weight h all.results.items ≡ (sum_by h (owner_view all.post.owner).popped + sum_by h (thief_view all.post.thief).stolen) + sum_by (λ l. sum_by h (owner_view l.0).given) lanes
 
+-- what is left when a worker was joined, and its lane was popped until it was empty: all results, and the post of the calling thread with the thief that the worker had
+pub record Settles {A : Type 0} (gives : ℕ → A → Type 0) (done : Done A) (rest all : Gathered A) : Type 0 where
+  pub owner : all.post.owner ≡ rest.post.owner
+  pub thief : all.post.thief ≡ done.post.thief
+  pub fed : done.starved ≡ false
+  pub answers : AllGiven gives done.results.items → AllGiven gives rest.results.items → AllGiven gives all.results.items
+  pub weighed : (h : ℕ → ℕ) → weight h all.results.items + (sum_by h (owner_view done.post.owner).popped + sum_by h (thief_view rest.post.thief).stolen) ≡ (weight h done.results.items + weight h rest.results.items) + sum_by h (owner_view done.post.owner).given
+
 -- results for the numbers below n, one for each
 abbrev pub RanEach : {A : Type 0} → (ℕ → A → Type 0) → ℕ → List (Ran A) → Type 0
 RanEach gives n rs = AllGiven gives rs × ((h : ℕ → ℕ) → weight h rs ≡ sum_by h (range_with_len 0 n))

@@ -12,12 +12,11 @@ mod in_order;
 mod levels;
 mod worker;
 
-pub use fault::PoolFault;
-
 use crate::gate::Gate;
 use crate::job::Job;
 use crate::lanes::{LaneOwner, LaneThief, lane};
 use crate::workers::{MAX_INPUTS, MAX_WORKERS, Workers};
+pub use fault::PoolFault;
 use fault::Stop;
 use in_order::in_order;
 use levels::{Gathered, close, level};

@@ -1,6 +1,6 @@
 //! The results of a phase, put into the order of their inputs.
 
-ghost use Rattle.std.specs.Prelude.{◌≡◌, ℕ, ◌<◌, ◌≤◌, [], Some, None, length, replicate, sum_by, vec_capacity, IfOk, IfErr, slice_set};
+ghost use Rattle.std.specs.Prelude.{◌≡◌, ℕ, ◌<◌, ◌≤◌, [], Some, None, length, All, sum_by, vec_capacity, IfOk, IfErr, slice_set};
 ghost use Rattle.std.specs.List.{range_with_len};
 ghost use Rattle.index_pool.specs.Phase.{AnswersEach, MayRefuse};
 ghost use Rattle.index_pool.specs.PhaseSteps.{weight, IsAmong, IsFilled, IsFull, HasResult};
@@ -47,7 +47,7 @@ fn placed<A: Drop>(
 }
 
 fn empty_slots<A: Drop>(alloc: Global, inputs: usize) -> Result<Vec<Option<A>>, AllocError>
-    ensures { IfOk result (λ slots. slots.items ≡ replicate inputs None) }
+    ensures { IfOk result (λ slots. (length slots.items ≡ inputs) × All (λ slot. slot ≡ None) slots.items) }
 {
     let mut slots = Vec::with_capacity(alloc, inputs)?;
     for _ in 0..inputs {

@@ -2,7 +2,7 @@
 
 ghost use Rattle.std.specs.Prelude.{◌≡◌, ℕ, ◌+◌, ◌<◌, false, [], All, sum_by, IfOk, IfSome, OnOk};
 ghost use Rattle.index_pool.specs.LaneEnds.{owner_deque, owner_view, thief_deque, thief_view};
-ghost use Rattle.index_pool.specs.PhaseSteps.{AllBelow, FreshPost, FreshLane, AllGiven, weight, Worked, Gathers};
+ghost use Rattle.index_pool.specs.PhaseSteps.{AllBelow, FreshPost, FreshLane, AllGiven, weight, Worked, Gathers, Settles};
 
 use super::fault::Stop;
 use super::worker::{Done, Post, Ran, drain, run_own, work};
@@ -95,8 +95,8 @@ pub(crate) fn level<'s, E, R: Threads, J: Job, G: Gate>(
 // The post of the worker whose lane this is, who steals where the calling thread would, and the
 // calling thread's new post, which steals from that lane.
 fn swapped(post: Post, lane: (LaneOwner, LaneThief)) -> (Post, Post)
-    ensures theirs { (result.0.owner ≡ lane.0) × (result.0.thief ≡ post.thief) }
-    ensures ours { (result.1.owner ≡ post.owner) × (result.1.thief ≡ lane.1) }
+    ensures theirs { result.0 ≡ record { owner = lane.0; thief = post.thief } }
+    ensures ours { result.1 ≡ record { owner = post.owner; thief = lane.1 } }
 {
     let Post {
         owner: own,
@@ -137,9 +137,7 @@ fn settle<J: Job, G: Gate>(
 ) -> Result<Gathered<Result<J::Out, J::Fault>>, Stop>
     requires deque { thief_deque rest.post.thief ≡ owner_deque done.post.owner }
     requires below { AllBelow (J.inputs job.now) (owner_view done.post.owner).given }
-    ensures post { IfOk result (λ all. (all.post.owner ≡ rest.post.owner) × (all.post.thief ≡ done.post.thief) × (done.starved ≡ false)) }
-    ensures answers { IfOk result (λ all. AllGiven (J.gives job.now) done.results.items → AllGiven (J.gives job.now) rest.results.items → AllGiven (J.gives job.now) all.results.items) }
-    ensures weighed { IfOk result (λ all. (h : ℕ → ℕ) → weight h all.results.items + (sum_by h (owner_view done.post.owner).popped + sum_by h (thief_view rest.post.thief).stolen) ≡ (weight h done.results.items + weight h rest.results.items) + sum_by h (owner_view done.post.owner).given) }
+    ensures { IfOk result (Settles (J.gives job.now) done rest) }
 {
     let Done {
         post: theirs,
@@ -161,10 +159,7 @@ fn settle<J: Job, G: Gate>(
     let Post { owner, thief } = ours;
     close(job, gate, settled, thief, &mut results)?;
     Ok(Gathered {
-        post: Post {
-            owner,
-            thief: held,
-        },
+        post: Post { owner, thief: held },
         results,
     })
 }
@@ -183,5 +178,6 @@ pub(crate) fn close<J: Job, G: Gate>(
     ensures weighed { OnOk result ((h : ℕ → ℕ) → weight h results.new.items + (sum_by h (owner_view owner).popped + sum_by h (thief_view thief).stolen) ≡ weight h results.old.items + sum_by h (owner_view owner).given) }
 {
     owner.rejoin(thief);
-    run_own(job, gate, &mut owner, results)
+    run_own(job, gate, &mut owner, results)?;
+    Ok(())
 }

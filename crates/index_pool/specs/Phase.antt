@@ -1,0 +1,18 @@
+-- What a phase answers, by the meaning of its job: `gives k r` says that `run` may return r for input k.
+use Rattle.std.specs.Prelude.{◌≡◌, ℕ, ◌<◌, ⊤, List, length, slice_get, Option, Some, Result, Ok, Err}
+use Rattle.index_pool.specs.declared.phase.fault.PoolFault.{PoolFault}
+use Rattle.index_pool.specs.declared.phase.fault.PoolFault.TheVariants.{Spawn, Memory, Job}
+
+-- n answers, and answer k is one to input k
+abbrev pub AnswersEach : {Out Fault : Type 0} → (ℕ → Result Out Fault → Type 0) → ℕ → List Out → Type 0
+AnswersEach {Out} gives n outs = (length outs ≡ n) × ((k : ℕ) (out : Out) → slice_get outs k ≡ Some out → gives k (Ok out))
+
+-- input k may give this fault, and each lesser input has an answer
+abbrev pub IsLeastFault : {Out Fault : Type 0} → (ℕ → Result Out Fault → Type 0) → ℕ → ℕ → Fault → Type 0
+IsLeastFault {Out} gives n k fault = (k < n) × gives k (Err fault) × ((j : ℕ) → j < k → (out : Out) × gives j (Ok out))
+
+-- of a thread or of memory that is refused nothing is said; an input's fault is the least one
+abbrev pub MayRefuse : {Out Fault : Type 0} → (ℕ → Result Out Fault → Type 0) → ℕ → PoolFault Fault → Type 0
+MayRefuse gives n Spawn = ⊤
+MayRefuse gives n Memory = ⊤
+MayRefuse gives n (Job k fault) = IsLeastFault gives n k fault

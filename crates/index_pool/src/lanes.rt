@@ -1,0 +1,118 @@
+//! Lanes: the deque of one worker, from which its owner pops and its neighbour steals.
+
+ghost use Rattle.std.specs.Prelude.{◌≡◌, ◌+◌, ◌<◌, ◌≤◌, ◌%◌, ◌/◌, true, false, [], ◌∷◌, ◌++◌, Contains, IfOk, IfSome, IfNone, length};
+ghost use Rattle.std.specs.List.Sorted.{IsPermutation};
+ghost use Rattle.index_pool.specs.Lane.{lane_numbers, lane_view};
+ghost use Rattle.crossbeam_deque.specs.Handles.{worker_capacity, worker_flavor, worker_index, worker_view, SameWorker};
+ghost use Rattle.index_pool.specs.StolenCases.{IfGot, IfNotGot};
+ghost use Rattle.index_pool.specs.LaneEnds.{owner_view, owner_deque, thief_view, thief_deque};
+
+mod ends;
+mod rule;
+mod stolen;
+
+use crate::workers::{MAX_INPUTS, Workers};
+use crossbeam_deque::Steal;
+use ends::LaneWorker;
+pub use ends::{LaneOwner, LaneThief};
+use rule::{Ends, Gives, Pops, Steals};
+use std::alloc::{AllocError, Global};
+pub use stolen::Stolen;
+
+/// The lane of one worker, with its inputs pushed: of the numbers below `inputs` those that leave
+/// the worker's number when they are divided by the number of workers, in rising order.
+///
+/// The owner pops, and the thief steals, from any two threads. With one worker both are its own.
+pub fn lane(
+    alloc: Global,
+    inputs: usize,
+    workers: Workers,
+    worker: usize,
+) -> Result<(LaneOwner, LaneThief), AllocError>
+    requires { (inputs ≤ MAX_INPUTS) × (worker < workers) }
+    ensures owner { IfOk result (λ ends. owner_view ends.0 ≡ lane_view true false (lane_numbers inputs workers worker) [] []) }
+    ensures thief { IfOk result (λ ends. thief_view ends.1 ≡ lane_view false true (lane_numbers inputs workers worker) [] []) }
+    ensures deque { IfOk result (λ ends. thief_deque ends.1 ≡ owner_deque ends.0) }
+{
+    let mut deque = filled(alloc, inputs, workers, worker)?;
+    let stealer = deque.stealer()?;
+    let pass = deque.another::<Ends>();
+    Ok((LaneOwner { worker: deque }, LaneThief { stealer, pass }))
+}
+
+// A deque with the lane's numbers, and room for them all from the start.
+fn filled(
+    alloc: Global,
+    inputs: usize,
+    workers: Workers,
+    worker: usize,
+) -> Result<LaneWorker, AllocError>
+    requires { (inputs ≤ MAX_INPUTS) × (worker < workers) }
+    ensures fifo { IfOk result (λ w. worker_flavor w ≡ 0) }
+    ensures view { IfOk result (λ w. worker_view w ≡ lane_view true true (lane_numbers inputs workers worker) [] []) }
+{
+    let count = workers.count();
+    let mut deque = LaneWorker::fifo_as(alloc, inputs / count + 1)?;
+    for number in 0..inputs {
+        if number % count == worker {
+            give(&mut deque, number);
+        }
+    }
+    Ok(deque)
+}
+
+// Pushes a number where there is room.
+fn give(deque: &mut LaneWorker, number: usize)
+    requires both { ((worker_view deque.old).owns ≡ true) × ((worker_view deque.old).steals ≡ true) }
+    requires room { worker_index deque.old < worker_capacity deque.old }
+    ensures same { SameWorker deque.old deque.new × (worker_index deque.new ≡ worker_index deque.old + 1) }
+    ensures view { worker_view deque.new ≡ lane_view true true ((worker_view deque.old).given ++ number ∷ []) (worker_view deque.old).popped (worker_view deque.old).stolen }
+{
+    match deque.push_as::<Gives>(number) {
+        Ok(()) => {}
+        Err(_) => unreachable!(),
+    }
+}
+
+impl LaneOwner {
+    /// The first number of the lane's queue, or None where the queue was empty at one moment.
+    ///
+    /// Once the thief's end was taken in, None tells that each of the lane's numbers was popped or
+    /// stolen, once.
+    pub fn pop(&mut self) -> Option<usize>
+        ensures some { IfSome result (λ k. owner_view self.new ≡ lane_view true (owner_view self.old).steals (owner_view self.old).given ((owner_view self.old).popped ++ k ∷ []) (owner_view self.old).stolen) }
+        ensures one_given { IfSome result (λ k. Contains (owner_view self.old).given k × (length (owner_view self.old).popped < length (owner_view self.old).given)) }
+        ensures none { IfNone result (owner_view self.new ≡ owner_view self.old) }
+        ensures whole { IfNone result ((owner_view self.old).steals ≡ true → IsPermutation (owner_view self.old).given ((owner_view self.old).popped ++ (owner_view self.old).stolen)) }
+        ensures same { owner_deque self.new ≡ owner_deque self.old }
+    {
+        self.worker.pop_as::<Pops>()
+    }
+
+    /// Takes in the thief of the same lane, with what it stole.
+    pub fn rejoin(&mut self, thief: LaneThief)
+        requires { thief_deque thief ≡ owner_deque self.old }
+        ensures view { owner_view self.new ≡ lane_view true true (owner_view self.old).given (owner_view self.old).popped (thief_view thief).stolen }
+        ensures same { owner_deque self.new ≡ owner_deque self.old }
+    {
+        let LaneThief { stealer, pass } = thief;
+        drop(stealer);
+        self.worker.absorb::<Ends>(pass);
+    }
+}
+
+impl LaneThief {
+    /// Tries to take the first number of the lane's queue.
+    pub fn steal(&mut self) -> Stolen
+        ensures got { IfGot result (λ k. thief_view self.new ≡ lane_view (thief_view self.old).owns true (thief_view self.old).given (thief_view self.old).popped ((thief_view self.old).stolen ++ k ∷ [])) }
+        ensures one_given { IfGot result (λ k. Contains (thief_view self.old).given k × (length (thief_view self.old).stolen < length (thief_view self.old).given)) }
+        ensures none { IfNotGot result (thief_view self.new ≡ thief_view self.old) }
+        ensures same { thief_deque self.new ≡ thief_deque self.old }
+    {
+        match self.stealer.steal_as::<Steals>(&mut self.pass) {
+            Steal::Success(number) => Stolen::Got(number),
+            Steal::Empty => Stolen::Empty,
+            Steal::Retry => Stolen::Retry,
+        }
+    }
+}

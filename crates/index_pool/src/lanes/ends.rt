@@ -1,0 +1,29 @@
+//! The two ends of a lane.
+
+ghost use Rattle.std.specs.Prelude.{◌≡◌, true};
+ghost use Rattle.crossbeam_deque.specs.Handles.{view, IsPassOf, stealer_deque, stealer_flavor, worker_flavor, worker_view};
+
+use super::rule::{LaneRule, LaneView};
+use crossbeam_deque::{Pass, Stealer, Worker};
+use std::alloc::Global;
+
+pub(crate) type LaneWorker = Worker<usize, Global, LaneView, LaneRule>;
+
+pub(crate) type LaneStealer = Stealer<usize, Global, LaneView, LaneRule>;
+
+/// The owner's end of a lane, from which its worker pops.
+#[derive(Drop)]
+pub struct LaneOwner {
+    pub(crate) worker: Worker<usize, Global, LaneView, LaneRule>,
+    ghost fifo: { worker_flavor worker ≡ 0 },
+    ghost owns: { (worker_view worker).owns ≡ true },
+}
+
+/// The thief's end of a lane, from which the worker steals whose neighbour the owner is.
+#[derive(Drop)]
+pub struct LaneThief {
+    pub(crate) stealer: Stealer<usize, Global, LaneView, LaneRule>,
+    pub(crate) pass: Pass<usize, LaneView>,
+    ghost seated: { IsPassOf (stealer_deque stealer) pass },
+    ghost steals: { (view pass).steals ≡ true },
+}

@@ -1,0 +1,15 @@
+//! Laws about the core machine, each the contract of an empty function.
+
+ghost use Rattle.index_pool.specs.CoreMachine.{LosesNoNumber, TakesEachNumber};
+
+/// In every state to which events lead, each seeded number stands in one queue or in one worker's
+/// takings, once.
+pub fn core_loses_no_number()
+    ensures { LosesNoNumber }
+{}
+
+/// Where every worker has noted that its queue is empty, the takings of all are the numbers below
+/// the bound, each once.
+pub fn core_takes_each_number()
+    ensures { TakesEachNumber }
+{}

@@ -1,0 +1,18 @@
+//! Phases: the inputs of a job, run on workers who take their numbers from deques.
+#![tactic(auto)]
+
+mod core_machine;
+mod gate;
+mod job;
+mod lanes;
+mod laws;
+mod phase;
+mod workers;
+
+pub use core_machine::{Core, Event, NotPossible};
+pub use gate::{Gate, NoGate};
+pub use job::Job;
+pub use lanes::{LaneOwner, LaneThief, Stolen, lane};
+pub use laws::{core_loses_no_number, core_takes_each_number};
+pub use phase::{PoolFault, run_phase, run_phase_with_starts};
+pub use workers::{MAX_INPUTS, MAX_WORKERS, Workers};

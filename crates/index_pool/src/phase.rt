@@ -1,0 +1,143 @@
+//! Phases: the inputs of a job, run by workers who pop and steal their numbers.
+
+ghost use Rattle.std.specs.Prelude.{◌≡◌, ℕ, ◌+◌, ◌≤◌, All, sum_by, IfOk, IfErr};
+ghost use Rattle.std.specs.List.{range_with_len};
+ghost use Rattle.index_pool.specs.Lane.{lane_numbers};
+ghost use Rattle.index_pool.specs.LaneEnds.{owner_view};
+ghost use Rattle.index_pool.specs.Phase.{AnswersEach, MayRefuse};
+ghost use Rattle.index_pool.specs.PhaseSteps.{FreshPost, FreshLane, Gathers, RanEach};
+
+mod fault;
+mod in_order;
+mod levels;
+mod worker;
+
+use crate::gate::Gate;
+use crate::job::Job;
+use crate::lanes::{LaneOwner, LaneThief, lane};
+use crate::workers::{MAX_INPUTS, MAX_WORKERS, Workers};
+pub use fault::PoolFault;
+use fault::Stop;
+use in_order::in_order;
+use levels::{Gathered, close, level};
+use std::alloc::{AllocError, Global};
+use std::sync::Wait;
+use std::thread;
+use std::thread::Threads;
+use worker::{Post, Ran};
+
+/// Runs the job's inputs below `inputs`, each once, on so many workers, with the gate's calls round
+/// each run, and answers an entry for each, in order.
+///
+/// Every input is run, also where one has a fault. The calling thread is the first worker; each
+/// further worker is a thread of its own, which has ended when the phase has. A worker pops its own
+/// lane until it is empty, and then steals from its neighbour's until that is empty, or has asked for
+/// a further try 64 times in a row. It waits for its threads, so it returns if the job's and the
+/// gate's calls do.
+///
+/// Of the refusals `Spawn` comes before `Memory`, and `Memory` before `Job`. After `Spawn` and
+/// `Memory` inputs may not have been run.
+pub fn run_phase<R: Threads + Wait, J: Job, G: Gate>(
+    rt: &R,
+    alloc: Global,
+    job: &J,
+    inputs: usize,
+    workers: Workers,
+    gate: &G,
+) -> Result<Vec<J::Out>, PoolFault<J::Fault>>
+    requires few { inputs ≤ MAX_INPUTS }
+    requires known { inputs ≤ J.inputs job.now }
+    ensures answers { IfOk result (λ outs. AnswersEach (J.gives job.now) inputs outs.items) }
+    ensures refused { IfErr result (MayRefuse (J.gives job.now) inputs) }
+{
+    run_phase_with_starts(rt, alloc, job, inputs, workers, gate, MAX_WORKERS)
+}
+
+/// As `run_phase`, where at most `starts` threads can be started: a further start is refused. It
+/// serves tests of such a refusal.
+pub fn run_phase_with_starts<R: Threads + Wait, J: Job, G: Gate>(
+    rt: &R,
+    alloc: Global,
+    job: &J,
+    inputs: usize,
+    workers: Workers,
+    gate: &G,
+    starts: usize,
+) -> Result<Vec<J::Out>, PoolFault<J::Fault>>
+    requires few { inputs ≤ MAX_INPUTS }
+    requires known { inputs ≤ J.inputs job.now }
+    ensures answers { IfOk result (λ outs. AnswersEach (J.gives job.now) inputs outs.items) }
+    ensures refused { IfErr result (MayRefuse (J.gives job.now) inputs) }
+{
+    match run_lanes(rt, alloc, job, inputs, workers, gate, starts) {
+        Ok(results) => in_order(alloc, inputs, results),
+        Err(Stop::Spawn) => Err(PoolFault::Spawn),
+        Err(Stop::Memory) => Err(PoolFault::Memory),
+    }
+}
+
+// A result for each input, in the order in which they were gathered.
+fn run_lanes<R: Threads + Wait, J: Job, G: Gate>(
+    rt: &R,
+    alloc: Global,
+    job: &J,
+    inputs: usize,
+    workers: Workers,
+    gate: &G,
+    starts: usize,
+) -> Result<Vec<Ran<Result<J::Out, J::Fault>>>, Stop>
+    requires few { inputs ≤ MAX_INPUTS }
+    requires known { inputs ≤ J.inputs job.now }
+    ensures { IfOk result (λ v. RanEach (J.gives job.now) inputs v.items) }
+{
+    let (owner, thief) = lane(alloc, inputs, workers, 0)?;
+    let lanes = further_lanes(alloc, inputs, workers)?;
+    let post = Post { owner, thief };
+    let gathered = start_all(rt, alloc, job, gate, post, lanes, starts)?;
+    let Gathered { post, mut results } = gathered;
+    let Post { owner, thief } = post;
+    close(job, gate, owner, thief, &mut results)?;
+    Ok(results)
+}
+
+// The lanes of all workers but the first, in order.
+fn further_lanes(
+    alloc: Global,
+    inputs: usize,
+    workers: Workers,
+) -> Result<Vec<(LaneOwner, LaneThief)>, AllocError>
+    requires { inputs ≤ MAX_INPUTS }
+    ensures fresh { IfOk result (λ lanes. All (FreshLane inputs) lanes.items) }
+    ensures whole { IfOk result (λ lanes. (h : ℕ → ℕ) → sum_by h (lane_numbers inputs workers 0) + sum_by (λ l. sum_by h (owner_view l.0).given) lanes.items ≡ sum_by h (range_with_len 0 inputs)) }
+{
+    let mut lanes = Vec::new(alloc);
+    for worker in 1..workers.count() {
+        lanes.push(lane(alloc, inputs, workers, worker)?)?;
+    }
+    Ok(lanes)
+}
+
+// The scope of the workers' threads.
+fn start_all<R: Threads + Wait, J: Job, G: Gate>(
+    rt: &R,
+    alloc: Global,
+    job: &J,
+    gate: &G,
+    post: Post,
+    lanes: Vec<(LaneOwner, LaneThief)>,
+    starts: usize,
+) -> Result<Gathered<Result<J::Out, J::Fault>>, Stop>
+    requires post { FreshPost (J.inputs job.now) post }
+    requires lanes { All (FreshLane (J.inputs job.now)) lanes.items }
+    ensures { IfOk result (Gathers (J.gives job.now) post lanes.items) }
+{
+    thread::scope(
+        thread::scope_env(),
+        rt,
+        |scope| -> Result<Gathered<Result<J::Out, J::Fault>>, Stop>
+            requires post { FreshPost (J.inputs job.now) post }
+            requires lanes { All (FreshLane (J.inputs job.now)) lanes.items }
+            ensures { IfOk result (Gathers (J.gives job.entry.now) post lanes.items) }
+        { level(scope, rt, alloc, job, gate, post, lanes, starts) },
+    )
+}

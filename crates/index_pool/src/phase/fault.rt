@@ -1,0 +1,27 @@
+//! Why a phase is refused.
+
+use std::alloc::AllocError;
+
+/// Why a phase is refused. Where several hold, the first of these is answered.
+#[derive(Clone, Copy, Debug, Drop, PartialEq, Eq)]
+pub enum PoolFault<F> {
+    /// A thread could not be started. Those that were have ended.
+    Spawn,
+    /// Room for the lanes or for results was refused.
+    Memory,
+    /// The least faulty input, with its fault. Every lesser input has an answer.
+    Job(usize, F),
+}
+
+// Why no results are gathered.
+#[derive(Clone, Copy)]
+pub(crate) enum Stop {
+    Spawn,
+    Memory,
+}
+
+impl From<AllocError> for Stop {
+    fn from(_refused: AllocError) -> Stop {
+        Stop::Memory
+    }
+}

@@ -1,0 +1,84 @@
+//! The results of a phase, put into the order of their inputs.
+
+ghost use Rattle.std.specs.Prelude.{◌≡◌, ℕ, ◌<◌, ◌≤◌, [], Some, None, length, All, sum_by, vec_capacity, IfOk, IfErr, slice_set};
+ghost use Rattle.std.specs.List.{range_with_len};
+ghost use Rattle.index_pool.specs.Phase.{AnswersEach, MayRefuse};
+ghost use Rattle.index_pool.specs.PhaseSteps.{weight, IsAmong, IsFilled, IsFull, HasResult};
+
+use super::fault::PoolFault;
+use super::worker::Ran;
+use std::alloc::{AllocError, Global};
+
+// The answers in the order of their inputs, or the least faulty input. There is a result for each
+// number below `inputs`, and only one.
+pub(crate) fn in_order<Out: Drop, Fault: Drop>(
+    alloc: Global,
+    inputs: usize,
+    results: Vec<Ran<Result<Out, Fault>>>,
+) -> Result<Vec<Out>, PoolFault<Fault>>
+    requires { (h : ℕ → ℕ) → weight h results.items ≡ sum_by h (range_with_len 0 inputs) }
+    ensures answers { IfOk result (λ outs. AnswersEach (IsAmong results.items) inputs outs.items) }
+    ensures refused { IfErr result (MayRefuse (IsAmong results.items) inputs) }
+{
+    let Ok(slots) = placed(alloc, inputs, results) else {
+        return Err(PoolFault::Memory);
+    };
+    let Ok(outs) = Vec::with_capacity(alloc, inputs) else {
+        return Err(PoolFault::Memory);
+    };
+    first_fault_or_all(slots, outs)
+}
+
+// A slot for each input, with its result.
+fn placed<A: Drop>(
+    alloc: Global,
+    inputs: usize,
+    results: Vec<Ran<A>>,
+) -> Result<Vec<Option<A>>, AllocError>
+    requires { (h : ℕ → ℕ) → weight h results.items ≡ sum_by h (range_with_len 0 inputs) }
+    ensures { IfOk result (λ slots. IsFilled (IsAmong results.items) inputs slots.items) }
+{
+    let mut slots = empty_slots(alloc, inputs)?;
+    for ran in results {
+        let Ran { number, answer } = ran;
+        put(&mut slots, number, answer);
+    }
+    Ok(slots)
+}
+
+fn empty_slots<A: Drop>(alloc: Global, inputs: usize) -> Result<Vec<Option<A>>, AllocError>
+    ensures { IfOk result (λ slots. (length slots.items ≡ inputs) × All (λ slot. slot ≡ None) slots.items) }
+{
+    let mut slots = Vec::with_capacity(alloc, inputs)?;
+    for _ in 0..inputs {
+        slots.push_reserved(None);
+    }
+    Ok(slots)
+}
+
+fn put<A: Drop>(slots: &mut Vec<Option<A>>, number: usize, answer: A)
+    requires { number < length slots.old.items }
+    ensures { slots.new.items ≡ slice_set slots.old.items number (Some answer) }
+{
+    slots[number] = Some(answer);
+}
+
+// The answers up to the first fault, or all of them.
+fn first_fault_or_all<Out: Drop, Fault: Drop>(
+    slots: Vec<Option<Result<Out, Fault>>>,
+    mut outs: Vec<Out>,
+) -> Result<Vec<Out>, PoolFault<Fault>>
+    requires room { (outs.items ≡ []) × (length slots.items ≤ vec_capacity outs) }
+    requires filled { IsFull slots.items }
+    ensures answers { IfOk result (λ all. AnswersEach (HasResult slots.items) (length slots.items) all.items) }
+    ensures refused { IfErr result (MayRefuse (HasResult slots.items) (length slots.items)) }
+{
+    for slot in slots {
+        match slot {
+            Some(Ok(out)) => outs.push_reserved(out),
+            Some(Err(fault)) => return Err(PoolFault::Job(outs.len(), fault)),
+            None => unreachable!(),
+        }
+    }
+    Ok(outs)
+}

@@ -1,0 +1,154 @@
+//! Gates that wait for other inputs: they show that workers run at one time, and that they steal.
+
+ghost use Rattle.std.specs.Prelude.{◌≡◌, ◌≤◌, Ok, length};
+
+use crate::calls::{see, workers};
+use index_pool::{Gate, Job, PoolFault, Workers, run_phase};
+use std::alloc::{AllocError, Global};
+use std::sync::Wait;
+use std::sync::atomic::{AtomicU64, Ordering};
+use std::test::Fail;
+use std::thread;
+use std::thread::Threads;
+use std::time::{Clock, Duration};
+
+/// How many milliseconds a gate waits at most.
+const MOST_TURNS: u64 = 5000;
+
+/// A job that does nothing.
+struct Nothing;
+
+impl Job for Nothing {
+    type Out = ();
+
+    type Fault = ();
+
+    ghost inputs = { λ _. 65536 };
+
+    ghost gives = { λ _ _ r. r ≡ Ok tt };
+
+    fn run(&self, _number: usize) -> Result<(), ()> {
+        Ok(())
+    }
+}
+
+/// Before an input is run, this waits until the inputs that the input awaits were entered: a bit
+/// for each. It keeps the order in which inputs are entered, and how many waits ran out.
+#[derive(Drop)]
+struct Waiting<C> {
+    clock: C,
+    awaited: Vec<u64>,
+    entered: AtomicU64,
+    tickets: AtomicU64,
+    order: Vec<AtomicU64>,
+    run_outs: AtomicU64,
+}
+
+impl<C: Clock + Sync> Gate for Waiting<C> {
+    fn before(&self, number: usize) {
+        let ticket = self.tickets.fetch_add(1, Ordering::SeqCst);
+        if number < self.order.len() {
+            self.order[number].store(ticket, Ordering::SeqCst);
+        }
+        self.entered.fetch_add(bit_of(number), Ordering::SeqCst);
+        let awaited = self.awaited.get(number).copied().unwrap_or(0);
+        for _ in 0..MOST_TURNS {
+            if self.entered.load(Ordering::SeqCst) & awaited == awaited {
+                return;
+            }
+            thread::sleep(&self.clock, Duration::from_millis(1));
+        }
+        self.run_outs.fetch_add(1, Ordering::SeqCst);
+    }
+
+    fn after(&self, _number: usize) {}
+}
+
+fn bit_of(number: usize) -> u64 {
+    if number < 64 { 1 << number } else { 0 }
+}
+
+fn waiting_gate<C: Drop>(
+    alloc: Global,
+    clock: C,
+    awaited: &[u64],
+) -> Result<Waiting<C>, AllocError> {
+    let mut order = Vec::new(alloc);
+    for _ in awaited {
+        order.push(AtomicU64::new(0))?;
+    }
+    let mut masks = Vec::new(alloc);
+    for mask in awaited {
+        masks.push(*mask)?;
+    }
+    Ok(Waiting {
+        clock,
+        awaited: masks,
+        entered: AtomicU64::new(0),
+        tickets: AtomicU64::new(0),
+        order,
+        run_outs: AtomicU64::new(0),
+    })
+}
+
+/// The order in which the inputs were entered, where the phase answers and no wait ran out.
+fn entry_order<R: Threads + Wait + Clock + Sync>(
+    rt: &R,
+    alloc: Global,
+    workers: Workers,
+    awaited: &[u64],
+) -> Result<Option<Vec<u64>>, AllocError>
+    requires { length awaited.now ≤ 64 }
+{
+    let gate = waiting_gate(alloc, rt, awaited)?;
+    let answer = run_phase(rt, alloc, &Nothing, awaited.len(), workers, &gate);
+    if answer.is_err() || gate.run_outs.load(Ordering::SeqCst) != 0 {
+        return Ok(None);
+    }
+    let mut order = Vec::new(alloc);
+    for ticket in gate.order.iter() {
+        order.push(ticket.load(Ordering::SeqCst))?;
+    }
+    Ok(Some(order))
+}
+
+#[test]
+fn two_workers_wait_for_each_other(rt: HostRuntime) -> Result<(), Fail> {
+    let two = workers(&rt, 2);
+    let awaited = [0b10, 0b01];
+    let met = entry_order(&rt, rt.alloc(), two, &awaited)?.is_some()
+        || entry_order(&rt, rt.alloc(), two, &awaited)?.is_some();
+    see(&rt, met, "two met");
+    Ok(())
+}
+
+#[test]
+fn sixteen_workers_wait_for_all(rt: HostRuntime) -> Result<(), Fail> {
+    let all = workers(&rt, 16);
+    let awaited = [0xffff; 16];
+    let met = entry_order(&rt, rt.alloc(), all, &awaited)?.is_some()
+        || entry_order(&rt, rt.alloc(), all, &awaited)?.is_some();
+    see(&rt, met, "sixteen met");
+    Ok(())
+}
+
+/// Whether the inputs but 0 were entered in the order 1, 3, 5, 2, 4.
+fn own_lane_then_stolen(order: &[u64]) -> bool {
+    if order.len() != 6 {
+        return false;
+    }
+    order[1] < order[3] && order[3] < order[5] && order[5] < order[2] && order[2] < order[4]
+}
+
+#[test]
+fn a_worker_empties_its_lane_and_then_steals(rt: HostRuntime) -> Result<(), Fail> {
+    let two = workers(&rt, 2);
+    let awaited = [0b1_0000, 0, 0, 0, 0, 0];
+    let mut order = entry_order(&rt, rt.alloc(), two, &awaited)?;
+    if order.is_none() {
+        order = entry_order(&rt, rt.alloc(), two, &awaited)?;
+    }
+    let kept = order.is_some_and(|order| own_lane_then_stolen(&order));
+    see(&rt, kept, "own lane, then stolen");
+    Ok(())
+}

@@ -1,0 +1,9 @@
+pub mod Lexeme
+pub mod Terminal
+pub mod Tree
+pub mod Code
+pub mod Items
+pub mod Falls
+pub mod Choice
+pub mod Grammar
+pub mod Derives

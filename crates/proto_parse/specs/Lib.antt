@@ -1,3 +1,4 @@
+pub mod Limits
 pub mod Lexeme
 pub mod Terminal
 pub mod Tree
@@ -7,3 +8,6 @@ pub mod Falls
 pub mod Choice
 pub mod Grammar
 pub mod Derives
+pub mod Gives
+pub mod Reading
+pub mod View

@@ -6,6 +6,9 @@ use crate::sequence::Sequence;
 use proto_lex::Span;
 use std::marker::Model;
 
+/// How many messages may stand inside one another, the outermost and the innermost among them.
+pub const MAX_MESSAGE_DEPTH: usize = 64;
+
 /// What is done with custom options: option names with a part in parentheses, aggregate values,
 /// and `extend`, all of which the tree never holds.
 #[derive(Clone, Copy, Debug, PartialEq, Eq)]

@@ -16,6 +16,7 @@ use Rattle.proto_parse.specs.Lexeme.{Lexeme}
 use Rattle.proto_parse.specs.Terminal.{first_is, of_kind, is_word, is_plain_literal, not_next, is_end}
 use Rattle.proto_parse.specs.Choice.{file_statement_of}
 use Rattle.proto_parse.specs.Tree.{MessageTree}
+use Rattle.proto_parse.specs.Limits.{max_message_depth}
 use Rattle.proto_parse.specs.Grammar.Steps.{One, Until, Adds}
 use Rattle.proto_parse.specs.Grammar.Names.{IsName}
 use Rattle.proto_parse.specs.Grammar.Options.{IsOption}
@@ -27,15 +28,15 @@ abbrev pub between_quotes : List ℕ → List ℕ
 between_quotes spelling = take (length spelling - 2) (drop 1 spelling)
 
 -- The literals that stand next, as many as there are, and what they spell when joined.
-pub data IsText : List Lexeme → List ℕ → List Lexeme → Type 0 where
-  none : {a : List Lexeme} → not_next StringLiteral a ≡ true → IsText a [] a
+pub data SpellsJoined : List Lexeme → List ℕ → List Lexeme → Type 0 where
+  none : {a : List Lexeme} → not_next StringLiteral a ≡ true → SpellsJoined a [] a
   some : {t : Lexeme} {rest after : List Lexeme} {text : List ℕ}
-      → of_kind StringLiteral t ≡ true → IsText rest text after → IsText (t ∷ rest) (between_quotes t.spelling ++ text) after
+      → of_kind StringLiteral t ≡ true → SpellsJoined rest text after → SpellsJoined (t ∷ rest) (between_quotes t.spelling ++ text) after
 
 -- syntax = "syntax" "=" strings ";", where the strings spell `proto3` when joined
 pub data IsSyntax : List Lexeme → List Lexeme → Type 0 where
   syntax : {a b c d e : List Lexeme} {keyword equals semicolon : Span}
-      → One (is_word (codes "syntax")) a keyword b → One (of_kind Equals) b equals c → IsText c (codes "proto3") d → One (of_kind Semicolon) d semicolon e
+      → One (is_word (codes "syntax")) a keyword b → One (of_kind Equals) b equals c → SpellsJoined c (codes "proto3") d → One (of_kind Semicolon) d semicolon e
       → IsSyntax a e
 
 -- [ "weak" | "public" ]
@@ -62,7 +63,7 @@ pub data IsPackage : List Lexeme → List Span → List Lexeme → Type 0 where
       → One (is_word (codes "package")) a keyword b → IsName b components c → One (of_kind Semicolon) c semicolon d → IsPackage a components d
 
 -- import | package | option | message | enum | service | ";", as the first word chooses, from the file so far to the file with it.
--- There is at most one package statement. 64 messages may stand inside one another (the profile's).
+-- There is at most one package statement.
 pub data IsStatement (custom : CustomOptions) : File → List Lexeme → File → List Lexeme → Type 0 where
   empty : {file : File} {a b : List Lexeme} {semicolon : Span} → file_statement_of a ≡ chosen.Empty → One (of_kind Semicolon) a semicolon b → IsStatement custom file a file b
   import : {file : File} {a b : List Lexeme} {import : Import}
@@ -71,7 +72,7 @@ pub data IsStatement (custom : CustomOptions) : File → List Lexeme → File �
       → file_statement_of a ≡ chosen.Package → file.package_name ≡ None → IsPackage a components b → IsStatement custom file a (record file { package_name = Some components }) b
   option : {file : File} {a b : List Lexeme} → file_statement_of a ≡ chosen.Option → IsOption custom a b → IsStatement custom file a file b
   message : {file : File} {a b : List Lexeme} (message : MessageTree)
-      → file_statement_of a ≡ chosen.Message → IsMessage custom 64 a message b → IsStatement custom file a (record file { items = file.items ++ item.Message message ∷ [] }) b
+      → file_statement_of a ≡ chosen.Message → IsMessage custom max_message_depth a message b → IsStatement custom file a (record file { items = file.items ++ item.Message message ∷ [] }) b
   enum : {file : File} {a b : List Lexeme} {enum : Enum}
       → file_statement_of a ≡ chosen.Enum → IsEnum custom a enum b → IsStatement custom file a (record file { items = file.items ++ item.Enum enum ∷ [] }) b
   service : {file : File} {a b : List Lexeme} {service : Service}

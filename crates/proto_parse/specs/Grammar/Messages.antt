@@ -102,7 +102,7 @@ pub data IsMessageOf (custom : CustomOptions) (Inner : List Lexeme → MessageTr
       → IsHeading (codes "message") a heading b → Until closes (Adds (IsMessageItem custom Inner)) [] b items c → One (of_kind CloseBrace) c close_brace d
       → IsMessageOf custom Inner a (record { heading = heading; body = body_of items }) d
 
--- A message in which, itself the outermost, at most so many messages stand inside one another (the profile's limit).
-unfoldable pub IsMessage : CustomOptions → (room : ℕ) → List Lexeme → MessageTree → List Lexeme → Type 0
+-- A message that takes up at most so many levels: itself one, and what its inner messages take up.
+unfoldable pub IsMessage : CustomOptions → (levels : ℕ) → List Lexeme → MessageTree → List Lexeme → Type 0
 IsMessage custom zero a tree b = ⊥
-IsMessage custom (suc room) a tree b = IsMessageOf custom (IsMessage custom room) a tree b
+IsMessage custom (suc levels) a tree b = IsMessageOf custom (IsMessage custom levels) a tree b

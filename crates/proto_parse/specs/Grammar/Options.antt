@@ -11,19 +11,19 @@ use Rattle.proto_parse.specs.Grammar.Steps.{One, Until, Passes}
 use Rattle.proto_parse.specs.Grammar.Names.{IsName, IsTypeName}
 
 -- A part of an option's name: IDENT. Where custom options are read past (the project's own), also "(" typename ")".
-pub data IsPart : CustomOptions → List Lexeme → List Lexeme → Type 0 where
-  plain : {custom : CustomOptions} {a b : List Lexeme} {name : Span} → One (of_kind Identifier) a name b → IsPart custom a b
+pub data IsOptionPart : CustomOptions → List Lexeme → List Lexeme → Type 0 where
+  plain : {custom : CustomOptions} {a b : List Lexeme} {name : Span} → One (of_kind Identifier) a name b → IsOptionPart custom a b
   extension : {a b c d : List Lexeme} {open_parenthesis close_parenthesis : Span} {name : TypeName}
       → One (of_kind OpenParenthesis) a open_parenthesis b → IsTypeName b name c → One (of_kind CloseParenthesis) c close_parenthesis d
-      → IsPart Skip a d
+      → IsOptionPart Skip a d
 
 -- "." part
 pub data IsDotPart (custom : CustomOptions) : List Lexeme → List Lexeme → Type 0 where
-  dot_part : {a b c : List Lexeme} {dot : Span} → One (of_kind Dot) a dot b → IsPart custom b c → IsDotPart custom a c
+  dot_part : {a b c : List Lexeme} {dot : Span} → One (of_kind Dot) a dot b → IsOptionPart custom b c → IsDotPart custom a c
 
 -- part { "." part }
 pub data IsOptionName (custom : CustomOptions) : List Lexeme → List Lexeme → Type 0 where
-  option_name : {a b c : List Lexeme} → IsPart custom a b → Until (not_next Dot) (Passes (IsDotPart custom)) tt b tt c → IsOptionName custom a c
+  option_name : {a b c : List Lexeme} → IsOptionPart custom a b → Until (not_next Dot) (Passes (IsDotPart custom)) tt b tt c → IsOptionName custom a c
 
 pub data IsLiteral : List Lexeme → List Lexeme → Type 0 where
   literal : {a b : List Lexeme} {text : Span} → One (of_kind StringLiteral) a text b → IsLiteral a b

@@ -29,7 +29,7 @@ pub data IsMethodType : List Lexeme → TypeName → List Lexeme → Type 0 wher
 -- option | ";"
 pub data IsMethodItem (custom : CustomOptions) : List Lexeme → List Lexeme → Type 0 where
   empty : {a b : List Lexeme} {semicolon : Span} → One (of_kind Semicolon) a semicolon b → IsMethodItem custom a b
-  option : {a b : List Lexeme} → IsOption custom a b → IsMethodItem custom a b
+  option : {a b : List Lexeme} → first_is (is_word (codes "option")) a ≡ true → IsOption custom a b → IsMethodItem custom a b
 
 -- ";" | "{" { option | ";" } "}", with its first token
 pub data IsMethodEnd (custom : CustomOptions) : List Lexeme → Span → List Lexeme → Type 0 where

@@ -8,3 +8,4 @@ pub mod Found
 pub mod Shorter
 pub mod StepsFall
 pub mod Exact
+pub mod Walk

@@ -8,6 +8,7 @@ pub mod Falls
 pub mod Choice
 pub mod Grammar
 pub mod Derives
+pub mod Walk
 pub mod Gives
 pub mod Reading
 pub mod View

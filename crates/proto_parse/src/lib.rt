@@ -18,7 +18,7 @@ mod statement;
 mod tree;
 
 pub use fault::SyntaxFault;
-pub use laws::one_tree;
+pub use laws::{one_tree, spans_in_order, spans_of_tokens};
 pub use parsing::{parse, parse_with};
 pub use sequence::Sequence;
 pub use tree::{

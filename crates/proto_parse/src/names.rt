@@ -81,7 +81,7 @@ impl<'t> Parser<'t> {
 
     /// The name of a message or an enum, where it is used.
     #[tactic(auto, unfolding(crate::specs::Reading::Names::type_name_at))]
-    fn type_name(&mut self, alloc: Global) -> Result<TypeName, SyntaxFault>
+    pub(crate) fn type_name(&mut self, alloc: Global) -> Result<TypeName, SyntaxFault>
         ensures { Gives (λ x. x) self.new result (type_name_at self.old) }
     {
         let leading_dot = self.leading_dot()?;

@@ -1,0 +1,11 @@
+pub mod OptionSteps
+pub mod Places
+pub mod Stops
+pub mod TokenLemmas
+pub mod UntilLemmas
+pub mod ClosedLemmas
+pub mod Found
+pub mod Shorter
+pub mod StepsFall
+pub mod Exact
+pub mod Walk

@@ -1,0 +1,287 @@
+-- What is in the grammar leaves fewer tokens.
+use Rattle.std.proofs.Common.{◌≡◌, ℕ, zero, suc, ◌<◌, ◌≤◌, Bool, Option, Some, List, [], ◌∷◌, length, arith}
+use Rattle.proto_lex.specs.declared.span.Span.{Span}
+use Rattle.proto_parse.specs.declared.tree.CustomOptions.{CustomOptions}
+use Rattle.proto_parse.specs.declared.tree.Heading.{Heading}
+use Rattle.proto_parse.specs.declared.tree.Label.{Label}
+use Rattle.proto_parse.specs.declared.tree.TypeName.{TypeName}
+use Rattle.proto_parse.specs.declared.tree.FieldType.{FieldType}
+use Rattle.proto_parse.specs.declared.tree.Field.{Field}
+use Rattle.proto_parse.specs.declared.tree.MapField.{MapField}
+use Rattle.proto_parse.specs.declared.tree.Enum.{Enum}
+use Rattle.proto_parse.specs.declared.tree.Oneof.{Oneof}
+use Rattle.proto_parse.specs.declared.tree.Method.{Method}
+use Rattle.proto_parse.specs.declared.tree.Service.{Service}
+use Rattle.proto_parse.specs.declared.tree.MessageItem.{MessageItem}
+use Rattle.proto_parse.specs.declared.tree.Import.{Import}
+use Rattle.proto_parse.specs.declared.tree.ImportKind.{ImportKind}
+use Rattle.proto_parse.specs.declared.tree.File.{File}
+use Rattle.proto_parse.specs.Lexeme.{Lexeme}
+use Rattle.proto_parse.specs.Tree.{MessageTree}
+use Rattle.proto_parse.specs.Limits.{max_message_depth}
+use Rattle.proto_parse.specs.Grammar.Steps.{Until, Adds, Passes}
+use Rattle.proto_parse.specs.Grammar.Names.{IsDotName, IsName, IsTypeName, IsType}
+use Rattle.proto_parse.specs.Grammar.Names.IsDotName.{dot_name}
+use Rattle.proto_parse.specs.Grammar.Names.IsName.{name}
+use Rattle.proto_parse.specs.Grammar.Names.IsTypeName.{rooted, plain as plain_name}
+use Rattle.proto_parse.specs.Grammar.Names.IsType.{scalar, named}
+use Rattle.proto_parse.specs.Grammar.Options.{IsOptionPart, IsDotPart, IsOptionName, IsLiteral, IsStrings, IsClosed, IsConstant, IsSetting, IsCommaSetting, IsOption, IsOptions}
+use Rattle.proto_parse.specs.Grammar.Options.IsOptionPart.{plain as plain_part, extension}
+use Rattle.proto_parse.specs.Grammar.Options.IsDotPart.{dot_part}
+use Rattle.proto_parse.specs.Grammar.Options.IsOptionName.{option_name}
+use Rattle.proto_parse.specs.Grammar.Options.IsLiteral.{literal}
+use Rattle.proto_parse.specs.Grammar.Options.IsStrings.{strings}
+use Rattle.proto_parse.specs.Grammar.Options.IsClosed.{closed, open_brace, close_brace, other}
+use Rattle.proto_parse.specs.Grammar.Options.IsConstant.{name as a_name, signed, unsigned, strings as some_strings, aggregate}
+use Rattle.proto_parse.specs.Grammar.Options.IsSetting.{setting}
+use Rattle.proto_parse.specs.Grammar.Options.IsCommaSetting.{comma_setting}
+use Rattle.proto_parse.specs.Grammar.Options.IsOption.{option}
+use Rattle.proto_parse.specs.Grammar.Options.IsOptions.{none, some}
+use Rattle.proto_parse.specs.Grammar.Fields.{IsNumbered, IsTyped, IsLabel, IsField, IsOneofField, IsMapField}
+use Rattle.proto_parse.specs.Grammar.Fields.IsNumbered.{numbered}
+use Rattle.proto_parse.specs.Grammar.Fields.IsTyped.{typed}
+use Rattle.proto_parse.specs.Grammar.Fields.IsLabel.{repeated, optional, no_label}
+use Rattle.proto_parse.specs.Grammar.Fields.IsField.{field}
+use Rattle.proto_parse.specs.Grammar.Fields.IsOneofField.{oneof_field}
+use Rattle.proto_parse.specs.Grammar.Fields.IsMapField.{map_field}
+use Rattle.proto_parse.specs.Grammar.Reserved.{IsInteger, IsRangeEnd, IsRange, IsReservedItem, IsCommaItem, IsReserved}
+use Rattle.proto_parse.specs.Grammar.Reserved.IsInteger.{plain, minus}
+use Rattle.proto_parse.specs.Grammar.Reserved.IsRangeEnd.{number, max}
+use Rattle.proto_parse.specs.Grammar.Reserved.IsRange.{single, range}
+use Rattle.proto_parse.specs.Grammar.Reserved.IsReservedItem.{name as reserved_name, number as reserved_number}
+use Rattle.proto_parse.specs.Grammar.Reserved.IsCommaItem.{comma_item}
+use Rattle.proto_parse.specs.Grammar.Reserved.IsReserved.{reserved}
+use Rattle.proto_parse.specs.Grammar.Messages.{IsHeading, IsValue, IsEnumItem, IsEnum, IsOneofItem, IsOneof, IsExtendItem, IsExtend, IsMessageItem, IsMessageOf, IsMessage}
+use Rattle.proto_parse.specs.Grammar.Messages.IsHeading.{heading}
+use Rattle.proto_parse.specs.Grammar.Messages.IsValue.{value}
+use Rattle.proto_parse.specs.Grammar.Messages.IsEnumItem.{empty as enums-empty, option as enums-option, reserved as enums-reserved, value as enums-value}
+use Rattle.proto_parse.specs.Grammar.Messages.IsEnum.{enum}
+use Rattle.proto_parse.specs.Grammar.Messages.IsOneofItem.{empty as oneofs-empty, option as oneofs-option, field as oneofs-field}
+use Rattle.proto_parse.specs.Grammar.Messages.IsOneof.{oneof}
+use Rattle.proto_parse.specs.Grammar.Messages.IsExtendItem.{empty as extends-empty, field as extends-field}
+use Rattle.proto_parse.specs.Grammar.Messages.IsExtend.{extend}
+use Rattle.proto_parse.specs.Grammar.Messages.IsMessageItem.{empty as items-empty, message as items-message, enum as items-enum, option as items-option, oneof as items-oneof, map_field as items-map_field, reserved as items-reserved, extend as items-extend, field as items-field}
+use Rattle.proto_parse.specs.Grammar.Messages.IsMessageOf.{message}
+use Rattle.proto_parse.specs.Grammar.Services.{IsStream, IsMethodType, IsMethodItem, IsMethodEnd, IsMethod, IsServiceItem, IsService}
+use Rattle.proto_parse.specs.Grammar.Services.IsStream.{stream, no_stream}
+use Rattle.proto_parse.specs.Grammar.Services.IsMethodType.{method_type}
+use Rattle.proto_parse.specs.Grammar.Services.IsMethodItem.{empty as method_items-empty, option as method_items-option}
+use Rattle.proto_parse.specs.Grammar.Services.IsMethodEnd.{semicolon, body}
+use Rattle.proto_parse.specs.Grammar.Services.IsMethod.{method}
+use Rattle.proto_parse.specs.Grammar.Services.IsServiceItem.{empty as services-empty, option as services-option, method as services-method}
+use Rattle.proto_parse.specs.Grammar.Services.IsService.{service}
+use Rattle.proto_parse.specs.Grammar.Files.{IsImportKind, IsPathLiteral, IsImport, IsPackage, IsStatement}
+use Rattle.proto_parse.specs.Grammar.Files.IsImportKind.{weak, public, neither}
+use Rattle.proto_parse.specs.Grammar.Files.IsPathLiteral.{path_literal}
+use Rattle.proto_parse.specs.Grammar.Files.IsImport.{import}
+use Rattle.proto_parse.specs.Grammar.Files.IsPackage.{package_statement}
+use Rattle.proto_parse.specs.Grammar.Files.IsStatement.{empty as statements-empty, import as statements-import, package_statement as statements-package_statement, option as statements-option, message as statements-message, enum as statements-enum, service as statements-service, extend as statements-extend}
+use Rattle.proto_parse.proofs.TokenLemmas.{one_shorter}
+use Rattle.proto_parse.proofs.UntilLemmas.{Until-shorter, Adds-shorter, Passes-shorter}
+
+pub dot_name_shorter : (a b : List Lexeme) (x : Option Span) → IsDotName a x b → length b < length a
+dot_name_shorter a b x (dot_name d n) = omega (arith, one_shorter d, one_shorter n)
+
+pub name_shorter : {a b : List Lexeme} {x : List Span} → IsName a x b → length b < length a
+name_shorter (name t u) = omega (arith, one_shorter t, Until-shorter (Adds-shorter IsDotName dot_name_shorter) _ _ _ _ u)
+
+type_name_shorter : {a b : List Lexeme} {x : TypeName} → IsTypeName a x b → length b < length a
+type_name_shorter (rooted d n) = omega (arith, one_shorter d, name_shorter n)
+type_name_shorter (plain_name n) = name_shorter n
+
+type_shorter : {a b : List Lexeme} {x : FieldType} → IsType a x b → length b < length a
+type_shorter (scalar is w) = one_shorter w
+type_shorter (named not n) = type_name_shorter n
+
+part_shorter : {custom : CustomOptions} {a b : List Lexeme} → IsOptionPart custom a b → length b < length a
+part_shorter (plain_part n) = one_shorter n
+part_shorter (extension o n c) = omega (arith, one_shorter o, type_name_shorter n, one_shorter c)
+
+pub dot_part_shorter : (custom : CustomOptions) (a b : List Lexeme) → IsDotPart custom a b → length b < length a
+dot_part_shorter custom a b (dot_part d p) = omega (arith, one_shorter d, part_shorter p)
+
+option_name_shorter : {custom : CustomOptions} {a b : List Lexeme} → IsOptionName custom a b → length b < length a
+option_name_shorter {custom} (option_name p u) = omega (arith, part_shorter p, Until-shorter (Passes-shorter (IsDotPart custom) (dot_part_shorter custom)) _ _ _ _ u)
+
+pub literal_shorter : (a b : List Lexeme) → IsLiteral a b → length b < length a
+literal_shorter a b (literal t) = one_shorter t
+
+strings_shorter : {a b : List Lexeme} → IsStrings a b → length b < length a
+strings_shorter (strings l u) = omega (arith, literal_shorter _ _ l, Until-shorter (Passes-shorter IsLiteral literal_shorter) _ _ _ _ u)
+
+closed_shorter : {depth : ℕ} {a b : List Lexeme} → IsClosed depth a b → length b ≤ length a
+closed_shorter closed = omega arith
+closed_shorter (open_brace o behind) = omega (arith, one_shorter o, closed_shorter behind)
+closed_shorter (close_brace c behind) = omega (arith, one_shorter c, closed_shorter behind)
+closed_shorter (other p q t behind) = omega (arith, one_shorter t, closed_shorter behind)
+
+constant_shorter : {custom : CustomOptions} {a b : List Lexeme} → IsConstant custom a b → length b < length a
+constant_shorter (a_name n) = name_shorter n
+constant_shorter (signed s n) = omega (arith, one_shorter s, one_shorter n)
+constant_shorter (unsigned n) = one_shorter n
+constant_shorter (some_strings t) = strings_shorter t
+constant_shorter (aggregate o behind) = omega (arith, one_shorter o, closed_shorter behind)
+
+setting_shorter : {custom : CustomOptions} {a b : List Lexeme} → IsSetting custom a b → length b < length a
+setting_shorter (setting n q c) = omega (arith, option_name_shorter n, one_shorter q, constant_shorter c)
+
+pub comma_setting_shorter : (custom : CustomOptions) (a b : List Lexeme) → IsCommaSetting custom a b → length b < length a
+comma_setting_shorter custom a b (comma_setting c s) = omega (arith, one_shorter c, setting_shorter s)
+
+option_shorter : {custom : CustomOptions} {a b : List Lexeme} → IsOption custom a b → length b < length a
+option_shorter (option k v s) = omega (arith, one_shorter k, setting_shorter v, one_shorter s)
+
+options_shorter : {custom : CustomOptions} {a b : List Lexeme} → IsOptions custom a b → length b ≤ length a
+options_shorter (none none_next) = omega arith
+options_shorter {custom} (some o v u c) =
+    omega (arith, one_shorter o, setting_shorter v, Until-shorter (Passes-shorter (IsCommaSetting custom) (comma_setting_shorter custom)) _ _ _ _ u, one_shorter c)
+
+numbered_shorter : {custom : CustomOptions} {first : Span} {a b : List Lexeme} {x : Heading} → IsNumbered custom first a x b → length b < length a
+numbered_shorter (numbered n q i o s) = omega (arith, one_shorter n, one_shorter q, one_shorter i, options_shorter o, one_shorter s)
+
+typed_shorter : {custom : CustomOptions} {first : Span} {label : Option Label} {a b : List Lexeme} {x : Field} → IsTyped custom first label a x b → length b < length a
+typed_shorter (typed t n) = omega (arith, type_shorter t, numbered_shorter n)
+
+label_shorter : {a b : List Lexeme} {x : Option Label} → IsLabel a x b → length b ≤ length a
+label_shorter (repeated w) = omega (arith, one_shorter w)
+label_shorter (optional w) = omega (arith, one_shorter w)
+label_shorter (no_label p q) = omega arith
+
+field_shorter : {custom : CustomOptions} {a b : List Lexeme} {x : Field} → IsField custom a x b → length b < length a
+field_shorter (field l t) = omega (arith, label_shorter l, typed_shorter t)
+
+oneof_field_shorter : {custom : CustomOptions} {a b : List Lexeme} {x : Field} → IsOneofField custom a x b → length b < length a
+oneof_field_shorter (oneof_field t) = typed_shorter t
+
+map_field_shorter : {custom : CustomOptions} {a b : List Lexeme} {x : MapField} → IsMapField custom a x b → length b < length a
+map_field_shorter (map_field f l k c v g h) =
+    omega (arith, one_shorter f, one_shorter l, one_shorter k, one_shorter c, type_shorter v, one_shorter g, numbered_shorter h)
+
+integer_shorter : {negative : Bool} {a b : List Lexeme} → IsInteger negative a b → length b < length a
+integer_shorter (plain n) = one_shorter n
+integer_shorter (minus m n) = omega (arith, one_shorter m, one_shorter n)
+
+range_end_shorter : {negative : Bool} {a b : List Lexeme} → IsRangeEnd negative a b → length b < length a
+range_end_shorter (number i) = integer_shorter i
+range_end_shorter (max w) = one_shorter w
+
+range_shorter : {negative : Bool} {a b : List Lexeme} → IsRange negative a b → length b < length a
+range_shorter (single i none_next) = integer_shorter i
+range_shorter (range i w e) = omega (arith, integer_shorter i, one_shorter w, range_end_shorter e)
+
+reserved_item_shorter : {negative names : Bool} {a b : List Lexeme} → IsReservedItem negative names a b → length b < length a
+reserved_item_shorter (reserved_name t) = strings_shorter t
+reserved_item_shorter (reserved_number r) = range_shorter r
+
+pub comma_item_shorter : (negative names : Bool) (a b : List Lexeme) → IsCommaItem negative names a b → length b < length a
+comma_item_shorter negative names a b (comma_item c i) = omega (arith, one_shorter c, reserved_item_shorter i)
+
+reserved_shorter : {negative : Bool} {a b : List Lexeme} → IsReserved negative a b → length b < length a
+reserved_shorter {negative} (reserved {names} k is i u s) =
+    omega (arith, one_shorter k, reserved_item_shorter i, Until-shorter (Passes-shorter (IsCommaItem negative names) (comma_item_shorter negative names)) _ _ _ _ u, one_shorter s)
+
+heading_shorter : {word : List ℕ} {a b : List Lexeme} {x : Heading} → IsHeading word a x b → length b < length a
+heading_shorter (heading f n c) = omega (arith, one_shorter f, one_shorter n, one_shorter c)
+
+value_shorter : {custom : CustomOptions} {a b : List Lexeme} {x : Heading} → IsValue custom a x b → length b < length a
+value_shorter (value n q i o s) = omega (arith, one_shorter n, one_shorter q, integer_shorter i, options_shorter o, one_shorter s)
+
+pub enum_item_shorter : (custom : CustomOptions) (a b : List Lexeme) (x : Option Heading) → IsEnumItem custom a x b → length b < length a
+enum_item_shorter custom a b x (enums-empty s) = one_shorter s
+enum_item_shorter custom a b x (enums-option is o) = option_shorter o
+enum_item_shorter custom a b x (enums-reserved is r) = reserved_shorter r
+enum_item_shorter custom a b x (enums-value p q r v) = value_shorter v
+
+enum_shorter : {custom : CustomOptions} {a b : List Lexeme} {x : Enum} → IsEnum custom a x b → length b < length a
+enum_shorter {custom} (enum h u c) = omega (arith, heading_shorter h, Until-shorter (Adds-shorter (IsEnumItem custom) (enum_item_shorter custom)) _ _ _ _ u, one_shorter c)
+
+pub oneof_item_shorter : (custom : CustomOptions) (a b : List Lexeme) (x : Option Field) → IsOneofItem custom a x b → length b < length a
+oneof_item_shorter custom a b x (oneofs-empty s) = one_shorter s
+oneof_item_shorter custom a b x (oneofs-option is o) = option_shorter o
+oneof_item_shorter custom a b x (oneofs-field p q f) = oneof_field_shorter f
+
+oneof_shorter : {custom : CustomOptions} {a b : List Lexeme} {x : Oneof} → IsOneof custom a x b → length b < length a
+oneof_shorter {custom} (oneof h u c) = omega (arith, heading_shorter h, Until-shorter (Adds-shorter (IsOneofItem custom) (oneof_item_shorter custom)) _ _ _ _ u, one_shorter c)
+
+pub extend_item_shorter : (a b : List Lexeme) → IsExtendItem a b → length b < length a
+extend_item_shorter a b (extends-empty s) = one_shorter s
+extend_item_shorter a b (extends-field p f) = field_shorter f
+
+extend_shorter : {custom : CustomOptions} {a b : List Lexeme} → IsExtend custom a b → length b < length a
+extend_shorter (extend k n o u c) =
+    omega (arith, one_shorter k, type_name_shorter n, one_shorter o, Until-shorter (Passes-shorter IsExtendItem extend_item_shorter) _ _ _ _ u, one_shorter c)
+
+abbrev pub Shortens : (List Lexeme → MessageTree → List Lexeme → Type 0) → Type 0
+Shortens Inner = (a b : List Lexeme) (x : MessageTree) → Inner a x b → length b < length a
+
+pub message_item_shorter : (custom : CustomOptions) (Inner : List Lexeme → MessageTree → List Lexeme → Type 0) → Shortens Inner
+    → (a b : List Lexeme) (x : Option MessageItem) → IsMessageItem custom Inner a x b → length b < length a
+message_item_shorter custom Inner shorter a b x (items-empty is s) = one_shorter s
+message_item_shorter custom Inner shorter a b x (items-message {message = m} is i) = shorter a b m i
+message_item_shorter custom Inner shorter a b x (items-enum is e) = enum_shorter e
+message_item_shorter custom Inner shorter a b x (items-option is o) = option_shorter o
+message_item_shorter custom Inner shorter a b x (items-oneof is o) = oneof_shorter o
+message_item_shorter custom Inner shorter a b x (items-map_field is f) = map_field_shorter f
+message_item_shorter custom Inner shorter a b x (items-reserved is r) = reserved_shorter r
+message_item_shorter custom Inner shorter a b x (items-extend is e) = extend_shorter e
+message_item_shorter custom Inner shorter a b x (items-field is f) = field_shorter f
+
+message_of_shorter : (custom : CustomOptions) (Inner : List Lexeme → MessageTree → List Lexeme → Type 0) → Shortens Inner → Shortens (IsMessageOf custom Inner)
+message_of_shorter custom Inner shorter a b x (message h u c) =
+    omega (arith, heading_shorter h, Until-shorter (Adds-shorter (IsMessageItem custom Inner) (message_item_shorter custom Inner shorter)) _ _ _ _ u, one_shorter c)
+
+pub message_shorter : (custom : CustomOptions) (levels : ℕ) → Shortens (IsMessage custom levels)
+unfolding IsMessage
+message_shorter custom zero a b x m = absurd m
+message_shorter custom (suc levels) a b x m = message_of_shorter custom (IsMessage custom levels) (message_shorter custom levels) a b x m
+
+stream_shorter : {a b : List Lexeme} → IsStream a b → length b ≤ length a
+stream_shorter (stream w) = omega (arith, one_shorter w)
+stream_shorter (no_stream none_next) = omega arith
+
+method_type_shorter : {a b : List Lexeme} {x : TypeName} → IsMethodType a x b → length b < length a
+method_type_shorter (method_type o s none_next n c) = omega (arith, one_shorter o, stream_shorter s, type_name_shorter n, one_shorter c)
+
+pub method_item_shorter : (custom : CustomOptions) (a b : List Lexeme) → IsMethodItem custom a b → length b < length a
+method_item_shorter custom a b (method_items-empty s) = one_shorter s
+method_item_shorter custom a b (method_items-option is o) = option_shorter o
+
+method_end_shorter : {custom : CustomOptions} {a b : List Lexeme} {x : Span} → IsMethodEnd custom a x b → length b < length a
+method_end_shorter (semicolon s) = one_shorter s
+method_end_shorter {custom} (body o u c) = omega (arith, one_shorter o, Until-shorter (Passes-shorter (IsMethodItem custom) (method_item_shorter custom)) _ _ _ _ u, one_shorter c)
+
+method_shorter : {custom : CustomOptions} {a b : List Lexeme} {x : Method} → IsMethod custom a x b → length b < length a
+method_shorter (method f n i r o c) = omega (arith, one_shorter f, one_shorter n, method_type_shorter i, one_shorter r, method_type_shorter o, method_end_shorter c)
+
+pub service_item_shorter : (custom : CustomOptions) (a b : List Lexeme) (x : Option Method) → IsServiceItem custom a x b → length b < length a
+service_item_shorter custom a b x (services-empty s) = one_shorter s
+service_item_shorter custom a b x (services-option is o) = option_shorter o
+service_item_shorter custom a b x (services-method is m) = method_shorter m
+
+service_shorter : {custom : CustomOptions} {a b : List Lexeme} {x : Service} → IsService custom a x b → length b < length a
+service_shorter {custom} (service h u c) = omega (arith, heading_shorter h, Until-shorter (Adds-shorter (IsServiceItem custom) (service_item_shorter custom)) _ _ _ _ u, one_shorter c)
+
+import_kind_shorter : {a b : List Lexeme} {x : ImportKind} → IsImportKind a x b → length b ≤ length a
+import_kind_shorter (weak w) = omega (arith, one_shorter w)
+import_kind_shorter (public w) = omega (arith, one_shorter w)
+import_kind_shorter (neither p q) = omega arith
+
+pub path_literal_shorter : (a b : List Lexeme) (x : Option Span) → IsPathLiteral a x b → length b < length a
+path_literal_shorter a b x (path_literal l) = one_shorter l
+
+import_shorter : {a b : List Lexeme} {x : Import} → IsImport a x b → length b < length a
+import_shorter (import k i l u s) =
+    omega (arith, one_shorter k, import_kind_shorter i, one_shorter l, Until-shorter (Adds-shorter IsPathLiteral path_literal_shorter) _ _ _ _ u, one_shorter s)
+
+package_shorter : {a b : List Lexeme} {x : List Span} → IsPackage a x b → length b < length a
+package_shorter (package_statement k n s) = omega (arith, one_shorter k, name_shorter n, one_shorter s)
+
+pub statement_shorter : (custom : CustomOptions) (f g : File) (a b : List Lexeme) → IsStatement custom f a g b → length b < length a
+statement_shorter custom f g a b (statements-empty is s) = one_shorter s
+statement_shorter custom f g a b (statements-import is i) = import_shorter i
+statement_shorter custom f g a b (statements-package_statement is none_next p) = package_shorter p
+statement_shorter custom f g a b (statements-option is o) = option_shorter o
+statement_shorter custom f g a b (statements-message m is i) = message_shorter custom max_message_depth a b m i
+statement_shorter custom f g a b (statements-enum is e) = enum_shorter e
+statement_shorter custom f g a b (statements-service is s) = service_shorter s
+statement_shorter custom f g a b (statements-extend is e) = extend_shorter e

@@ -1,0 +1,11 @@
+use Rattle.proto_parse.proofs.Walk.Marks.{items_among, imports_among, package_among}
+use Rattle.proto_parse.proofs.laws.spans_of_tokens.Goals as goal
+
+pub returns-clause-items : goal.returns-clause-items
+returns-clause-items c = λ custom text tokens file d. items_among file d
+
+pub returns-clause-imports : goal.returns-clause-imports
+returns-clause-imports c = λ custom text tokens file d. imports_among file d
+
+pub returns-clause-package_name : goal.returns-clause-package_name
+returns-clause-package_name c = λ custom text tokens file d. package_among file d

@@ -1,0 +1,32 @@
+use Rattle.std.proofs.Common.{◌≡◌, true, false, refl}
+use Rattle.std.proofs.lemmas.Result.{err_from_is_err_and}
+use Rattle.proto_parse.specs.Terminal.{closes}
+use Rattle.proto_parse.specs.Reading.Steps.{adding}
+use Rattle.proto_parse.specs.Reading.Messages.{enum_item_at, enum_items_at}
+use Rattle.proto_parse.proofs.UntilLemmas.{Fails-of, goes_on, is_done, stops, adding-step, adding-none}
+use Rattle.proto_parse.proofs.StepsFall.{enum_items_fall}
+use Rattle.proto_parse.proofs.parser.Parser.enum_items.Goals as goal
+
+pub items-smaller : goal.items-smaller
+items-smaller c = enum_items_fall c.args.custom c.items.values c.items.self (_, c.enum_item.new.self) (adding-step (enum_item_at c.args.custom) c.items.values c.in_ok-item.item c.items.self c.enum_item.new.self c.in_ok-item.ensures)
+
+pub items-preserved : goal.items-preserved
+items-preserved c =
+    let further : closes c.items.self ≡ false = cc in
+    rw c.in_ok-keep.ensures
+    (goes_on closes (adding (enum_item_at c.args.custom)) (enum_items_fall c.args.custom) c.items.values _ c.items.self c.enum_item.new.self _ c.items.invariant further
+    (adding-step (enum_item_at c.args.custom) c.items.values c.in_ok-item.item c.items.self c.enum_item.new.self c.in_ok-item.ensures))
+
+pub returns-in_err-item : goal.returns-in_err-item
+unfolding enum_items_at
+returns-in_err-item c =
+    let further : closes c.items.self ≡ false = cc in
+    let p = err_from_is_err_and c.from_residual.result c.from_residual.ensures.1 in
+    rw (p.1, p.2)
+    (Fails-of _ ((enum_item_at c.args.custom) c.items.self) _ (λ none. stops closes (adding (enum_item_at c.args.custom)) (enum_items_fall c.args.custom) c.items.values c.items.self _ c.items.invariant further (adding-none (enum_item_at c.args.custom) c.items.values c.items.self none)) c.in_err-item.ensures)
+
+pub returns : goal.returns
+unfolding enum_items_at
+returns c =
+    let past : closes c.items.self ≡ true = cc in
+    is_done closes (adding (enum_item_at c.args.custom)) (enum_items_fall c.args.custom) c.items.values c.items.self _ c.items.invariant past

@@ -1,0 +1,19 @@
+-- Tokens with their spellings: the terminals of the grammar.
+use Rattle.std.specs.Prelude.{ℕ, List, map}
+use Rattle.proto_lex.specs.Lexed.{part_of}
+use Rattle.proto_lex.specs.declared.span.Span.{Span}
+use Rattle.proto_lex.specs.declared.token.Token.{Token}
+use Rattle.proto_lex.specs.declared.token.TokenKind.{TokenKind}
+
+-- A token, with the bytes that spell it.
+pub record Lexeme : Type 0 where
+  pub kind : TokenKind
+  pub spelling : List ℕ
+  pub span : Span
+
+abbrev pub lexeme_of : List ℕ → Token → Lexeme
+lexeme_of text token = record { kind = token.kind; spelling = part_of text token.span; span = token.span }
+
+-- The tokens of a text, each with its spelling.
+abbrev pub lexemes_of : List ℕ → List Token → List Lexeme
+lexemes_of text tokens = map (lexeme_of text) tokens

@@ -1,0 +1,14 @@
+pub mod Limits
+pub mod Lexeme
+pub mod Terminal
+pub mod Tree
+pub mod Code
+pub mod Items
+pub mod Falls
+pub mod Choice
+pub mod Grammar
+pub mod Derives
+pub mod Walk
+pub mod Gives
+pub mod Reading
+pub mod View

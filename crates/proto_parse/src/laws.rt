@@ -1,0 +1,34 @@
+//! Laws of derivations.
+
+ghost use Rattle.std.specs.Prelude.{◌≡◌, ℕ, List, map};
+ghost use Rattle.proto_lex.specs.Lexed.{AreInOrder};
+ghost use Rattle.proto_lex.specs.declared.token.Token.{Token};
+ghost use Rattle.proto_parse.specs.Lexeme.{lexemes_of};
+ghost use Rattle.proto_parse.specs.Walk.{Mark, Among, MarksAreInOrder, marks_of_items, marks_of_imports, marks_of_package};
+ghost use Rattle.proto_parse.specs.Derives.{Derives};
+ghost use Rattle.proto_parse.specs.declared.tree.CustomOptions.{CustomOptions};
+ghost use Rattle.proto_parse.specs.declared.tree.File.{File};
+
+/// Tokens derive at most one tree.
+pub fn one_tree()
+    ensures { (custom : CustomOptions) (text : List ℕ) (tokens : List Token) (file other : File)
+        → Derives custom text tokens file → Derives custom text tokens other → file ≡ other }
+{}
+
+/// The spans of a tree are spans of its tokens, in the order of a walk, and its names are
+/// identifiers: those of its messages, enums and services, those of its imports, and those of its
+/// package.
+pub fn spans_of_tokens()
+    ensures items { (custom : CustomOptions) (text : List ℕ) (tokens : List Token) (file : File)
+        → Derives custom text tokens file → Among (marks_of_items file) (lexemes_of text tokens) }
+    ensures imports { (custom : CustomOptions) (text : List ℕ) (tokens : List Token) (file : File)
+        → Derives custom text tokens file → Among (marks_of_imports file) (lexemes_of text tokens) }
+    ensures package_name { (custom : CustomOptions) (text : List ℕ) (tokens : List Token) (file : File)
+        → Derives custom text tokens file → Among (marks_of_package file) (lexemes_of text tokens) }
+{}
+
+/// Spans of tokens in the order of a walk are in order, where the tokens are.
+pub fn spans_in_order()
+    ensures { (text : List ℕ) (tokens : List Token) (marks : List Mark)
+        → Among marks (lexemes_of text tokens) → AreInOrder 0 (map (λ t. t.span) tokens) → MarksAreInOrder 0 marks }
+{}

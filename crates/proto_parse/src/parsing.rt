@@ -1,0 +1,41 @@
+//! Parsing: from the tokens of a text to its tree.
+
+ghost use Rattle.std.specs.Prelude.{◌≡◌, IfOk, MatchResult};
+ghost use Rattle.proto_parse.specs.Derives.{Derives};
+ghost use Rattle.proto_parse.specs.declared.tree.File.{File};
+ghost use Rattle.proto_parse.specs.declared.tree.CustomOptions.TheVariants.{Refuse};
+ghost use Rattle.proto_parse.specs.declared.fault.SyntaxFault.TheVariants.{Memory};
+
+use crate::fault::SyntaxFault;
+use crate::parser::Parser;
+use crate::tree::{CustomOptions, File};
+use proto_lex::Tokens;
+use std::alloc::Global;
+
+/// The tree that the tokens derive where custom options are refused.
+///
+/// It is Ok exactly where they derive one, but for want of memory. Otherwise the fault is the one
+/// that reading from left to right meets first.
+pub fn parse(alloc: Global, tokens: &Tokens<'_>) -> Result<File, SyntaxFault>
+    ensures found { IfOk result (λ file. Derives Refuse tokens.now.text tokens.now.tokens file) }
+    ensures only { (file : File) → Derives Refuse tokens.now.text tokens.now.tokens file
+        → MatchResult result (λ found. found ≡ file) (λ fault. fault ≡ Memory) }
+{
+    parse_with(alloc, tokens, CustomOptions::Refuse)
+}
+
+/// The tree that the tokens derive, with a choice of what is done with custom options.
+///
+/// It is Ok exactly where they derive one, but for want of memory. Otherwise the fault is the one
+/// that reading from left to right meets first.
+pub fn parse_with(
+    alloc: Global,
+    tokens: &Tokens<'_>,
+    custom: CustomOptions,
+) -> Result<File, SyntaxFault>
+    ensures found { IfOk result (λ file. Derives custom tokens.now.text tokens.now.tokens file) }
+    ensures only { (file : File) → Derives custom tokens.now.text tokens.now.tokens file
+        → MatchResult result (λ found. found ≡ file) (λ fault. fault ≡ Memory) }
+{
+    Parser::new(tokens).file(alloc, custom)
+}

@@ -86,8 +86,8 @@ IsRefusal bytes (Write count) = ⊥
 abbrev pub IsListing : List ℕ → List ℕ → Type 0
 IsListing bytes listing = (index : Index) × IsIndexOfSource source_path bytes index × (length (spelling_of index) ≤ max_index_len) × (listing ≡ dump_text index)
 
--- what a dump of these bytes answers, and what it has to write: the listing, which goes out whole or is cut off; or why
--- there is none. (Read says nothing of the bytes.)
+-- what a dump of these bytes answers, and what it has to write: the listing, of which all is written, or, where a write
+-- fails, a part of it from its start; or why there is none. (Read says nothing of the bytes.)
 abbrev pub Dumps : List ℕ → List ℕ → Result (Unit {0}) Fault → Type 0
 Dumps bytes due (Ok done) = IsListing bytes due
 Dumps bytes due (Err (Write count)) = IsListing bytes due
@@ -100,8 +100,8 @@ LeavesReader failures reads ends before after (Err Memory) = failures after ≡ 
 LeavesReader failures reads ends before after (Err Read) = IsReadFault failures reads ends before after
 LeavesReader failures reads ends before after other = IsReadThrough failures ends before after
 
--- the writer, before and after: what was due went out; at Write, it was cut off; after any other fault the writer is as
--- it was
+-- the writer, before and after: the whole text was written; at Write, its first `count` bytes; after any other fault the
+-- writer is as it was
 abbrev pub LeavesWriter : {W : Type 0} → (contents : W → Option (List ℕ)) → (failures : W → ℕ) → W → W → List ℕ → Result (Unit {0}) Fault → Type 0
 LeavesWriter contents failures before after due (Ok done) = IsWritten contents failures before after due
 LeavesWriter contents failures before after due (Err (Write count)) = IsCutOff contents failures before after due count

@@ -45,7 +45,7 @@ fn listing_of(alloc: Global, bytes: &[u8]) -> Result<String, Fault>
 ///
 /// - `Read`: a read failed, or `MAX_READS` reads met no end.
 /// - `Lex`, `Syntax`, `Duplicate`, `TooLarge`: why the source has no listing.
-/// - `Write`: a write failed when a part of the listing had gone out.
+/// - `Write`: a write failed before all of the listing was written.
 pub fn dump<R: Feed, W: Sink>(alloc: Global, source: &mut R, out: &mut W) -> Result<(), Fault>
     ensures dumped { (due : List ℕ) × LeavesWriter W.contents W.failures out.old out.new due result
         × ((bytes : List ℕ) → R.remaining source.old ≡ Some bytes → Dumps bytes due result) }

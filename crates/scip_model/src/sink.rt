@@ -25,10 +25,10 @@ pub trait Sink {
         ensures failures { failures self.new ≡ failures_after_write (failures self.old) result bytes.now };
 }
 
-/// A write failed when a part of the bytes had gone out.
+/// A write failed before all of the bytes were written.
 #[derive(Clone, Copy, Debug, PartialEq, Eq)]
 pub struct CutOff {
-    /// How many bytes had gone out, from the first on.
+    /// How many of the bytes were written before it, from the first on.
     pub written: usize,
 }
 

@@ -1,5 +1,5 @@
 -- The descriptors of the entities that a proto3 tree has: files, packages and declarations (the profile's table).
-use Rattle.std.specs.Prelude.{◌≢◌, ℕ, List, [], ◌∷◌, ◌++◌, map, All}
+use Rattle.std.specs.Prelude.{◌≢◌, ℕ, List, [], ◌∷◌, ◌++◌, codes, map, All}
 use Rattle.proto_lex.specs.Lexes.{Spells}
 use Rattle.proto_lex.specs.declared.token.TokenKind.TheVariants.{Identifier}
 use Rattle.scip_symbol.specs.SpellsSymbol.{descriptor}
@@ -13,7 +13,6 @@ use Rattle.scip_symbol.specs.declared.symbol.Suffix.TheVariants as suffix
 use Rattle.scip_symbol.specs.declared.symbol.Descriptor.{Descriptor}
 use Rattle.scip_symbol.specs.declared.symbol.SymbolParts.{SymbolParts}
 use Rattle.scip_symbol.specs.declared.symbol.SymbolParts.TheVariants.{Global}
-use Rattle.std.specs.Prelude.{codes}
 
 -- a file by its path, a package by its components, and a declaration by its package and the way to it, outermost first
 pub data Entity : Type 0 where
@@ -45,9 +44,13 @@ descriptors_of (OfDeclaration components way) = map namespace_of components ++ m
 abbrev pub scheme_text : List ℕ
 scheme_text = codes "scip-protobuf"
 
+-- the symbol with these descriptors in a package
+abbrev pub global_in : Package → List Descriptor → SymbolParts
+global_in p descriptors = Global (record { scheme = scheme_text; manager = p.manager; name = p.name; version = p.version; descriptors = descriptors })
+
 -- the entity's symbol, in the package that the settings name
 abbrev pub symbol_in : Package → Entity → SymbolParts
-symbol_in p entity = Global (record { scheme = scheme_text; manager = p.manager; name = p.name; version = p.version; descriptors = descriptors_of entity })
+symbol_in p entity = global_in p (descriptors_of entity)
 
 -- an identifier of the lexical elements
 abbrev pub IsIdentifier : List ℕ → Type 0

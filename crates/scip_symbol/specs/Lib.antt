@@ -4,7 +4,6 @@ pub mod Parts
 -- the grammar, read and printed
 pub mod SpellsSymbol
 pub mod SymbolText
-pub mod LongestFront
 -- the entities that symbols name
 pub mod Path
 pub mod Package
@@ -12,3 +11,4 @@ pub mod Entities
 pub mod OneEntity
 -- what the reader's functions give
 pub mod Reading
+pub mod Gives

@@ -1,44 +1,46 @@
--- Facts of a tree in which no two declarations have one full name: there a symbol names one declaration.
-use Rattle.std.specs.Prelude.{◌≡◌, ℕ, List, [], ◌∷◌, ◌++◌}
+-- Facts of a tree in which no two declarations have one full name: there a symbol names one entity.
+use Rattle.std.specs.Prelude.{◌≡◌, ◌≢◌, ℕ, List, [], ◌∷◌, ◌++◌, Contains}
 use Rattle.scip_symbol.specs.declared.declaration.DeclarationKind.{DeclarationKind}
 use Rattle.scip_symbol.specs.declared.declaration.DeclarationKind.TheVariants.{Message, Enum, Service, Field, Oneof, Value, Method}
 use Rattle.scip_symbol.specs.declared.declaration.DeclarationStep.{DeclarationStep}
+use Rattle.scip_symbol.specs.Entities.{Entity, OfFile, OfPackage, OfDeclaration}
 
--- what may stand directly in a message, an enum or a service
-pub data Holds : DeclarationKind → DeclarationKind → Type 0 where
-  message : Holds Message Message
-  enum : Holds Message Enum
-  field : Holds Message Field
-  oneof : Holds Message Oneof
-  value : Holds Enum Value
-  method : Holds Service Method
+-- a declaration by the components of its package and the way to it
+pub record Declaration : Type 0 where
+  pub components : List (List ℕ)
+  pub way : List DeclarationStep
 
--- what may stand in a file
-pub data StandsInFile : DeclarationKind → Type 0 where
-  message : StandsInFile Message
-  enum : StandsInFile Enum
-  service : StandsInFile Service
+abbrev pub declaration : (components : List (List ℕ)) → (way : List DeclarationStep) → Declaration
+declaration components way = record { components = components; way = way }
 
 -- The names of the scopes that a declaration stands in and its own: a message or a service is a scope, and an enum
--- is none, so that a value is a sibling of its enum (proto3 specification and language guide, Enumerations).
+-- is none, so that a value is a sibling of its enum (proto3 language guide, Enumerations).
 abbrev pub scoped : DeclarationKind → (name : List ℕ) → (inner : List (List ℕ)) → List (List ℕ)
 scoped Enum name inner = inner
-scoped _ name inner = name ∷ inner
+scoped Message name inner = name ∷ inner
+scoped Service name inner = name ∷ inner
+scoped Field name inner = name ∷ inner
+scoped Oneof name inner = name ∷ inner
+scoped Value name inner = name ∷ inner
+scoped Method name inner = name ∷ inner
 
 abbrev pub names_of : List DeclarationStep → List (List ℕ)
 names_of [] = []
 names_of (step ∷ []) = step.name ∷ []
-names_of (step ∷ next ∷ others) = scoped step.kind step.name (names_of (next ∷ others))
+names_of (step ∷ (next ∷ others)) = scoped step.kind step.name (names_of (next ∷ others))
 
--- the full name, component by component
-abbrev pub full_name : (components : List (List ℕ)) → (way : List DeclarationStep) → List (List ℕ)
-full_name components way = components ++ names_of way
+-- the full name, component by component; a name has no dot, so that the names joined by dots are equal only where these are
+abbrev pub full_name : Declaration → List (List ℕ)
+full_name d = d.components ++ names_of d.way
 
--- Which declarations there are: what holds a declaration is declared too and may hold it, and no two declarations
--- have one full name.
-pub record IsWithoutClash (Declared : (components : List (List ℕ)) → (way : List DeclarationStep) → Type 0) : Type 0 where
-  pub outermost : {components : List (List ℕ)} {step : DeclarationStep} → Declared components (step ∷ []) → StandsInFile step.kind
-  pub holder : {components : List (List ℕ)} (outer : List DeclarationStep) (step inner : DeclarationStep)
-      → Declared components (outer ++ step ∷ inner ∷ []) → Declared components (outer ++ step ∷ []) × Holds step.kind inner.kind
-  pub one_name : {components other : List (List ℕ)} {way way' : List DeclarationStep}
-      → Declared components way → Declared other way' → full_name components way ≡ full_name other way' → (components ≡ other) × (way ≡ way')
+-- what holds a declaration is declared too, and no two declarations have one full name
+pub record IsWithoutClash (declarations : List Declaration) : Type 0 where
+  pub holder : (components : List (List ℕ)) (outer inner : List DeclarationStep) → outer ≢ []
+      → Contains declarations (declaration components (outer ++ inner)) → Contains declarations (declaration components outer)
+  pub one_name : (d other : Declaration) → Contains declarations d → Contains declarations other → full_name d ≡ full_name other → d ≡ other
+
+-- a declaration is one of these
+abbrev pub IsAmong : List Declaration → Entity → Type 0
+IsAmong declarations (OfFile path) = Unit {0}
+IsAmong declarations (OfPackage components) = Unit {0}
+IsAmong declarations (OfDeclaration components way) = Contains declarations (declaration components way)

@@ -65,8 +65,12 @@ simple_at text = some_at (run_at text)
 unfoldable pub name_at : List ℕ → Front (List ℕ)
 name_at text = choose (after (codes "`") text) (simple_at text) (λ inside. undoubled_at backtick false inside >>= some_at)
 
+-- such a run, and the signs that close a method behind it
+abbrev pub closed_at : List ℕ × List ℕ → Front (List ℕ)
+closed_at run = expect_at (codes ")") run.1 >>= λ rest. expect_at (codes ".") rest >>= λ behind. Ok (run.0, behind)
+
 unfoldable pub disambiguator_at : List ℕ → Front (List ℕ)
-disambiguator_at text = expect_at (codes ")") (run_at text).1 >>= λ rest. expect_at (codes ".") rest >>= λ behind. Ok ((run_at text).0, behind)
+disambiguator_at text = closed_at (run_at text)
 
 unfoldable pub suffix_at : List ℕ → Front Suffix
 suffix_at text =

@@ -5,6 +5,7 @@ use Rattle.scip_symbol.specs.Names.{is_simple_identifier, doubled, space, backti
 use Rattle.scip_symbol.specs.declared.symbol.Suffix.{Suffix}
 use Rattle.scip_symbol.specs.declared.symbol.Suffix.TheVariants.{Namespace, «Type», Term, Meta, Macro, Method, TypeParameter, Parameter}
 use Rattle.scip_symbol.specs.declared.symbol.Descriptor.{Descriptor}
+use Rattle.scip_symbol.specs.declared.symbol.GlobalSymbol.{GlobalSymbol}
 use Rattle.scip_symbol.specs.declared.symbol.SymbolParts.{SymbolParts}
 use Rattle.scip_symbol.specs.declared.symbol.SymbolParts.TheVariants.{Local, Global}
 
@@ -43,8 +44,11 @@ descriptor_text d = front_text d.suffix ++ name_text d.name ++ suffix_text d.suf
 abbrev pub descriptors_text : List Descriptor → List ℕ
 descriptors_text = flat_map descriptor_text
 
-abbrev pub symbol_text : SymbolParts → List ℕ
-symbol_text (Local name) = codes "local " ++ name
-symbol_text (Global s) =
+abbrev pub global_text : GlobalSymbol → List ℕ
+global_text s =
     doubled space s.scheme ++ codes " " ++ part_text s.manager ++ codes " " ++ part_text s.name ++ codes " " ++ part_text s.version ++ codes " "
     ++ descriptors_text s.descriptors
+
+abbrev pub symbol_text : SymbolParts → List ℕ
+symbol_text (Local name) = codes "local " ++ name
+symbol_text (Global s) = global_text s

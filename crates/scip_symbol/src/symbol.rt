@@ -1,6 +1,7 @@
 //! Symbols (`scip.proto`, `Symbol`).
 
 ghost use Rattle.std.specs.Prelude.{◌≡◌};
+ghost use Rattle.scip_symbol.specs.Parts.{IsSymbol};
 
 use scip_model::{OwnedText, Sequence};
 use std::marker::Model;
@@ -77,9 +78,18 @@ impl Model for Symbol {
 }
 
 impl Symbol {
+    /// The symbol of parts that have a spelling.
+    pub fn from_parts(parts: SymbolParts) -> Symbol
+        requires { IsSymbol parts }
+        ensures { result ≡ parts }
+    {
+        Symbol { parts }
+    }
+
     /// What it is made of.
     pub fn parts(&self) -> &SymbolParts
-        ensures { result.now ≡ self.now }
+        ensures same { result.now ≡ self.now }
+        ensures known { IsSymbol self.now }
     {
         &self.parts
     }

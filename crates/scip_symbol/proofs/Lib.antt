@@ -1,0 +1,11 @@
+pub mod ReadLemmas
+pub mod DoubledLemmas
+pub mod AfterLemmas
+pub mod UndoubledLemmas
+pub mod NameLemmas
+pub mod DescriptorLemmas
+pub mod SymbolLemmas
+pub mod SpellingLemmas
+pub mod PackageLemmas
+pub mod EntityLemmas
+pub mod OneEntityLemmas

@@ -1,0 +1,46 @@
+-- Reads, choices and tests.
+use Rattle.std.proofs.Common.{◌≡◌, ◌≢◌, ℕ, eqb, Bool, true, false, ◌&&◌, cond, Option, Some, None, Ok, Err, refl, ap}
+use Rattle.std.proofs.lemmas.Bool.{eqb-true}
+use Rattle.scip_symbol.specs.Reading.{Read, ◌>>=◌, choose}
+
+-- a chain that succeeds has a first step that succeeds
+pub bind_ok : {A B : Type 0} (r : Read A) (f : A → Read B) (y : B) → (r >>= f) ≡ Ok y → (x : A) × (r ≡ Ok x) × (f x ≡ Ok y)
+bind_ok (Ok x) f y e = (x, refl, e)
+bind_ok (Err d) f y e = cc
+
+pub bind_of_ok : {A B : Type 0} {r : Read A} (f : A → Read B) {x : A} → r ≡ Ok x → (r >>= f) ≡ f x
+bind_of_ok f {x} e = ap (λ r. r >>= f) e
+
+pub bind_of_err : {A B : Type 0} {r : Read A} (f : A → Read B) {left : ℕ} → r ≡ Err left → (r >>= f) ≡ Err left
+bind_of_err f e = ap (λ r. r >>= f) e
+
+-- which side a choice took
+pub chosen : {A B P : Type 0} (o : Option A) {otherwise : B} {next : A → B} {y : B} → choose o otherwise next ≡ y
+    → (o ≡ None → otherwise ≡ y → P) → ((x : A) → o ≡ Some x → next x ≡ y → P) → P
+chosen None e p q = p refl e
+chosen (Some x) e p q = q x refl e
+
+pub choose_some : {A B : Type 0} {o : Option A} (otherwise : B) (next : A → B) {x : A} → o ≡ Some x → choose o otherwise next ≡ next x
+choose_some otherwise next e = ap (λ o. choose o otherwise next) e
+
+pub choose_none : {A B : Type 0} {o : Option A} (otherwise : B) (next : A → B) → o ≡ None → choose o otherwise next ≡ otherwise
+choose_none otherwise next e = ap (λ o. choose o otherwise next) e
+
+-- two tests at once
+pub both : {P : Type 0} (a b : Bool) → (a && b) ≡ true → (a ≡ true → b ≡ true → P) → P
+both true b e p = p refl e
+both false b e p = absurd cc
+
+pub tested : {A P : Type 0} (b : Bool) {x y z : A} → cond b x y ≡ z → (b ≡ true → x ≡ z → P) → (b ≡ false → y ≡ z → P) → P
+tested true e p q = p refl e
+tested false e p q = q refl e
+
+pub same_ok : {A : Type 0} {x y : A} (r : Read A) → r ≡ Ok x → r ≡ Ok y → x ≡ y
+same_ok r e f = cc
+
+pub ne-test : (a b : ℕ) → a ≢ b → eqb a b ≡ false
+ne-test a b h =
+    elim (eqb a b) as (λ t. eqb a b ≡ t → t ≡ false) [
+      | true ↦ λ t. absurd (h (eqb-true a b t))
+      | false ↦ λ _. refl
+    ] refl

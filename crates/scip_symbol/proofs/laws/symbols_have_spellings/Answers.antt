@@ -1,0 +1,5 @@
+use Rattle.scip_symbol.proofs.SpellingLemmas.{spelled-is, printed}
+use Rattle.scip_symbol.proofs.laws.symbols_have_spellings.Goals as goal
+
+pub returns : goal.returns
+returns c = record { only = spelled-is; printed = printed }

@@ -1,0 +1,14 @@
+-- what parts may be
+pub mod Names
+pub mod Parts
+-- the grammar, read and printed
+pub mod SpellsSymbol
+pub mod SymbolText
+-- the entities that symbols name
+pub mod Path
+pub mod Package
+pub mod Entities
+pub mod OneEntity
+-- what the reader's functions give
+pub mod Reading
+pub mod Gives

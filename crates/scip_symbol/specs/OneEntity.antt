@@ -1,0 +1,46 @@
+-- Facts of a tree in which no two declarations have one full name: there a symbol names one entity.
+use Rattle.std.specs.Prelude.{◌≡◌, ◌≢◌, ℕ, List, [], ◌∷◌, ◌++◌, Contains}
+use Rattle.scip_symbol.specs.declared.declaration.DeclarationKind.{DeclarationKind}
+use Rattle.scip_symbol.specs.declared.declaration.DeclarationKind.TheVariants.{Message, Enum, Service, Field, Oneof, Value, Method}
+use Rattle.scip_symbol.specs.declared.declaration.DeclarationStep.{DeclarationStep}
+use Rattle.scip_symbol.specs.Entities.{Entity, OfFile, OfPackage, OfDeclaration}
+
+-- a declaration by the components of its package and the way to it
+pub record Declaration : Type 0 where
+  pub components : List (List ℕ)
+  pub way : List DeclarationStep
+
+abbrev pub declaration : (components : List (List ℕ)) → (way : List DeclarationStep) → Declaration
+declaration components way = record { components = components; way = way }
+
+-- The names of the scopes that a declaration stands in and its own: a message or a service is a scope, and an enum
+-- is none, so that a value is a sibling of its enum (proto3 language guide, Enumerations).
+abbrev pub scoped : DeclarationKind → (name : List ℕ) → (inner : List (List ℕ)) → List (List ℕ)
+scoped Enum name inner = inner
+scoped Message name inner = name ∷ inner
+scoped Service name inner = name ∷ inner
+scoped Field name inner = name ∷ inner
+scoped Oneof name inner = name ∷ inner
+scoped Value name inner = name ∷ inner
+scoped Method name inner = name ∷ inner
+
+abbrev pub names_of : List DeclarationStep → List (List ℕ)
+names_of [] = []
+names_of (step ∷ []) = step.name ∷ []
+names_of (step ∷ (next ∷ others)) = scoped step.kind step.name (names_of (next ∷ others))
+
+-- the full name, component by component; a name has no dot, so that the names joined by dots are equal only where these are
+abbrev pub full_name : Declaration → List (List ℕ)
+full_name d = d.components ++ names_of d.way
+
+-- what holds a declaration is declared too, and no two declarations have one full name
+pub record IsWithoutClash (declarations : List Declaration) : Type 0 where
+  pub holder : (components : List (List ℕ)) (outer inner : List DeclarationStep) → outer ≢ []
+      → Contains declarations (declaration components (outer ++ inner)) → Contains declarations (declaration components outer)
+  pub one_name : (d other : Declaration) → Contains declarations d → Contains declarations other → full_name d ≡ full_name other → d ≡ other
+
+-- a declaration is one of these
+abbrev pub IsAmong : List Declaration → Entity → Type 0
+IsAmong declarations (OfFile path) = Unit {0}
+IsAmong declarations (OfPackage components) = Unit {0}
+IsAmong declarations (OfDeclaration components way) = Contains declarations (declaration components way)

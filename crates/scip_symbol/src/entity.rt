@@ -1,0 +1,152 @@
+//! The symbols of files, packages and declarations.
+
+ghost use Rattle.std.specs.Prelude.{◌≡◌, ◌≢◌, ◌++◌, ◌∷◌, [], map, All, OnOk, IfOk};
+ghost use Rattle.scip_symbol.specs.Parts.{IsDescriptor};
+ghost use Rattle.scip_symbol.specs.Entities.{Entity, OfFile, OfPackage, OfDeclaration, suffix_of, namespace_of, step_descriptor, global_in, symbol_in, IsEntity};
+
+use crate::declaration::{DeclarationKind, DeclarationStep};
+use crate::package::PackageId;
+use crate::symbol::{Descriptor, GlobalSymbol, Suffix, Symbol, SymbolParts};
+use sequences::{OwnedText, Sequence};
+use std::alloc::{AllocError, Global};
+
+/// The scheme of the symbols of a proto3 tree.
+pub const SCHEME: &str = "scip-protobuf";
+
+fn suffix_of(alloc: Global, kind: DeclarationKind) -> Suffix
+    ensures { result ≡ suffix_of kind }
+{
+    match kind {
+        DeclarationKind::Message => Suffix::Type,
+        DeclarationKind::Enum => Suffix::Type,
+        DeclarationKind::Service => Suffix::Type,
+        DeclarationKind::Field => Suffix::Term,
+        DeclarationKind::Value => Suffix::Term,
+        DeclarationKind::Oneof => Suffix::Meta,
+        DeclarationKind::Method => Suffix::Method {
+            disambiguator: OwnedText::from_string(String::new(alloc)),
+        },
+    }
+}
+
+fn push_namespace(
+    alloc: Global,
+    descriptors: &mut Vec<Descriptor>,
+    name: &str,
+) -> Result<(), AllocError>
+    ensures { OnOk result (descriptors.new.items ≡ descriptors.old.items ++ namespace_of name.now ∷ []) }
+{
+    let name = OwnedText::copy_of(alloc, name)?;
+    let namespace = Descriptor {
+        name,
+        suffix: Suffix::Namespace,
+    };
+    descriptors.push(namespace)?;
+    Ok(())
+}
+
+fn push_step(
+    alloc: Global,
+    descriptors: &mut Vec<Descriptor>,
+    step: &DeclarationStep,
+) -> Result<(), AllocError>
+    ensures { OnOk result (descriptors.new.items ≡ descriptors.old.items ++ step_descriptor step.now ∷ []) }
+{
+    let name = OwnedText::copy_of(alloc, step.name.as_str())?;
+    let descriptor = Descriptor {
+        name,
+        suffix: suffix_of(alloc, step.kind),
+    };
+    descriptors.push(descriptor)?;
+    Ok(())
+}
+
+fn push_namespaces(
+    alloc: Global,
+    descriptors: &mut Vec<Descriptor>,
+    components: &[OwnedText],
+) -> Result<(), AllocError>
+    ensures { OnOk result (descriptors.new.items ≡ descriptors.old.items ++ map namespace_of components.now) }
+{
+    for component in components {
+        push_namespace(alloc, descriptors, component.as_str())?;
+    }
+    Ok(())
+}
+
+fn push_steps(
+    alloc: Global,
+    descriptors: &mut Vec<Descriptor>,
+    way: &[DeclarationStep],
+) -> Result<(), AllocError>
+    ensures { OnOk result (descriptors.new.items ≡ descriptors.old.items ++ map step_descriptor way.now) }
+{
+    for step in way {
+        push_step(alloc, descriptors, step)?;
+    }
+    Ok(())
+}
+
+/// The symbol with these descriptors in a package.
+fn symbol_with(
+    alloc: Global,
+    id: &PackageId,
+    descriptors: Vec<Descriptor>,
+) -> Result<Symbol, AllocError>
+    requires some { descriptors.items ≢ [] }
+    requires good { All IsDescriptor descriptors.items }
+    ensures { IfOk result (λ symbol. symbol ≡ global_in id.now descriptors.items) }
+{
+    let scheme = OwnedText::copy_of(alloc, SCHEME)?;
+    let manager = OwnedText::copy_of(alloc, id.manager())?;
+    let name = OwnedText::copy_of(alloc, id.name())?;
+    let version = OwnedText::copy_of(alloc, id.version())?;
+    Ok(Symbol::from_parts(SymbolParts::Global(GlobalSymbol {
+        scheme,
+        manager,
+        name,
+        version,
+        descriptors: Sequence::from_vec(descriptors),
+    })))
+}
+
+/// The symbol of the file with a path: one namespace.
+pub fn file_symbol(alloc: Global, id: &PackageId, path: &str) -> Result<Symbol, AllocError>
+    requires { IsEntity (OfFile path.now) }
+    ensures { IfOk result (λ symbol. symbol ≡ symbol_in id.now (OfFile path.now)) }
+{
+    let mut descriptors = Vec::new(alloc);
+    push_namespace(alloc, &mut descriptors, path)?;
+    symbol_with(alloc, id, descriptors)
+}
+
+/// The symbol of the package with these components: a namespace for each of them.
+pub fn package_symbol(
+    alloc: Global,
+    id: &PackageId,
+    components: &[OwnedText],
+) -> Result<Symbol, AllocError>
+    requires { IsEntity (OfPackage components.now) }
+    ensures { IfOk result (λ symbol. symbol ≡ symbol_in id.now (OfPackage components.now)) }
+{
+    let mut descriptors = Vec::new(alloc);
+    push_namespaces(alloc, &mut descriptors, components)?;
+    symbol_with(alloc, id, descriptors)
+}
+
+/// The symbol of a declaration, of the components of its file's package and of the way to it: a
+/// namespace for each component, and what each step's kind has.
+pub fn symbol_of(
+    alloc: Global,
+    id: &PackageId,
+    components: &[OwnedText],
+    way: &[DeclarationStep],
+) -> Result<Symbol, AllocError>
+    requires { IsEntity (OfDeclaration components.now way.now) }
+    ensures { IfOk result (λ symbol. symbol ≡ symbol_in id.now (OfDeclaration components.now way.now)) }
+{
+    let mut descriptors = Vec::new(alloc);
+    push_namespaces(alloc, &mut descriptors, components)?;
+    push_steps(alloc, &mut descriptors, way)?;
+    symbol_with(alloc, id, descriptors)
+}

@@ -1,0 +1,20 @@
+//! Symbols: their grammar (the comment of `scip.proto`'s `Symbol`), printed and read.
+#![tactic(auto)]
+
+mod declaration;
+mod entity;
+mod fault;
+mod laws;
+mod package;
+mod printer;
+mod reader;
+mod symbol;
+
+pub use declaration::{DeclarationKind, DeclarationStep};
+pub use entity::{SCHEME, file_symbol, package_symbol, symbol_of};
+pub use fault::SymbolFault;
+pub use laws::{symbols_have_spellings, symbols_name_one_entity, text_spells_one_symbol};
+pub use package::{BadPart, PackageId};
+pub use printer::print;
+pub use reader::read;
+pub use symbol::{Descriptor, GlobalSymbol, Suffix, Symbol, SymbolParts};

@@ -1,1 +1,1 @@
-mod Sending
+pub mod WholeWriteLemmas

@@ -1,9 +1,16 @@
--- What writes and reads do to a sink's and a feed's counts. Counts stop at the last u64, where nothing exact is known.
+-- What one write and one read do to a sink's and a feed's counts. Counts stop at the last u64, where nothing exact is known.
 use Rattle.std.specs.Prelude.{ℕ, zero, suc, ◌+◌, ◌-◌, ◌^◌, min, List, [], ◌∷◌, Result, Ok, Err}
 
--- one more, or the last u64
+-- the count at which counts stop: the last u64
+abbrev pub last_count : ℕ
+last_count = 2 ^ 64 - 1
+
+-- so many more, or the last count
+abbrev pub more_by : ℕ → ℕ → ℕ
+more_by k n = min (n + k) last_count
+
 abbrev pub one_more : ℕ → ℕ
-one_more n = min (n + 1) (2 ^ 64 - 1)
+one_more n = more_by 1 n
 
 -- of `write(bytes)`: an Err is a failure, and so is `Ok(0)` of bytes that aren't empty
 abbrev pub failures_after_write : {E : Type 0} → ℕ → Result ℕ E → List ℕ → ℕ

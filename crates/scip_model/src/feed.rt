@@ -7,6 +7,10 @@ ghost use Rattle.scip_model.specs.Streams.{failures_after_read, reads_after_read
 
 use crate::failed::Failed;
 
+/// The most reads into room for bytes that reading to an end takes: the end has to come within
+/// them.
+pub const MAX_READS: u32 = 16_777_216;
+
 /// A reader that counts its failures, its reads and its ends.
 ///
 /// An `Err` is a failure, whatever its cause. Reads into room for no byte aren't counted; of the

@@ -11,7 +11,7 @@ mod sink;
 mod std_streams;
 
 pub use failed::Failed;
-pub use feed::Feed;
+pub use feed::{Feed, MAX_READS};
 pub use owned_text::OwnedText;
 pub use range::{MAX_RANGE_NUMBER, Range};
 pub use records::{Document, Index, Info, Metadata, Occurrence, ToolInfo};

@@ -1,6 +1,6 @@
 //! A text of a record.
 
-ghost use Rattle.std.specs.Prelude.{◌≡◌, IfOk};
+ghost use Rattle.std.specs.Prelude.{◌≡◌, [], IfOk};
 ghost use Rattle.std.specs.String.{string_bytes};
 
 use std::alloc::{AllocError, Global};
@@ -22,6 +22,13 @@ impl Model for OwnedText {
 }
 
 impl OwnedText {
+    /// A text without bytes. Takes no memory.
+    pub fn new(alloc: Global) -> OwnedText
+        ensures { result ≡ [] }
+    {
+        OwnedText::from_string(String::new(alloc))
+    }
+
     /// The text of a string. Takes no memory.
     pub fn from_string(string: String) -> OwnedText
         ensures { result ≡ string_bytes string }

@@ -1,7 +1,8 @@
 //! A list of records.
 
-ghost use Rattle.std.specs.Prelude.{◌≡◌};
+ghost use Rattle.std.specs.Prelude.{◌≡◌, ◌++◌, [], ◌∷◌, OnOk, IfErr, OnErr};
 
+use std::alloc::{AllocFailed, Global};
 use std::marker::Model;
 
 /// A list, which contracts see as the list of its items.
@@ -19,11 +20,28 @@ impl<T> Model for Sequence<T> {
 }
 
 impl<T> Sequence<T> {
+    /// A sequence without items. Takes no memory.
+    pub fn new(alloc: Global) -> Sequence<T>
+        ensures { result ≡ [] }
+    {
+        Sequence::from_vec(Vec::new(alloc))
+    }
+
     /// The sequence of a vector's items. Takes no memory.
     pub fn from_vec(items: Vec<T>) -> Sequence<T>
         ensures { result ≡ items.items }
     {
         Sequence { items }
+    }
+
+    /// Adds an item at the end. Where memory doesn't suffice, the items stay as they were, and the
+    /// new one is handed back.
+    pub fn push(&mut self, item: T) -> Result<(), AllocFailed<T>>
+        ensures ok { OnOk result (self.new ≡ self.old ++ item ∷ []) }
+        ensures err { OnErr result (self.new ≡ self.old) }
+        ensures handed_back { IfErr result (λ e. e.value ≡ item) }
+    {
+        self.items.push(item)
     }
 
     /// The items, in order.

@@ -1,8 +1,9 @@
 //! What bytes are written to.
 
-ghost use Rattle.std.specs.Prelude.{◌≡◌, ℕ, ◌≤◌, ◌<◌, List, length, take, Option, IfOk, IfErr, OnOk};
-ghost use Rattle.std.specs.Io.KnownBytes.{Appends, WriteAppends};
-ghost use Rattle.scip_model.specs.Streams.{one_more, failures_after_write};
+ghost use Rattle.std.specs.Prelude.{◌≡◌, ℕ, ◌≤◌, List, length, Option, IfOk, IfErr, OnOk};
+ghost use Rattle.std.specs.Io.KnownBytes.{WriteAppends};
+ghost use Rattle.scip_model.specs.Streams.{failures_after_write};
+ghost use Rattle.scip_model.specs.WholeWrites.{IsWritten, IsCutOff};
 
 use crate::failed::Failed;
 
@@ -33,11 +34,8 @@ pub struct CutOff {
 
 /// Writes all of the bytes, in as many writes as the sink takes. The first failure ends it.
 pub fn write_all<W: Sink>(sink: &mut W, bytes: &[u8]) -> Result<(), CutOff>
-    ensures ok { OnOk result (Appends (W.contents sink.old) (W.contents sink.new) bytes.now) }
-    ensures unfailed { OnOk result (W.failures sink.new ≡ W.failures sink.old) }
-    ensures err { IfErr result (λ e. Appends (W.contents sink.old) (W.contents sink.new) (take e.written bytes.now)) }
-    ensures short { IfErr result (λ e. e.written < length bytes.now) }
-    ensures failed { IfErr result (λ _. W.failures sink.new ≡ one_more (W.failures sink.old)) }
+    ensures ok { OnOk result (IsWritten W.contents W.failures sink.old sink.new bytes.now) }
+    ensures err { IfErr result (λ e. IsCutOff W.contents W.failures sink.old sink.new bytes.now e.written) }
 {
     let mut rest = bytes;
     'writes: while !rest.is_empty() {

@@ -1,15 +1,20 @@
-pub mod Columns
-pub mod Faults
-pub mod FieldLaws
-pub mod Folds
-pub mod Indexes
-pub mod Joins
-pub mod Lengths
-pub mod Loops
-pub mod Messages
-pub mod Options
-pub mod SpelledIndex
-pub mod SpelledFields
-pub mod SpelledMessages
-pub mod Texts
-pub mod Varints
+-- In each file, `.._found` says that what the reader reads is what the bytes hold, and `.._exact` that it reads all that
+-- they hold.
+
+-- Options, and what a fault says.
+pub mod OptionLemmas
+pub mod GivesLemmas
+-- From bytes to fields, to the parts of a message, to messages and the index.
+pub mod FieldLemmas
+pub mod FoldLemmas
+pub mod TextLemmas
+pub mod ColumnLemmas
+pub mod DecodesLemmas
+-- From an index to its fields and their bytes.
+pub mod SpelledVarintLemmas
+pub mod SaturatedLemmas
+pub mod EncodeLemmas
+-- And back: spelled fields are the fields of their bytes, and a spelled index is what its bytes decode to.
+pub mod SpelledFieldLemmas
+pub mod SpelledPayloadLemmas
+pub mod SpellingLemmas

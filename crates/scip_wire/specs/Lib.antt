@@ -1,9 +1,13 @@
-pub mod Decodes
+-- Definitions of the encoding: the fields that bytes hold, and the index that they decode to.
 pub mod Fields
-pub mod Gives
-pub mod Reading
-pub mod Saturated
+pub mod Decodes
+-- The bytes that an index is written as, and what its types know of it.
 pub mod Spelling
-pub mod Views
 pub mod WellFormed
+-- What the reader computes, and what its results say.
+pub mod Views
+pub mod Reading
+pub mod Gives
+-- What the writer computes and answers.
+pub mod Saturated
 pub mod Writing

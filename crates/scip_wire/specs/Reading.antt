@@ -2,7 +2,7 @@
 use Rattle.std.specs.Prelude.{ℕ, ℤ, pos, zero, suc, ◌+◌, ◌-◌, ◌*◌, ◌/◌, ◌%◌, ◌^◌, Bool, cond, nat_eq, nat_lt, nat_le, ◌&&◌, List, [], ◌∷◌, ◌++◌, length, take, drop, Option, Some, None, option_and_then}
 use Rattle.std.specs.Int.{w32, cast_signed}
 use Rattle.std.specs.Str.{is_utf8}
-use Rattle.scip_model.specs.Range.{RangeNumbers}
+use Rattle.scip_model.specs.Range.{RangeNumbers, max_range_number}
 use Rattle.scip_model.specs.declared.records.Index.{Index}
 use Rattle.scip_model.specs.declared.records.Metadata.{Metadata}
 use Rattle.scip_model.specs.declared.records.ToolInfo.{ToolInfo}
@@ -175,7 +175,7 @@ numbers_in (Fixed32 _) = Some []
 
 -- the range of these numbers, each of which has to fit
 abbrev pub fits : RangeNumbers → Bool
-fits r = nat_le r.start_line 2147483647 && nat_le r.start_column 2147483647 && nat_le r.end_line 2147483647 && nat_le r.end_column 2147483647
+fits r = nat_le r.start_line max_range_number && nat_le r.start_column max_range_number && nat_le r.end_line max_range_number && nat_le r.end_column max_range_number
 
 unfoldable pub checked_range : RangeNumbers → Option RangeNumbers
 checked_range r = cond (fits r) (Some r) None

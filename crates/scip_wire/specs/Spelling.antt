@@ -119,6 +119,10 @@ index_fields i =
     ++ repeated_message_fields 2 document_fields i.documents
     ++ repeated_message_fields 3 info_fields i.external_symbols
 
+-- the most bytes that an index may have: the Protocol Buffers libraries' own limit
+abbrev pub max_index_len : ℕ
+max_index_len = 2147483647
+
 -- the spelling of an index
 abbrev pub spelling_of : Index → List ℕ
 spelling_of i = bytes_of (index_fields i)

@@ -1,7 +1,6 @@
 -- What a write of an index answers, and what it leaves.
-use Rattle.std.specs.Prelude.{◌≡◌, ℕ, ◌<◌, List, length, take, Option}
-use Rattle.std.specs.Io.KnownBytes.{Appends}
-use Rattle.scip_model.specs.Streams.{one_more}
+use Rattle.std.specs.Prelude.{◌≡◌, ℕ, List, Option}
+use Rattle.scip_model.specs.WholeWrites.{IsCutOff}
 use Rattle.scip_wire.specs.declared.write_fault.SpellFault.{SpellFault}
 use Rattle.scip_wire.specs.declared.write_fault.SpellFault.TheVariants as spell
 use Rattle.scip_wire.specs.declared.write_fault.WriteFault.{WriteFault}
@@ -12,10 +11,9 @@ abbrev pub write_fault_of : SpellFault → WriteFault
 write_fault_of spell.TooLarge = TooLarge
 write_fault_of spell.Memory = Memory
 
--- What a refusal leaves of a sink, where the bytes were due: of a failed write the first `count`
--- bytes have gone out and the sink has counted it; after any other the sink is as it was.
+-- What a refusal leaves of a sink, where the bytes were due: a failed write has cut them off; after any other the sink
+-- is as it was.
 abbrev pub Leaves : {W : Type 0} → (W → Option (List ℕ)) → (W → ℕ) → W → W → List ℕ → WriteFault → Type 0
-Leaves contents failures old new due (Write count) =
-    (count < length due) × Appends (contents old) (contents new) (take count due) × (failures new ≡ one_more (failures old))
+Leaves contents failures old new due (Write count) = IsCutOff contents failures old new due count
 Leaves contents failures old new due TooLarge = new ≡ old
 Leaves contents failures old new due Memory = new ≡ old

@@ -3,15 +3,15 @@
 
 mod laws;
 mod read;
-mod round_trip;
 mod spell;
 mod wire_fault;
 mod write;
 mod write_fault;
 
-pub use laws::{bytes_decode_to_one_index, bytes_have_one_field_list};
+pub use laws::{
+    bytes_decode_to_one_index, bytes_have_one_field_list, spelling_decodes_to_its_index,
+};
 pub use read::read_index;
-pub use round_trip::spelling_decodes_to_its_index;
 pub use wire_fault::WireFault;
 pub use write::{MAX_INDEX_LEN, encoded_len, spell_index, write_index};
 pub use write_fault::{SpellFault, TooLarge, WriteFault};

@@ -6,7 +6,6 @@ ghost use Rattle.scip_wire.specs.Decodes.{Decodes};
 ghost use Rattle.scip_wire.specs.Gives.{Gives};
 ghost use Rattle.scip_wire.specs.Reading.{index_at};
 
-mod cause;
 mod document;
 mod field;
 mod index;
@@ -15,6 +14,7 @@ mod message;
 mod metadata;
 mod occurrence;
 mod range;
+mod record_fault;
 #[cfg(test)]
 mod samples;
 #[cfg(test)]

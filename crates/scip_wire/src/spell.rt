@@ -6,4 +6,4 @@ mod range;
 mod records;
 mod varint;
 
-pub(crate) use message::Message;
+pub(crate) use message::Encode;

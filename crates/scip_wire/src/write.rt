@@ -1,12 +1,12 @@
 //! Writing an index.
 
 ghost use Rattle.std.specs.Prelude.{◌≡◌, ◌<◌, ◌≤◌, ◌↔◌, length, IfOk, IfErr, OnOk, OkIff, Err};
-ghost use Rattle.std.specs.Io.KnownBytes.{Appends};
-ghost use Rattle.scip_wire.specs.Spelling.{spelling_of};
+ghost use Rattle.scip_model.specs.WholeWrites.{IsWritten};
+ghost use Rattle.scip_wire.specs.Spelling.{spelling_of, max_index_len};
 ghost use Rattle.scip_wire.specs.WellFormed.{IsWellFormed};
 ghost use Rattle.scip_wire.specs.Writing.{Leaves};
 
-use crate::spell::Message;
+use crate::spell::Encode;
 use crate::write_fault::{SpellFault, TooLarge, WriteFault};
 use scip_model::{Index, Sink, write_all};
 
@@ -22,10 +22,10 @@ pub const MAX_INDEX_LEN: u32 = 2147483647;
 
 /// How many bytes the spelling of an index has. Takes no memory.
 pub fn encoded_len(index: &Index) -> Result<u32, TooLarge>
-    ensures len { OkIff result (length (spelling_of index.now) ≤ 2147483647) (length (spelling_of index.now)) }
+    ensures len { OkIff result (length (spelling_of index.now) ≤ max_index_len) (length (spelling_of index.now)) }
     ensures known { IsWellFormed index.now }
 {
-    let len = index.spelled_len();
+    let len = index.encoded_len();
     if len > u64::from(MAX_INDEX_LEN) {
         return Err(TooLarge);
     }
@@ -35,20 +35,19 @@ pub fn encoded_len(index: &Index) -> Result<u32, TooLarge>
 /// The spelling of an index, whole in memory.
 pub fn spell_index(alloc: Global, index: &Index) -> Result<Vec<u8>, SpellFault>
     ensures bytes { IfOk result (λ bytes. bytes.items ≡ spelling_of index.now) }
-    ensures too_large { (result ≡ Err SpellFault.TooLarge) ↔ (2147483647 < length (spelling_of index.now)) }
+    ensures too_large { (result ≡ Err SpellFault.TooLarge) ↔ (max_index_len < length (spelling_of index.now)) }
     ensures known { IsWellFormed index.now }
 {
     let len = encoded_len(index)?;
     let mut bytes = Vec::with_capacity(alloc, len as usize)?;
-    index.put(&mut bytes)?;
+    index.encode(&mut bytes)?;
     Ok(bytes)
 }
 
 /// Writes the spelling of an index.
 pub fn write_index<W: Sink>(alloc: Global, index: &Index, sink: &mut W) -> Result<(), WriteFault>
-    ensures ok { OnOk result (Appends (W.contents sink.old) (W.contents sink.new) (spelling_of index.now)) }
-    ensures unfailed { OnOk result (W.failures sink.new ≡ W.failures sink.old) }
-    ensures too_large { (result ≡ Err WriteFault.TooLarge) ↔ (2147483647 < length (spelling_of index.now)) }
+    ensures ok { OnOk result (IsWritten W.contents W.failures sink.old sink.new (spelling_of index.now)) }
+    ensures too_large { (result ≡ Err WriteFault.TooLarge) ↔ (max_index_len < length (spelling_of index.now)) }
     ensures refused { IfErr result (Leaves W.contents W.failures sink.old sink.new (spelling_of index.now)) }
     ensures known { IsWellFormed index.now }
 {

@@ -5,7 +5,7 @@ ghost use Rattle.scip_wire.specs.Gives.{Gives, Reads};
 ghost use Rattle.scip_wire.specs.Reading.{piece_at, payload_at, field_at};
 ghost use Rattle.scip_wire.specs.Views.{payload_view, field_view};
 
-use crate::read::cause::Cause;
+use crate::read::record_fault::RecordFault;
 use crate::read::varint::{VARINT_BYTES, varint_of};
 use crate::wire_fault::WireFault;
 
@@ -27,18 +27,18 @@ pub struct Field<'a> {
 
 /// The first `size` bytes, and those behind them.
 #[tactic(auto, unfolding(crate::specs::Reading::piece_at))]
-fn piece_of(bytes: &[u8], size: u64) -> Result<(&[u8], &[u8]), Cause>
+fn piece_of(bytes: &[u8], size: u64) -> Result<(&[u8], &[u8]), RecordFault>
     ensures { Reads (λ x. (x.0.now, x.1.now)) result (piece_at size bytes.now) }
 {
     if size > bytes.len() as u64 {
-        return Err(Cause::Truncated);
+        return Err(RecordFault::Truncated);
     }
     Ok(bytes.split_at(size as usize))
 }
 
 /// The payload of a wire type that the bytes begin with, and the bytes behind it.
 #[tactic(auto, unfolding(crate::specs::Reading::payload_at))]
-fn payload_of(bytes: &[u8], wire_type: u64) -> Result<(Payload<'_>, &[u8]), Cause>
+fn payload_of(bytes: &[u8], wire_type: u64) -> Result<(Payload<'_>, &[u8]), RecordFault>
     ensures { Reads (λ x. (payload_view x.0, x.1.now)) result (payload_at wire_type bytes.now) }
 {
     match wire_type {
@@ -59,23 +59,23 @@ fn payload_of(bytes: &[u8], wire_type: u64) -> Result<(Payload<'_>, &[u8]), Caus
             let (inside, rest) = piece_of(bytes, 4)?;
             Ok((Payload::Fixed32(inside), rest))
         }
-        3 | 4 => Err(Cause::Group),
-        _ => Err(Cause::WireType),
+        3 | 4 => Err(RecordFault::Group),
+        _ => Err(RecordFault::WireType),
     }
 }
 
 /// The record that the bytes begin with, and the bytes behind it (Protocol Buffers encoding,
 /// Message Structure).
 #[tactic(auto, unfolding(crate::specs::Reading::field_at))]
-fn field_of(bytes: &[u8]) -> Result<(Field<'_>, &[u8]), Cause>
+fn field_of(bytes: &[u8]) -> Result<(Field<'_>, &[u8]), RecordFault>
     ensures { Reads (λ x. (field_view x.0, x.1.now)) result (field_at bytes.now) }
 {
     let (tag, rest) = varint_of(bytes, VARINT_BYTES)?;
     if tag >= 1 << 32 {
-        return Err(Cause::Varint);
+        return Err(RecordFault::Varint);
     }
     if tag < 8 {
-        return Err(Cause::FieldZero);
+        return Err(RecordFault::FieldZero);
     }
     let (payload, rest) = payload_of(rest, tag % 8)?;
     let field = Field {
@@ -86,12 +86,12 @@ fn field_of(bytes: &[u8]) -> Result<(Field<'_>, &[u8]), Cause>
 }
 
 /// The record that the bytes begin with, which is at `start` in the input, and the bytes behind it.
-#[tactic(auto, using(crate::proofs::Faults::of_bytes))]
+#[tactic(auto)]
 pub fn read_field(bytes: &[u8], start: usize) -> Result<(Field<'_>, &[u8]), WireFault>
     ensures { Gives (λ x. (field_view x.0, x.1.now)) result (field_at bytes.now) }
 {
     match field_of(bytes) {
         Ok(read) => Ok(read),
-        Err(cause) => Err(cause.at(start)),
+        Err(fault) => Err(fault.at(start)),
     }
 }

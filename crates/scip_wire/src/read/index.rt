@@ -3,13 +3,12 @@
 ghost use Rattle.scip_wire.specs.Reading.{no_index, index_step};
 
 use crate::read::field::{Field, Payload};
-use crate::read::message::{Message, read_message, read_only};
-use crate::read::text::{append, empty_sequence};
+use crate::read::message::{Decode, read_message, read_only};
 use crate::wire_fault::WireFault;
-use scip_model::Index;
+use scip_model::{Index, Sequence};
 use std::alloc::Global;
 
-impl Message for Index {
+impl Decode for Index {
     ghost none = { no_index };
 
     ghost step = { index_step };
@@ -17,13 +16,13 @@ impl Message for Index {
     fn empty(alloc: Global) -> Index {
         Index {
             metadata: None,
-            documents: empty_sequence(alloc),
-            external_symbols: empty_sequence(alloc),
+            documents: Sequence::new(alloc),
+            external_symbols: Sequence::new(alloc),
         }
     }
 
     #[tactic(auto, unfolding(crate::specs::Reading::index_step, crate::specs::Reading::metadata_at, crate::specs::Reading::document_at, crate::specs::Reading::info_at, crate::specs::Reading::parted, crate::specs::Reading::both, crate::specs::Reading::column))]
-    fn take_in(
+    fn merge_field(
         &mut self,
         alloc: Global,
         field: Field<'_>,
@@ -35,14 +34,11 @@ impl Message for Index {
                 self.metadata = read_only(alloc, &self.metadata, bytes, start, end)?;
             }
             (2, Payload::Delimited(bytes)) => {
-                append(alloc, &mut self.documents, read_message(alloc, bytes, end)?)?;
+                self.documents.push(read_message(alloc, bytes, end)?)?;
             }
             (3, Payload::Delimited(bytes)) => {
-                append(
-                    alloc,
-                    &mut self.external_symbols,
-                    read_message(alloc, bytes, end)?,
-                )?;
+                self.external_symbols
+                    .push(read_message(alloc, bytes, end)?)?;
             }
             _ => {}
         }

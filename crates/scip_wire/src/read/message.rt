@@ -9,7 +9,7 @@ use crate::wire_fault::WireFault;
 use std::alloc::Global;
 
 /// A message, which starts without fields and takes in record after record.
-pub trait Message: Drop + Sized {
+pub trait Decode: Drop + Sized {
     ghost use Rattle.std.specs.Prelude.{◌≡◌, ◌≤◌, Option};
     ghost use Rattle.scip_wire.specs.Fields.{Field};
     ghost use Rattle.scip_wire.specs.Gives.{Gives};
@@ -25,7 +25,7 @@ pub trait Message: Drop + Sized {
 
     /// Takes in a record of the input, from `start` up to `end`. A field that isn't known, or that
     /// has another wire type, changes nothing. After an error the message is of no use.
-    fn take_in(
+    fn merge_field(
         &mut self,
         alloc: Global,
         field: Field<'_>,
@@ -37,7 +37,7 @@ pub trait Message: Drop + Sized {
 }
 
 /// The message that the bytes hold, which end at `end` in the input.
-pub fn read_message<M: Message>(alloc: Global, bytes: &[u8], end: usize) -> Result<M, WireFault>
+pub fn read_message<M: Decode>(alloc: Global, bytes: &[u8], end: usize) -> Result<M, WireFault>
     requires { length bytes.now ≤ end }
     ensures { Gives (λ m. m) result (fold_at field_at M.step bytes.now M.none) }
 {
@@ -46,7 +46,7 @@ pub fn read_message<M: Message>(alloc: Global, bytes: &[u8], end: usize) -> Resu
     'records: while !rest.is_empty() {
         let start = end - rest.len();
         let (field, after) = read_field(rest, start)?;
-        message.take_in(alloc, field, start, end - after.len())?;
+        message.merge_field(alloc, field, start, end - after.len())?;
         rest = after;
     }
     Ok(message)
@@ -56,8 +56,8 @@ pub fn read_message<M: Message>(alloc: Global, bytes: &[u8], end: usize) -> Resu
 /// bytes end at `end` in the input, and their record is at `start`.
 ///
 /// `Repeated` where there is an earlier one, whatever the bytes hold.
-#[tactic(auto, using(crate::proofs::Columns::only_taken, crate::proofs::Columns::only_first))]
-pub fn read_only<M: Message>(
+#[tactic(auto, using(crate::proofs::ColumnLemmas::only_taken, crate::proofs::ColumnLemmas::only_first))]
+pub fn read_only<M: Decode>(
     alloc: Global,
     earlier: &Option<M>,
     bytes: &[u8],

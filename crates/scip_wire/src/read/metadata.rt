@@ -3,13 +3,13 @@
 ghost use Rattle.scip_wire.specs.Reading.{no_metadata, metadata_step};
 
 use crate::read::field::{Field, Payload};
-use crate::read::message::{Message, read_only};
-use crate::read::text::{empty_text, number_of, text_of};
+use crate::read::message::{Decode, read_only};
+use crate::read::text::{number_of, text_of};
 use crate::wire_fault::WireFault;
-use scip_model::Metadata;
+use scip_model::{Metadata, OwnedText};
 use std::alloc::Global;
 
-impl Message for Metadata {
+impl Decode for Metadata {
     ghost none = { no_metadata };
 
     ghost step = { metadata_step };
@@ -18,13 +18,13 @@ impl Message for Metadata {
         Metadata {
             version: 0,
             tool_info: None,
-            project_root: empty_text(alloc),
+            project_root: OwnedText::new(alloc),
             text_document_encoding: 0,
         }
     }
 
     #[tactic(auto, unfolding(crate::specs::Reading::metadata_step, crate::specs::Reading::tool_info_at, crate::specs::Reading::parted, crate::specs::Reading::both, crate::specs::Reading::column))]
-    fn take_in(
+    fn merge_field(
         &mut self,
         alloc: Global,
         field: Field<'_>,

@@ -5,9 +5,9 @@ ghost use Rattle.scip_wire.specs.Gives.{Gives};
 ghost use Rattle.scip_wire.specs.Reading.{occurrence_after};
 
 use crate::read::field::{Field, Payload};
-use crate::read::message::{Message, read_message};
+use crate::read::message::{Decode, read_message};
 use crate::read::range::{add_packed, range_of};
-use crate::read::text::{append, empty_sequence, empty_text, low_bits, number_of, text_of};
+use crate::read::text::{low_bits, number_of, text_of};
 use crate::wire_fault::WireFault;
 use scip_model::{Occurrence, OwnedText, Sequence};
 use std::alloc::Global;
@@ -20,7 +20,7 @@ pub struct OccurrenceParts {
     pub symbol_roles: i32,
 }
 
-impl Message for OccurrenceParts {
+impl Decode for OccurrenceParts {
     ghost use Rattle.scip_wire.specs.Reading.{no_parts, occurrence_step};
 
     ghost none = { no_parts };
@@ -29,14 +29,14 @@ impl Message for OccurrenceParts {
 
     fn empty(alloc: Global) -> OccurrenceParts {
         OccurrenceParts {
-            numbers: empty_sequence(alloc),
-            symbol: empty_text(alloc),
+            numbers: Sequence::new(alloc),
+            symbol: OwnedText::new(alloc),
             symbol_roles: 0,
         }
     }
 
-    #[tactic(auto, unfolding(crate::specs::Reading::occurrence_step, crate::specs::Reading::parted, crate::specs::Reading::both, crate::specs::Reading::column), using(crate::proofs::Messages::fold_of_packed))]
-    fn take_in(
+    #[tactic(auto, unfolding(crate::specs::Reading::occurrence_step, crate::specs::Reading::parted, crate::specs::Reading::both, crate::specs::Reading::column), using(crate::proofs::DecodesLemmas::fold_of_packed))]
+    fn merge_field(
         &mut self,
         alloc: Global,
         field: Field<'_>,
@@ -44,8 +44,8 @@ impl Message for OccurrenceParts {
         _end: usize,
     ) -> Result<(), WireFault> {
         match (field.number, field.payload) {
-            (1, Payload::Varint(value)) => append(alloc, &mut self.numbers, low_bits(value))?,
-            (1, Payload::Delimited(bytes)) => add_packed(alloc, &mut self.numbers, bytes, start)?,
+            (1, Payload::Varint(value)) => self.numbers.push(low_bits(value))?,
+            (1, Payload::Delimited(bytes)) => add_packed(&mut self.numbers, bytes, start)?,
             (2, Payload::Delimited(bytes)) => self.symbol = text_of(alloc, bytes, start)?,
             (3, Payload::Varint(value)) => self.symbol_roles = number_of(value),
             _ => {}
@@ -80,14 +80,10 @@ pub fn add_occurrence(
     let Some(range) = range_of(&numbers) else {
         return Err(WireFault::BadRange(start));
     };
-    append(
-        alloc,
-        occurrences,
-        Occurrence {
-            range,
-            symbol,
-            symbol_roles,
-        },
-    )?;
+    occurrences.push(Occurrence {
+        range,
+        symbol,
+        symbol_roles,
+    })?;
     Ok(())
 }

@@ -4,38 +4,32 @@ ghost use Rattle.std.specs.Prelude.{◌≡◌};
 ghost use Rattle.scip_wire.specs.Gives.{Gives};
 ghost use Rattle.scip_wire.specs.Reading.{fold_at, varint_at, packed_step, range_at};
 
-use crate::read::text::{append, low_bits};
+use crate::read::text::low_bits;
 use crate::read::varint::{VARINT_BYTES, varint_of};
 use crate::wire_fault::WireFault;
 use scip_model::{Range, Sequence};
-use std::alloc::Global;
 
 /// The varint that the bytes begin with, in a record at `start` in the input, and the bytes behind
 /// it.
-#[tactic(auto, using(crate::proofs::Faults::of_bytes))]
+#[tactic(auto)]
 fn read_varint(bytes: &[u8], start: usize) -> Result<(u64, &[u8]), WireFault>
     ensures { Gives (λ x. (x.0, x.1.now)) result (varint_at 10 bytes.now) }
 {
     match varint_of(bytes, VARINT_BYTES) {
         Ok(read) => Ok(read),
-        Err(cause) => Err(cause.at(start)),
+        Err(fault) => Err(fault.at(start)),
     }
 }
 
 /// Adds the numbers of a packed field, whose record is at `start` in the input (Protocol Buffers
 /// encoding, Packed Repeated Fields). After an error the numbers are of no use.
-pub fn add_packed(
-    alloc: Global,
-    numbers: &mut Sequence<u32>,
-    bytes: &[u8],
-    start: usize,
-) -> Result<(), WireFault>
+pub fn add_packed(numbers: &mut Sequence<u32>, bytes: &[u8], start: usize) -> Result<(), WireFault>
     ensures { Gives (λ _. numbers.new) result (fold_at (varint_at 10) packed_step bytes.now numbers.old) }
 {
     let mut rest = bytes;
     'varints: while !rest.is_empty() {
         let (value, after) = read_varint(rest, start)?;
-        append(alloc, numbers, low_bits(value))?;
+        numbers.push(low_bits(value))?;
         rest = after;
     }
     Ok(())
@@ -45,7 +39,7 @@ pub fn add_packed(
 /// end column]` (`scip.proto`, `Occurrence.range`).
 ///
 /// None for any other count, and where a number is negative as an int32.
-#[tactic(auto, unfolding(crate::specs::Reading::range_at), using(crate::proofs::Messages::checked_of))]
+#[tactic(auto, unfolding(crate::specs::Reading::range_at), using(crate::proofs::DecodesLemmas::checked_of))]
 pub fn range_of(numbers: &[u32]) -> Option<Range>
     ensures { result ≡ range_at numbers.now }
 {

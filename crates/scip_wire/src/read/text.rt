@@ -1,24 +1,17 @@
 //! Texts and numbers of fields.
 
-ghost use Rattle.std.specs.Prelude.{◌≡◌, ◌++◌, ◌∷◌, [], OnOk};
+ghost use Rattle.std.specs.Prelude.{◌≡◌};
 ghost use Rattle.scip_wire.specs.Gives.{Gives};
 ghost use Rattle.scip_wire.specs.Decodes.{low_32_bits};
 ghost use Rattle.scip_wire.specs.Reading.{text_at, number_at};
 
 use crate::wire_fault::WireFault;
-use scip_model::{OwnedText, Sequence};
-use std::alloc::{AllocError, Global};
-use std::{mem, str};
-
-/// A text without bytes. Takes no memory.
-pub fn empty_text(alloc: Global) -> OwnedText
-    ensures { result ≡ [] }
-{
-    OwnedText::from_string(String::new(alloc))
-}
+use scip_model::OwnedText;
+use std::alloc::Global;
+use std::str;
 
 /// The text of a field, whose record is at `start` in the input.
-#[tactic(auto, unfolding(crate::specs::Reading::text_at), using(crate::proofs::Texts::text_of_utf8, crate::proofs::Texts::none_of_others))]
+#[tactic(auto, unfolding(crate::specs::Reading::text_at), using(crate::proofs::TextLemmas::text_of_utf8, crate::proofs::TextLemmas::none_of_others))]
 pub fn text_of(alloc: Global, bytes: &[u8], start: usize) -> Result<OwnedText, WireFault>
     ensures { Gives (λ t. t) result (text_at bytes.now) }
 {
@@ -41,21 +34,4 @@ pub fn number_of(value: u64) -> i32
     ensures { result ≡ number_at value }
 {
     low_bits(value).cast_signed()
-}
-
-/// A sequence without items. Takes no memory.
-pub fn empty_sequence<T>(alloc: Global) -> Sequence<T>
-    ensures { result ≡ [] }
-{
-    Sequence::from_vec(Vec::new(alloc))
-}
-
-/// Adds an item at a sequence's end. After an error the sequence is of no use.
-pub fn append<T: Drop>(alloc: Global, sequence: &mut Sequence<T>, item: T) -> Result<(), AllocError>
-    ensures { OnOk result (sequence.new ≡ sequence.old ++ item ∷ []) }
-{
-    let mut items = mem::replace(sequence, empty_sequence(alloc)).into_vec();
-    items.push(item)?;
-    *sequence = Sequence::from_vec(items);
-    Ok(())
 }

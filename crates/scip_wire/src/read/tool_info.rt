@@ -3,27 +3,27 @@
 ghost use Rattle.scip_wire.specs.Reading.{no_tool_info, tool_info_step};
 
 use crate::read::field::{Field, Payload};
-use crate::read::message::Message;
-use crate::read::text::{append, empty_sequence, empty_text, text_of};
+use crate::read::message::Decode;
+use crate::read::text::text_of;
 use crate::wire_fault::WireFault;
-use scip_model::ToolInfo;
+use scip_model::{OwnedText, Sequence, ToolInfo};
 use std::alloc::Global;
 
-impl Message for ToolInfo {
+impl Decode for ToolInfo {
     ghost none = { no_tool_info };
 
     ghost step = { tool_info_step };
 
     fn empty(alloc: Global) -> ToolInfo {
         ToolInfo {
-            name: empty_text(alloc),
-            version: empty_text(alloc),
-            arguments: empty_sequence(alloc),
+            name: OwnedText::new(alloc),
+            version: OwnedText::new(alloc),
+            arguments: Sequence::new(alloc),
         }
     }
 
     #[tactic(auto, unfolding(crate::specs::Reading::tool_info_step, crate::specs::Reading::parted, crate::specs::Reading::both, crate::specs::Reading::column))]
-    fn take_in(
+    fn merge_field(
         &mut self,
         alloc: Global,
         field: Field<'_>,
@@ -34,7 +34,7 @@ impl Message for ToolInfo {
             (1, Payload::Delimited(bytes)) => self.name = text_of(alloc, bytes, start)?,
             (2, Payload::Delimited(bytes)) => self.version = text_of(alloc, bytes, start)?,
             (3, Payload::Delimited(bytes)) => {
-                append(alloc, &mut self.arguments, text_of(alloc, bytes, start)?)?;
+                self.arguments.push(text_of(alloc, bytes, start)?)?;
             }
             _ => {}
         }

@@ -4,7 +4,7 @@ ghost use Rattle.std.specs.Prelude.{◌≡◌, ◌++◌, ◌+◌, ◌*◌, ◌^�
 ghost use Rattle.scip_wire.specs.Spelling.{bytes_of, bytes_field, text_fields, int_fields, repeated_text_fields, in_64_bits};
 ghost use Rattle.scip_wire.specs.Saturated.{saturated, fields_len};
 
-use super::varint::{put_varint, varint_len};
+use super::varint::{encode_varint, varint_len};
 use scip_model::{OwnedText, Sequence};
 use std::alloc::AllocError;
 
@@ -27,12 +27,12 @@ fn element_len(number: u64, text: &str) -> u64
 }
 
 /// Appends a record of these bytes.
-pub(super) fn put_record(out: &mut Vec<u8>, number: u64, bytes: &[u8]) -> Result<(), AllocError>
+pub(super) fn encode_record(out: &mut Vec<u8>, number: u64, bytes: &[u8]) -> Result<(), AllocError>
     requires { number < 2 ^ 29 }
     ensures { OnOk result (out.new.items ≡ out.old.items ++ bytes_of (bytes_field number bytes.now ∷ [])) }
 {
-    put_varint(out, 8 * number + 2)?;
-    put_varint(out, bytes.len() as u64)?;
+    encode_varint(out, 8 * number + 2)?;
+    encode_varint(out, bytes.len() as u64)?;
     out.extend_from_slice(bytes)?;
     Ok(())
 }
@@ -49,13 +49,17 @@ pub(super) fn text_len(number: u64, text: &OwnedText) -> u64
 }
 
 /// Appends a text's record, which an empty text doesn't have.
-pub(super) fn put_text(out: &mut Vec<u8>, number: u64, text: &OwnedText) -> Result<(), AllocError>
+pub(super) fn encode_text(
+    out: &mut Vec<u8>,
+    number: u64,
+    text: &OwnedText,
+) -> Result<(), AllocError>
     requires { number < 2 ^ 29 }
     ensures { OnOk result (out.new.items ≡ out.old.items ++ bytes_of (text_fields number text.now)) }
 {
     let bytes = text.as_str().as_bytes();
     if !bytes.is_empty() {
-        put_record(out, number, bytes)?;
+        encode_record(out, number, bytes)?;
     }
     Ok(())
 }
@@ -83,7 +87,7 @@ fn slice_len(number: u64, texts: &[OwnedText]) -> u64
 }
 
 /// Appends the records of a repeated text.
-pub(super) fn put_texts(
+pub(super) fn encode_texts(
     out: &mut Vec<u8>,
     number: u64,
     texts: &Sequence<OwnedText>,
@@ -91,16 +95,16 @@ pub(super) fn put_texts(
     requires { number < 2 ^ 29 }
     ensures { OnOk result (out.new.items ≡ out.old.items ++ bytes_of (repeated_text_fields number texts.now)) }
 {
-    put_slice(out, number, texts.as_slice())
+    encode_slice(out, number, texts.as_slice())
 }
 
 /// Appends the records of texts.
-fn put_slice(out: &mut Vec<u8>, number: u64, texts: &[OwnedText]) -> Result<(), AllocError>
+fn encode_slice(out: &mut Vec<u8>, number: u64, texts: &[OwnedText]) -> Result<(), AllocError>
     requires { number < 2 ^ 29 }
     ensures { OnOk result (out.new.items ≡ out.old.items ++ bytes_of (repeated_text_fields number texts.now)) }
 {
     'texts: for text in texts {
-        put_record(out, number, text.as_str().as_bytes())?;
+        encode_record(out, number, text.as_str().as_bytes())?;
     }
     Ok(())
 }
@@ -125,13 +129,13 @@ pub(super) fn int_len(number: u64, value: i32) -> u64
 }
 
 /// Appends a number's record, which 0 doesn't have.
-pub(super) fn put_int(out: &mut Vec<u8>, number: u64, value: i32) -> Result<(), AllocError>
+pub(super) fn encode_int(out: &mut Vec<u8>, number: u64, value: i32) -> Result<(), AllocError>
     requires { number < 2 ^ 29 }
     ensures { OnOk result (out.new.items ≡ out.old.items ++ bytes_of (int_fields number value)) }
 {
     if value != 0 {
-        put_varint(out, 8 * number)?;
-        put_varint(out, in_64_bits(value))?;
+        encode_varint(out, 8 * number)?;
+        encode_varint(out, in_64_bits(value))?;
     }
     Ok(())
 }

@@ -6,12 +6,12 @@ ghost use Rattle.scip_wire.specs.Spelling.{bytes_of, bytes_field, optional_messa
 ghost use Rattle.scip_wire.specs.Saturated.{saturated, fields_len};
 
 use super::fields::record_len;
-use super::varint::put_varint;
+use super::varint::encode_varint;
 use scip_model::Sequence;
 use std::alloc::AllocError;
 
 /// A record of an index, as a message of `scip.proto`.
-pub(crate) trait Message {
+pub(crate) trait Encode {
     // Its fields, by rising number.
     ghost fields: { Self → List Field };
 
@@ -19,38 +19,38 @@ pub(crate) trait Message {
     ghost is_fit: { Self → Type 0 };
 
     /// The length of its spelling, up to `u64::MAX`.
-    fn spelled_len(&self) -> u64
+    fn encoded_len(&self) -> u64
         ensures value { result ≡ saturated (fields_len (fields self.now)) }
         ensures fit { is_fit self.now };
 
     /// Appends its spelling.
-    fn put(&self, out: &mut Vec<u8>) -> Result<(), AllocError>
+    fn encode(&self, out: &mut Vec<u8>) -> Result<(), AllocError>
         requires { fields_len (fields self.now) < 2 ^ 31 }
         ensures { OnOk result (out.new.items ≡ out.old.items ++ bytes_of (fields self.now)) };
 }
 
 /// The length of a message's record.
-fn message_len<M: Message>(number: u64, message: &M) -> u64
+fn message_len<M: Encode>(number: u64, message: &M) -> u64
     requires { number < 2 ^ 29 }
     ensures value { result ≡ saturated (fields_len (bytes_field number (bytes_of (M.fields message.now)) ∷ [])) }
     ensures fit { M.is_fit message.now }
 {
-    record_len(number, message.spelled_len())
+    record_len(number, message.encoded_len())
 }
 
 /// Appends a message's record.
-fn put_message<M: Message>(out: &mut Vec<u8>, number: u64, message: &M) -> Result<(), AllocError>
+fn encode_message<M: Encode>(out: &mut Vec<u8>, number: u64, message: &M) -> Result<(), AllocError>
     requires number { number < 2 ^ 29 }
     requires short { fields_len (M.fields message.now) < 2 ^ 31 }
     ensures { OnOk result (out.new.items ≡ out.old.items ++ bytes_of (bytes_field number (bytes_of (M.fields message.now)) ∷ [])) }
 {
-    put_varint(out, 8 * number + 2)?;
-    put_varint(out, message.spelled_len())?;
-    message.put(out)
+    encode_varint(out, 8 * number + 2)?;
+    encode_varint(out, message.encoded_len())?;
+    message.encode(out)
 }
 
 /// The length of the record of a message that may be absent.
-pub(super) fn optional_message_len<M: Message>(number: u64, message: &Option<M>) -> u64
+pub(super) fn optional_message_len<M: Encode>(number: u64, message: &Option<M>) -> u64
     requires { number < 2 ^ 29 }
     ensures value { result ≡ saturated (fields_len (optional_message_fields number M.fields message.now)) }
     ensures fit { IfSome message.now M.is_fit }
@@ -62,7 +62,7 @@ pub(super) fn optional_message_len<M: Message>(number: u64, message: &Option<M>)
 }
 
 /// Appends the record of a message that may be absent.
-pub(super) fn put_optional_message<M: Message>(
+pub(super) fn encode_optional_message<M: Encode>(
     out: &mut Vec<u8>,
     number: u64,
     message: &Option<M>,
@@ -72,13 +72,13 @@ pub(super) fn put_optional_message<M: Message>(
     ensures { OnOk result (out.new.items ≡ out.old.items ++ bytes_of (optional_message_fields number M.fields message.now)) }
 {
     if let Some(message) = message {
-        put_message(out, number, message)?;
+        encode_message(out, number, message)?;
     }
     Ok(())
 }
 
 /// The length of the records of a repeated message.
-pub(super) fn messages_len<M: Message>(number: u64, messages: &Sequence<M>) -> u64
+pub(super) fn messages_len<M: Encode>(number: u64, messages: &Sequence<M>) -> u64
     requires { number < 2 ^ 29 }
     ensures value { result ≡ saturated (fields_len (repeated_message_fields number M.fields messages.now)) }
     ensures fit { All M.is_fit messages.now }
@@ -87,7 +87,7 @@ pub(super) fn messages_len<M: Message>(number: u64, messages: &Sequence<M>) -> u
 }
 
 /// The length of the records of messages.
-fn slice_len<M: Message>(number: u64, messages: &[M]) -> u64
+fn slice_len<M: Encode>(number: u64, messages: &[M]) -> u64
     requires { number < 2 ^ 29 }
     ensures value { result ≡ saturated (fields_len (repeated_message_fields number M.fields messages.now)) }
     ensures fit { All M.is_fit messages.now }
@@ -100,7 +100,7 @@ fn slice_len<M: Message>(number: u64, messages: &[M]) -> u64
 }
 
 /// Appends the records of a repeated message.
-pub(super) fn put_messages<M: Message>(
+pub(super) fn encode_messages<M: Encode>(
     out: &mut Vec<u8>,
     number: u64,
     messages: &Sequence<M>,
@@ -109,17 +109,17 @@ pub(super) fn put_messages<M: Message>(
     requires short { fields_len (repeated_message_fields number M.fields messages.now) < 2 ^ 31 }
     ensures { OnOk result (out.new.items ≡ out.old.items ++ bytes_of (repeated_message_fields number M.fields messages.now)) }
 {
-    put_slice(out, number, messages.as_slice())
+    encode_slice(out, number, messages.as_slice())
 }
 
 /// Appends the records of messages.
-fn put_slice<M: Message>(out: &mut Vec<u8>, number: u64, messages: &[M]) -> Result<(), AllocError>
+fn encode_slice<M: Encode>(out: &mut Vec<u8>, number: u64, messages: &[M]) -> Result<(), AllocError>
     requires number { number < 2 ^ 29 }
     requires short { fields_len (repeated_message_fields number M.fields messages.now) < 2 ^ 31 }
     ensures { OnOk result (out.new.items ≡ out.old.items ++ bytes_of (repeated_message_fields number M.fields messages.now)) }
 {
     'messages: for message in messages {
-        put_message(out, number, message)?;
+        encode_message(out, number, message)?;
     }
     Ok(())
 }

@@ -6,7 +6,7 @@ ghost use Rattle.scip_wire.specs.Spelling.{bytes_of, bytes_field, varint, range_
 ghost use Rattle.scip_wire.specs.Saturated.{saturated, fields_len};
 
 use super::fields::record_len;
-use super::varint::{put_varint, varint_len};
+use super::varint::{encode_varint, varint_len};
 use scip_model::Range;
 use std::alloc::AllocError;
 
@@ -20,13 +20,13 @@ pub(super) fn range_len(number: u64, range: &Range) -> u64
 }
 
 /// Appends a range's record.
-pub(super) fn put_range(out: &mut Vec<u8>, number: u64, range: &Range) -> Result<(), AllocError>
+pub(super) fn encode_range(out: &mut Vec<u8>, number: u64, range: &Range) -> Result<(), AllocError>
     requires { number < 2 ^ 29 }
     ensures { OnOk result (out.new.items ≡ out.old.items ++ bytes_of (bytes_field number (flat_map varint (range_numbers range.now)) ∷ [])) }
 {
-    put_varint(out, 8 * number + 2)?;
-    put_varint(out, numbers_len(range))?;
-    put_numbers(out, range)
+    encode_varint(out, 8 * number + 2)?;
+    encode_varint(out, numbers_len(range))?;
+    encode_numbers(out, range)
 }
 
 /// The length of a range's numbers, three of them where both ends are on one line, else four.
@@ -46,13 +46,13 @@ fn numbers_len(range: &Range) -> u64
 }
 
 /// Appends a range's numbers, three of them where both ends are on one line, else four.
-fn put_numbers(out: &mut Vec<u8>, range: &Range) -> Result<(), AllocError>
+fn encode_numbers(out: &mut Vec<u8>, range: &Range) -> Result<(), AllocError>
     ensures { OnOk result (out.new.items ≡ out.old.items ++ flat_map varint (range_numbers range.now)) }
 {
-    put_varint(out, u64::from(range.start_line()))?;
-    put_varint(out, u64::from(range.start_column()))?;
+    encode_varint(out, u64::from(range.start_line()))?;
+    encode_varint(out, u64::from(range.start_column()))?;
     if range.start_line() != range.end_line() {
-        put_varint(out, u64::from(range.end_line()))?;
+        encode_varint(out, u64::from(range.end_line()))?;
     }
-    put_varint(out, u64::from(range.end_column()))
+    encode_varint(out, u64::from(range.end_column()))
 }

@@ -1,14 +1,14 @@
 //! The records of an index as messages of `scip.proto`.
 
-use super::fields::{int_len, put_int, put_text, put_texts, text_len, texts_len};
+use super::fields::{encode_int, encode_text, encode_texts, int_len, text_len, texts_len};
 use super::message::{
-    Message, messages_len, optional_message_len, put_messages, put_optional_message,
+    Encode, encode_messages, encode_optional_message, messages_len, optional_message_len,
 };
-use super::range::{put_range, range_len};
+use super::range::{encode_range, range_len};
 use scip_model::{Document, Index, Info, Metadata, Occurrence, ToolInfo};
 use std::alloc::AllocError;
 
-impl Message for Index {
+impl Encode for Index {
     ghost use Rattle.scip_wire.specs.Spelling.{index_fields};
     ghost use Rattle.scip_wire.specs.WellFormed.{IsWellFormed};
 
@@ -16,7 +16,7 @@ impl Message for Index {
 
     ghost is_fit = { IsWellFormed };
 
-    fn spelled_len(&self) -> u64 {
+    fn encoded_len(&self) -> u64 {
         let metadata = optional_message_len(1, &self.metadata);
         let documents = messages_len(2, &self.documents);
         let external_symbols = messages_len(3, &self.external_symbols);
@@ -25,15 +25,15 @@ impl Message for Index {
             .saturating_add(external_symbols)
     }
 
-    fn put(&self, out: &mut Vec<u8>) -> Result<(), AllocError> {
-        put_optional_message(out, 1, &self.metadata)?;
-        put_messages(out, 2, &self.documents)?;
-        put_messages(out, 3, &self.external_symbols)?;
+    fn encode(&self, out: &mut Vec<u8>) -> Result<(), AllocError> {
+        encode_optional_message(out, 1, &self.metadata)?;
+        encode_messages(out, 2, &self.documents)?;
+        encode_messages(out, 3, &self.external_symbols)?;
         Ok(())
     }
 }
 
-impl Message for Metadata {
+impl Encode for Metadata {
     ghost use Rattle.scip_wire.specs.Spelling.{metadata_fields};
     ghost use Rattle.scip_wire.specs.WellFormed.{IsFitMetadata};
 
@@ -41,7 +41,7 @@ impl Message for Metadata {
 
     ghost is_fit = { IsFitMetadata };
 
-    fn spelled_len(&self) -> u64 {
+    fn encoded_len(&self) -> u64 {
         let version = int_len(1, self.version);
         let tool_info = optional_message_len(2, &self.tool_info);
         let project_root = text_len(3, &self.project_root);
@@ -52,16 +52,16 @@ impl Message for Metadata {
             .saturating_add(encoding)
     }
 
-    fn put(&self, out: &mut Vec<u8>) -> Result<(), AllocError> {
-        put_int(out, 1, self.version)?;
-        put_optional_message(out, 2, &self.tool_info)?;
-        put_text(out, 3, &self.project_root)?;
-        put_int(out, 4, self.text_document_encoding)?;
+    fn encode(&self, out: &mut Vec<u8>) -> Result<(), AllocError> {
+        encode_int(out, 1, self.version)?;
+        encode_optional_message(out, 2, &self.tool_info)?;
+        encode_text(out, 3, &self.project_root)?;
+        encode_int(out, 4, self.text_document_encoding)?;
         Ok(())
     }
 }
 
-impl Message for ToolInfo {
+impl Encode for ToolInfo {
     ghost use Rattle.scip_wire.specs.Spelling.{tool_info_fields};
     ghost use Rattle.scip_wire.specs.WellFormed.{IsFitToolInfo};
 
@@ -69,22 +69,22 @@ impl Message for ToolInfo {
 
     ghost is_fit = { IsFitToolInfo };
 
-    fn spelled_len(&self) -> u64 {
+    fn encoded_len(&self) -> u64 {
         let name = text_len(1, &self.name);
         let version = text_len(2, &self.version);
         let arguments = texts_len(3, &self.arguments);
         name.saturating_add(version).saturating_add(arguments)
     }
 
-    fn put(&self, out: &mut Vec<u8>) -> Result<(), AllocError> {
-        put_text(out, 1, &self.name)?;
-        put_text(out, 2, &self.version)?;
-        put_texts(out, 3, &self.arguments)?;
+    fn encode(&self, out: &mut Vec<u8>) -> Result<(), AllocError> {
+        encode_text(out, 1, &self.name)?;
+        encode_text(out, 2, &self.version)?;
+        encode_texts(out, 3, &self.arguments)?;
         Ok(())
     }
 }
 
-impl Message for Document {
+impl Encode for Document {
     ghost use Rattle.scip_wire.specs.Spelling.{document_fields};
     ghost use Rattle.scip_wire.specs.WellFormed.{IsFitDocument};
 
@@ -92,7 +92,7 @@ impl Message for Document {
 
     ghost is_fit = { IsFitDocument };
 
-    fn spelled_len(&self) -> u64 {
+    fn encoded_len(&self) -> u64 {
         let relative_path = text_len(1, &self.relative_path);
         let occurrences = messages_len(2, &self.occurrences);
         let symbols = messages_len(3, &self.symbols);
@@ -105,17 +105,17 @@ impl Message for Document {
             .saturating_add(encoding)
     }
 
-    fn put(&self, out: &mut Vec<u8>) -> Result<(), AllocError> {
-        put_text(out, 1, &self.relative_path)?;
-        put_messages(out, 2, &self.occurrences)?;
-        put_messages(out, 3, &self.symbols)?;
-        put_text(out, 4, &self.language)?;
-        put_int(out, 6, self.position_encoding)?;
+    fn encode(&self, out: &mut Vec<u8>) -> Result<(), AllocError> {
+        encode_text(out, 1, &self.relative_path)?;
+        encode_messages(out, 2, &self.occurrences)?;
+        encode_messages(out, 3, &self.symbols)?;
+        encode_text(out, 4, &self.language)?;
+        encode_int(out, 6, self.position_encoding)?;
         Ok(())
     }
 }
 
-impl Message for Info {
+impl Encode for Info {
     ghost use Rattle.scip_wire.specs.Spelling.{info_fields};
     ghost use Rattle.scip_wire.specs.WellFormed.{IsFitInfo};
 
@@ -123,7 +123,7 @@ impl Message for Info {
 
     ghost is_fit = { IsFitInfo };
 
-    fn spelled_len(&self) -> u64 {
+    fn encoded_len(&self) -> u64 {
         let symbol = text_len(1, &self.symbol);
         let documentation = texts_len(3, &self.documentation);
         let display_name = text_len(6, &self.display_name);
@@ -132,15 +132,15 @@ impl Message for Info {
             .saturating_add(display_name)
     }
 
-    fn put(&self, out: &mut Vec<u8>) -> Result<(), AllocError> {
-        put_text(out, 1, &self.symbol)?;
-        put_texts(out, 3, &self.documentation)?;
-        put_text(out, 6, &self.display_name)?;
+    fn encode(&self, out: &mut Vec<u8>) -> Result<(), AllocError> {
+        encode_text(out, 1, &self.symbol)?;
+        encode_texts(out, 3, &self.documentation)?;
+        encode_text(out, 6, &self.display_name)?;
         Ok(())
     }
 }
 
-impl Message for Occurrence {
+impl Encode for Occurrence {
     ghost use Rattle.scip_wire.specs.Spelling.{occurrence_fields};
     ghost use Rattle.scip_wire.specs.WellFormed.{IsFitOccurrence};
 
@@ -148,17 +148,17 @@ impl Message for Occurrence {
 
     ghost is_fit = { IsFitOccurrence };
 
-    fn spelled_len(&self) -> u64 {
+    fn encoded_len(&self) -> u64 {
         let range = range_len(1, &self.range);
         let symbol = text_len(2, &self.symbol);
         let roles = int_len(3, self.symbol_roles);
         range.saturating_add(symbol).saturating_add(roles)
     }
 
-    fn put(&self, out: &mut Vec<u8>) -> Result<(), AllocError> {
-        put_range(out, 1, &self.range)?;
-        put_text(out, 2, &self.symbol)?;
-        put_int(out, 3, self.symbol_roles)?;
+    fn encode(&self, out: &mut Vec<u8>) -> Result<(), AllocError> {
+        encode_range(out, 1, &self.range)?;
+        encode_text(out, 2, &self.symbol)?;
+        encode_int(out, 3, self.symbol_roles)?;
         Ok(())
     }
 }

@@ -20,7 +20,7 @@ pub(super) fn varint_len(number: u64) -> u64
 }
 
 /// Appends the varint.
-pub(super) fn put_varint(out: &mut Vec<u8>, number: u64) -> Result<(), AllocError>
+pub(super) fn encode_varint(out: &mut Vec<u8>, number: u64) -> Result<(), AllocError>
     ensures { OnOk result (out.new.items ≡ out.old.items ++ varint number) }
 {
     let mut rest = number;

@@ -1,5 +1,5 @@
 use Rattle.std.proofs.Common.{◌≡◌, ◌≤◌, length, take, drop, ◌-◌}
-use Rattle.std.specs.Io.KnownBytes.{Appends}
+use Rattle.scip_model.specs.WholeWrites.{IsWritten}
 use Rattle.scip_model.proofs.sink.write_all.Given as goal
 
 -- what is left is a suffix of the bytes, and all before it went out with no failure
@@ -9,8 +9,7 @@ invariant-writes g l =
     record {
       fits : length l.rest ≤ length l.bytes;
       suffix : l.rest ≡ drop sent l.bytes;
-      out : Appends (g.W.Sink.contents l.initial.sink) (g.W.Sink.contents l.sink) (take sent l.bytes);
-      unfailed : g.W.Sink.failures l.sink ≡ g.W.Sink.failures l.initial.sink;
+      sent : IsWritten g.W.Sink.contents g.W.Sink.failures l.initial.sink l.sink (take sent l.bytes);
     }
 
 abbrev pub decreases-writes : goal.decreases-writes

@@ -1,4 +1,4 @@
-use Rattle.scip_wire.proofs.Messages.{same_index}
+use Rattle.scip_wire.proofs.DecodesLemmas.{same_index}
 use Rattle.scip_wire.proofs.laws.bytes_decode_to_one_index.Goals as goal
 
 pub returns : goal.returns

@@ -1,4 +1,4 @@
-use Rattle.scip_wire.proofs.Indexes.{found_of, only_of}
+use Rattle.scip_wire.proofs.DecodesLemmas.{found_of, only_of}
 use Rattle.scip_wire.proofs.read.read_index.Goals as goal
 
 pub returns-clause-found : goal.returns-clause-found

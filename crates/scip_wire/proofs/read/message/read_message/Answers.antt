@@ -2,27 +2,27 @@ use Rattle.std.proofs.Common.{◌<◌, ◌∙◌, length, arith}
 use Rattle.std.proofs.lemmas.Result.{err_from_is_err_and}
 use Rattle.scip_wire.specs.Reading.{field_at}
 use Rattle.scip_wire.specs.Views.{field_view}
-use Rattle.scip_wire.proofs.Loops.{goes_on, unread, failed, is_done, field_shortens, payload_fits}
+use Rattle.scip_wire.proofs.FoldLemmas.{goes_on, unread, failed, is_done, field_shortens, payload_fits}
 use Rattle.scip_wire.proofs.read.message.read_message.Goals as goal
 
 pub returns-in_err-field : goal.returns-in_err-field
 returns-in_err-field g c =
     let p = err_from_is_err_and c.from_residual.result c.from_residual.ensures.1 in
-    rw (p.1, p.2) (unread field_at g.M.Message.step c.records.rest.now c.records.message c.is_empty.result c.is_empty.ensures c.records-test.true _ _ c.records.invariant.reads c.in_err-field.ensures)
+    rw (p.1, p.2) (unread field_at g.M.Decode.step c.records.rest.now c.records.message c.is_empty.result c.is_empty.ensures c.records-test.true _ _ c.records.invariant.reads c.in_err-field.ensures)
 
 pub overflow_sub-end : goal.overflow_sub-end
 overflow_sub-end g c =
     omega (arith, c.records.invariant.ends, payload_fits c.records.rest.now c.in_ok-field.after.now c.in_ok-field.field.number c.in_ok-field.field.payload c.in_ok-field.ensures)
 
-pub take_in-requires : goal.take_in-requires
-take_in-requires g c =
+pub merge_field-requires : goal.merge_field-requires
+merge_field-requires g c =
     omega (arith, c.records.invariant.ends, payload_fits c.records.rest.now c.in_ok-field.after.now c.in_ok-field.field.number c.in_ok-field.field.payload c.in_ok-field.ensures)
 
-pub returns-in_err-take_in : goal.returns-in_err-take_in
-returns-in_err-take_in g c =
-    let p = err_from_is_err_and c.from_residual-in_err-take_in.result c.from_residual-in_err-take_in.ensures.1 in
-    rw (p.1, p.2) (failed field_at g.M.Message.step c.records.rest.now c.records.message c.is_empty.result c.is_empty.ensures c.records-test.true _ _
-    (field_view c.in_ok-field.field) c.in_ok-field.after.now c.records.invariant.reads c.in_ok-field.ensures c.in_err-take_in.ensures)
+pub returns-in_err-merge_field : goal.returns-in_err-merge_field
+returns-in_err-merge_field g c =
+    let p = err_from_is_err_and c.from_residual-in_err-merge_field.result c.from_residual-in_err-merge_field.ensures.1 in
+    rw (p.1, p.2) (failed field_at g.M.Decode.step c.records.rest.now c.records.message c.is_empty.result c.is_empty.ensures c.records-test.true _ _
+    (field_view c.in_ok-field.field) c.in_ok-field.after.now c.records.invariant.reads c.in_ok-field.ensures c.in_err-merge_field.ensures)
 
 pub records-smaller : goal.records-smaller
 records-smaller g c = field_shortens c.records.rest.now (field_view c.in_ok-field.field, c.in_ok-field.after.now) c.in_ok-field.ensures
@@ -31,10 +31,10 @@ pub records-preserved : goal.records-preserved
 records-preserved g c =
     let shorter : length c.in_ok-field.after.now < length c.records.rest.now = field_shortens c.records.rest.now (field_view c.in_ok-field.field, c.in_ok-field.after.now) c.in_ok-field.ensures in
     record {
-      reads = goes_on field_at g.M.Message.step c.records.rest.now c.records.message c.is_empty.result c.is_empty.ensures field_shortens c.records-test.true
-          (field_view c.in_ok-field.field) c.in_ok-field.after.now c.take_in.new.self c.in_ok-field.ensures c.in_ok-take_in.ensures ∙ c.records.invariant.reads;
+      reads = goes_on field_at g.M.Decode.step c.records.rest.now c.records.message c.is_empty.result c.is_empty.ensures field_shortens c.records-test.true
+          (field_view c.in_ok-field.field) c.in_ok-field.after.now c.merge_field.new.self c.in_ok-field.ensures c.in_ok-merge_field.ensures ∙ c.records.invariant.reads;
       ends = omega (arith, c.records.invariant.ends);
     }
 
 pub returns : goal.returns
-returns g c = is_done field_at g.M.Message.step c.records.rest.now c.records.message c.is_empty.result c.is_empty.ensures c.records-test.false _ c.records.invariant.reads
+returns g c = is_done field_at g.M.Decode.step c.records.rest.now c.records.message c.is_empty.result c.is_empty.ensures c.records-test.false _ c.records.invariant.reads

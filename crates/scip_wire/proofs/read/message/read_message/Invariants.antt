@@ -5,7 +5,7 @@ use Rattle.scip_wire.proofs.read.message.read_message.Given as goal
 -- what is left gives the same as all, and ends where all does
 abbrev pub invariant-records : goal.invariant-records
 invariant-records g l = record {
-  reads : fold_at field_at g.M.Message.step l.rest l.message ≡ fold_at field_at g.M.Message.step l.bytes g.M.Message.none;
+  reads : fold_at field_at g.M.Decode.step l.rest l.message ≡ fold_at field_at g.M.Decode.step l.bytes g.M.Decode.none;
   ends : length l.rest ≤ l.end;
 }
 

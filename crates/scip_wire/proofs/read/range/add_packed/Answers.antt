@@ -1,8 +1,8 @@
 use Rattle.std.proofs.Common.{◌∙◌, ◌≡◌, Some, refl}
 use Rattle.std.proofs.lemmas.Result.{err_from_is_err_and}
 use Rattle.scip_wire.specs.Reading.{varint_at, packed_step}
-use Rattle.scip_wire.proofs.Loops.{goes_on, unread, is_done}
-use Rattle.scip_wire.proofs.Messages.{varint_shortens}
+use Rattle.scip_wire.proofs.FoldLemmas.{goes_on, unread, is_done}
+use Rattle.scip_wire.proofs.DecodesLemmas.{varint_shortens}
 use Rattle.scip_wire.proofs.read.range.add_packed.Goals as goal
 
 pub returns-in_err-value : goal.returns-in_err-value
@@ -16,9 +16,9 @@ varints-smaller c = varint_shortens c.varints.rest.now (c.in_ok-value.value, c.i
 pub varints-preserved : goal.varints-preserved
 unfolding packed_step
 varints-preserved c =
-    let added : packed_step c.varints.numbers c.in_ok-value.value ≡ Some c.append.new.sequence = rw (c.in_ok-append.ensures, c.low_bits.ensures) refl in
+    let added : packed_step c.varints.numbers c.in_ok-value.value ≡ Some c.push.new.self = rw (c.in_ok-push.ensures.ok, c.low_bits.ensures) refl in
     goes_on (varint_at 10) packed_step c.varints.rest.now c.varints.numbers c.is_empty.result c.is_empty.ensures varint_shortens c.varints-test.true
-    c.in_ok-value.value c.in_ok-value.after.now c.append.new.sequence c.in_ok-value.ensures added ∙ c.varints.invariant
+    c.in_ok-value.value c.in_ok-value.after.now c.push.new.self c.in_ok-value.ensures added ∙ c.varints.invariant
 
 pub returns : goal.returns
 returns c = is_done (varint_at 10) packed_step c.varints.rest.now c.varints.numbers c.is_empty.result c.is_empty.ensures c.varints-test.false _ c.varints.invariant

@@ -1,0 +1,5 @@
+mod InnermostLemmas
+mod RunLemmas
+mod SiteLemmas
+mod TableLemmas
+mod ZipLemmas

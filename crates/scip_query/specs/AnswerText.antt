@@ -5,7 +5,7 @@ use Rattle.std.specs.Fmt.{decimal, signed_decimal}
 use Rattle.scip_model.specs.Range.{RangeNumbers}
 use Rattle.scip_model.specs.declared.records.Index.{Index}
 use Rattle.scip_model.specs.declared.records.Info.{Info}
-use Rattle.scip_query.specs.Positions.{Position}
+use Rattle.scip_query.specs.declared.position.Position.{Position}
 use Rattle.scip_query.specs.Sites.{Site}
 use Rattle.scip_query.specs.References.{definitions_at, references_at}
 use Rattle.scip_query.specs.Documentation.{documentation_at, symbols_of}
@@ -26,7 +26,7 @@ abbrev pub site_line : Site → List ℕ
 site_line site =
     decimal site.occurrence.range.start_line ++ space ++ decimal site.occurrence.range.start_column ++ space
     ++ decimal site.occurrence.range.end_line ++ space ++ decimal site.occurrence.range.end_column ++ space
-    ++ signed_decimal site.occurrence.symbol_roles ++ space ++ site.path ++ line_end
+    ++ signed_decimal site.occurrence.symbol_roles ++ space ++ site.document.relative_path ++ line_end
 
 -- a text, each of its lines behind `| `
 abbrev pub quoted : List ℕ → List ℕ

@@ -3,7 +3,7 @@ use Rattle.std.specs.Prelude.{ℕ, ◌+◌, ◌==◌, Bool, nat_le, nat_lt, ◌&
 use Rattle.std.specs.List.{list_all, position}
 use Rattle.std.specs.Option.{option_and_then, option_map}
 use Rattle.std.specs.Str.{bytes_eq, is_utf8}
-use Rattle.scip_query.specs.Positions.{Position}
+use Rattle.scip_query.specs.declared.position.Position.{Position}
 use Rattle.scip_query.specs.Commands.{Question, Definitions, References, Documentation, Command, Ask, Symbols, is_digit, value_of, max_number, max_digits, max_command_length}
 
 infixl 10 ◌>>=◌

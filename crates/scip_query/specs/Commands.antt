@@ -3,7 +3,7 @@ use Rattle.std.specs.Prelude.{◌≡◌, ℕ, ◌-◌, ◌<◌, ◌≤◌, ◌==
 use Rattle.std.specs.List.{AllPass, onto_first}
 use Rattle.std.specs.Str.{IsUtf8}
 use Rattle.std.specs.Int.Digits.{number_from_digits}
-use Rattle.scip_query.specs.Positions.{Position}
+use Rattle.scip_query.specs.declared.position.Position.{Position}
 
 -- the greatest line and column: that of a SCIP int32
 abbrev pub max_number : ℕ

@@ -6,7 +6,7 @@ use Rattle.std.specs.Str.{bytes_eq}
 use Rattle.scip_model.specs.declared.records.Index.{Index}
 use Rattle.scip_model.specs.declared.records.Document.{Document}
 use Rattle.scip_model.specs.declared.records.Info.{Info}
-use Rattle.scip_query.specs.Positions.{Position}
+use Rattle.scip_query.specs.declared.position.Position.{Position}
 use Rattle.scip_query.specs.Sites.{Numbered, document_named}
 use Rattle.scip_query.specs.OccurrenceAt.{Subject, subject_at}
 use Rattle.scip_query.specs.References.{is_local}

@@ -6,3 +6,6 @@ pub mod Documentation
 pub mod Commands
 pub mod CommandReading
 pub mod AnswerText
+pub mod Tables
+pub mod Outcomes
+pub mod Views

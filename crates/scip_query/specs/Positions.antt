@@ -3,11 +3,7 @@ use Rattle.std.specs.Prelude.{ℕ, Bool, ◌&&◌, ◌||◌}
 use Rattle.std.specs.declared.cmp.Ordering.{Ordering}
 use Rattle.std.specs.Ordering.{nat_cmp, on, then_cmp, is_lt, is_le, is_eq}
 use Rattle.scip_model.specs.Range.{RangeNumbers}
-
--- a place in a text: a zero-based line and column. Columns count the units of the document's position encoding
-pub record Position : Type 0 where
-  pub line : ℕ
-  pub column : ℕ
+use Rattle.scip_query.specs.declared.position.Position.{Position}
 
 -- by line, then column
 abbrev pub position_cmp : Position → Position → Ordering

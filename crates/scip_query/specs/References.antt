@@ -7,7 +7,7 @@ use Rattle.std.specs.Int.{w32, int_bit_and}
 use Rattle.std.specs.Ordering.{int_eq}
 use Rattle.scip_model.specs.declared.records.Index.{Index}
 use Rattle.scip_model.specs.declared.records.Occurrence.{Occurrence}
-use Rattle.scip_query.specs.Positions.{Position}
+use Rattle.scip_query.specs.declared.position.Position.{Position}
 use Rattle.scip_query.specs.Sites.{Site, sites_of}
 use Rattle.scip_query.specs.OccurrenceAt.{Subject, subject_at}
 use Rattle.scip_query.specs.declared.miss.Miss.{Miss}

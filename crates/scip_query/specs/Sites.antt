@@ -7,10 +7,10 @@ use Rattle.scip_model.specs.declared.records.Document.{Document}
 use Rattle.scip_model.specs.declared.records.Occurrence.{Occurrence}
 use Rattle.scip_query.specs.declared.place.Place.{Place}
 
--- an occurrence, the path of its document, and its place in the index
+-- an occurrence, its document, and its place in the index
 pub record Site : Type 0 where
   pub place : Place
-  pub path : List ℕ
+  pub document : Document
   pub occurrence : Occurrence
 
 -- a document and its number
@@ -26,7 +26,7 @@ numbered_documents index = map (λ (d : ℕ × Document). record { number = d.0;
 abbrev pub sites_in : Numbered → List Site
 sites_in d = map (λ (o : ℕ × Occurrence). record {
   place = record { document = d.number; occurrence = o.0 };
-  path = d.document.relative_path;
+  document = d.document;
   occurrence = o.1;
 }) (enumerate_from 0 d.document.occurrences)
 

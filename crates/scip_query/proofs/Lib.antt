@@ -1,4 +1,6 @@
+mod EntryLemmas
 mod InnermostLemmas
+mod OutcomeLemmas
 mod RunLemmas
 mod SiteLemmas
 mod TableLemmas

@@ -187,6 +187,18 @@ local_places index subject local =
       same : (s : Site) → (bytes_eq s.occurrence.symbol subject.symbol && (s.place.document == subject.asked.number)) ≡ is_of subject s
       same s = ap (λ b. bytes_eq s.occurrence.symbol subject.symbol && (not b || (s.place.document == subject.asked.number))) (sym local)
 
+-- the places of a subject's references stand for them
+pub references_stand : (index : Index) (subject : Subject)
+    → AllZip (λ (place : Place) (site : Site). site_listed index.documents place ≡ Some site) (map (λ (s : Site). s.place) (references_of index subject)) (references_of index subject)
+references_stand index subject = by (is_local subject.symbol) refl where
+  by : (b : Bool) → is_local subject.symbol ≡ b → AllZip (λ (place : Place) (site : Site). site_listed index.documents place ≡ Some site) (map (λ (s : Site). s.place) (references_of index subject)) (references_of index subject)
+  by true local =
+      let all = local_places index subject local in
+      subst (λ l. AllZip (λ (place : Place) (site : Site). site_listed index.documents place ≡ Some site) l (references_of index subject)) (places_are index.documents _ (references_of index subject) all) all
+  by false global =
+      let all = global_places index subject global in
+      subst (λ l. AllZip (λ (place : Place) (site : Site). site_listed index.documents place ≡ Some site) l (references_of index subject)) (places_are index.documents _ (references_of index subject) all) all
+
 -- those of its places that define a subject stand for its definitions
 pub definitions_stand : (index : Index) (subject : Subject) (places : List Place)
     → AllZip (λ (place : Place) (site : Site). site_listed index.documents place ≡ Some site) places (references_of index subject)
@@ -238,3 +250,11 @@ rising_by_document low (p ∷ places) rising (suc i) (suc j) d before inside = r
 -- the places that pass a test do
 pub passing_rise : (documents : List Document) (p : Place → Bool) → IsNonDecreasingBy (λ (place : Place). place.document) (filter p (places_from 0 documents))
 passing_rise documents p = rising_by_document 0 (filter p (places_from 0 documents)) (rising_filter p 0 (places_from 0 documents) (rising_places 0 documents))
+
+-- of places that are those of references, the defining ones are those of definitions
+pub defining_are : (index : Index) (subject : Subject) (places : List Place)
+    → places ≡ map (λ (s : Site). s.place) (references_of index subject)
+    → filter (defines_listed index.documents) places ≡ map (λ (s : Site). s.place) (definitions_of index subject)
+defining_are index subject places are =
+    places_are index.documents (filter (defines_listed index.documents) places) (definitions_of index subject)
+    (definitions_stand index subject places (subst (λ l. AllZip (λ (place : Place) (site : Site). site_listed index.documents place ≡ Some site) l (references_of index subject)) (sym are) (references_stand index subject)))

@@ -1,5 +1,5 @@
 -- The occurrences of a symbol: its references, and those that define it.
-use Rattle.std.specs.Prelude.{ℕ, ◌==◌, Bool, not, ◌&&◌, ◌||◌, List, pos, codes, Result, filter, nat_eq}
+use Rattle.std.specs.Prelude.{ℕ, ◌==◌, Bool, not, ◌&&◌, ◌||◌, List, pos, codes, Result, map, filter, nat_eq}
 use Rattle.std.specs.List.{starts_with}
 use Rattle.std.specs.Result.{result_map_both}
 use Rattle.std.specs.Str.{bytes_eq}
@@ -11,6 +11,7 @@ use Rattle.scip_query.specs.declared.position.Position.{Position}
 use Rattle.scip_query.specs.Sites.{Site, sites_of}
 use Rattle.scip_query.specs.OccurrenceAt.{Subject, subject_at}
 use Rattle.scip_query.specs.declared.miss.Miss.{Miss}
+use Rattle.scip_query.specs.declared.place.Place.{Place}
 
 -- a local symbol is one of its document alone (`scip.proto`, Symbol: `local ` and a local id)
 abbrev pub is_local : List ℕ → Bool
@@ -40,3 +41,7 @@ references_at index path p = result_map_both (references_of index) (λ miss. mis
 
 abbrev pub definitions_at : Index → List ℕ → Position → Result (List Site) Miss
 definitions_at index path p = result_map_both (definitions_of index) (λ miss. miss) (subject_at index path p)
+
+-- where they are listed
+abbrev pub site_places : Result (List Site) Miss → Result (List Place) Miss
+site_places found = result_map_both (map (λ (site : Site). site.place)) (λ miss. miss) found

@@ -3,6 +3,7 @@
 
 mod innermost;
 mod listed;
+mod lookups;
 mod miss;
 mod place;
 mod position;

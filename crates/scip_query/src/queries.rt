@@ -20,7 +20,7 @@ use crate::place::Place;
 use crate::position::Position;
 use crate::search::{number_named, places_in, places_of};
 use crate::tables::{Tables, tables_of};
-use scip_model::{Document, Index, Occurrence, Sequence};
+use scip_model::{Document, Index, Info, Occurrence, Sequence};
 use std::alloc::{AllocError, AllocFailed, Global};
 use std::marker::Model;
 
@@ -71,7 +71,7 @@ fn inner_listed(inner: &[Sequence<usize>], number: usize) -> &[usize]
 }
 
 /// Whether a symbol is local to its document.
-fn is_local(symbol: &str) -> bool
+pub(crate) fn is_local(symbol: &str) -> bool
     ensures { result ≡ is_local symbol.now }
 {
     symbol.as_bytes().starts_with(b"local ")
@@ -106,6 +106,13 @@ impl Queries {
         ensures { result.now ≡ self.now.documents }
     {
         self.index.documents.as_slice()
+    }
+
+    /// The symbol entries of what the index doesn't hold.
+    pub(crate) fn external_symbols(&self) -> &[Info]
+        ensures { result.now ≡ self.now.external_symbols }
+    {
+        self.index.external_symbols.as_slice()
     }
 
     /// The number of the first document with a path.

@@ -1,5 +1,8 @@
 //! Why a query isn't answered.
 
+ghost use Rattle.std.specs.Prelude.{◌≡◌};
+ghost use Rattle.scip_query.specs.Outcomes.{fault_of};
+
 use crate::miss::Miss;
 use std::alloc::{AllocError, AllocFailed};
 use thiserror::Error;
@@ -19,17 +22,13 @@ pub enum QueryFault {
     Memory,
 }
 
-impl From<Miss> for QueryFault {
-    ghost use Rattle.std.specs.Prelude.{◌≡◌};
-    ghost use Rattle.scip_query.specs.Outcomes.{fault_of};
-
-    ghost from_gives = { λ miss fault. fault ≡ fault_of miss };
-
-    fn from(miss: Miss) -> QueryFault {
-        match miss {
-            Miss::NoDocument => QueryFault::NoDocument,
-            Miss::NothingThere => QueryFault::NothingThere,
-        }
+/// The fault of a miss.
+pub(crate) fn fault_of(miss: Miss) -> QueryFault
+    ensures { result ≡ fault_of miss }
+{
+    match miss {
+        Miss::NoDocument => QueryFault::NoDocument,
+        Miss::NothingThere => QueryFault::NothingThere,
     }
 }
 

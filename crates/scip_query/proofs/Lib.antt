@@ -1,0 +1,7 @@
+mod EntryLemmas
+mod InnermostLemmas
+mod OutcomeLemmas
+mod RunLemmas
+mod SiteLemmas
+mod TableLemmas
+mod ZipLemmas

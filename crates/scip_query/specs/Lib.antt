@@ -1,0 +1,11 @@
+pub mod Positions
+pub mod Sites
+pub mod OccurrenceAt
+pub mod References
+pub mod Documentation
+pub mod Commands
+pub mod CommandReading
+pub mod AnswerText
+pub mod Tables
+pub mod Outcomes
+pub mod Views

@@ -1,0 +1,17 @@
+-- What a query answers: what is due, or that memory ran out.
+use Rattle.std.specs.Prelude.{◌≡◌, Result, Ok, Err}
+use Rattle.scip_query.specs.declared.miss.Miss.{Miss}
+use Rattle.scip_query.specs.declared.miss.Miss.TheVariants as miss
+use Rattle.scip_query.specs.declared.query_fault.QueryFault.{QueryFault}
+use Rattle.scip_query.specs.declared.query_fault.QueryFault.TheVariants.{NoDocument, NothingThere, Memory}
+
+abbrev pub fault_of : Miss → QueryFault
+fault_of miss.NoDocument = NoDocument
+fault_of miss.NothingThere = NothingThere
+
+-- the answer, as `view` shows it, is what is due; or memory ran out, of which nothing is said
+abbrev pub Gives : {X Y : Type 0} → (X → Y) → Result X QueryFault → Result Y Miss → Type 0
+Gives view (Ok answer) due = due ≡ Ok (view answer)
+Gives view (Err NoDocument) due = due ≡ Err miss.NoDocument
+Gives view (Err NothingThere) due = due ≡ Err miss.NothingThere
+Gives view (Err Memory) due = Unit {0}

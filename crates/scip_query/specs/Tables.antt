@@ -1,0 +1,124 @@
+-- The tables by which an index is searched: numbers of documents, of occurrences, and places, each in an order.
+use Rattle.std.specs.Prelude.{◌≡◌, ℕ, ◌+◌, Bool, true, false, List, [], ◌∷◌, ◌++◌, length, map, Option, None, Some}
+use Rattle.std.specs.List.{slice_get, flat_map, range_with_len, AllZip}
+use Rattle.std.specs.List.Sorted.{IsSorted, IsStable, IsPermutation}
+use Rattle.std.specs.Option.{option_and_then, option_map, option_cmp}
+use Rattle.std.specs.declared.cmp.Ordering.{Ordering}
+use Rattle.std.specs.Ordering.{nat_cmp, on, is_gt}
+use Rattle.std.specs.Cmp.Lexicographic.{slice_cmp}
+use Rattle.scip_model.specs.declared.records.Document.{Document}
+use Rattle.scip_model.specs.declared.records.Occurrence.{Occurrence}
+use Rattle.scip_query.specs.Positions.{position_cmp, start_of}
+use Rattle.scip_query.specs.declared.position.Position.{Position}
+use Rattle.scip_query.specs.Sites.{Site, Numbered}
+use Rattle.scip_query.specs.OccurrenceAt.{stands_at, innermost_cmp}
+use Rattle.scip_query.specs.References.{is_definition}
+use Rattle.scip_query.specs.declared.place.Place.{Place}
+
+-- ---- what numbers and places stand for
+
+abbrev pub path_or_none : Option Document → List ℕ
+path_or_none None = []
+path_or_none (Some d) = d.relative_path
+
+-- the path of the document with a number
+abbrev pub path_listed : List Document → ℕ → List ℕ
+path_listed documents number = path_or_none (slice_get documents number)
+
+-- the occurrence at a place
+abbrev pub occurrence_listed : List Document → Place → Option Occurrence
+occurrence_listed documents place =
+    option_and_then (λ (d : Document). slice_get d.occurrences place.occurrence) (slice_get documents place.document)
+
+abbrev pub symbol_or_none : Option Occurrence → List ℕ
+symbol_or_none None = []
+symbol_or_none (Some o) = o.symbol
+
+-- and its symbol
+abbrev pub symbol_listed : List Document → Place → List ℕ
+symbol_listed documents place = symbol_or_none (occurrence_listed documents place)
+
+-- the document with a number
+abbrev pub numbered_listed : List Document → ℕ → Option Numbered
+numbered_listed documents number = option_map (λ (d : Document). record { number = number; document = d }) (slice_get documents number)
+
+abbrev pub site_or_none : Place → Option Document → Option Site
+site_or_none place None = None
+site_or_none place (Some d) = option_map (λ (o : Occurrence). record { place = place; document = d; occurrence = o }) (slice_get d.occurrences place.occurrence)
+
+-- the site at a place
+abbrev pub site_listed : List Document → Place → Option Site
+site_listed documents place = site_or_none place (slice_get documents place.document)
+
+abbrev pub definition_or_not : Option Occurrence → Bool
+definition_or_not None = false
+definition_or_not (Some o) = is_definition o
+
+-- whether the occurrence at a place is a definition
+abbrev pub defines_listed : List Document → Place → Bool
+defines_listed documents place = definition_or_not (occurrence_listed documents place)
+
+abbrev pub is_behind : Position → Option Occurrence → Bool
+is_behind p None = true
+is_behind p (Some o) = is_gt (position_cmp (start_of o.range) p)
+
+-- whether the occurrence with a number starts behind a position, or there is none
+abbrev pub starts_behind : List Occurrence → Position → ℕ → Bool
+starts_behind occurrences p number = is_behind p (slice_get occurrences number)
+
+abbrev pub stands_or_not : Position → Option Occurrence → Bool
+stands_or_not p None = false
+stands_or_not p (Some o) = stands_at p o
+
+-- whether the occurrence with a number stands at a position
+abbrev pub stands_listed : List Occurrence → Position → ℕ → Bool
+stands_listed occurrences p number = stands_or_not p (slice_get occurrences number)
+
+-- ---- orders
+
+abbrev pub path_cmp : List Document → ℕ → ℕ → Ordering
+path_cmp documents = on (path_listed documents) (slice_cmp nat_cmp)
+
+abbrev pub symbol_cmp : List Document → Place → Place → Ordering
+symbol_cmp documents = on (symbol_listed documents) (slice_cmp nat_cmp)
+
+-- of the numbers of a document's occurrences, the innermost first
+abbrev pub inner_cmp : List Occurrence → ℕ → ℕ → Ordering
+inner_cmp occurrences = on (slice_get occurrences) (option_cmp innermost_cmp)
+
+-- ---- tables
+
+-- a list in an order, where of equal ones the first listed comes first
+pub record IsTable {N : Type 0} (cmp : N → N → Ordering) (all table : List N) : Type 0 where
+  pub permutation : IsPermutation all table
+  pub sorted : IsSorted cmp table
+  pub stable : IsStable cmp all table
+
+-- n numbers from 0
+abbrev pub numbers : ℕ → List ℕ
+numbers n = range_with_len 0 n
+
+-- the places in a document with a number
+abbrev pub places_in : ℕ → Document → List Place
+places_in number d = map (λ (k : ℕ). record { document = number; occurrence = k }) (numbers (length d.occurrences))
+
+abbrev pub places_from : ℕ → List Document → List Place
+places_from number [] = []
+places_from number (d ∷ documents) = places_in number d ++ places_from (number + 1) documents
+
+-- the documents by path
+abbrev pub IsByPath : List Document → List ℕ → Type 0
+IsByPath documents = IsTable (path_cmp documents) (numbers (length documents))
+
+-- a document's occurrences, the innermost first
+abbrev pub IsInnermostFirst : Document → List ℕ → Type 0
+IsInnermostFirst d = IsTable (inner_cmp d.occurrences) (numbers (length d.occurrences))
+
+-- all occurrences by symbol, and of one symbol in the index's order
+abbrev pub IsBySymbol : List Document → List Place → Type 0
+IsBySymbol documents = IsTable (symbol_cmp documents) (places_from 0 documents)
+
+pub record AreTables (documents : List Document) (path_table : List ℕ) (inner_tables : List (List ℕ)) (symbol_table : List Place) : Type 0 where
+  pub by_path : IsByPath documents path_table
+  pub inner : AllZip IsInnermostFirst documents inner_tables
+  pub by_symbol : IsBySymbol documents symbol_table

@@ -1,0 +1,194 @@
+//! Definitions, references, documentation and symbols.
+
+ghost use Rattle.std.specs.Prelude.{◌≡◌, ℕ, List, IfOk, map, filter, option_copied};
+ghost use Rattle.std.specs.Borrow.{Bor};
+ghost use Rattle.std.specs.List.{find, flat_map};
+ghost use Rattle.std.specs.Str.{bytes_eq};
+ghost use Rattle.scip_model.specs.declared.records.Document.{Document};
+ghost use Rattle.scip_model.specs.declared.records.Info.{Info};
+ghost use Rattle.scip_query.specs.Sites.{Site};
+ghost use Rattle.scip_query.specs.References.{references_at, definitions_of, definitions_at, site_places};
+ghost use Rattle.scip_query.specs.Documentation.{entries_for, texts_of, documentation_at, symbols_of};
+ghost use Rattle.scip_query.specs.Outcomes.{Gives};
+ghost use Rattle.scip_query.specs.Tables.{defines_listed};
+ghost use Rattle.scip_query.specs.Views.{subject_view};
+
+use crate::listed::occurrence_listed;
+use crate::place::Place;
+use crate::position::Position;
+use crate::queries::{Queries, Subject, is_local};
+use crate::query_fault::{QueryFault, fault_of};
+use scip_model::{Document, Info, OwnedText};
+use std::alloc::{AllocError, Global};
+
+/// The role of a definition (`scip.proto`, `SymbolRole`).
+const DEFINITION: i32 = 1;
+
+/// Whether the occurrence at a place is a definition.
+fn defines_listed(documents: &[Document], place: Place) -> bool
+    ensures { result ≡ defines_listed documents.now place }
+{
+    match occurrence_listed(documents, place) {
+        Some(occurrence) => occurrence.symbol_roles & DEFINITION != 0,
+        None => false,
+    }
+}
+
+/// Those of some places where a symbol is defined.
+fn defining(
+    alloc: Global,
+    documents: &[Document],
+    places: &[Place],
+) -> Result<Vec<Place>, AllocError>
+    ensures { IfOk result (λ found. found.items ≡ filter (defines_listed documents.now) places.now) }
+{
+    let mut found = Vec::new(alloc);
+    for place in places {
+        if defines_listed(documents, *place) {
+            found.push(*place)?;
+        }
+    }
+    Ok(found)
+}
+
+/// The first of some entries with a symbol.
+fn entry_among<'a>(entries: &'a [Info], symbol: &str) -> Option<&'a Info>
+    ensures { option_copied result ≡ find (λ (entry : Info). bytes_eq entry.symbol symbol.now) entries.now }
+{
+    for entry in entries {
+        if entry.symbol.as_str() == symbol {
+            return Some(entry);
+        }
+    }
+    None
+}
+
+/// The first entry with a symbol among those of some documents.
+fn entry_in<'a>(documents: &'a [Document], symbol: &str) -> Option<&'a Info>
+    ensures { option_copied result ≡ find (λ (entry : Info). bytes_eq entry.symbol symbol.now) (flat_map (λ (d : Document). d.symbols) documents.now) }
+{
+    for document in documents {
+        match entry_among(document.symbols.as_slice(), symbol) {
+            Some(entry) => return Some(entry),
+            None => {}
+        }
+    }
+    None
+}
+
+/// The texts of an entry, or none.
+fn texts_of<'a>(alloc: Global, entry: Option<&'a Info>) -> Result<Vec<&'a str>, AllocError>
+    ensures { IfOk result (λ texts. map (λ (text : Bor (List ℕ)). text.now) texts.items ≡ texts_of (option_copied entry.entry)) }
+{
+    match entry {
+        Some(entry) => texts_in(alloc, entry.documentation.as_slice()),
+        None => Ok(Vec::new(alloc)),
+    }
+}
+
+fn texts_in(alloc: Global, documentation: &[OwnedText]) -> Result<Vec<&str>, AllocError>
+    ensures { IfOk result (λ texts. map (λ (text : Bor (List ℕ)). text.now) texts.items ≡ documentation.now) }
+{
+    let mut texts = Vec::with_capacity(alloc, documentation.len())?;
+    for text in documentation {
+        texts.push(text.as_str())?;
+    }
+    Ok(texts)
+}
+
+/// The symbol entries of a document.
+fn entries_of(alloc: Global, document: &Document) -> Result<Vec<&Info>, AllocError>
+    ensures { IfOk result (λ entries. map (λ (entry : Bor Info). entry.now) entries.items ≡ document.now.symbols) }
+{
+    let symbols = document.symbols.as_slice();
+    let mut entries = Vec::with_capacity(alloc, symbols.len())?;
+    for entry in symbols {
+        entries.push(entry)?;
+    }
+    Ok(entries)
+}
+
+impl Queries {
+    /// Those places of a subject where it is defined.
+    fn definitions_of(&self, alloc: Global, subject: &Subject<'_>) -> Result<Vec<Place>, AllocError>
+        ensures { IfOk result (λ places. places.items ≡ map (λ (site : Site). site.place) (definitions_of self.now (subject_view subject.now))) }
+    {
+        defining(alloc, self.documents(), self.places_about(subject))
+    }
+
+    /// The entry in which a subject's documentation is: the first with its symbol, in the documents
+    /// in their order and then among the external symbols; of a local symbol in its document alone.
+    fn entry_of<'a>(&'a self, subject: &Subject<'a>) -> Option<&'a Info>
+        ensures { option_copied result ≡ find (λ (entry : Info). bytes_eq entry.symbol subject.now.symbol.now) (entries_for self.now (subject_view subject.now)) }
+    {
+        if is_local(subject.symbol) {
+            entry_among(subject.asked.document.symbols.as_slice(), subject.symbol)
+        } else {
+            match entry_in(self.documents(), subject.symbol) {
+                Some(entry) => Some(entry),
+                None => entry_among(self.external_symbols(), subject.symbol),
+            }
+        }
+    }
+
+    /// The places of all occurrences of the symbol at a position, its definitions among them, in
+    /// the index's order. Of a local symbol those of its document alone.
+    pub fn references(
+        &self,
+        alloc: Global,
+        path: &str,
+        line: u32,
+        column: u32,
+    ) -> Result<Vec<Place>, QueryFault>
+        ensures { Gives (λ places. places.items) result (site_places (references_at self.now path.now (record { line = line; column = column }))) }
+    {
+        match self.subject_at(path, Position { line, column }) {
+            Ok(subject) => Ok(Vec::from_slice(alloc, self.places_about(&subject))?),
+            Err(miss) => Err(fault_of(miss)),
+        }
+    }
+
+    /// The places where the symbol at a position is defined: of its references those whose role has
+    /// the bit of a definition.
+    pub fn definitions(
+        &self,
+        alloc: Global,
+        path: &str,
+        line: u32,
+        column: u32,
+    ) -> Result<Vec<Place>, QueryFault>
+        ensures { Gives (λ places. places.items) result (site_places (definitions_at self.now path.now (record { line = line; column = column }))) }
+    {
+        match self.subject_at(path, Position { line, column }) {
+            Ok(subject) => Ok(self.definitions_of(alloc, &subject)?),
+            Err(miss) => Err(fault_of(miss)),
+        }
+    }
+
+    /// The documentation of the symbol at a position: the texts of its first entry, and none where
+    /// it has no entry.
+    pub fn documentation(
+        &self,
+        alloc: Global,
+        path: &str,
+        line: u32,
+        column: u32,
+    ) -> Result<Vec<&str>, QueryFault>
+        ensures { Gives (λ texts. map (λ (text : Bor (List ℕ)). text.now) texts.items) result (documentation_at self.now path.now (record { line = line; column = column })) }
+    {
+        match self.subject_at(path, Position { line, column }) {
+            Ok(subject) => Ok(texts_of(alloc, self.entry_of(&subject))?),
+            Err(miss) => Err(fault_of(miss)),
+        }
+    }
+
+    /// The symbol entries of the document that a path names, in its order.
+    pub fn symbols(&self, alloc: Global, path: &str) -> Result<Vec<&Info>, QueryFault>
+        ensures { Gives (λ entries. map (λ (entry : Bor Info). entry.now) entries.items) result (symbols_of self.now path.now) }
+    {
+        match self.named(path) {
+            Some(named) => Ok(entries_of(alloc, named.document)?),
+            None => Err(QueryFault::NoDocument),
+        }
+    }
+}

@@ -1,0 +1,10 @@
+//! Why a query finds nothing.
+
+/// Why a query finds nothing.
+#[derive(Clone, Copy, Debug, PartialEq, Eq)]
+pub(crate) enum Miss {
+    /// No document has the path.
+    NoDocument,
+    /// No occurrence stands at the position.
+    NothingThere,
+}

@@ -1,0 +1,72 @@
+//! Positions of a document, and what stands there.
+
+ghost use Rattle.std.specs.Prelude.{◌≡◌};
+ghost use Rattle.scip_query.specs.Positions.{position_cmp, start_of, end_of, contains};
+ghost use Rattle.scip_query.specs.OccurrenceAt.{stands_at, innermost_cmp};
+
+use scip_model::{Occurrence, Range};
+use std::cmp::Ordering;
+
+/// A zero-based line and column. Columns count the units of the document's position encoding.
+#[derive(Clone, Copy, Debug)]
+pub(crate) struct Position {
+    pub line: u32,
+    pub column: u32,
+}
+
+fn start_of(range: Range) -> Position
+    ensures { result ≡ start_of range }
+{
+    Position {
+        line: range.start_line(),
+        column: range.start_column(),
+    }
+}
+
+fn end_of(range: Range) -> Position
+    ensures { result ≡ end_of range }
+{
+    Position {
+        line: range.end_line(),
+        column: range.end_column(),
+    }
+}
+
+/// By line, then column.
+fn compare_positions(a: Position, b: Position) -> Ordering
+    ensures { result ≡ position_cmp a b }
+{
+    a.line.cmp(&b.line).then(a.column.cmp(&b.column))
+}
+
+/// How the start of an occurrence's range stands to a position.
+pub(crate) fn compare_start(occurrence: &Occurrence, position: Position) -> Ordering
+    ensures { result ≡ position_cmp (start_of occurrence.now.range) position }
+{
+    compare_positions(start_of(occurrence.range), position)
+}
+
+/// Whether a half-open range contains a position; an empty one contains where it stands.
+fn contains(range: Range, position: Position) -> bool
+    ensures { result ≡ contains range position }
+{
+    let from_start = compare_positions(start_of(range), position);
+    let to_end = compare_positions(position, end_of(range));
+    (from_start.is_le() && to_end.is_lt()) || (from_start.is_eq() && to_end.is_eq())
+}
+
+/// Whether an occurrence has a symbol and its range contains the position.
+pub(crate) fn stands_at(occurrence: &Occurrence, position: Position) -> bool
+    ensures { result ≡ stands_at position occurrence.now }
+{
+    !occurrence.symbol.as_str().is_empty() && contains(occurrence.range, position)
+}
+
+/// The innermost first: by the later start, then the earlier end, then the lesser symbol.
+pub(crate) fn compare_innermost(a: &Occurrence, b: &Occurrence) -> Ordering
+    ensures { result ≡ innermost_cmp a.now b.now }
+{
+    let start = compare_positions(start_of(b.range), start_of(a.range));
+    let end = compare_positions(end_of(a.range), end_of(b.range));
+    start.then(end.then(a.symbol.as_str().cmp(b.symbol.as_str())))
+}

@@ -1,0 +1,98 @@
+//! The tables by which an index is searched.
+
+ghost use Rattle.std.specs.Prelude.{◌≡◌, ◌++◌, ◌^◌, ◌<◌, ◌≤◌, ◌+◌, IfOk, OnOk, length};
+ghost use Rattle.scip_query.specs.Tables.{numbers, places_in, places_from, IsByPath, IsInnermostFirst, IsBySymbol, AreTables};
+ghost use Rattle.std.specs.List.{AllZip};
+
+use crate::listed::{compare_inner, compare_paths, compare_symbols};
+use crate::place::Place;
+use scip_model::{Document, Occurrence, Sequence};
+use std::alloc::{AllocError, Global};
+
+/// Tables of numbers over the documents of an index.
+#[derive(Drop)]
+pub(crate) struct Tables {
+    /// The documents by path, of one path the first listed first.
+    pub by_path: Sequence<usize>,
+    /// For each document its occurrences, the innermost first.
+    pub inner: Sequence<Sequence<usize>>,
+    /// All occurrences by symbol, of one symbol in the index's order.
+    pub by_symbol: Sequence<Place>,
+}
+
+/// The numbers from 0 below a count.
+fn numbers(alloc: Global, count: usize) -> Result<Vec<usize>, AllocError>
+    ensures { IfOk result (λ listed. listed.items ≡ numbers count) }
+{
+    let mut listed = Vec::with_capacity(alloc, count)?;
+    for number in 0..count {
+        listed.push(number)?;
+    }
+    Ok(listed)
+}
+
+fn by_path(alloc: Global, documents: &[Document]) -> Result<Sequence<usize>, AllocError>
+    ensures { IfOk result (λ table. IsByPath documents.now table) }
+{
+    let mut table = numbers(alloc, documents.len())?;
+    table.sort_by(|a, b| compare_paths(documents, *a, *b))?;
+    Ok(Sequence::from_vec(table))
+}
+
+fn inner_of(alloc: Global, document: &Document) -> Result<Sequence<usize>, AllocError>
+    ensures { IfOk result (λ table. IsInnermostFirst document.now table) }
+{
+    let occurrences = document.occurrences.as_slice();
+    let mut table = numbers(alloc, occurrences.len())?;
+    table.sort_by(|a, b| compare_inner(occurrences, *a, *b))?;
+    Ok(Sequence::from_vec(table))
+}
+
+fn inner(alloc: Global, documents: &[Document]) -> Result<Sequence<Sequence<usize>>, AllocError>
+    ensures { IfOk result (λ tables. AllZip IsInnermostFirst documents.now tables) }
+{
+    let mut tables = Vec::with_capacity(alloc, documents.len())?;
+    for document in documents {
+        tables.push(inner_of(alloc, document)?)?;
+    }
+    Ok(Sequence::from_vec(tables))
+}
+
+/// Appends the places in a document.
+fn push_places(
+    places: &mut Vec<Place>,
+    number: usize,
+    document: &Document,
+) -> Result<(), AllocError>
+    ensures { OnOk result (places.new.items ≡ places.old.items ++ places_in number document.now) }
+{
+    for occurrence in 0..document.occurrences.as_slice().len() {
+        places.push(Place {
+            document: number,
+            occurrence,
+        })?;
+    }
+    Ok(())
+}
+
+fn by_symbol(alloc: Global, documents: &[Document]) -> Result<Sequence<Place>, AllocError>
+    ensures { IfOk result (λ table. IsBySymbol documents.now table) }
+{
+    let mut places = Vec::new(alloc);
+    for (number, document) in documents.iter().enumerate() {
+        push_places(&mut places, number, document)?;
+    }
+    places.sort_by(|a, b| compare_symbols(documents, *a, *b))?;
+    Ok(Sequence::from_vec(places))
+}
+
+/// The tables of an index's documents.
+pub(crate) fn tables_of(alloc: Global, documents: &[Document]) -> Result<Tables, AllocError>
+    ensures { IfOk result (λ tables. AreTables documents.now tables.by_path tables.inner tables.by_symbol) }
+{
+    Ok(Tables {
+        by_path: by_path(alloc, documents)?,
+        inner: inner(alloc, documents)?,
+        by_symbol: by_symbol(alloc, documents)?,
+    })
+}

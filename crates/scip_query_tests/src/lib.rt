@@ -1,0 +1,8 @@
+//! Tests of `scip_query`, by its public calls.
+#![tactic(auto)]
+
+#[cfg(test)]
+#[cfg(test)]
+mod queries;
+#[cfg(test)]
+mod samples;

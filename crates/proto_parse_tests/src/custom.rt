@@ -1,0 +1,53 @@
+//! Custom options that are read past.
+
+use crate::calls::{first_other_fault, first_refused};
+use proto_parse::{CustomOptions, SyntaxFault};
+
+#[test]
+fn custom_options_are_read_past(rt: HostRuntime) {
+    let sources = [
+        "option (x) = 1; option (.a.b).c.(d) = 2; option a.(int32) = 3;",
+        "option a = {}; option (b) = { x: 1 y { z: [{}, {}] } w: < > };",
+        "message A { int32 x = 1 [(a) = {b: 1}, c.(d) = -1]; option (e) = { }; }",
+        "enum E { A = 0 [(x) = 1]; option (y) = {}; }",
+        "service S { rpc F(A) returns (B) { option (google.api.http) = { get: \"/v1/{x}\" }; } }",
+        "extend a.B { int32 x = 1; ; repeated .C y = 2 [(z) = {}]; optional D.E w = 3; }",
+        "extend int32 {} message A { extend B {} int32 x = 1; }",
+        "extend B { option x = 1; extend y = 2; map z = 3; message w = 4; }",
+        "message A { oneof o { extend x = 1; } } enum E { extend = 1; }",
+    ];
+    assert_eq!(rt;
+        first_refused(rt.alloc(), &sources, CustomOptions::Skip),
+        None
+    );
+}
+
+#[test]
+fn malformed_custom_options(rt: HostRuntime) {
+    let cases = [
+        ("option () = 1;", SyntaxFault::Grammar(27)),
+        ("option (a = 1;", SyntaxFault::Grammar(29)),
+        ("option (1) = 1;", SyntaxFault::Grammar(27)),
+        ("option a = (b);", SyntaxFault::Grammar(30)),
+        ("option a = -{};", SyntaxFault::Grammar(31)),
+        ("option a = [{}];", SyntaxFault::Grammar(30)),
+        ("option a = {", SyntaxFault::Grammar(31)),
+        ("option a = {{};", SyntaxFault::Grammar(34)),
+        ("option a = {}};", SyntaxFault::Grammar(32)),
+        ("message A { extend x = 1; }", SyntaxFault::Grammar(40)),
+        ("extend B { message M {} }", SyntaxFault::Grammar(40)),
+        (
+            "extend B { map<int32, A> m = 1; }",
+            SyntaxFault::Grammar(33),
+        ),
+        ("extend B { option (a) = 1; }", SyntaxFault::Grammar(37)),
+        ("extend B { int32 x = 1;", SyntaxFault::Grammar(42)),
+        ("service S { extend B {} }", SyntaxFault::Grammar(31)),
+        ("message A { extensions 1; }", SyntaxFault::Grammar(31)),
+        ("package a;\npackage b;", SyntaxFault::TwoPackages(30)),
+    ];
+    assert_eq!(rt;
+        first_other_fault(rt.alloc(), &cases, CustomOptions::Skip),
+        None
+    );
+}

@@ -2,7 +2,6 @@
 #![tactic(auto)]
 
 #[cfg(test)]
-#[cfg(test)]
 mod queries;
 #[cfg(test)]
 mod samples;

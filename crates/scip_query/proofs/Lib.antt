@@ -1,4 +1,7 @@
+mod AnswerLemmas
+mod CommandLemmas
 mod EntryLemmas
+mod GrammarLemmas
 mod InnermostLemmas
 mod OutcomeLemmas
 mod RunLemmas

@@ -1,5 +1,5 @@
 -- What is answered to commands. (The texts are this project's own.)
-use Rattle.std.specs.Prelude.{ℕ, ◌==◌, nat_le, cond, List, [], ◌∷◌, ◌++◌, length, Option, None, Some, Result, Ok, Err, codes}
+use Rattle.std.specs.Prelude.{ℕ, ℤ, ◌==◌, nat_le, cond, List, [], ◌∷◌, ◌++◌, length, Option, None, Some, Result, Ok, Err, codes}
 use Rattle.std.specs.List.{flat_map, slice_split}
 use Rattle.std.specs.Fmt.{decimal, signed_decimal}
 use Rattle.scip_model.specs.Range.{RangeNumbers}
@@ -9,7 +9,9 @@ use Rattle.scip_query.specs.declared.position.Position.{Position}
 use Rattle.scip_query.specs.Sites.{Site}
 use Rattle.scip_query.specs.References.{definitions_at, references_at}
 use Rattle.scip_query.specs.Documentation.{documentation_at, symbols_of}
-use Rattle.scip_query.specs.Commands.{Question, Definitions, References, Documentation, Command, Ask, Symbols, space, max_command_length, lines_of}
+use Rattle.scip_query.specs.declared.command.Question.{Question}
+use Rattle.scip_query.specs.declared.command.Question.TheVariants.{Definitions, References, Documentation}
+use Rattle.scip_query.specs.Commands.{Command, Ask, Symbols, space, max_command_length, lines_of}
 use Rattle.scip_query.specs.CommandReading.{command_of}
 use Rattle.scip_query.specs.declared.miss.Miss.{Miss}
 use Rattle.scip_query.specs.declared.miss.Miss.TheVariants.{NoDocument, NothingThere}
@@ -22,15 +24,21 @@ abbrev pub count_line : ℕ → List ℕ
 count_line n = codes "= " ++ decimal n ++ line_end
 
 -- where an occurrence begins and ends, its roles and its document's path: `L C L2 E ROLE PATH`
+abbrev pub line_of : RangeNumbers → ℤ → List ℕ → List ℕ
+line_of range roles path =
+    decimal range.start_line ++ space ++ decimal range.start_column ++ space
+    ++ decimal range.end_line ++ space ++ decimal range.end_column ++ space
+    ++ signed_decimal roles ++ space ++ path ++ line_end
+
 abbrev pub site_line : Site → List ℕ
-site_line site =
-    decimal site.occurrence.range.start_line ++ space ++ decimal site.occurrence.range.start_column ++ space
-    ++ decimal site.occurrence.range.end_line ++ space ++ decimal site.occurrence.range.end_column ++ space
-    ++ signed_decimal site.occurrence.symbol_roles ++ space ++ site.document.relative_path ++ line_end
+site_line site = line_of site.occurrence.range site.occurrence.symbol_roles site.document.relative_path
 
 -- a text, each of its lines behind `| `
+abbrev pub quoted_line : List ℕ → List ℕ
+quoted_line line = codes "| " ++ line ++ line_end
+
 abbrev pub quoted : List ℕ → List ℕ
-quoted text = flat_map (λ part. codes "| " ++ part ++ line_end) (slice_split (λ b. b == 10) text)
+quoted text = flat_map quoted_line (slice_split (λ b. b == 10) text)
 
 abbrev pub symbol_line : Info → List ℕ
 symbol_line entry = entry.symbol ++ line_end

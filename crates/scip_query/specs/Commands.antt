@@ -4,6 +4,8 @@ use Rattle.std.specs.List.{AllPass, onto_first}
 use Rattle.std.specs.Str.{IsUtf8}
 use Rattle.std.specs.Int.Digits.{number_from_digits}
 use Rattle.scip_query.specs.declared.position.Position.{Position}
+use Rattle.scip_query.specs.declared.command.Question.{Question}
+use Rattle.scip_query.specs.declared.command.Question.TheVariants.{Definitions, References, Documentation}
 
 -- the greatest line and column: that of a SCIP int32
 abbrev pub max_number : ℕ
@@ -16,12 +18,6 @@ max_digits = 10
 -- the most bytes of a command, without its line's end
 abbrev pub max_command_length : ℕ
 max_command_length = 65536
-
--- what is asked of the symbol at a position
-pub data Question : Type 0 where
-  Definitions : Question
-  References : Question
-  Documentation : Question
 
 abbrev pub word_of : Question → List ℕ
 word_of Definitions = codes "def"

@@ -5,7 +5,9 @@ pub mod References
 pub mod Documentation
 pub mod Commands
 pub mod CommandReading
+pub mod CommandViews
 pub mod AnswerText
+pub mod Answering
 pub mod Tables
 pub mod Outcomes
 pub mod Views

@@ -1,0 +1,274 @@
+//! Answers to commands.
+
+ghost use Rattle.std.specs.Prelude.{◌≡◌, ◌++◌, ◌==◌, ℕ, nat_le, List, length, map, None, if◌then◌else◌, IfOk, OnOk};
+ghost use Rattle.std.specs.Option.{option_map};
+ghost use Rattle.std.specs.Borrow.{Bor};
+ghost use Rattle.std.specs.List.{flat_map, slice_split};
+ghost use Rattle.std.specs.String.{string_bytes};
+ghost use Rattle.scip_model.specs.declared.records.Info.{Info};
+ghost use Rattle.scip_query.specs.Tables.{site_listed};
+ghost use Rattle.scip_query.specs.AnswerText.{count_line, line_of, site_line, quoted, quoted_line, symbol_line, miss_text, listing, answer_of, answer_to};
+ghost use Rattle.scip_query.specs.Answering.{Answers, line_or_none};
+ghost use Rattle.scip_query.specs.Commands.{max_command_length};
+ghost use Rattle.scip_query.specs.CommandReading.{command_of};
+ghost use Rattle.scip_query.specs.CommandViews.{command_view};
+ghost use Rattle.scip_query.specs.References.{definitions_at, references_at};
+ghost use Rattle.scip_query.specs.Documentation.{documentation_at, symbols_of};
+ghost use Rattle.scip_query.specs.Outcomes.{fault_of};
+ghost use Rattle.scip_query.specs.declared.miss.Miss.{Miss};
+
+use crate::answer_fault::AnswerFault;
+use crate::command::{Command, MAX_COMMAND_LENGTH, Question, command_of};
+use crate::miss::Miss;
+use crate::place::Place;
+use crate::position::Position;
+use crate::queries::Queries;
+use crate::query_fault::QueryFault;
+use scip_model::{Document, Info, Range, Sink, write_all};
+use std::alloc::{AllocError, Global};
+
+/// The command of a line that isn't too long.
+fn short_command_of(line: &[u8]) -> Option<Command<'_>>
+    ensures { option_map command_view result ≡ (if nat_le (length line.now) max_command_length then command_of line.now else None) }
+{
+    if line.len() <= MAX_COMMAND_LENGTH {
+        command_of(line)
+    } else {
+        None
+    }
+}
+
+/// Appends `= N`.
+fn push_count(text: &mut String, count: usize) -> Result<(), AllocError>
+    ensures { OnOk result (string_bytes text.new ≡ string_bytes text.old ++ count_line count) }
+{
+    writeln!(text, "= {count}")
+}
+
+/// Appends `L C L2 E ROLE PATH`.
+fn push_line(text: &mut String, range: Range, roles: i32, path: &str) -> Result<(), AllocError>
+    ensures { OnOk result (string_bytes text.new ≡ string_bytes text.old ++ line_of range roles path.now) }
+{
+    let (start_line, start_column) = (range.start_line(), range.start_column());
+    let (end_line, end_column) = (range.end_line(), range.end_column());
+    writeln!(
+        text,
+        "{start_line} {start_column} {end_line} {end_column} {roles} {path}"
+    )
+}
+
+/// Appends the line of the occurrence at a place.
+fn push_site(text: &mut String, documents: &[Document], place: Place) -> Result<(), AllocError>
+    ensures { OnOk result (string_bytes text.new ≡ string_bytes text.old ++ line_or_none (site_listed documents.now place)) }
+{
+    let Some(document) = documents.get(place.document) else {
+        return Ok(());
+    };
+    match document.occurrences.as_slice().get(place.occurrence) {
+        Some(occurrence) => push_line(
+            text,
+            occurrence.range,
+            occurrence.symbol_roles,
+            document.relative_path.as_str(),
+        ),
+        None => Ok(()),
+    }
+}
+
+/// Appends a line for each place, and how many there are.
+fn push_sites(text: &mut String, documents: &[Document], places: &[Place]) -> Result<(), AllocError>
+    ensures { OnOk result (string_bytes text.new ≡ string_bytes text.old ++ flat_map (λ place. line_or_none (site_listed documents.now place)) places.now ++ count_line (length places.now)) }
+{
+    for place in places {
+        push_site(text, documents, *place)?;
+    }
+    push_count(text, places.len())
+}
+
+/// The lines of a text: what stands between its `\n`, and before and behind them.
+fn lines_in(alloc: Global, text: &str) -> Result<Vec<&str>, AllocError>
+    ensures { IfOk result (λ lines. map (λ (line : Bor (List ℕ)). line.now) lines.items ≡ slice_split (λ b. b == 10) text.now) }
+{
+    text.split('\n').collect(alloc)
+}
+
+/// Appends lines, each behind `| `.
+fn push_lines(text: &mut String, lines: &[&str]) -> Result<(), AllocError>
+    ensures { OnOk result (string_bytes text.new ≡ string_bytes text.old ++ flat_map (λ (line : Bor (List ℕ)). quoted_line line.now) lines.now) }
+{
+    for line in lines {
+        let line = *line;
+        writeln!(text, "| {line}")?;
+    }
+    Ok(())
+}
+
+/// Appends a text, each of its lines behind `| `.
+fn push_quoted(alloc: Global, text: &mut String, quoted_text: &str) -> Result<(), AllocError>
+    ensures { OnOk result (string_bytes text.new ≡ string_bytes text.old ++ quoted quoted_text.now) }
+{
+    let lines = lines_in(alloc, quoted_text)?;
+    push_lines(text, lines.as_slice())
+}
+
+/// Appends texts, and how many there are.
+fn push_texts(alloc: Global, text: &mut String, texts: &[&str]) -> Result<(), AllocError>
+    ensures { OnOk result (string_bytes text.new ≡ string_bytes text.old ++ flat_map (λ (t : Bor (List ℕ)). quoted t.now) texts.now ++ count_line (length texts.now)) }
+{
+    for lines in texts {
+        push_quoted(alloc, text, *lines)?;
+    }
+    push_count(text, texts.len())
+}
+
+/// Appends the symbols of entries, and how many there are.
+fn push_symbols(text: &mut String, entries: &[&Info]) -> Result<(), AllocError>
+    ensures { OnOk result (string_bytes text.new ≡ string_bytes text.old ++ flat_map (λ (entry : Bor Info). symbol_line entry.now) entries.now ++ count_line (length entries.now)) }
+{
+    for entry in entries {
+        let symbol = entry.symbol.as_str();
+        writeln!(text, "{symbol}")?;
+    }
+    push_count(text, entries.len())
+}
+
+/// Appends why nothing is found. At `Memory` nothing is appended.
+fn push_fault(text: &mut String, fault: QueryFault) -> Result<(), AllocError>
+    ensures { OnOk result ((miss : Miss) × (fault ≡ fault_of miss) × (string_bytes text.new ≡ string_bytes text.old ++ miss_text miss)) }
+{
+    match fault {
+        QueryFault::NoDocument => push_miss(text, Miss::NoDocument),
+        QueryFault::NothingThere => push_miss(text, Miss::NothingThere),
+        QueryFault::Memory => Err(AllocError),
+    }
+}
+
+fn push_miss(text: &mut String, miss: Miss) -> Result<(), AllocError>
+    ensures { OnOk result (string_bytes text.new ≡ string_bytes text.old ++ miss_text miss) }
+{
+    match miss {
+        Miss::NoDocument => text.push_str("? no document\n"),
+        Miss::NothingThere => text.push_str("? nothing there\n"),
+    }
+}
+
+impl Queries {
+    /// Appends the definitions of the symbol at a position.
+    fn push_definitions(
+        &self,
+        alloc: Global,
+        text: &mut String,
+        position: Position,
+        path: &str,
+    ) -> Result<(), AllocError>
+        ensures { OnOk result (string_bytes text.new ≡ string_bytes text.old ++ listing site_line (definitions_at self.now path.now position)) }
+    {
+        match self.definitions(alloc, path, position.line, position.column) {
+            Ok(places) => push_sites(text, self.documents(), places.as_slice()),
+            Err(fault) => push_fault(text, fault),
+        }
+    }
+
+    /// Appends the references of the symbol at a position.
+    fn push_references(
+        &self,
+        alloc: Global,
+        text: &mut String,
+        position: Position,
+        path: &str,
+    ) -> Result<(), AllocError>
+        ensures { OnOk result (string_bytes text.new ≡ string_bytes text.old ++ listing site_line (references_at self.now path.now position)) }
+    {
+        match self.references(alloc, path, position.line, position.column) {
+            Ok(places) => push_sites(text, self.documents(), places.as_slice()),
+            Err(fault) => push_fault(text, fault),
+        }
+    }
+
+    /// Appends the documentation of the symbol at a position.
+    fn push_documentation(
+        &self,
+        alloc: Global,
+        text: &mut String,
+        position: Position,
+        path: &str,
+    ) -> Result<(), AllocError>
+        ensures { OnOk result (string_bytes text.new ≡ string_bytes text.old ++ listing quoted (documentation_at self.now path.now position)) }
+    {
+        match self.documentation(alloc, path, position.line, position.column) {
+            Ok(texts) => push_texts(alloc, text, texts.as_slice()),
+            Err(fault) => push_fault(text, fault),
+        }
+    }
+
+    /// Appends the symbols of a document.
+    fn push_entries(&self, alloc: Global, text: &mut String, path: &str) -> Result<(), AllocError>
+        ensures { OnOk result (string_bytes text.new ≡ string_bytes text.old ++ listing symbol_line (symbols_of self.now path.now)) }
+    {
+        match self.symbols(alloc, path) {
+            Ok(entries) => push_symbols(text, entries.as_slice()),
+            Err(fault) => push_fault(text, fault),
+        }
+    }
+
+    /// Appends the answer to a command.
+    fn push_answer(
+        &self,
+        alloc: Global,
+        text: &mut String,
+        command: &Command<'_>,
+    ) -> Result<(), AllocError>
+        ensures { OnOk result (string_bytes text.new ≡ string_bytes text.old ++ answer_of self.now (command_view command.now)) }
+    {
+        match command {
+            Command::Ask(Question::Definitions, position, path) => {
+                self.push_definitions(alloc, text, *position, *path)
+            }
+            Command::Ask(Question::References, position, path) => {
+                self.push_references(alloc, text, *position, *path)
+            }
+            Command::Ask(Question::Documentation, position, path) => {
+                self.push_documentation(alloc, text, *position, *path)
+            }
+            Command::Symbols(path) => self.push_entries(alloc, text, *path),
+        }
+    }
+
+    /// The answer to a line.
+    pub(crate) fn answer_to(&self, alloc: Global, line: &[u8]) -> Result<String, AllocError>
+        ensures { IfOk result (λ text. string_bytes text ≡ answer_to self.now line.now) }
+    {
+        let mut text = String::new(alloc);
+        match short_command_of(line) {
+            Some(command) => self.push_answer(alloc, &mut text, &command)?,
+            None => text.push_str("? bad command\n")?,
+        }
+        Ok(text)
+    }
+
+    /// Writes the answer to one command.
+    ///
+    /// Commands are `def L C PATH`, `ref L C PATH`, `doc L C PATH` and `sym PATH`, with one space
+    /// between parts; L and C have one to ten digits and are at most 2,147,483,647, and PATH is
+    /// the rest of the line, UTF-8 and not empty. Of `def` and `ref` the answer has a line
+    /// `L C L2 E ROLE PATH` for each occurrence, of `doc` each text's lines behind `| `, of `sym`
+    /// the symbol of each entry; then `= N`, how many there are. Else it is `? no document`,
+    /// `? nothing there`, or `? bad command`, as it is of more than 65,536 bytes.
+    ///
+    /// - `Memory`: nothing was written.
+    /// - `Write(count)`: a write failed when so many bytes of the answer had gone out.
+    pub fn answer<W: Sink>(
+        &self,
+        alloc: Global,
+        line: &[u8],
+        out: &mut W,
+    ) -> Result<(), AnswerFault>
+        ensures { Answers W.contents W.failures out.old out.new (answer_to self.now line.now) result }
+    {
+        let text = self.answer_to(alloc, line)?;
+        match write_all(out, text.as_bytes()) {
+            Ok(()) => Ok(()),
+            Err(cut_off) => Err(AnswerFault::Write(cut_off.written as u64)),
+        }
+    }
+}

@@ -10,6 +10,7 @@ ghost use Rattle.scip_symbol.specs.SpellsSymbol.{SpellsSymbol};
 use crate::symbol::{Descriptor, GlobalSymbol, Suffix, Symbol, SymbolParts};
 use std::alloc::{AllocError, Global};
 
+/// Whether `byte` may stand in a simple identifier (`scip.proto`, the comment of `Symbol`).
 pub fn is_identifier_character(byte: u8) -> bool
     ensures { result ≡ is_identifier_character byte }
 {

@@ -6,6 +6,7 @@ use scip_wire::{SpellFault, WireFault, read_index, spell_index};
 use std::alloc::Global;
 use std::test::Fail;
 
+/// The index that the bytes decode to. It is read again after `Memory`.
 pub fn decoded(alloc: Global, bytes: &[u8]) -> Result<Index, WireFault> {
     match read_index(alloc, bytes) {
         Err(WireFault::Memory) => read_index(alloc, bytes),
@@ -13,6 +14,7 @@ pub fn decoded(alloc: Global, bytes: &[u8]) -> Result<Index, WireFault> {
     }
 }
 
+/// The bytes of the index. They are spelled again after `Memory`.
 pub fn spelled(alloc: Global, index: &Index) -> Result<Vec<u8>, SpellFault> {
     match spell_index(alloc, index) {
         Err(SpellFault::Memory) => spell_index(alloc, index),
@@ -20,6 +22,7 @@ pub fn spelled(alloc: Global, index: &Index) -> Result<Vec<u8>, SpellFault> {
     }
 }
 
+/// The index's metadata, which has to be there.
 pub fn metadata_of(index: &Index) -> Result<&Metadata, Fail> {
     Ok(index.metadata.as_ref().ok_or("there is no metadata")?)
 }

@@ -1,5 +1,2 @@
-pub mod Names
-pub mod Options
-pub mod Fields
 pub mod Messages
 pub mod Files

@@ -1,11 +1,5 @@
--- Steps that may fail, and the parser's place
-pub mod OptionSteps
-pub mod Places
--- Single tokens, and repetition
+-- What is not there is not read
 pub mod Stops
-pub mod TokenLemmas
-pub mod UntilLemmas
-pub mod ClosedLemmas
 -- What is read is in the grammar, and takes tokens
 pub mod Found
 pub mod Shorter

@@ -1,56 +1,21 @@
 -- What is in the grammar leaves fewer tokens.
-use Rattle.std.proofs.Common.{◌≡◌, ℕ, zero, suc, ◌<◌, ◌≤◌, Bool, Option, Some, List, [], ◌∷◌, length, arith}
+use Rattle.std.proofs.Common.{ℕ, zero, suc, ◌<◌, ◌≤◌, Option, List, length, arith}
 use Rattle.proto_lex.specs.declared.span.Span.{Span}
-use Rattle.proto_parse.specs.declared.tree.CustomOptions.{CustomOptions}
-use Rattle.proto_parse.specs.declared.tree.Heading.{Heading}
-use Rattle.proto_parse.specs.declared.tree.Label.{Label}
-use Rattle.proto_parse.specs.declared.tree.TypeName.{TypeName}
-use Rattle.proto_parse.specs.declared.tree.FieldType.{FieldType}
-use Rattle.proto_parse.specs.declared.tree.Field.{Field}
-use Rattle.proto_parse.specs.declared.tree.MapField.{MapField}
-use Rattle.proto_parse.specs.declared.tree.Enum.{Enum}
-use Rattle.proto_parse.specs.declared.tree.Oneof.{Oneof}
-use Rattle.proto_parse.specs.declared.tree.Method.{Method}
-use Rattle.proto_parse.specs.declared.tree.Service.{Service}
-use Rattle.proto_parse.specs.declared.tree.MessageItem.{MessageItem}
-use Rattle.proto_parse.specs.declared.tree.Import.{Import}
-use Rattle.proto_parse.specs.declared.tree.ImportKind.{ImportKind}
-use Rattle.proto_parse.specs.declared.tree.File.{File}
-use Rattle.proto_parse.specs.Lexeme.{Lexeme}
-use Rattle.proto_parse.specs.Tree.{MessageTree}
+use Rattle.proto_grammar.specs.declared.tree.CustomOptions.{CustomOptions}
+use Rattle.proto_grammar.specs.declared.tree.Heading.{Heading}
+use Rattle.proto_grammar.specs.declared.tree.TypeName.{TypeName}
+use Rattle.proto_grammar.specs.declared.tree.Field.{Field}
+use Rattle.proto_grammar.specs.declared.tree.Enum.{Enum}
+use Rattle.proto_grammar.specs.declared.tree.Oneof.{Oneof}
+use Rattle.proto_grammar.specs.declared.tree.Method.{Method}
+use Rattle.proto_grammar.specs.declared.tree.Service.{Service}
+use Rattle.proto_grammar.specs.declared.tree.MessageItem.{MessageItem}
+use Rattle.proto_grammar.specs.declared.tree.Import.{Import}
+use Rattle.proto_grammar.specs.declared.tree.ImportKind.{ImportKind}
+use Rattle.proto_grammar.specs.declared.tree.File.{File}
+use Rattle.proto_grammar.specs.Lexeme.{Lexeme}
+use Rattle.proto_grammar.specs.Tree.{MessageTree}
 use Rattle.proto_parse.specs.Limits.{max_message_depth}
-use Rattle.proto_parse.specs.Grammar.Steps.{Until, Adds, Passes}
-use Rattle.proto_parse.specs.Grammar.Names.{IsDotName, IsName, IsTypeName, IsType}
-use Rattle.proto_parse.specs.Grammar.Names.IsDotName.{dot_name}
-use Rattle.proto_parse.specs.Grammar.Names.IsName.{name}
-use Rattle.proto_parse.specs.Grammar.Names.IsTypeName.{rooted, plain as plain_name}
-use Rattle.proto_parse.specs.Grammar.Names.IsType.{scalar, named}
-use Rattle.proto_parse.specs.Grammar.Options.{IsOptionPart, IsDotPart, IsOptionName, IsLiteral, IsStrings, IsClosed, IsConstant, IsSetting, IsCommaSetting, IsOption, IsOptions}
-use Rattle.proto_parse.specs.Grammar.Options.IsOptionPart.{plain as plain_part, extension}
-use Rattle.proto_parse.specs.Grammar.Options.IsDotPart.{dot_part}
-use Rattle.proto_parse.specs.Grammar.Options.IsOptionName.{option_name}
-use Rattle.proto_parse.specs.Grammar.Options.IsLiteral.{literal}
-use Rattle.proto_parse.specs.Grammar.Options.IsStrings.{strings}
-use Rattle.proto_parse.specs.Grammar.Options.IsClosed.{closed, open_brace, close_brace, other}
-use Rattle.proto_parse.specs.Grammar.Options.IsConstant.{name as a_name, signed, unsigned, strings as some_strings, aggregate}
-use Rattle.proto_parse.specs.Grammar.Options.IsSetting.{setting}
-use Rattle.proto_parse.specs.Grammar.Options.IsCommaSetting.{comma_setting}
-use Rattle.proto_parse.specs.Grammar.Options.IsOption.{option}
-use Rattle.proto_parse.specs.Grammar.Options.IsOptions.{none, some}
-use Rattle.proto_parse.specs.Grammar.Fields.{IsNumbered, IsTyped, IsLabel, IsField, IsOneofField, IsMapField}
-use Rattle.proto_parse.specs.Grammar.Fields.IsNumbered.{numbered}
-use Rattle.proto_parse.specs.Grammar.Fields.IsTyped.{typed}
-use Rattle.proto_parse.specs.Grammar.Fields.IsLabel.{repeated, optional, no_label}
-use Rattle.proto_parse.specs.Grammar.Fields.IsField.{field}
-use Rattle.proto_parse.specs.Grammar.Fields.IsOneofField.{oneof_field}
-use Rattle.proto_parse.specs.Grammar.Fields.IsMapField.{map_field}
-use Rattle.proto_parse.specs.Grammar.Reserved.{IsInteger, IsRangeEnd, IsRange, IsReservedItem, IsCommaItem, IsReserved}
-use Rattle.proto_parse.specs.Grammar.Reserved.IsInteger.{plain, minus}
-use Rattle.proto_parse.specs.Grammar.Reserved.IsRangeEnd.{number, max}
-use Rattle.proto_parse.specs.Grammar.Reserved.IsRange.{single, range}
-use Rattle.proto_parse.specs.Grammar.Reserved.IsReservedItem.{name as reserved_name, number as reserved_number}
-use Rattle.proto_parse.specs.Grammar.Reserved.IsCommaItem.{comma_item}
-use Rattle.proto_parse.specs.Grammar.Reserved.IsReserved.{reserved}
 use Rattle.proto_parse.specs.Grammar.Messages.{IsHeading, IsValue, IsEnumItem, IsEnum, IsOneofItem, IsOneof, IsExtendItem, IsExtend, IsMessageItem, IsMessageOf, IsMessage}
 use Rattle.proto_parse.specs.Grammar.Messages.IsHeading.{heading}
 use Rattle.proto_parse.specs.Grammar.Messages.IsValue.{value}
@@ -76,109 +41,9 @@ use Rattle.proto_parse.specs.Grammar.Files.IsPathLiteral.{path_literal}
 use Rattle.proto_parse.specs.Grammar.Files.IsImport.{import}
 use Rattle.proto_parse.specs.Grammar.Files.IsPackage.{package_statement}
 use Rattle.proto_parse.specs.Grammar.Files.IsStatement.{empty as statements-empty, import as statements-import, package_statement as statements-package_statement, option as statements-option, message as statements-message, enum as statements-enum, service as statements-service, extend as statements-extend}
-use Rattle.proto_parse.proofs.TokenLemmas.{one_shorter}
-use Rattle.proto_parse.proofs.UntilLemmas.{Until-shorter, Adds-shorter, Passes-shorter}
-
-pub dot_name_shorter : (a b : List Lexeme) (x : Option Span) → IsDotName a x b → length b < length a
-dot_name_shorter a b x (dot_name d n) = omega (arith, one_shorter d, one_shorter n)
-
-pub name_shorter : {a b : List Lexeme} {x : List Span} → IsName a x b → length b < length a
-name_shorter (name t u) = omega (arith, one_shorter t, Until-shorter (Adds-shorter IsDotName dot_name_shorter) _ _ _ _ u)
-
-type_name_shorter : {a b : List Lexeme} {x : TypeName} → IsTypeName a x b → length b < length a
-type_name_shorter (rooted d n) = omega (arith, one_shorter d, name_shorter n)
-type_name_shorter (plain_name n) = name_shorter n
-
-type_shorter : {a b : List Lexeme} {x : FieldType} → IsType a x b → length b < length a
-type_shorter (scalar is w) = one_shorter w
-type_shorter (named not n) = type_name_shorter n
-
-part_shorter : {custom : CustomOptions} {a b : List Lexeme} → IsOptionPart custom a b → length b < length a
-part_shorter (plain_part n) = one_shorter n
-part_shorter (extension o n c) = omega (arith, one_shorter o, type_name_shorter n, one_shorter c)
-
-pub dot_part_shorter : (custom : CustomOptions) (a b : List Lexeme) → IsDotPart custom a b → length b < length a
-dot_part_shorter custom a b (dot_part d p) = omega (arith, one_shorter d, part_shorter p)
-
-option_name_shorter : {custom : CustomOptions} {a b : List Lexeme} → IsOptionName custom a b → length b < length a
-option_name_shorter {custom} (option_name p u) = omega (arith, part_shorter p, Until-shorter (Passes-shorter (IsDotPart custom) (dot_part_shorter custom)) _ _ _ _ u)
-
-pub literal_shorter : (a b : List Lexeme) → IsLiteral a b → length b < length a
-literal_shorter a b (literal t) = one_shorter t
-
-strings_shorter : {a b : List Lexeme} → IsStrings a b → length b < length a
-strings_shorter (strings l u) = omega (arith, literal_shorter _ _ l, Until-shorter (Passes-shorter IsLiteral literal_shorter) _ _ _ _ u)
-
-closed_shorter : {depth : ℕ} {a b : List Lexeme} → IsClosed depth a b → length b ≤ length a
-closed_shorter closed = omega arith
-closed_shorter (open_brace o behind) = omega (arith, one_shorter o, closed_shorter behind)
-closed_shorter (close_brace c behind) = omega (arith, one_shorter c, closed_shorter behind)
-closed_shorter (other p q t behind) = omega (arith, one_shorter t, closed_shorter behind)
-
-constant_shorter : {custom : CustomOptions} {a b : List Lexeme} → IsConstant custom a b → length b < length a
-constant_shorter (a_name n) = name_shorter n
-constant_shorter (signed s n) = omega (arith, one_shorter s, one_shorter n)
-constant_shorter (unsigned n) = one_shorter n
-constant_shorter (some_strings t) = strings_shorter t
-constant_shorter (aggregate o behind) = omega (arith, one_shorter o, closed_shorter behind)
-
-setting_shorter : {custom : CustomOptions} {a b : List Lexeme} → IsSetting custom a b → length b < length a
-setting_shorter (setting n q c) = omega (arith, option_name_shorter n, one_shorter q, constant_shorter c)
-
-pub comma_setting_shorter : (custom : CustomOptions) (a b : List Lexeme) → IsCommaSetting custom a b → length b < length a
-comma_setting_shorter custom a b (comma_setting c s) = omega (arith, one_shorter c, setting_shorter s)
-
-option_shorter : {custom : CustomOptions} {a b : List Lexeme} → IsOption custom a b → length b < length a
-option_shorter (option k v s) = omega (arith, one_shorter k, setting_shorter v, one_shorter s)
-
-options_shorter : {custom : CustomOptions} {a b : List Lexeme} → IsOptions custom a b → length b ≤ length a
-options_shorter (none none_next) = omega arith
-options_shorter {custom} (some o v u c) =
-    omega (arith, one_shorter o, setting_shorter v, Until-shorter (Passes-shorter (IsCommaSetting custom) (comma_setting_shorter custom)) _ _ _ _ u, one_shorter c)
-
-numbered_shorter : {custom : CustomOptions} {first : Span} {a b : List Lexeme} {x : Heading} → IsNumbered custom first a x b → length b < length a
-numbered_shorter (numbered n q i o s) = omega (arith, one_shorter n, one_shorter q, one_shorter i, options_shorter o, one_shorter s)
-
-typed_shorter : {custom : CustomOptions} {first : Span} {label : Option Label} {a b : List Lexeme} {x : Field} → IsTyped custom first label a x b → length b < length a
-typed_shorter (typed t n) = omega (arith, type_shorter t, numbered_shorter n)
-
-label_shorter : {a b : List Lexeme} {x : Option Label} → IsLabel a x b → length b ≤ length a
-label_shorter (repeated w) = omega (arith, one_shorter w)
-label_shorter (optional w) = omega (arith, one_shorter w)
-label_shorter (no_label p q) = omega arith
-
-field_shorter : {custom : CustomOptions} {a b : List Lexeme} {x : Field} → IsField custom a x b → length b < length a
-field_shorter (field l t) = omega (arith, label_shorter l, typed_shorter t)
-
-oneof_field_shorter : {custom : CustomOptions} {a b : List Lexeme} {x : Field} → IsOneofField custom a x b → length b < length a
-oneof_field_shorter (oneof_field t) = typed_shorter t
-
-map_field_shorter : {custom : CustomOptions} {a b : List Lexeme} {x : MapField} → IsMapField custom a x b → length b < length a
-map_field_shorter (map_field f l k c v g h) =
-    omega (arith, one_shorter f, one_shorter l, one_shorter k, one_shorter c, type_shorter v, one_shorter g, numbered_shorter h)
-
-integer_shorter : {negative : Bool} {a b : List Lexeme} → IsInteger negative a b → length b < length a
-integer_shorter (plain n) = one_shorter n
-integer_shorter (minus m n) = omega (arith, one_shorter m, one_shorter n)
-
-range_end_shorter : {negative : Bool} {a b : List Lexeme} → IsRangeEnd negative a b → length b < length a
-range_end_shorter (number i) = integer_shorter i
-range_end_shorter (max w) = one_shorter w
-
-range_shorter : {negative : Bool} {a b : List Lexeme} → IsRange negative a b → length b < length a
-range_shorter (single i none_next) = integer_shorter i
-range_shorter (range i w e) = omega (arith, integer_shorter i, one_shorter w, range_end_shorter e)
-
-reserved_item_shorter : {negative names : Bool} {a b : List Lexeme} → IsReservedItem negative names a b → length b < length a
-reserved_item_shorter (reserved_name t) = strings_shorter t
-reserved_item_shorter (reserved_number r) = range_shorter r
-
-pub comma_item_shorter : (negative names : Bool) (a b : List Lexeme) → IsCommaItem negative names a b → length b < length a
-comma_item_shorter negative names a b (comma_item c i) = omega (arith, one_shorter c, reserved_item_shorter i)
-
-reserved_shorter : {negative : Bool} {a b : List Lexeme} → IsReserved negative a b → length b < length a
-reserved_shorter {negative} (reserved {names} k is i u s) =
-    omega (arith, one_shorter k, reserved_item_shorter i, Until-shorter (Passes-shorter (IsCommaItem negative names) (comma_item_shorter negative names)) _ _ _ _ u, one_shorter s)
+use Rattle.proto_grammar.proofs.TokenLemmas.{one_shorter}
+use Rattle.proto_grammar.proofs.UntilLemmas.{Until-shorter, Adds-shorter, Passes-shorter}
+use Rattle.proto_grammar.proofs.Shorter.{field_shorter, integer_shorter, map_field_shorter, name_shorter, oneof_field_shorter, option_shorter, options_shorter, reserved_shorter, type_name_shorter}
 
 heading_shorter : {word : List ℕ} {a b : List Lexeme} {x : Heading} → IsHeading word a x b → length b < length a
 heading_shorter (heading f n c) = omega (arith, one_shorter f, one_shorter n, one_shorter c)

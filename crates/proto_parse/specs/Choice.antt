@@ -1,8 +1,8 @@
 -- What a statement's first word chooses.
 use Rattle.std.specs.Prelude.{◌&&◌, List, cond, codes}
 use Rattle.proto_lex.specs.declared.token.TokenKind.TheVariants.{Semicolon, Less}
-use Rattle.proto_parse.specs.Lexeme.{Lexeme}
-use Rattle.proto_parse.specs.Terminal.{first_is, others, of_kind, is_word}
+use Rattle.proto_grammar.specs.Lexeme.{Lexeme}
+use Rattle.proto_grammar.specs.Terminal.{first_is, others, of_kind, is_word}
 use Rattle.proto_parse.specs.declared.statement.FileStatement.{FileStatement}
 use Rattle.proto_parse.specs.declared.statement.FileStatement.TheVariants as file
 use Rattle.proto_parse.specs.declared.statement.MessageStatement.{MessageStatement}

@@ -1,19 +1,15 @@
--- Tokens
-pub mod Limits
-pub mod Lexeme
-pub mod Terminal
--- The tree of a message
-pub mod Tree
-pub mod Code
-pub mod Items
-pub mod Falls
+-- Tokens, and the tree of a message
+pub use Rattle.proto_grammar.specs.Lexeme
+pub use Rattle.proto_grammar.specs.Terminal
+pub use Rattle.proto_grammar.specs.Tree
+pub use Rattle.proto_grammar.specs.Items
 -- The grammar
+pub mod Limits
 pub mod Choice
 pub mod Grammar
 pub mod Derives
+pub mod Faults
 -- Where the spans of a tree stand
 pub mod Walk
 -- What the parser does
-pub mod Gives
 pub mod Reading
-pub mod View

@@ -2,237 +2,252 @@
 
 ghost use Rattle.std.specs.Prelude.{◌≡◌, codes};
 ghost use Rattle.proto_parse.specs.Choice.{file_statement_of};
-ghost use Rattle.proto_parse.specs.Gives.{Gives};
+ghost use Rattle.proto_grammar.specs.Gives.{Gives};
+ghost use Rattle.proto_grammar.specs.declared.tree.CustomOptions.TheVariants.{Skip};
 ghost use Rattle.proto_parse.specs.Reading.Files.{stripped_at, spelled_at, syntax_at, import_kind_at, path_literal_at, path_literals_at, import_at, package_at, only_package_at, statement_at, statements_at, file_at};
 
-use crate::fault::SyntaxFault;
-use crate::parser::Parser;
-use crate::sequence::Sequence;
+use crate::enums::enumeration;
+use crate::messages::{MAX_MESSAGE_DEPTH, extend, message};
+use crate::services::service;
 use crate::statement::FileStatement;
-use crate::tree::{CustomOptions, File, FileItem, Import, ImportKind, MAX_MESSAGE_DEPTH};
+use proto_grammar::{CustomOptions, File, FileItem, Import, ImportKind, Parser, SyntaxFault, keep};
 use proto_lex::{Span, TokenKind};
+use sequences::Sequence;
 use std::alloc::Global;
 
-impl<'t> Parser<'t> {
-    /// The next literal, off the front of a text. Where it isn't there, the fault is at `start`.
-    #[tactic(auto, unfolding(crate::specs::Reading::Files::stripped_at))]
-    fn stripped<'s>(&mut self, text: &'s [u8], start: usize) -> Result<&'s [u8], SyntaxFault>
-        ensures { Gives (λ x. x.now) self.new result (stripped_at text.now self.old) }
-    {
-        let Some(lexeme) = self.next() else {
-            return Err(SyntaxFault::NotProto3(start));
-        };
-        match text.strip_prefix(lexeme.between_quotes()) {
-            Some(rest) => Ok(rest),
-            None => Err(SyntaxFault::NotProto3(start)),
-        }
+/// The next literal, off the front of a text. Where it isn't there, the fault is at `start`.
+#[tactic(auto, unfolding(crate::specs::Reading::Files::stripped_at))]
+fn stripped<'s>(
+    parser: &mut Parser<'_>,
+    text: &'s [u8],
+    start: usize,
+) -> Result<&'s [u8], SyntaxFault>
+    ensures { Gives Skip (λ x. x.now) parser.new result (stripped_at text.now parser.old) }
+{
+    let Some(lexeme) = parser.next() else {
+        return Err(SyntaxFault::NotProto3(start));
+    };
+    match text.strip_prefix(lexeme.between_quotes()) {
+        Some(rest) => Ok(rest),
+        None => Err(SyntaxFault::NotProto3(start)),
     }
+}
 
-    /// Literals that spell the text when joined. Where they don't, the fault is at `start`.
-    fn spelled(&mut self, text: &[u8], start: usize) -> Result<(), SyntaxFault>
-        ensures { Gives (λ x. x) self.new result (spelled_at text.now self.old) }
-    {
-        let mut left = text;
-        'literals: while self.is_at(TokenKind::StringLiteral) {
-            left = self.stripped(left, start)?;
-        }
-        if !left.is_empty() {
-            return Err(SyntaxFault::NotProto3(start));
-        }
-        Ok(())
+/// Literals that spell the text when joined. Where they don't, the fault is at `start`.
+fn spelled(parser: &mut Parser<'_>, text: &[u8], start: usize) -> Result<(), SyntaxFault>
+    ensures { Gives Skip (λ x. x) parser.new result (spelled_at text.now parser.old) }
+{
+    let mut left = text;
+    'literals: while parser.is_at(TokenKind::StringLiteral) {
+        left = stripped(parser, left, start)?;
     }
+    if !left.is_empty() {
+        return Err(SyntaxFault::NotProto3(start));
+    }
+    Ok(())
+}
 
-    /// Literals that spell `proto3` when joined.
-    fn proto3(&mut self) -> Result<(), SyntaxFault>
-        ensures { Gives (λ x. x) self.new result (spelled_at (codes "proto3") self.old) }
-    {
-        let start = self.offset();
-        if !self.is_at(TokenKind::StringLiteral) {
-            return Err(SyntaxFault::Grammar(start));
-        }
-        self.spelled(b"proto3", start)
+/// Literals that spell `proto3` when joined.
+fn proto3(parser: &mut Parser<'_>) -> Result<(), SyntaxFault>
+    ensures { Gives Skip (λ x. x) parser.new result (spelled_at (codes "proto3") parser.old) }
+{
+    let start = parser.offset();
+    if !parser.is_at(TokenKind::StringLiteral) {
+        return Err(SyntaxFault::Grammar(start));
     }
+    spelled(parser, b"proto3", start)
+}
 
-    /// The syntax statement (proto3 specification, "Syntax").
-    #[tactic(auto, using(crate::proofs::Stops::no_token), unfolding(crate::specs::Reading::Files::syntax_at))]
-    fn syntax(&mut self) -> Result<(), SyntaxFault>
-        ensures { Gives (λ x. x) self.new result (syntax_at self.old) }
-    {
-        let start = self.offset();
-        if !self.is_at_word("syntax") {
-            return Err(SyntaxFault::NotProto3(start));
-        }
-        self.word("syntax")?;
-        self.token(TokenKind::Equals)?;
-        self.proto3()?;
-        self.token(TokenKind::Semicolon)?;
-        Ok(())
+/// The syntax statement (proto3 specification, "Syntax").
+#[tactic(auto, using(crate::proofs::Stops::no_token), unfolding(crate::specs::Reading::Files::syntax_at))]
+fn syntax(parser: &mut Parser<'_>) -> Result<(), SyntaxFault>
+    ensures { Gives Skip (λ x. x) parser.new result (syntax_at parser.old) }
+{
+    let start = parser.offset();
+    if !parser.is_at_word("syntax") {
+        return Err(SyntaxFault::NotProto3(start));
     }
+    parser.word("syntax")?;
+    parser.token(TokenKind::Equals)?;
+    proto3(parser)?;
+    parser.token(TokenKind::Semicolon)?;
+    Ok(())
+}
 
-    #[tactic(auto, unfolding(crate::specs::Reading::Files::import_kind_at))]
-    fn import_kind(&mut self) -> Result<ImportKind, SyntaxFault>
-        ensures { Gives (λ x. x) self.new result (import_kind_at self.old) }
-    {
-        if self.is_at_word("weak") {
-            self.advance();
-            return Ok(ImportKind::Weak);
-        }
-        if self.is_at_word("public") {
-            self.advance();
-            return Ok(ImportKind::Public);
-        }
-        Ok(ImportKind::Plain)
+#[tactic(auto, unfolding(crate::specs::Reading::Files::import_kind_at))]
+fn import_kind(parser: &mut Parser<'_>) -> Result<ImportKind, SyntaxFault>
+    ensures { Gives Skip (λ x. x) parser.new result (import_kind_at parser.old) }
+{
+    if parser.is_at_word("weak") {
+        parser.advance();
+        return Ok(ImportKind::Weak);
     }
+    if parser.is_at_word("public") {
+        parser.advance();
+        return Ok(ImportKind::Public);
+    }
+    Ok(ImportKind::Plain)
+}
 
-    #[tactic(auto, unfolding(crate::specs::Reading::Files::path_literal_at))]
-    fn path_literal(&mut self) -> Result<Option<Span>, SyntaxFault>
-        ensures { Gives (λ x. x) self.new result (path_literal_at self.old) }
-    {
-        Ok(Some(self.plain_literal()?))
-    }
+#[tactic(auto, unfolding(crate::specs::Reading::Files::path_literal_at))]
+fn path_literal(parser: &mut Parser<'_>) -> Result<Option<Span>, SyntaxFault>
+    ensures { Gives Skip (λ x. x) parser.new result (path_literal_at parser.old) }
+{
+    Ok(Some(parser.plain_literal()?))
+}
 
-    /// The literals of a path behind the first ones.
-    fn path_literals(&mut self, mut literals: Sequence<Span>) -> Result<Sequence<Span>, SyntaxFault>
-        ensures { Gives (λ x. x) self.new result (path_literals_at literals self.old) }
-    {
-        'literals: while self.is_at(TokenKind::StringLiteral) {
-            let literal = self.path_literal()?;
-            literals.keep(literal)?;
-        }
-        Ok(literals)
+/// The literals of a path behind the first ones.
+fn path_literals(
+    parser: &mut Parser<'_>,
+    mut literals: Sequence<Span>,
+) -> Result<Sequence<Span>, SyntaxFault>
+    ensures { Gives Skip (λ x. x) parser.new result (path_literals_at literals parser.old) }
+{
+    'literals: while parser.is_at(TokenKind::StringLiteral) {
+        let literal = path_literal(parser)?;
+        keep(&mut literals, literal)?;
     }
+    Ok(literals)
+}
 
-    /// An import (proto3 specification, "Import statement").
-    #[tactic(auto, unfolding(crate::specs::Reading::Files::import_at))]
-    fn import(&mut self, alloc: Global) -> Result<Import, SyntaxFault>
-        ensures { Gives (λ x. x) self.new result (import_at self.old) }
-    {
-        self.word("import")?;
-        let kind = self.import_kind()?;
-        let first = self.plain_literal()?;
-        let mut literals = Sequence::new(alloc);
-        literals.push(first)?;
-        let literals = self.path_literals(literals)?;
-        self.token(TokenKind::Semicolon)?;
-        Ok(Import { kind, literals })
-    }
+/// An import (proto3 specification, "Import statement").
+#[tactic(auto, unfolding(crate::specs::Reading::Files::import_at))]
+fn import(parser: &mut Parser<'_>, alloc: Global) -> Result<Import, SyntaxFault>
+    ensures { Gives Skip (λ x. x) parser.new result (import_at parser.old) }
+{
+    parser.word("import")?;
+    let kind = import_kind(parser)?;
+    let first = parser.plain_literal()?;
+    let mut literals = Sequence::new(alloc);
+    literals.push(first)?;
+    let literals = path_literals(parser, literals)?;
+    parser.token(TokenKind::Semicolon)?;
+    Ok(Import { kind, literals })
+}
 
-    /// A package statement's name (proto3 specification, "Package").
-    #[tactic(auto, unfolding(crate::specs::Reading::Files::package_at))]
-    fn package(&mut self, alloc: Global) -> Result<Sequence<Span>, SyntaxFault>
-        ensures { Gives (λ x. x) self.new result (package_at self.old) }
-    {
-        self.word("package")?;
-        let components = self.name(alloc)?;
-        self.token(TokenKind::Semicolon)?;
-        Ok(components)
-    }
+/// A package statement's name (proto3 specification, "Package").
+#[tactic(auto, unfolding(crate::specs::Reading::Files::package_at))]
+fn package(parser: &mut Parser<'_>, alloc: Global) -> Result<Sequence<Span>, SyntaxFault>
+    ensures { Gives Skip (λ x. x) parser.new result (package_at parser.old) }
+{
+    parser.word("package")?;
+    let components = parser.name(alloc)?;
+    parser.token(TokenKind::Semicolon)?;
+    Ok(components)
+}
 
-    /// What the next statement of a file is.
-    fn file_statement(&self) -> FileStatement
-        ensures { result ≡ file_statement_of self.now }
-    {
-        let Some(lexeme) = self.peek() else {
-            return FileStatement::Other;
-        };
-        if lexeme.kind == TokenKind::Semicolon {
-            return FileStatement::Empty;
-        }
-        if lexeme.is_word("import") {
-            return FileStatement::Import;
-        }
-        if lexeme.is_word("package") {
-            return FileStatement::Package;
-        }
-        if lexeme.is_word("option") {
-            return FileStatement::Option;
-        }
-        if lexeme.is_word("message") {
-            return FileStatement::Message;
-        }
-        if lexeme.is_word("enum") {
-            return FileStatement::Enum;
-        }
-        if lexeme.is_word("service") {
-            return FileStatement::Service;
-        }
-        if lexeme.is_word("extend") {
-            return FileStatement::Extend;
-        }
-        FileStatement::Other
+/// What the next statement of a file is.
+fn file_statement(parser: &Parser<'_>) -> FileStatement
+    ensures { result ≡ file_statement_of parser.now }
+{
+    let Some(lexeme) = parser.peek() else {
+        return FileStatement::Other;
+    };
+    if lexeme.kind == TokenKind::Semicolon {
+        return FileStatement::Empty;
     }
+    if lexeme.is_word("import") {
+        return FileStatement::Import;
+    }
+    if lexeme.is_word("package") {
+        return FileStatement::Package;
+    }
+    if lexeme.is_word("option") {
+        return FileStatement::Option;
+    }
+    if lexeme.is_word("message") {
+        return FileStatement::Message;
+    }
+    if lexeme.is_word("enum") {
+        return FileStatement::Enum;
+    }
+    if lexeme.is_word("service") {
+        return FileStatement::Service;
+    }
+    if lexeme.is_word("extend") {
+        return FileStatement::Extend;
+    }
+    FileStatement::Other
+}
 
-    /// A package statement, where the file has none yet.
-    #[tactic(auto, unfolding(crate::specs::Reading::Files::only_package_at))]
-    fn only_package(&mut self, alloc: Global, file: &mut File) -> Result<(), SyntaxFault>
-        ensures { Gives (λ x. file.new) self.new result (only_package_at file.old self.old) }
-    {
-        if file.package_name.is_some() {
-            return Err(SyntaxFault::TwoPackages(self.offset()));
-        }
-        file.package_name = Some(self.package(alloc)?);
-        Ok(())
+/// A package statement, where the file has none yet.
+#[tactic(auto, unfolding(crate::specs::Reading::Files::only_package_at))]
+fn only_package(parser: &mut Parser<'_>, alloc: Global, file: &mut File) -> Result<(), SyntaxFault>
+    ensures { Gives Skip (λ x. file.new) parser.new result (only_package_at file.old parser.old) }
+{
+    if file.package_name.is_some() {
+        return Err(SyntaxFault::TwoPackages(parser.offset()));
     }
+    file.package_name = Some(package(parser, alloc)?);
+    Ok(())
+}
 
-    /// One statement of a file, onto what the file is so far.
-    #[tactic(auto, unfolding(crate::specs::Reading::Files::statement_at))]
-    fn statement(
-        &mut self,
-        alloc: Global,
-        custom: CustomOptions,
-        file: &mut File,
-    ) -> Result<(), SyntaxFault>
-        ensures { Gives (λ x. file.new) self.new result (statement_at custom file.old self.old) }
-    {
-        match self.file_statement() {
-            FileStatement::Empty => {
-                self.token(TokenKind::Semicolon)?;
-            }
-            FileStatement::Import => {
-                let import = self.import(alloc)?;
-                file.imports.push(import)?;
-            }
-            FileStatement::Package => self.only_package(alloc, file)?,
-            FileStatement::Option => self.option(custom)?,
-            FileStatement::Message => {
-                let message = self.message(alloc, custom, MAX_MESSAGE_DEPTH)?;
-                file.items.push(FileItem::Message(message))?;
-            }
-            FileStatement::Enum => {
-                let enumeration = self.enumeration(alloc, custom)?;
-                file.items.push(FileItem::Enum(enumeration))?;
-            }
-            FileStatement::Service => {
-                let service = self.service(alloc, custom)?;
-                file.items.push(FileItem::Service(service))?;
-            }
-            FileStatement::Extend => self.extend(custom)?,
-            FileStatement::Other => return Err(SyntaxFault::Grammar(self.offset())),
+/// One statement of a file, onto what the file is so far.
+#[tactic(auto, unfolding(crate::specs::Reading::Files::statement_at))]
+fn statement(
+    parser: &mut Parser<'_>,
+    alloc: Global,
+    custom: CustomOptions,
+    file: &mut File,
+) -> Result<(), SyntaxFault>
+    ensures { Gives custom (λ x. file.new) parser.new result (statement_at custom file.old parser.old) }
+{
+    match file_statement(parser) {
+        FileStatement::Empty => {
+            parser.token(TokenKind::Semicolon)?;
         }
-        Ok(())
-    }
-
-    /// The statements behind the syntax statement, up to the last token.
-    fn statements(&mut self, alloc: Global, custom: CustomOptions) -> Result<File, SyntaxFault>
-        ensures { Gives (λ x. x) self.new result (statements_at custom self.old) }
-    {
-        let mut file = File {
-            package_name: None,
-            imports: Sequence::new(alloc),
-            items: Sequence::new(alloc),
-        };
-        'statements: while !self.is_at_end() {
-            self.statement(alloc, custom, &mut file)?;
+        FileStatement::Import => {
+            let import = import(parser, alloc)?;
+            file.imports.push(import)?;
         }
-        Ok(file)
+        FileStatement::Package => only_package(parser, alloc, file)?,
+        FileStatement::Option => parser.option(custom)?,
+        FileStatement::Message => {
+            let message = message(parser, alloc, custom, MAX_MESSAGE_DEPTH)?;
+            file.items.push(FileItem::Message(message))?;
+        }
+        FileStatement::Enum => {
+            let enumeration = enumeration(parser, alloc, custom)?;
+            file.items.push(FileItem::Enum(enumeration))?;
+        }
+        FileStatement::Service => {
+            let service = service(parser, alloc, custom)?;
+            file.items.push(FileItem::Service(service))?;
+        }
+        FileStatement::Extend => extend(parser, custom)?,
+        FileStatement::Other => return Err(SyntaxFault::Grammar(parser.offset())),
     }
+    Ok(())
+}
 
-    /// A file (proto3 specification, "Proto file").
-    #[tactic(auto, unfolding(crate::specs::Reading::Files::file_at))]
-    pub(crate) fn file(&mut self, alloc: Global, custom: CustomOptions) -> Result<File, SyntaxFault>
-        ensures { Gives (λ x. x) self.new result (file_at custom self.old) }
-    {
-        self.syntax()?;
-        self.statements(alloc, custom)
+/// The statements behind the syntax statement, up to the last token.
+fn statements(
+    parser: &mut Parser<'_>,
+    alloc: Global,
+    custom: CustomOptions,
+) -> Result<File, SyntaxFault>
+    ensures { Gives custom (λ x. x) parser.new result (statements_at custom parser.old) }
+{
+    let mut file = File {
+        package_name: None,
+        imports: Sequence::new(alloc),
+        items: Sequence::new(alloc),
+    };
+    'statements: while !parser.is_at_end() {
+        statement(parser, alloc, custom, &mut file)?;
     }
+    Ok(file)
+}
+
+/// A file (proto3 specification, "Proto file").
+#[tactic(auto, unfolding(crate::specs::Reading::Files::file_at))]
+pub(crate) fn file(
+    parser: &mut Parser<'_>,
+    alloc: Global,
+    custom: CustomOptions,
+) -> Result<File, SyntaxFault>
+    ensures { Gives custom (λ x. x) parser.new result (file_at custom parser.old) }
+{
+    syntax(parser)?;
+    statements(parser, alloc, custom)
 }

@@ -3,11 +3,11 @@
 ghost use Rattle.std.specs.Prelude.{◌≡◌, ℕ, List, map};
 ghost use Rattle.proto_lex.specs.Lexed.{AreInOrder};
 ghost use Rattle.proto_lex.specs.declared.token.Token.{Token};
-ghost use Rattle.proto_parse.specs.Lexeme.{lexemes_of};
+ghost use Rattle.proto_grammar.specs.Lexeme.{lexemes_of};
 ghost use Rattle.proto_parse.specs.Walk.{Mark, Among, MarksAreInOrder, marks_of_items, marks_of_imports, marks_of_package};
 ghost use Rattle.proto_parse.specs.Derives.{Derives};
-ghost use Rattle.proto_parse.specs.declared.tree.CustomOptions.{CustomOptions};
-ghost use Rattle.proto_parse.specs.declared.tree.File.{File};
+ghost use Rattle.proto_grammar.specs.declared.tree.CustomOptions.{CustomOptions};
+ghost use Rattle.proto_grammar.specs.declared.tree.File.{File};
 
 /// Tokens derive at most one tree.
 pub fn one_tree()

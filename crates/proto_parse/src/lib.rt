@@ -2,26 +2,18 @@
 #![tactic(auto)]
 
 mod enums;
-mod fault;
-mod fields;
 mod files;
 mod laws;
 mod messages;
-mod names;
-mod options;
-mod parser;
 mod parsing;
-mod reserved;
-mod sequence;
 mod services;
 mod statement;
-mod tree;
 
-pub use fault::SyntaxFault;
 pub use laws::{one_tree, spans_in_order, spans_of_tokens};
+pub use messages::MAX_MESSAGE_DEPTH;
 pub use parsing::{parse, parse_with};
-pub use sequence::Sequence;
-pub use tree::{
+pub use proto_grammar::{
     CustomOptions, Enum, Field, FieldType, File, FileItem, Heading, Import, ImportKind, Label,
-    Leaf, MAX_MESSAGE_DEPTH, MapField, Message, MessageItem, Method, Oneof, Service, TypeName,
+    Leaf, MapField, Message, MessageItem, Method, Oneof, Service, SyntaxFault, TypeName,
 };
+pub use sequences::Sequence;

@@ -1,14 +1,14 @@
 //! Parsing: from the tokens of a text to its tree.
 
-ghost use Rattle.std.specs.Prelude.{◌≡◌, IfOk, MatchResult};
+ghost use Rattle.std.specs.Prelude.{◌≡◌, false, IfOk, IfErr, MatchResult};
 ghost use Rattle.proto_parse.specs.Derives.{Derives};
-ghost use Rattle.proto_parse.specs.declared.tree.File.{File};
-ghost use Rattle.proto_parse.specs.declared.tree.CustomOptions.TheVariants.{Refuse};
-ghost use Rattle.proto_parse.specs.declared.fault.SyntaxFault.TheVariants.{Memory};
+ghost use Rattle.proto_parse.specs.Faults.{is_of_custom_options};
+ghost use Rattle.proto_grammar.specs.declared.tree.File.{File};
+ghost use Rattle.proto_grammar.specs.declared.tree.CustomOptions.TheVariants.{Refuse, Skip};
+ghost use Rattle.proto_grammar.specs.declared.fault.SyntaxFault.TheVariants.{Memory};
 
-use crate::fault::SyntaxFault;
-use crate::parser::Parser;
-use crate::tree::{CustomOptions, File};
+use crate::files::file;
+use proto_grammar::{CustomOptions, File, Parser, SyntaxFault};
 use proto_lex::Tokens;
 use std::alloc::Global;
 
@@ -36,6 +36,7 @@ pub fn parse_with(
     ensures found { IfOk result (λ file. Derives custom tokens.now.text tokens.now.tokens file) }
     ensures only { (file : File) → Derives custom tokens.now.text tokens.now.tokens file
         → MatchResult result (λ found. found ≡ file) (λ fault. fault ≡ Memory) }
+    ensures skipped { custom ≡ Skip → IfErr result (λ fault. is_of_custom_options fault ≡ false) }
 {
-    Parser::new(tokens).file(alloc, custom)
+    file(&mut Parser::new(tokens), alloc, custom)
 }

@@ -1,150 +1,152 @@
 //! Services.
 
 ghost use Rattle.std.specs.Prelude.{◌≡◌};
-ghost use Rattle.proto_parse.specs.Gives.{Gives};
+ghost use Rattle.proto_grammar.specs.Gives.{Gives};
+ghost use Rattle.proto_grammar.specs.declared.tree.CustomOptions.TheVariants.{Skip};
 ghost use Rattle.proto_parse.specs.Reading.Services.{stream_at, method_type_at, method_item_at, method_items_at, method_body_at, method_end_at, method_at, service_item_at, service_items_at, service_at};
 
-use crate::fault::SyntaxFault;
-use crate::parser::Parser;
-use crate::sequence::Sequence;
-use crate::tree::{CustomOptions, Heading, Method, Service, TypeName};
+use crate::enums::heading;
+use proto_grammar::{CustomOptions, Heading, Method, Parser, Service, SyntaxFault, TypeName, keep};
 use proto_lex::{Span, TokenKind};
+use sequences::Sequence;
 use std::alloc::Global;
 
-impl<'t> Parser<'t> {
-    /// The marker `stream`, if it stands next.
-    #[tactic(auto, unfolding(crate::specs::Reading::Services::stream_at))]
-    fn stream(&mut self) -> Result<(), SyntaxFault>
-        ensures { Gives (λ x. x) self.new result (stream_at self.old) }
-    {
-        if self.is_at_word("stream") {
-            self.advance();
-        }
-        Ok(())
+/// The marker `stream`, if it stands next.
+#[tactic(auto, unfolding(crate::specs::Reading::Services::stream_at))]
+fn stream(parser: &mut Parser<'_>) -> Result<(), SyntaxFault>
+    ensures { Gives Skip (λ x. x) parser.new result (stream_at parser.old) }
+{
+    if parser.is_at_word("stream") {
+        parser.advance();
     }
+    Ok(())
+}
 
-    /// One of a method's two types.
-    #[tactic(auto, unfolding(crate::specs::Reading::Services::method_type_at))]
-    fn method_type(&mut self, alloc: Global) -> Result<TypeName, SyntaxFault>
-        ensures { Gives (λ x. x) self.new result (method_type_at self.old) }
-    {
-        self.token(TokenKind::OpenParenthesis)?;
-        self.stream()?;
-        let name = self.named_type(alloc)?;
-        self.token(TokenKind::CloseParenthesis)?;
-        Ok(name)
-    }
+/// One of a method's two types.
+#[tactic(auto, unfolding(crate::specs::Reading::Services::method_type_at))]
+fn method_type(parser: &mut Parser<'_>, alloc: Global) -> Result<TypeName, SyntaxFault>
+    ensures { Gives Skip (λ x. x) parser.new result (method_type_at parser.old) }
+{
+    parser.token(TokenKind::OpenParenthesis)?;
+    stream(parser)?;
+    let name = parser.named_type(alloc)?;
+    parser.token(TokenKind::CloseParenthesis)?;
+    Ok(name)
+}
 
-    #[tactic(auto, unfolding(crate::specs::Reading::Services::method_item_at))]
-    fn method_item(&mut self, custom: CustomOptions) -> Result<(), SyntaxFault>
-        ensures { Gives (λ x. x) self.new result (method_item_at custom self.old) }
-    {
-        if self.is_at(TokenKind::Semicolon) {
-            self.advance();
-            return Ok(());
-        }
-        self.option(custom)
+#[tactic(auto, unfolding(crate::specs::Reading::Services::method_item_at))]
+fn method_item(parser: &mut Parser<'_>, custom: CustomOptions) -> Result<(), SyntaxFault>
+    ensures { Gives custom (λ x. x) parser.new result (method_item_at custom parser.old) }
+{
+    if parser.is_at(TokenKind::Semicolon) {
+        parser.advance();
+        return Ok(());
     }
+    parser.option(custom)
+}
 
-    fn method_items(&mut self, custom: CustomOptions) -> Result<(), SyntaxFault>
-        ensures { Gives (λ x. x) self.new result (method_items_at custom self.old) }
-    {
-        'items: while !self.is_at(TokenKind::CloseBrace) {
-            self.method_item(custom)?;
-        }
-        Ok(())
+fn method_items(parser: &mut Parser<'_>, custom: CustomOptions) -> Result<(), SyntaxFault>
+    ensures { Gives custom (λ x. x) parser.new result (method_items_at custom parser.old) }
+{
+    'items: while !parser.is_at(TokenKind::CloseBrace) {
+        method_item(parser, custom)?;
     }
+    Ok(())
+}
 
-    #[tactic(auto, unfolding(crate::specs::Reading::Services::method_body_at))]
-    fn method_body(&mut self, custom: CustomOptions) -> Result<Span, SyntaxFault>
-        ensures { Gives (λ x. x) self.new result (method_body_at custom self.old) }
-    {
-        let open_brace = self.token(TokenKind::OpenBrace)?;
-        self.method_items(custom)?;
-        self.token(TokenKind::CloseBrace)?;
-        Ok(open_brace)
-    }
+#[tactic(auto, unfolding(crate::specs::Reading::Services::method_body_at))]
+fn method_body(parser: &mut Parser<'_>, custom: CustomOptions) -> Result<Span, SyntaxFault>
+    ensures { Gives custom (λ x. x) parser.new result (method_body_at custom parser.old) }
+{
+    let open_brace = parser.token(TokenKind::OpenBrace)?;
+    method_items(parser, custom)?;
+    parser.token(TokenKind::CloseBrace)?;
+    Ok(open_brace)
+}
 
-    /// What stands behind a method's result type. Gives its first token.
-    #[tactic(auto, unfolding(crate::specs::Reading::Services::method_end_at))]
-    fn method_end(&mut self, custom: CustomOptions) -> Result<Span, SyntaxFault>
-        ensures { Gives (λ x. x) self.new result (method_end_at custom self.old) }
-    {
-        if self.is_at(TokenKind::Semicolon) {
-            return self.token(TokenKind::Semicolon);
-        }
-        self.method_body(custom)
+/// What stands behind a method's result type. Gives its first token.
+#[tactic(auto, unfolding(crate::specs::Reading::Services::method_end_at))]
+fn method_end(parser: &mut Parser<'_>, custom: CustomOptions) -> Result<Span, SyntaxFault>
+    ensures { Gives custom (λ x. x) parser.new result (method_end_at custom parser.old) }
+{
+    if parser.is_at(TokenKind::Semicolon) {
+        return parser.token(TokenKind::Semicolon);
     }
+    method_body(parser, custom)
+}
 
-    #[tactic(auto, unfolding(crate::specs::Reading::Services::method_at))]
-    fn method(&mut self, alloc: Global, custom: CustomOptions) -> Result<Method, SyntaxFault>
-        ensures { Gives (λ x. x) self.new result (method_at custom self.old) }
-    {
-        let first = self.word("rpc")?;
-        let name = self.token(TokenKind::Identifier)?;
-        let input = self.method_type(alloc)?;
-        self.word("returns")?;
-        let output = self.method_type(alloc)?;
-        let closing = self.method_end(custom)?;
-        let heading = Heading {
-            first,
-            name,
-            closing,
-        };
-        Ok(Method {
-            heading,
-            input,
-            output,
-        })
-    }
+#[tactic(auto, unfolding(crate::specs::Reading::Services::method_at))]
+fn method(
+    parser: &mut Parser<'_>,
+    alloc: Global,
+    custom: CustomOptions,
+) -> Result<Method, SyntaxFault>
+    ensures { Gives custom (λ x. x) parser.new result (method_at custom parser.old) }
+{
+    let first = parser.word("rpc")?;
+    let name = parser.token(TokenKind::Identifier)?;
+    let input = method_type(parser, alloc)?;
+    parser.word("returns")?;
+    let output = method_type(parser, alloc)?;
+    let closing = method_end(parser, custom)?;
+    let heading = Heading {
+        first,
+        name,
+        closing,
+    };
+    Ok(Method {
+        heading,
+        input,
+        output,
+    })
+}
 
-    /// What stands in a service, if it is kept.
-    #[tactic(auto, unfolding(crate::specs::Reading::Services::service_item_at))]
-    fn service_item(
-        &mut self,
-        alloc: Global,
-        custom: CustomOptions,
-    ) -> Result<Option<Method>, SyntaxFault>
-        ensures { Gives (λ x. x) self.new result (service_item_at custom self.old) }
-    {
-        if self.is_at(TokenKind::Semicolon) {
-            self.advance();
-            return Ok(None);
-        }
-        if self.is_at_word("option") {
-            self.option(custom)?;
-            return Ok(None);
-        }
-        Ok(Some(self.method(alloc, custom)?))
+/// What stands in a service, if it is kept.
+#[tactic(auto, unfolding(crate::specs::Reading::Services::service_item_at))]
+fn service_item(
+    parser: &mut Parser<'_>,
+    alloc: Global,
+    custom: CustomOptions,
+) -> Result<Option<Method>, SyntaxFault>
+    ensures { Gives custom (λ x. x) parser.new result (service_item_at custom parser.old) }
+{
+    if parser.is_at(TokenKind::Semicolon) {
+        parser.advance();
+        return Ok(None);
     }
+    if parser.is_at_word("option") {
+        parser.option(custom)?;
+        return Ok(None);
+    }
+    Ok(Some(method(parser, alloc, custom)?))
+}
 
-    fn service_items(
-        &mut self,
-        alloc: Global,
-        custom: CustomOptions,
-    ) -> Result<Sequence<Method>, SyntaxFault>
-        ensures { Gives (λ x. x) self.new result (service_items_at custom self.old) }
-    {
-        let mut methods = Sequence::new(alloc);
-        'items: while !self.is_at(TokenKind::CloseBrace) {
-            let item = self.service_item(alloc, custom)?;
-            methods.keep(item)?;
-        }
-        Ok(methods)
+fn service_items(
+    parser: &mut Parser<'_>,
+    alloc: Global,
+    custom: CustomOptions,
+) -> Result<Sequence<Method>, SyntaxFault>
+    ensures { Gives custom (λ x. x) parser.new result (service_items_at custom parser.old) }
+{
+    let mut methods = Sequence::new(alloc);
+    'items: while !parser.is_at(TokenKind::CloseBrace) {
+        let item = service_item(parser, alloc, custom)?;
+        keep(&mut methods, item)?;
     }
+    Ok(methods)
+}
 
-    /// A service (proto3 specification, "Service definition").
-    #[tactic(auto, unfolding(crate::specs::Reading::Services::service_at))]
-    pub(crate) fn service(
-        &mut self,
-        alloc: Global,
-        custom: CustomOptions,
-    ) -> Result<Service, SyntaxFault>
-        ensures { Gives (λ x. x) self.new result (service_at custom self.old) }
-    {
-        let heading = self.heading("service")?;
-        let methods = self.service_items(alloc, custom)?;
-        self.token(TokenKind::CloseBrace)?;
-        Ok(Service { heading, methods })
-    }
+/// A service (proto3 specification, "Service definition").
+#[tactic(auto, unfolding(crate::specs::Reading::Services::service_at))]
+pub(crate) fn service(
+    parser: &mut Parser<'_>,
+    alloc: Global,
+    custom: CustomOptions,
+) -> Result<Service, SyntaxFault>
+    ensures { Gives custom (λ x. x) parser.new result (service_at custom parser.old) }
+{
+    let heading = heading(parser, "service")?;
+    let methods = service_items(parser, alloc, custom)?;
+    parser.token(TokenKind::CloseBrace)?;
+    Ok(Service { heading, methods })
 }

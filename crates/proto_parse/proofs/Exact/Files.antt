@@ -7,20 +7,20 @@ use Rattle.std.proofs.Math.Seq.{drop-append_seam}
 use Rattle.std.proofs.lemmas.Bool.Decides.{Decides-eqb}
 use Rattle.proto_lex.specs.declared.span.Span.{Span}
 use Rattle.proto_lex.specs.declared.token.TokenKind.TheVariants.{StringLiteral, Semicolon, Equals}
-use Rattle.proto_parse.specs.declared.tree.CustomOptions.{CustomOptions}
-use Rattle.proto_parse.specs.declared.tree.Import.{Import}
-use Rattle.proto_parse.specs.declared.tree.ImportKind.{ImportKind}
-use Rattle.proto_parse.specs.declared.tree.File.{File}
-use Rattle.proto_parse.specs.declared.fault.SyntaxFault.{SyntaxFault}
-use Rattle.proto_parse.specs.declared.fault.SyntaxFault.TheVariants.{NotProto3, CustomOption, Aggregate, Extend, TwoPackages, ImportEscape, TooDeep, Grammar, Memory}
+use Rattle.proto_grammar.specs.declared.tree.CustomOptions.{CustomOptions}
+use Rattle.proto_grammar.specs.declared.tree.Import.{Import}
+use Rattle.proto_grammar.specs.declared.tree.ImportKind.{ImportKind}
+use Rattle.proto_grammar.specs.declared.tree.File.{File}
+use Rattle.proto_grammar.specs.declared.fault.SyntaxFault.{SyntaxFault}
+use Rattle.proto_grammar.specs.declared.fault.SyntaxFault.TheVariants.{NotProto3, CustomOption, Aggregate, Extend, TwoPackages, ImportEscape, TooDeep, Grammar, Memory}
 use Rattle.proto_parse.specs.declared.statement.FileStatement.{FileStatement}
-use Rattle.proto_parse.specs.Lexeme.{Lexeme}
+use Rattle.proto_grammar.specs.Lexeme.{Lexeme}
 use Rattle.proto_parse.specs.Limits.{max_message_depth}
-use Rattle.proto_parse.specs.Gives.{Fails, Gives}
-use Rattle.proto_parse.specs.Terminal.{first_is, of_kind, is_word, not_next, is_end}
+use Rattle.proto_grammar.specs.Gives.{Fails, Gives}
+use Rattle.proto_grammar.specs.Terminal.{first_is, of_kind, is_word, not_next, is_end, between_quotes}
 use Rattle.proto_parse.specs.Choice.{file_statement_of}
-use Rattle.proto_parse.specs.Grammar.Steps.{One, Until, Adds}
-use Rattle.proto_parse.specs.Grammar.Files.{between_quotes, empty_file, SpellsJoined, IsSyntax, IsImportKind, IsPathLiteral, IsImport, IsPackage, IsStatement, IsFile}
+use Rattle.proto_grammar.specs.Grammar.Steps.{One, Until, Adds}
+use Rattle.proto_parse.specs.Grammar.Files.{empty_file, SpellsJoined, IsSyntax, IsImportKind, IsPathLiteral, IsImport, IsPackage, IsStatement, IsFile}
 use Rattle.proto_parse.specs.Grammar.Files.SpellsJoined.{none, some}
 use Rattle.proto_parse.specs.Grammar.Files.IsSyntax.{syntax}
 use Rattle.proto_parse.specs.Grammar.Files.IsImportKind.{weak, public, neither}
@@ -29,14 +29,14 @@ use Rattle.proto_parse.specs.Grammar.Files.IsImport.{import}
 use Rattle.proto_parse.specs.Grammar.Files.IsPackage.{package_statement}
 use Rattle.proto_parse.specs.Grammar.Files.IsStatement.{empty as statements-empty, import as statements-import, package_statement as statements-package_statement, option as statements-option, message as statements-message, enum as statements-enum, service as statements-service, extend as statements-extend}
 use Rattle.proto_parse.specs.Grammar.Files.IsFile.{file}
-use Rattle.proto_parse.specs.Reading.Steps.{Read, adding, until_at}
+use Rattle.proto_grammar.specs.Reading.Steps.{Read, adding, until_at}
 use Rattle.proto_parse.specs.Reading.Files.{stripped_at, spelled_at, syntax_at, import_kind_at, path_literal_at, path_literals_at, import_at, package_at, only_package_at, statement_by, statement_at, statements_at, file_at}
-use Rattle.proto_parse.proofs.OptionSteps.{same_some}
-use Rattle.proto_parse.proofs.TokenLemmas.{token_exact, one_next, one_others, next_other_word}
-use Rattle.proto_parse.proofs.UntilLemmas.{until_at-exact, until_at-step, adding-exact}
+use Rattle.proto_grammar.proofs.OptionSteps.{same_some}
+use Rattle.proto_grammar.proofs.TokenLemmas.{token_exact, one_next, one_others, next_other_word}
+use Rattle.proto_grammar.proofs.UntilLemmas.{until_at-exact, until_at-step, adding-exact}
 use Rattle.proto_parse.proofs.StepsFall.{path_literals_fall, stripped_falls, statements_fall}
-use Rattle.proto_parse.proofs.Exact.Names.{name_exact}
-use Rattle.proto_parse.proofs.Exact.Options.{option_exact}
+use Rattle.proto_grammar.proofs.Exact.Names.{name_exact}
+use Rattle.proto_grammar.proofs.Exact.Options.{option_exact}
 use Rattle.proto_parse.proofs.Exact.Messages.{enum_exact, extend_exact, message_exact, service_exact}
 
 -- a text without the one that it begins with
@@ -120,7 +120,7 @@ same_tree tree other d e =
     ap (λ (z : File × List Lexeme). z.0) (same_some (tree, x.0) (other, y.0) (sym x.1 ∙ y.1))
 
 -- where a tree derives, a fault is want of memory
-pub only_memory : {custom : CustomOptions} {a : List Lexeme} {tree : File} → (fault : SyntaxFault) → Fails fault (file_at custom a) → IsFile custom a tree → fault ≡ Memory
+pub only_memory : {custom : CustomOptions} {a : List Lexeme} {tree : File} → (fault : SyntaxFault) → Fails custom fault (file_at custom a) → IsFile custom a tree → fault ≡ Memory
 only_memory (NotProto3 offset) fails d = let read = (file_exact d).1 in cc
 only_memory (CustomOption offset) fails d = let read = (file_exact d).1 in cc
 only_memory (Aggregate offset) fails d = let read = (file_exact d).1 in cc
@@ -132,7 +132,7 @@ only_memory (Grammar offset) fails d = let read = (file_exact d).1 in cc
 only_memory Memory fails d = refl
 
 -- of what the parser gives
-pub file_of_exact : (custom : CustomOptions) (tokens rest : List Lexeme) (result : Result File SyntaxFault) → Gives (λ x. x) rest result (file_at custom tokens)
+pub file_of_exact : (custom : CustomOptions) (tokens rest : List Lexeme) (result : Result File SyntaxFault) → Gives custom (λ x. x) rest result (file_at custom tokens)
     → (tree : File) → IsFile custom tokens tree → MatchResult result (λ f. f ≡ tree) (λ fault. fault ≡ Memory)
 file_of_exact custom tokens rest (Ok f) e tree d =
     let read = file_exact d in

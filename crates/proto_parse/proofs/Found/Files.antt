@@ -1,27 +1,30 @@
 -- What is read is in the grammar: files.
 use Rattle.std.proofs.Common.{◌≡◌, ℕ, zero, suc, ◌==◌, Bool, true, false, cond, Option, Some, None, List, [], ◌∷◌, ◌++◌, length, drop, refl, sym, ◌∙◌, ap, subst, codes, nat_eq, arith}
-use Rattle.std.specs.Prelude.{is_some, Result, Ok, Err, IfOk}
-use Rattle.proto_parse.specs.declared.fault.SyntaxFault.{SyntaxFault}
-use Rattle.proto_parse.specs.Gives.{Gives}
+use Rattle.std.specs.Prelude.{is_some, Result, Ok, Err, IfOk, IfErr}
+use Rattle.proto_grammar.specs.declared.fault.SyntaxFault.{SyntaxFault}
+use Rattle.proto_grammar.specs.declared.fault.SyntaxFault.TheVariants.{NotProto3, CustomOption, Aggregate, Extend, TwoPackages, ImportEscape, TooDeep, Grammar, Memory}
+use Rattle.proto_grammar.specs.declared.tree.CustomOptions.TheVariants.{Refuse, Skip}
+use Rattle.proto_parse.specs.Faults.{is_of_custom_options}
+use Rattle.proto_grammar.specs.Gives.{Gives}
 use Rattle.std.specs.List.{starts_with}
 use Rattle.std.proofs.lemmas.Bool.{eqb-true}
 use Rattle.std.proofs.lemmas.Slice.Eq.{starts_is}
 use Rattle.std.proofs.lemmas.Bool.Decides.{Decides-eqb}
 use Rattle.proto_lex.specs.declared.span.Span.{Span}
 use Rattle.proto_lex.specs.declared.token.TokenKind.TheVariants.{StringLiteral, Semicolon, Equals}
-use Rattle.proto_parse.specs.declared.tree.CustomOptions.{CustomOptions}
-use Rattle.proto_parse.specs.declared.tree.Import.{Import}
-use Rattle.proto_parse.specs.declared.tree.ImportKind.{ImportKind}
-use Rattle.proto_parse.specs.declared.tree.File.{File}
+use Rattle.proto_grammar.specs.declared.tree.CustomOptions.{CustomOptions}
+use Rattle.proto_grammar.specs.declared.tree.Import.{Import}
+use Rattle.proto_grammar.specs.declared.tree.ImportKind.{ImportKind}
+use Rattle.proto_grammar.specs.declared.tree.File.{File}
 use Rattle.proto_parse.specs.declared.statement.FileStatement.{FileStatement}
 use Rattle.proto_parse.specs.declared.statement.FileStatement.TheVariants as choice
-use Rattle.proto_parse.specs.Lexeme.{Lexeme}
-use Rattle.proto_parse.specs.Terminal.{first, others, first_is, of_kind, is_word, is_plain_literal, not_next, is_end}
+use Rattle.proto_grammar.specs.Lexeme.{Lexeme}
+use Rattle.proto_grammar.specs.Terminal.{first, others, first_is, of_kind, is_word, is_plain_literal, not_next, is_end, between_quotes}
 use Rattle.proto_parse.specs.Choice.{file_statement_of}
 use Rattle.proto_parse.specs.Limits.{max_message_depth}
-use Rattle.proto_parse.specs.Grammar.Steps.{One, Until, Adds}
-use Rattle.proto_parse.specs.Grammar.Steps.Until.{done, more}
-use Rattle.proto_parse.specs.Grammar.Files.{between_quotes, empty_file, SpellsJoined, IsSyntax, IsImportKind, IsPathLiteral, IsImport, IsPackage, IsStatement, IsFile}
+use Rattle.proto_grammar.specs.Grammar.Steps.{One, Until, Adds}
+use Rattle.proto_grammar.specs.Grammar.Steps.Until.{done, more}
+use Rattle.proto_parse.specs.Grammar.Files.{empty_file, SpellsJoined, IsSyntax, IsImportKind, IsPathLiteral, IsImport, IsPackage, IsStatement, IsFile}
 use Rattle.proto_parse.specs.Grammar.Files.SpellsJoined.{none, some}
 use Rattle.proto_parse.specs.Grammar.Files.IsSyntax.{syntax}
 use Rattle.proto_parse.specs.Grammar.Files.IsImportKind.{weak, public, neither}
@@ -30,17 +33,17 @@ use Rattle.proto_parse.specs.Grammar.Files.IsImport.{import}
 use Rattle.proto_parse.specs.Grammar.Files.IsPackage.{package_statement}
 use Rattle.proto_parse.specs.Grammar.Files.IsStatement.{empty as statements-empty, import as statements-import, package_statement as statements-package_statement, option as statements-option, message as statements-message, enum as statements-enum, service as statements-service, extend as statements-extend}
 use Rattle.proto_parse.specs.Grammar.Files.IsFile.{file}
-use Rattle.proto_parse.specs.Reading.Steps.{token_that, adding, until_at}
-use Rattle.proto_parse.specs.Reading.Names.{name_at}
-use Rattle.proto_parse.specs.Reading.Options.{option_at}
+use Rattle.proto_grammar.specs.Reading.Steps.{token_that, adding, until_at}
+use Rattle.proto_grammar.specs.Reading.Names.{name_at}
+use Rattle.proto_grammar.specs.Reading.Options.{option_at}
 use Rattle.proto_parse.specs.Reading.Messages.{enum_at, extend_at, message_at}
 use Rattle.proto_parse.specs.Reading.Services.{service_at}
 use Rattle.proto_parse.specs.Reading.Files.{stripped_at, spelled_at, syntax_at, import_kind_at, path_literal_at, path_literals_at, import_at, package_at, only_package_at, statement_by, statement_at, statements_at, file_at}
-use Rattle.proto_parse.proofs.OptionSteps.{bind_some, same_some, guard_some, kept_some, chosen}
-use Rattle.proto_parse.proofs.TokenLemmas.{token_found, next_found, next_of}
-use Rattle.proto_parse.proofs.UntilLemmas.{until_at-found, adding-found}
-use Rattle.proto_parse.proofs.Found.Names.{name_found}
-use Rattle.proto_parse.proofs.Found.Options.{left_of, option_found}
+use Rattle.proto_grammar.proofs.OptionSteps.{bind_some, same_some, guard_some, kept_some, chosen}
+use Rattle.proto_grammar.proofs.TokenLemmas.{token_found, next_found, next_of}
+use Rattle.proto_grammar.proofs.UntilLemmas.{until_at-found, adding-found}
+use Rattle.proto_grammar.proofs.Found.Names.{name_found}
+use Rattle.proto_grammar.proofs.Found.Options.{left_of, option_found}
 use Rattle.proto_parse.proofs.Found.Messages.{enum_found, extend_found, message_found, service_found}
 
 -- one literal, off the front of a text
@@ -168,7 +171,23 @@ file_found custom tokens x e =
     file (syntax_found _ _ s.1) (until_at-found is_end (statement_at custom) (IsStatement custom) (statement_found custom) empty_file s.0.1 x s.2)
 
 -- of what the parser gives
-pub file_of_found : (custom : CustomOptions) (tokens rest : List Lexeme) (result : Result File SyntaxFault) → Gives (λ x. x) rest result (file_at custom tokens)
+pub file_of_found : (custom : CustomOptions) (tokens rest : List Lexeme) (result : Result File SyntaxFault) → Gives custom (λ x. x) rest result (file_at custom tokens)
     → IfOk result (λ f. IsFile custom tokens f)
 file_of_found custom tokens rest (Ok f) e = file_found custom tokens (f, rest) e
 file_of_found custom tokens rest (Err fault) e = tt
+
+only_where_refused : (custom : CustomOptions) → custom ≡ Refuse → custom ≡ Skip → true ≡ false
+only_where_refused custom refused skipped = let same : Refuse ≡ Skip = sym refused ∙ skipped in cc
+
+pub file_of_skipped : (custom : CustomOptions) (tokens rest : List Lexeme) (result : Result File SyntaxFault) → Gives custom (λ x. x) rest result (file_at custom tokens)
+    → custom ≡ Skip → IfErr result (λ fault. is_of_custom_options fault ≡ false)
+file_of_skipped custom tokens rest (Ok f) e skipped = tt
+file_of_skipped custom tokens rest (Err (NotProto3 offset)) e skipped = refl
+file_of_skipped custom tokens rest (Err (CustomOption offset)) e skipped = only_where_refused custom e.0 skipped
+file_of_skipped custom tokens rest (Err (Aggregate offset)) e skipped = only_where_refused custom e.0 skipped
+file_of_skipped custom tokens rest (Err (Extend offset)) e skipped = only_where_refused custom e.0 skipped
+file_of_skipped custom tokens rest (Err (TwoPackages offset)) e skipped = refl
+file_of_skipped custom tokens rest (Err (ImportEscape offset)) e skipped = refl
+file_of_skipped custom tokens rest (Err (TooDeep offset)) e skipped = refl
+file_of_skipped custom tokens rest (Err (Grammar offset)) e skipped = refl
+file_of_skipped custom tokens rest (Err Memory) e skipped = refl

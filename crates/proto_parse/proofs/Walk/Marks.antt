@@ -4,44 +4,44 @@ use Rattle.proto_lex.specs.declared.span.Span.{Span}
 use Rattle.proto_lex.specs.declared.token.Token.{Token}
 use Rattle.proto_lex.specs.declared.token.TokenKind.TheVariants.{Identifier}
 use Rattle.proto_lex.specs.Lexed.{AreInOrder}
-use Rattle.proto_parse.specs.declared.tree.CustomOptions.{CustomOptions}
-use Rattle.proto_parse.specs.declared.tree.Heading.{Heading}
-use Rattle.proto_parse.specs.declared.tree.TypeName.{TypeName}
-use Rattle.proto_parse.specs.declared.tree.FieldType.{FieldType}
-use Rattle.proto_parse.specs.declared.tree.Field.{Field}
-use Rattle.proto_parse.specs.declared.tree.MapField.{MapField}
-use Rattle.proto_parse.specs.declared.tree.Enum.{Enum}
-use Rattle.proto_parse.specs.declared.tree.Oneof.{Oneof}
-use Rattle.proto_parse.specs.declared.tree.Method.{Method}
-use Rattle.proto_parse.specs.declared.tree.Service.{Service}
-use Rattle.proto_parse.specs.declared.tree.MessageItem.{MessageItem}
-use Rattle.proto_parse.specs.declared.tree.MessageItem.TheVariants as tree
-use Rattle.proto_parse.specs.declared.tree.FileItem.TheVariants as item
-use Rattle.proto_parse.specs.declared.tree.Import.{Import}
-use Rattle.proto_parse.specs.declared.tree.File.{File}
-use Rattle.proto_parse.specs.Lexeme.{Lexeme, lexemes_of}
+use Rattle.proto_grammar.specs.declared.tree.CustomOptions.{CustomOptions}
+use Rattle.proto_grammar.specs.declared.tree.Heading.{Heading}
+use Rattle.proto_grammar.specs.declared.tree.TypeName.{TypeName}
+use Rattle.proto_grammar.specs.declared.tree.FieldType.{FieldType}
+use Rattle.proto_grammar.specs.declared.tree.Field.{Field}
+use Rattle.proto_grammar.specs.declared.tree.MapField.{MapField}
+use Rattle.proto_grammar.specs.declared.tree.Enum.{Enum}
+use Rattle.proto_grammar.specs.declared.tree.Oneof.{Oneof}
+use Rattle.proto_grammar.specs.declared.tree.Method.{Method}
+use Rattle.proto_grammar.specs.declared.tree.Service.{Service}
+use Rattle.proto_grammar.specs.declared.tree.MessageItem.{MessageItem}
+use Rattle.proto_grammar.specs.declared.tree.MessageItem.TheVariants as tree
+use Rattle.proto_grammar.specs.declared.tree.FileItem.TheVariants as item
+use Rattle.proto_grammar.specs.declared.tree.Import.{Import}
+use Rattle.proto_grammar.specs.declared.tree.File.{File}
+use Rattle.proto_grammar.specs.Lexeme.{Lexeme, lexemes_of}
 use Rattle.proto_parse.specs.Limits.{max_message_depth}
-use Rattle.proto_parse.specs.Tree.{MessageTree}
-use Rattle.proto_parse.specs.Items.{body_of}
+use Rattle.proto_grammar.specs.Tree.{MessageTree}
+use Rattle.proto_grammar.specs.Items.{body_of}
 use Rattle.proto_parse.specs.Walk.{Mark, Among, MarksAreInOrder, each_then, name_then, names_then, literal_then, type_name_then, type_then, heading_then, field_then, map_field_then, enum_then, oneof_then, leaf_then, body_then, message_then, method_then, service_then, item_then, import_then, marks_of_items, marks_of_imports, marks_of_package}
 use Rattle.proto_parse.specs.Walk.Mark.{Name, Other}
 use Rattle.proto_parse.specs.Walk.Among.{none as no_marks, skip, first as at_first, name as at_name, literal as at_literal, other as at_other}
-use Rattle.proto_parse.specs.Grammar.Steps.{Until, Adds}
-use Rattle.proto_parse.specs.Grammar.Steps.One.{one}
-use Rattle.proto_parse.specs.Grammar.Steps.Until.{done, more}
-use Rattle.proto_parse.specs.Grammar.Steps.Adds.{adds}
-use Rattle.proto_parse.specs.Grammar.Names.{IsDotName, IsName, IsTypeName, IsType}
-use Rattle.proto_parse.specs.Grammar.Names.IsDotName.{dot_name}
-use Rattle.proto_parse.specs.Grammar.Names.IsName.{name}
-use Rattle.proto_parse.specs.Grammar.Names.IsTypeName.{rooted, plain as plain_name}
-use Rattle.proto_parse.specs.Grammar.Names.IsType.{scalar, named}
-use Rattle.proto_parse.specs.Grammar.Options.IsOptions.{none}
-use Rattle.proto_parse.specs.Grammar.Fields.{IsNumbered, IsField, IsOneofField, IsMapField}
-use Rattle.proto_parse.specs.Grammar.Fields.IsNumbered.{numbered}
-use Rattle.proto_parse.specs.Grammar.Fields.IsTyped.{typed}
-use Rattle.proto_parse.specs.Grammar.Fields.IsField.{field}
-use Rattle.proto_parse.specs.Grammar.Fields.IsOneofField.{oneof_field}
-use Rattle.proto_parse.specs.Grammar.Fields.IsMapField.{map_field}
+use Rattle.proto_grammar.specs.Grammar.Steps.{Until, Adds}
+use Rattle.proto_grammar.specs.Grammar.Steps.One.{one}
+use Rattle.proto_grammar.specs.Grammar.Steps.Until.{done, more}
+use Rattle.proto_grammar.specs.Grammar.Steps.Adds.{adds}
+use Rattle.proto_grammar.specs.Grammar.Names.{IsDotName, IsName, IsTypeName, IsType}
+use Rattle.proto_grammar.specs.Grammar.Names.IsDotName.{dot_name}
+use Rattle.proto_grammar.specs.Grammar.Names.IsName.{name}
+use Rattle.proto_grammar.specs.Grammar.Names.IsTypeName.{rooted, plain as plain_name}
+use Rattle.proto_grammar.specs.Grammar.Names.IsType.{scalar, named}
+use Rattle.proto_grammar.specs.Grammar.Options.IsOptions.{none}
+use Rattle.proto_grammar.specs.Grammar.Fields.{IsNumbered, IsField, IsOneofField, IsMapField}
+use Rattle.proto_grammar.specs.Grammar.Fields.IsNumbered.{numbered}
+use Rattle.proto_grammar.specs.Grammar.Fields.IsTyped.{typed}
+use Rattle.proto_grammar.specs.Grammar.Fields.IsField.{field}
+use Rattle.proto_grammar.specs.Grammar.Fields.IsOneofField.{oneof_field}
+use Rattle.proto_grammar.specs.Grammar.Fields.IsMapField.{map_field}
 use Rattle.proto_parse.specs.Grammar.Messages.{IsHeading, IsValue, IsEnumItem, IsEnum, IsOneofItem, IsOneof, IsMessageItem, IsMessageOf, IsMessage}
 use Rattle.proto_parse.specs.Grammar.Messages.IsHeading.{heading}
 use Rattle.proto_parse.specs.Grammar.Messages.IsValue.{value}

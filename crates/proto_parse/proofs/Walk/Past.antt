@@ -4,62 +4,62 @@ use Rattle.std.proofs.lemmas.Bool.{eqb-true}
 use Rattle.proto_lex.specs.declared.span.Span.{Span}
 use Rattle.proto_lex.specs.declared.token.TokenKind.{TokenKind}
 use Rattle.proto_lex.specs.declared.token.TokenKind.TheVariants.{Identifier, Integer, Float, StringLiteral, Semicolon, Equals, OpenBrace, CloseBrace, OpenBracket, CloseBracket, OpenParenthesis, CloseParenthesis, Less, Greater, Comma, Dot, Colon, Plus, Minus, Slash}
-use Rattle.proto_parse.specs.declared.tree.CustomOptions.{CustomOptions}
-use Rattle.proto_parse.specs.declared.tree.Heading.{Heading}
-use Rattle.proto_parse.specs.declared.tree.Label.{Label}
-use Rattle.proto_parse.specs.declared.tree.TypeName.{TypeName}
-use Rattle.proto_parse.specs.declared.tree.FieldType.{FieldType}
-use Rattle.proto_parse.specs.declared.tree.Field.{Field}
-use Rattle.proto_parse.specs.declared.tree.MapField.{MapField}
-use Rattle.proto_parse.specs.declared.tree.Enum.{Enum}
-use Rattle.proto_parse.specs.declared.tree.Oneof.{Oneof}
-use Rattle.proto_parse.specs.declared.tree.Method.{Method}
-use Rattle.proto_parse.specs.declared.tree.Service.{Service}
-use Rattle.proto_parse.specs.declared.tree.MessageItem.{MessageItem}
-use Rattle.proto_parse.specs.declared.tree.Import.{Import}
-use Rattle.proto_parse.specs.declared.tree.ImportKind.{ImportKind}
-use Rattle.proto_parse.specs.Lexeme.{Lexeme}
-use Rattle.proto_parse.specs.Terminal.{number_of, is_kind, of_kind, is_key, is_scalar, is_plain_literal}
-use Rattle.proto_parse.specs.Tree.{MessageTree}
+use Rattle.proto_grammar.specs.declared.tree.CustomOptions.{CustomOptions}
+use Rattle.proto_grammar.specs.declared.tree.Heading.{Heading}
+use Rattle.proto_grammar.specs.declared.tree.Label.{Label}
+use Rattle.proto_grammar.specs.declared.tree.TypeName.{TypeName}
+use Rattle.proto_grammar.specs.declared.tree.FieldType.{FieldType}
+use Rattle.proto_grammar.specs.declared.tree.Field.{Field}
+use Rattle.proto_grammar.specs.declared.tree.MapField.{MapField}
+use Rattle.proto_grammar.specs.declared.tree.Enum.{Enum}
+use Rattle.proto_grammar.specs.declared.tree.Oneof.{Oneof}
+use Rattle.proto_grammar.specs.declared.tree.Method.{Method}
+use Rattle.proto_grammar.specs.declared.tree.Service.{Service}
+use Rattle.proto_grammar.specs.declared.tree.MessageItem.{MessageItem}
+use Rattle.proto_grammar.specs.declared.tree.Import.{Import}
+use Rattle.proto_grammar.specs.declared.tree.ImportKind.{ImportKind}
+use Rattle.proto_grammar.specs.Lexeme.{Lexeme}
+use Rattle.proto_grammar.specs.Terminal.{number_of, is_kind, of_kind, is_key, is_scalar, is_plain_literal}
+use Rattle.proto_grammar.specs.Tree.{MessageTree}
 use Rattle.proto_parse.specs.Walk.{Mark, Among}
 use Rattle.proto_parse.specs.Walk.Mark.{First, Name, Literal, Other}
 use Rattle.proto_parse.specs.Walk.Among.{skip, first as at_first, name as at_name, literal as at_literal, other as at_other}
-use Rattle.proto_parse.specs.Grammar.Steps.{One, Until, Adds, Passes}
-use Rattle.proto_parse.specs.Grammar.Steps.One.{one}
-use Rattle.proto_parse.specs.Grammar.Steps.Until.{done, more}
-use Rattle.proto_parse.specs.Grammar.Steps.Adds.{adds}
-use Rattle.proto_parse.specs.Grammar.Steps.Passes.{passes}
-use Rattle.proto_parse.specs.Grammar.Names.{IsDotName, IsName, IsTypeName, IsType}
-use Rattle.proto_parse.specs.Grammar.Names.IsDotName.{dot_name}
-use Rattle.proto_parse.specs.Grammar.Names.IsName.{name}
-use Rattle.proto_parse.specs.Grammar.Names.IsTypeName.{rooted, plain as plain_name}
-use Rattle.proto_parse.specs.Grammar.Names.IsType.{scalar, named}
-use Rattle.proto_parse.specs.Grammar.Options.{IsOptionPart, IsDotPart, IsLiteral, IsStrings, IsClosed, IsConstant, IsSetting, IsCommaSetting, IsOption, IsOptions}
-use Rattle.proto_parse.specs.Grammar.Options.IsOptionPart.{plain as plain_part, extension}
-use Rattle.proto_parse.specs.Grammar.Options.IsDotPart.{dot_part}
-use Rattle.proto_parse.specs.Grammar.Options.IsOptionName.{option_name}
-use Rattle.proto_parse.specs.Grammar.Options.IsLiteral.{literal}
-use Rattle.proto_parse.specs.Grammar.Options.IsStrings.{strings}
-use Rattle.proto_parse.specs.Grammar.Options.IsClosed.{closed, open_brace, close_brace, other}
-use Rattle.proto_parse.specs.Grammar.Options.IsConstant.{name as a_name, signed, unsigned, strings as some_strings, aggregate}
-use Rattle.proto_parse.specs.Grammar.Options.IsSetting.{setting}
-use Rattle.proto_parse.specs.Grammar.Options.IsCommaSetting.{comma_setting}
-use Rattle.proto_parse.specs.Grammar.Options.IsOption.{option}
-use Rattle.proto_parse.specs.Grammar.Options.IsOptions.{none, some}
-use Rattle.proto_parse.specs.Grammar.Fields.{IsTyped, IsLabel, IsField, IsMapField}
-use Rattle.proto_parse.specs.Grammar.Fields.IsNumbered.{numbered}
-use Rattle.proto_parse.specs.Grammar.Fields.IsTyped.{typed}
-use Rattle.proto_parse.specs.Grammar.Fields.IsLabel.{repeated, optional, no_label}
-use Rattle.proto_parse.specs.Grammar.Fields.IsField.{field}
-use Rattle.proto_parse.specs.Grammar.Fields.IsOneofField.{oneof_field}
-use Rattle.proto_parse.specs.Grammar.Fields.IsMapField.{map_field}
-use Rattle.proto_parse.specs.Grammar.Reserved.{IsInteger, IsRange, IsReservedItem, IsCommaItem, IsReserved}
-use Rattle.proto_parse.specs.Grammar.Reserved.IsInteger.{plain, minus}
-use Rattle.proto_parse.specs.Grammar.Reserved.IsRangeEnd.{number, max}
-use Rattle.proto_parse.specs.Grammar.Reserved.IsRange.{single, range}
-use Rattle.proto_parse.specs.Grammar.Reserved.IsReservedItem.{name as reserved_name, number as reserved_number}
-use Rattle.proto_parse.specs.Grammar.Reserved.IsCommaItem.{comma_item}
-use Rattle.proto_parse.specs.Grammar.Reserved.IsReserved.{reserved}
+use Rattle.proto_grammar.specs.Grammar.Steps.{One, Until, Adds, Passes}
+use Rattle.proto_grammar.specs.Grammar.Steps.One.{one}
+use Rattle.proto_grammar.specs.Grammar.Steps.Until.{done, more}
+use Rattle.proto_grammar.specs.Grammar.Steps.Adds.{adds}
+use Rattle.proto_grammar.specs.Grammar.Steps.Passes.{passes}
+use Rattle.proto_grammar.specs.Grammar.Names.{IsDotName, IsName, IsTypeName, IsType}
+use Rattle.proto_grammar.specs.Grammar.Names.IsDotName.{dot_name}
+use Rattle.proto_grammar.specs.Grammar.Names.IsName.{name}
+use Rattle.proto_grammar.specs.Grammar.Names.IsTypeName.{rooted, plain as plain_name}
+use Rattle.proto_grammar.specs.Grammar.Names.IsType.{scalar, named}
+use Rattle.proto_grammar.specs.Grammar.Options.{IsOptionPart, IsDotPart, IsLiteral, IsStrings, IsClosed, IsConstant, IsSetting, IsCommaSetting, IsOption, IsOptions}
+use Rattle.proto_grammar.specs.Grammar.Options.IsOptionPart.{plain as plain_part, extension}
+use Rattle.proto_grammar.specs.Grammar.Options.IsDotPart.{dot_part}
+use Rattle.proto_grammar.specs.Grammar.Options.IsOptionName.{option_name}
+use Rattle.proto_grammar.specs.Grammar.Options.IsLiteral.{literal}
+use Rattle.proto_grammar.specs.Grammar.Options.IsStrings.{strings}
+use Rattle.proto_grammar.specs.Grammar.Options.IsClosed.{closed, open_brace, close_brace, other}
+use Rattle.proto_grammar.specs.Grammar.Options.IsConstant.{name as a_name, signed, unsigned, strings as some_strings, aggregate}
+use Rattle.proto_grammar.specs.Grammar.Options.IsSetting.{setting}
+use Rattle.proto_grammar.specs.Grammar.Options.IsCommaSetting.{comma_setting}
+use Rattle.proto_grammar.specs.Grammar.Options.IsOption.{option}
+use Rattle.proto_grammar.specs.Grammar.Options.IsOptions.{none, some}
+use Rattle.proto_grammar.specs.Grammar.Fields.{IsTyped, IsLabel, IsField, IsMapField}
+use Rattle.proto_grammar.specs.Grammar.Fields.IsNumbered.{numbered}
+use Rattle.proto_grammar.specs.Grammar.Fields.IsTyped.{typed}
+use Rattle.proto_grammar.specs.Grammar.Fields.IsLabel.{repeated, optional, no_label}
+use Rattle.proto_grammar.specs.Grammar.Fields.IsField.{field}
+use Rattle.proto_grammar.specs.Grammar.Fields.IsOneofField.{oneof_field}
+use Rattle.proto_grammar.specs.Grammar.Fields.IsMapField.{map_field}
+use Rattle.proto_grammar.specs.Grammar.Reserved.{IsInteger, IsRange, IsReservedItem, IsCommaItem, IsReserved}
+use Rattle.proto_grammar.specs.Grammar.Reserved.IsInteger.{plain, minus}
+use Rattle.proto_grammar.specs.Grammar.Reserved.IsRangeEnd.{number, max}
+use Rattle.proto_grammar.specs.Grammar.Reserved.IsRange.{single, range}
+use Rattle.proto_grammar.specs.Grammar.Reserved.IsReservedItem.{name as reserved_name, number as reserved_number}
+use Rattle.proto_grammar.specs.Grammar.Reserved.IsCommaItem.{comma_item}
+use Rattle.proto_grammar.specs.Grammar.Reserved.IsReserved.{reserved}
 use Rattle.proto_parse.specs.Grammar.Messages.{IsHeading, IsEnumItem, IsEnum, IsOneofItem, IsOneof, IsExtendItem, IsExtend, IsMessageItem, IsMessageOf, IsMessage}
 use Rattle.proto_parse.specs.Grammar.Messages.IsHeading.{heading}
 use Rattle.proto_parse.specs.Grammar.Messages.IsValue.{value}
@@ -85,7 +85,7 @@ use Rattle.proto_parse.specs.Grammar.Files.IsImportKind.{weak, public, neither}
 use Rattle.proto_parse.specs.Grammar.Files.IsPathLiteral.{path_literal}
 use Rattle.proto_parse.specs.Grammar.Files.IsImport.{import}
 use Rattle.proto_parse.specs.Grammar.Files.IsPackage.{package_statement}
-use Rattle.proto_parse.proofs.OptionSteps.{both_true}
+use Rattle.proto_grammar.proofs.OptionSteps.{both_true}
 
 -- kinds by their numbers
 abbrev pub kinds : List TokenKind

@@ -1,31 +1,27 @@
 -- Files (proto3 specification, "Proto file", "Syntax", "Import statement" and "Package").
-use Rattle.std.specs.Prelude.{◌≡◌, ℕ, Bool, true, false, ◌-◌, Option, Some, None, List, [], ◌∷◌, ◌++◌, length, take, drop, codes}
+use Rattle.std.specs.Prelude.{◌≡◌, ℕ, Bool, true, false, Option, Some, None, List, [], ◌∷◌, ◌++◌, codes}
 use Rattle.proto_lex.specs.declared.span.Span.{Span}
 use Rattle.proto_lex.specs.declared.token.TokenKind.TheVariants.{StringLiteral, Semicolon, Equals}
-use Rattle.proto_parse.specs.declared.tree.CustomOptions.{CustomOptions}
-use Rattle.proto_parse.specs.declared.tree.Import.{Import}
-use Rattle.proto_parse.specs.declared.tree.ImportKind.{ImportKind}
-use Rattle.proto_parse.specs.declared.tree.ImportKind.TheVariants.{Plain, Weak, Public}
-use Rattle.proto_parse.specs.declared.tree.Enum.{Enum}
-use Rattle.proto_parse.specs.declared.tree.Service.{Service}
-use Rattle.proto_parse.specs.declared.tree.FileItem.{FileItem}
-use Rattle.proto_parse.specs.declared.tree.FileItem.TheVariants as item
-use Rattle.proto_parse.specs.declared.tree.File.{File}
+use Rattle.proto_grammar.specs.declared.tree.CustomOptions.{CustomOptions}
+use Rattle.proto_grammar.specs.declared.tree.Import.{Import}
+use Rattle.proto_grammar.specs.declared.tree.ImportKind.{ImportKind}
+use Rattle.proto_grammar.specs.declared.tree.ImportKind.TheVariants.{Plain, Weak, Public}
+use Rattle.proto_grammar.specs.declared.tree.Enum.{Enum}
+use Rattle.proto_grammar.specs.declared.tree.Service.{Service}
+use Rattle.proto_grammar.specs.declared.tree.FileItem.{FileItem}
+use Rattle.proto_grammar.specs.declared.tree.FileItem.TheVariants as item
+use Rattle.proto_grammar.specs.declared.tree.File.{File}
 use Rattle.proto_parse.specs.declared.statement.FileStatement.TheVariants as chosen
-use Rattle.proto_parse.specs.Lexeme.{Lexeme}
-use Rattle.proto_parse.specs.Terminal.{first_is, of_kind, is_word, is_plain_literal, not_next, is_end}
+use Rattle.proto_grammar.specs.Lexeme.{Lexeme}
+use Rattle.proto_grammar.specs.Terminal.{first_is, of_kind, is_word, is_plain_literal, between_quotes, not_next, is_end}
 use Rattle.proto_parse.specs.Choice.{file_statement_of}
-use Rattle.proto_parse.specs.Tree.{MessageTree}
+use Rattle.proto_grammar.specs.Tree.{MessageTree}
 use Rattle.proto_parse.specs.Limits.{max_message_depth}
-use Rattle.proto_parse.specs.Grammar.Steps.{One, Until, Adds}
-use Rattle.proto_parse.specs.Grammar.Names.{IsName}
-use Rattle.proto_parse.specs.Grammar.Options.{IsOption}
+use Rattle.proto_grammar.specs.Grammar.Steps.{One, Until, Adds}
+use Rattle.proto_grammar.specs.Grammar.Names.{IsName}
+use Rattle.proto_grammar.specs.Grammar.Options.{IsOption}
 use Rattle.proto_parse.specs.Grammar.Messages.{IsEnum, IsExtend, IsMessage}
 use Rattle.proto_parse.specs.Grammar.Services.{IsService}
-
--- What stands between a literal's quotes, as it is spelled.
-abbrev pub between_quotes : List ℕ → List ℕ
-between_quotes spelling = take (length spelling - 2) (drop 1 spelling)
 
 -- The literals that stand next, as many as there are, and what they spell when joined.
 pub data SpellsJoined : List Lexeme → List ℕ → List Lexeme → Type 0 where

@@ -2,28 +2,28 @@
 use Rattle.std.specs.Prelude.{◌≡◌, ℕ, zero, suc, Bool, true, false, Option, Some, None, List, [], codes}
 use Rattle.proto_lex.specs.declared.span.Span.{Span}
 use Rattle.proto_lex.specs.declared.token.TokenKind.TheVariants.{Identifier, Integer, Semicolon, Equals, OpenBrace, CloseBrace}
-use Rattle.proto_parse.specs.declared.tree.CustomOptions.{CustomOptions}
-use Rattle.proto_parse.specs.declared.tree.CustomOptions.TheVariants.{Refuse, Skip}
-use Rattle.proto_parse.specs.declared.tree.Heading.{Heading}
-use Rattle.proto_parse.specs.declared.tree.TypeName.{TypeName}
-use Rattle.proto_parse.specs.declared.tree.Field.{Field}
-use Rattle.proto_parse.specs.declared.tree.MapField.{MapField}
-use Rattle.proto_parse.specs.declared.tree.Enum.{Enum}
-use Rattle.proto_parse.specs.declared.tree.Oneof.{Oneof}
-use Rattle.proto_parse.specs.declared.tree.Leaf.TheVariants as leaf
-use Rattle.proto_parse.specs.declared.tree.MessageItem.{MessageItem}
-use Rattle.proto_parse.specs.declared.tree.MessageItem.TheVariants.{Message, Leaf}
+use Rattle.proto_grammar.specs.declared.tree.CustomOptions.{CustomOptions}
+use Rattle.proto_grammar.specs.declared.tree.CustomOptions.TheVariants.{Refuse, Skip}
+use Rattle.proto_grammar.specs.declared.tree.Heading.{Heading}
+use Rattle.proto_grammar.specs.declared.tree.TypeName.{TypeName}
+use Rattle.proto_grammar.specs.declared.tree.Field.{Field}
+use Rattle.proto_grammar.specs.declared.tree.MapField.{MapField}
+use Rattle.proto_grammar.specs.declared.tree.Enum.{Enum}
+use Rattle.proto_grammar.specs.declared.tree.Oneof.{Oneof}
+use Rattle.proto_grammar.specs.declared.tree.Leaf.TheVariants as leaf
+use Rattle.proto_grammar.specs.declared.tree.MessageItem.{MessageItem}
+use Rattle.proto_grammar.specs.declared.tree.MessageItem.TheVariants.{Message, Leaf}
 use Rattle.proto_parse.specs.declared.statement.MessageStatement.TheVariants as chosen
-use Rattle.proto_parse.specs.Lexeme.{Lexeme}
-use Rattle.proto_parse.specs.Terminal.{first_is, of_kind, is_word, closes}
+use Rattle.proto_grammar.specs.Lexeme.{Lexeme}
+use Rattle.proto_grammar.specs.Terminal.{first_is, of_kind, is_word, closes}
 use Rattle.proto_parse.specs.Choice.{message_statement_of}
-use Rattle.proto_parse.specs.Tree.{MessageTree}
-use Rattle.proto_parse.specs.Items.{body_of}
-use Rattle.proto_parse.specs.Grammar.Steps.{One, Until, Adds, Passes}
-use Rattle.proto_parse.specs.Grammar.Names.{IsTypeName}
-use Rattle.proto_parse.specs.Grammar.Options.{IsOption, IsOptions}
-use Rattle.proto_parse.specs.Grammar.Fields.{IsField, IsOneofField, IsMapField}
-use Rattle.proto_parse.specs.Grammar.Reserved.{IsInteger, IsReserved}
+use Rattle.proto_grammar.specs.Tree.{MessageTree}
+use Rattle.proto_grammar.specs.Items.{body_of}
+use Rattle.proto_grammar.specs.Grammar.Steps.{One, Until, Adds, Passes}
+use Rattle.proto_grammar.specs.Grammar.Names.{IsTypeName}
+use Rattle.proto_grammar.specs.Grammar.Options.{IsOption, IsOptions}
+use Rattle.proto_grammar.specs.Grammar.Fields.{IsField, IsOneofField, IsMapField}
+use Rattle.proto_grammar.specs.Grammar.Reserved.{IsInteger, IsReserved}
 
 -- The declaring word, IDENT, "{".
 pub data IsHeading (word : List ℕ) : List Lexeme → Heading → List Lexeme → Type 0 where

@@ -2,16 +2,16 @@
 use Rattle.std.specs.Prelude.{◌≡◌, Bool, true, false, Option, Some, None, List, [], codes}
 use Rattle.proto_lex.specs.declared.span.Span.{Span}
 use Rattle.proto_lex.specs.declared.token.TokenKind.TheVariants.{Identifier, Semicolon, OpenBrace, CloseBrace, OpenParenthesis, CloseParenthesis}
-use Rattle.proto_parse.specs.declared.tree.CustomOptions.{CustomOptions}
-use Rattle.proto_parse.specs.declared.tree.Heading.{Heading}
-use Rattle.proto_parse.specs.declared.tree.TypeName.{TypeName}
-use Rattle.proto_parse.specs.declared.tree.Method.{Method}
-use Rattle.proto_parse.specs.declared.tree.Service.{Service}
-use Rattle.proto_parse.specs.Lexeme.{Lexeme}
-use Rattle.proto_parse.specs.Terminal.{first_is, of_kind, is_word, closes, begins_scalar}
-use Rattle.proto_parse.specs.Grammar.Steps.{One, Until, Adds, Passes}
-use Rattle.proto_parse.specs.Grammar.Names.{IsTypeName}
-use Rattle.proto_parse.specs.Grammar.Options.{IsOption}
+use Rattle.proto_grammar.specs.declared.tree.CustomOptions.{CustomOptions}
+use Rattle.proto_grammar.specs.declared.tree.Heading.{Heading}
+use Rattle.proto_grammar.specs.declared.tree.TypeName.{TypeName}
+use Rattle.proto_grammar.specs.declared.tree.Method.{Method}
+use Rattle.proto_grammar.specs.declared.tree.Service.{Service}
+use Rattle.proto_grammar.specs.Lexeme.{Lexeme}
+use Rattle.proto_grammar.specs.Terminal.{first_is, of_kind, is_word, closes, begins_scalar}
+use Rattle.proto_grammar.specs.Grammar.Steps.{One, Until, Adds, Passes}
+use Rattle.proto_grammar.specs.Grammar.Names.{IsTypeName}
+use Rattle.proto_grammar.specs.Grammar.Options.{IsOption}
 use Rattle.proto_parse.specs.Grammar.Messages.{IsHeading}
 
 -- [ "stream" ]: directly behind the parenthesis the word is the marker

@@ -3,22 +3,22 @@ use Rattle.std.specs.Prelude.{ℕ, ◌==◌, Bool, cond, Option, Some, None, Lis
 use Rattle.std.specs.List.{starts_with}
 use Rattle.proto_lex.specs.declared.span.Span.{Span}
 use Rattle.proto_lex.specs.declared.token.TokenKind.TheVariants.{StringLiteral, Semicolon, Equals}
-use Rattle.proto_parse.specs.declared.tree.CustomOptions.{CustomOptions}
-use Rattle.proto_parse.specs.declared.tree.Import.{Import}
-use Rattle.proto_parse.specs.declared.tree.ImportKind.{ImportKind}
-use Rattle.proto_parse.specs.declared.tree.ImportKind.TheVariants.{Plain, Weak, Public}
-use Rattle.proto_parse.specs.declared.tree.FileItem.TheVariants as item
-use Rattle.proto_parse.specs.declared.tree.File.{File}
+use Rattle.proto_grammar.specs.declared.tree.CustomOptions.{CustomOptions}
+use Rattle.proto_grammar.specs.declared.tree.Import.{Import}
+use Rattle.proto_grammar.specs.declared.tree.ImportKind.{ImportKind}
+use Rattle.proto_grammar.specs.declared.tree.ImportKind.TheVariants.{Plain, Weak, Public}
+use Rattle.proto_grammar.specs.declared.tree.FileItem.TheVariants as item
+use Rattle.proto_grammar.specs.declared.tree.File.{File}
 use Rattle.proto_parse.specs.declared.statement.FileStatement.{FileStatement}
 use Rattle.proto_parse.specs.declared.statement.FileStatement.TheVariants as chosen
-use Rattle.proto_parse.specs.Lexeme.{Lexeme}
-use Rattle.proto_parse.specs.Terminal.{first, others, first_is, of_kind, is_word, is_plain_literal, not_next, is_end}
+use Rattle.proto_grammar.specs.Lexeme.{Lexeme}
+use Rattle.proto_grammar.specs.Terminal.{first, others, first_is, of_kind, is_word, is_plain_literal, not_next, is_end, between_quotes}
 use Rattle.proto_parse.specs.Choice.{file_statement_of}
 use Rattle.proto_parse.specs.Limits.{max_message_depth}
-use Rattle.proto_parse.specs.Grammar.Files.{between_quotes, empty_file}
-use Rattle.proto_parse.specs.Reading.Steps.{◌>>=◌, Read, token_that, until_at, adding}
-use Rattle.proto_parse.specs.Reading.Names.{name_at}
-use Rattle.proto_parse.specs.Reading.Options.{option_at}
+use Rattle.proto_parse.specs.Grammar.Files.{empty_file}
+use Rattle.proto_grammar.specs.Reading.Steps.{◌>>=◌, Read, token_that, until_at, adding}
+use Rattle.proto_grammar.specs.Reading.Names.{name_at}
+use Rattle.proto_grammar.specs.Reading.Options.{option_at}
 use Rattle.proto_parse.specs.Reading.Messages.{enum_at, extend_at, message_at}
 use Rattle.proto_parse.specs.Reading.Services.{service_at}
 

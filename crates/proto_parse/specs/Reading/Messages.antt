@@ -1,27 +1,27 @@
 -- Enums, oneofs and messages.
 use Rattle.std.specs.Prelude.{ℕ, zero, suc, Bool, true, false, cond, Option, Some, None, List, [], codes}
 use Rattle.proto_lex.specs.declared.token.TokenKind.TheVariants.{Identifier, Semicolon, Equals, OpenBrace, CloseBrace}
-use Rattle.proto_parse.specs.declared.tree.CustomOptions.{CustomOptions}
-use Rattle.proto_parse.specs.declared.tree.CustomOptions.TheVariants.{Refuse, Skip}
-use Rattle.proto_parse.specs.declared.tree.Heading.{Heading}
-use Rattle.proto_parse.specs.declared.tree.Field.{Field}
-use Rattle.proto_parse.specs.declared.tree.Enum.{Enum}
-use Rattle.proto_parse.specs.declared.tree.Oneof.{Oneof}
-use Rattle.proto_parse.specs.declared.tree.Leaf.TheVariants as leaf
-use Rattle.proto_parse.specs.declared.tree.MessageItem.{MessageItem}
-use Rattle.proto_parse.specs.declared.tree.MessageItem.TheVariants.{Message, Leaf}
+use Rattle.proto_grammar.specs.declared.tree.CustomOptions.{CustomOptions}
+use Rattle.proto_grammar.specs.declared.tree.CustomOptions.TheVariants.{Refuse, Skip}
+use Rattle.proto_grammar.specs.declared.tree.Heading.{Heading}
+use Rattle.proto_grammar.specs.declared.tree.Field.{Field}
+use Rattle.proto_grammar.specs.declared.tree.Enum.{Enum}
+use Rattle.proto_grammar.specs.declared.tree.Oneof.{Oneof}
+use Rattle.proto_grammar.specs.declared.tree.Leaf.TheVariants as leaf
+use Rattle.proto_grammar.specs.declared.tree.MessageItem.{MessageItem}
+use Rattle.proto_grammar.specs.declared.tree.MessageItem.TheVariants.{Message, Leaf}
 use Rattle.proto_parse.specs.declared.statement.MessageStatement.{MessageStatement}
 use Rattle.proto_parse.specs.declared.statement.MessageStatement.TheVariants as chosen
-use Rattle.proto_parse.specs.Lexeme.{Lexeme}
-use Rattle.proto_parse.specs.Terminal.{others, first_is, of_kind, is_word, closes}
+use Rattle.proto_grammar.specs.Lexeme.{Lexeme}
+use Rattle.proto_grammar.specs.Terminal.{others, first_is, of_kind, is_word, closes}
 use Rattle.proto_parse.specs.Choice.{message_statement_of}
-use Rattle.proto_parse.specs.Tree.{MessageTree}
-use Rattle.proto_parse.specs.Items.{body_of}
-use Rattle.proto_parse.specs.Reading.Steps.{◌>>=◌, Read, token_that, until_at, adding, passing}
-use Rattle.proto_parse.specs.Reading.Names.{pass_type_name_at}
-use Rattle.proto_parse.specs.Reading.Options.{option_at, options_at}
-use Rattle.proto_parse.specs.Reading.Fields.{field_at, oneof_field_at, map_field_at, pass_field_at}
-use Rattle.proto_parse.specs.Reading.Reserved.{integer_at, reserved_at}
+use Rattle.proto_grammar.specs.Tree.{MessageTree}
+use Rattle.proto_grammar.specs.Items.{body_of}
+use Rattle.proto_grammar.specs.Reading.Steps.{◌>>=◌, Read, token_that, until_at, adding, passing}
+use Rattle.proto_grammar.specs.Reading.Names.{pass_type_name_at}
+use Rattle.proto_grammar.specs.Reading.Options.{option_at, options_at}
+use Rattle.proto_grammar.specs.Reading.Fields.{field_at, oneof_field_at, map_field_at, pass_field_at}
+use Rattle.proto_grammar.specs.Reading.Reserved.{integer_at, reserved_at}
 
 unfoldable pub heading_at : List ℕ → Read Heading
 heading_at word tokens = do

@@ -1,0 +1,35 @@
+-- Each step of a loop takes a token.
+use Rattle.std.proofs.Common.{◌≡◌, Bool, ap}
+use Rattle.proto_grammar.specs.declared.tree.CustomOptions.{CustomOptions}
+use Rattle.proto_grammar.specs.Reading.Steps.{adding, passing}
+use Rattle.proto_grammar.specs.Reading.Names.{dot_name_at, pass_dot_name_at}
+use Rattle.proto_grammar.specs.Reading.Options.{dot_part_at, literal_at, comma_setting_at}
+use Rattle.proto_grammar.specs.Reading.Reserved.{comma_item_at}
+use Rattle.proto_grammar.proofs.OptionSteps.{bind_some, same_some}
+use Rattle.proto_grammar.proofs.UntilLemmas.{Falls, adding-falls}
+use Rattle.proto_grammar.proofs.Found.Names.{dot_name_found}
+use Rattle.proto_grammar.proofs.Found.Options.{dot_part_found, literal_found, comma_setting_found}
+use Rattle.proto_grammar.proofs.Found.Fields.{comma_item_found}
+use Rattle.proto_grammar.proofs.Shorter.{dot_name_shorter, dot_part_shorter, literal_shorter, comma_setting_shorter, comma_item_shorter}
+
+pub dot_names_fall : Falls (adding dot_name_at)
+dot_names_fall = adding-falls dot_name_at (λ tokens x e. dot_name_shorter tokens x.1 x.0 (dot_name_found tokens x e))
+
+pub pass_dot_names_fall : Falls (passing pass_dot_name_at)
+unfolding pass_dot_name_at
+pass_dot_names_fall s tokens x e =
+    let t = bind_some (dot_name_at tokens) _ x e in
+    let left : t.0.1 ≡ x.1 = ap (λ y. y.1) (same_some _ x t.2) in
+    rw (← left) (dot_name_shorter tokens t.0.1 t.0.0 (dot_name_found tokens t.0 t.1))
+
+pub dot_parts_fall : (custom : CustomOptions) → Falls (passing (dot_part_at custom))
+dot_parts_fall custom s tokens x e = dot_part_shorter custom tokens x.1 (dot_part_found custom tokens x e)
+
+pub literals_fall : Falls (passing literal_at)
+literals_fall s tokens x e = literal_shorter tokens x.1 (literal_found tokens x e)
+
+pub comma_settings_fall : (custom : CustomOptions) → Falls (passing (comma_setting_at custom))
+comma_settings_fall custom s tokens x e = comma_setting_shorter custom tokens x.1 (comma_setting_found custom tokens x e)
+
+pub comma_items_fall : (negative names : Bool) → Falls (passing (comma_item_at negative names))
+comma_items_fall negative names s tokens x e = comma_item_shorter negative names tokens x.1 (comma_item_found negative names tokens x e)

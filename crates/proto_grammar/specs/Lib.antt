@@ -1,0 +1,14 @@
+-- Tokens
+pub mod Lexeme
+pub mod Terminal
+-- The tree of a message
+pub mod Tree
+pub mod Code
+pub mod Items
+pub mod Falls
+-- The grammar
+pub mod Grammar
+-- What the parser does
+pub mod Gives
+pub mod Reading
+pub mod View

@@ -1,0 +1,5 @@
+pub mod Steps
+pub mod Names
+pub mod Options
+pub mod Fields
+pub mod Reserved

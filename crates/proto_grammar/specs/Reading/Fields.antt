@@ -1,0 +1,64 @@
+-- Fields.
+use Rattle.std.specs.Prelude.{Bool, cond, Option, Some, None, List, codes}
+use Rattle.proto_lex.specs.declared.span.Span.{Span}
+use Rattle.proto_lex.specs.declared.token.TokenKind.TheVariants.{Identifier, Integer, Semicolon, Equals, Less, Greater, Comma}
+use Rattle.proto_grammar.specs.declared.tree.CustomOptions.{CustomOptions}
+use Rattle.proto_grammar.specs.declared.tree.Heading.{Heading}
+use Rattle.proto_grammar.specs.declared.tree.Label.{Label}
+use Rattle.proto_grammar.specs.declared.tree.Label.TheVariants.{Repeated, Optional}
+use Rattle.proto_grammar.specs.declared.tree.Field.{Field}
+use Rattle.proto_grammar.specs.declared.tree.MapField.{MapField}
+use Rattle.proto_grammar.specs.Lexeme.{Lexeme}
+use Rattle.proto_grammar.specs.Terminal.{others, first_is, of_kind, is_word, is_key}
+use Rattle.proto_grammar.specs.Reading.Steps.{◌>>=◌, Read, token_that, span_at}
+use Rattle.proto_grammar.specs.Reading.Names.{type_at, pass_type_name_at}
+use Rattle.proto_grammar.specs.Reading.Options.{options_at}
+
+unfoldable pub numbered_at : CustomOptions → Span → Read Heading
+numbered_at custom first tokens = do
+  name ← token_that (of_kind Identifier) tokens
+  equals ← token_that (of_kind Equals) name.1
+  number ← token_that (of_kind Integer) equals.1
+  options ← options_at custom number.1
+  closing ← token_that (of_kind Semicolon) options.1
+  Some (record { first = first; name = name.0; closing = closing.0 }, closing.1)
+
+unfoldable pub typed_at : CustomOptions → Span → Option Label → Read Field
+typed_at custom first label tokens = do
+  type ← type_at tokens
+  heading ← numbered_at custom first type.1
+  Some (record { heading = heading.0; label = label; field_type = type.0 }, heading.1)
+
+unfoldable pub label_at : Read (Option Label)
+label_at tokens =
+    cond (first_is (is_word (codes "repeated")) tokens) (Some (Some Repeated, others tokens))
+    (cond (first_is (is_word (codes "optional")) tokens) (Some (Some Optional, others tokens))
+    (Some (None, tokens)))
+
+unfoldable pub field_at : CustomOptions → Read Field
+field_at custom tokens = do
+  first ← span_at tokens
+  label ← label_at first.1
+  typed_at custom first.0 label.0 label.1
+
+unfoldable pub oneof_field_at : CustomOptions → Read Field
+oneof_field_at custom tokens = span_at tokens >>= λ first. typed_at custom first.0 None first.1
+
+unfoldable pub pass_field_at : CustomOptions → Read (Unit {0})
+pass_field_at custom tokens = do
+  first ← span_at tokens
+  label ← label_at first.1
+  type ← pass_type_name_at label.1
+  heading ← numbered_at custom first.0 type.1
+  Some (tt, heading.1)
+
+unfoldable pub map_field_at : CustomOptions → Read MapField
+map_field_at custom tokens = do
+  first ← token_that (is_word (codes "map")) tokens
+  less ← token_that (of_kind Less) first.1
+  key ← token_that is_key less.1
+  comma ← token_that (of_kind Comma) key.1
+  value ← type_at comma.1
+  greater ← token_that (of_kind Greater) value.1
+  heading ← numbered_at custom first.0 greater.1
+  Some (record { heading = heading.0; key = key.0; value = value.0 }, heading.1)

@@ -1,0 +1,98 @@
+-- What single tokens are, and what stands next, as tests.
+use Rattle.std.specs.Prelude.{ℕ, ◌-◌, Bool, true, false, ◌==◌, ◌&&◌, ◌||◌, not, Option, Some, None, List, [], ◌∷◌, length, take, drop, bytes_eq, codes}
+use Rattle.std.specs.Option.{option_map_or}
+use Rattle.std.specs.List.{list_any}
+use Rattle.proto_lex.specs.declared.token.TokenKind.{TokenKind}
+use Rattle.proto_lex.specs.declared.token.TokenKind.TheVariants.{Identifier, Integer, Float, StringLiteral, Semicolon, Equals, OpenBrace, CloseBrace, OpenBracket, CloseBracket, OpenParenthesis, CloseParenthesis, Less, Greater, Comma, Dot, Colon, Plus, Minus, Slash}
+use Rattle.proto_grammar.specs.Lexeme.{Lexeme}
+
+abbrev pub number_of : TokenKind → ℕ
+number_of Identifier = 0
+number_of Integer = 1
+number_of Float = 2
+number_of StringLiteral = 3
+number_of Semicolon = 4
+number_of Equals = 5
+number_of OpenBrace = 6
+number_of CloseBrace = 7
+number_of OpenBracket = 8
+number_of CloseBracket = 9
+number_of OpenParenthesis = 10
+number_of CloseParenthesis = 11
+number_of Less = 12
+number_of Greater = 13
+number_of Comma = 14
+number_of Dot = 15
+number_of Colon = 16
+number_of Plus = 17
+number_of Minus = 18
+number_of Slash = 19
+
+abbrev pub is_kind : TokenKind → TokenKind → Bool
+is_kind wanted kind = number_of kind == number_of wanted
+
+-- "Fields": the words of the scalar types, and those among them that may be the key of a map.
+abbrev pub key_words : List (List ℕ)
+key_words =
+    codes "int32" ∷ (codes "int64" ∷ (codes "uint32" ∷ (codes "uint64" ∷ (codes "sint32" ∷ (codes "sint64" ∷ (codes "fixed32" ∷ (codes "fixed64" ∷ (codes "sfixed32" ∷ (codes "sfixed64" ∷ (codes "bool" ∷ (codes "string" ∷ [])))))))))))
+
+abbrev pub scalar_words : List (List ℕ)
+scalar_words = codes "double" ∷ (codes "float" ∷ (codes "bytes" ∷ key_words))
+
+abbrev pub of_kind : TokenKind → Lexeme → Bool
+of_kind kind t = is_kind kind t.kind
+
+abbrev pub is_word : List ℕ → Lexeme → Bool
+is_word word t = is_kind Identifier t.kind && bytes_eq t.spelling word
+
+abbrev pub is_scalar : Lexeme → Bool
+is_scalar t = is_kind Identifier t.kind && list_any (bytes_eq t.spelling) scalar_words
+
+abbrev pub is_key : Lexeme → Bool
+is_key t = is_kind Identifier t.kind && list_any (bytes_eq t.spelling) key_words
+
+abbrev pub is_sign : Lexeme → Bool
+is_sign t = is_kind Minus t.kind || is_kind Plus t.kind
+
+-- INT or FLOAT
+abbrev pub is_numeral : Lexeme → Bool
+is_numeral t = is_kind Integer t.kind || is_kind Float t.kind
+
+-- what may stand behind a sign
+abbrev pub is_number : Lexeme → Bool
+is_number t = is_numeral t || (is_word (codes "inf") t || is_word (codes "nan") t)
+
+-- What stands between a literal's quotes, as it is spelled.
+abbrev pub between_quotes : List ℕ → List ℕ
+between_quotes spelling = take (length spelling - 2) (drop 1 spelling)
+
+-- a string literal in which no `\` stands
+abbrev pub is_plain_literal : Lexeme → Bool
+is_plain_literal t = is_kind StringLiteral t.kind && not (list_any (λ byte. byte == 92) t.spelling)
+
+abbrev pub first : List Lexeme → Option Lexeme
+first [] = None
+first (t ∷ rest) = Some t
+
+abbrev pub others : List Lexeme → List Lexeme
+others [] = []
+others (t ∷ rest) = rest
+
+-- Whether the next token passes the test.
+abbrev pub first_is : (Lexeme → Bool) → List Lexeme → Bool
+first_is test tokens = option_map_or test (first tokens) false
+
+-- Whether the next token is of another kind, or there is none.
+abbrev pub not_next : TokenKind → List Lexeme → Bool
+not_next kind tokens = not (first_is (of_kind kind) tokens)
+
+abbrev pub closes : List Lexeme → Bool
+closes tokens = first_is (of_kind CloseBrace) tokens
+
+abbrev pub is_end : List Lexeme → Bool
+is_end [] = true
+is_end (t ∷ rest) = false
+
+-- Whether a scalar type stands next: its word, which no `.` follows.
+abbrev pub begins_scalar : List Lexeme → Bool
+begins_scalar tokens = first_is is_scalar tokens && not_next Dot (others tokens)

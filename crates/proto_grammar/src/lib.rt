@@ -1,0 +1,23 @@
+//! The syntax tree of a proto3 source, and the parts of its grammar that stand below declarations:
+//! names, types, options, reserved statements and fields.
+//!
+//! A [`Parser`] is a place among the tokens of a text. Each of its methods reads one part: it goes
+//! behind the part, or gives the fault that it meets.
+#![tactic(auto)]
+
+mod fault;
+mod fields;
+mod kept;
+mod names;
+mod options;
+mod parser;
+mod reserved;
+mod tree;
+
+pub use fault::SyntaxFault;
+pub use kept::keep;
+pub use parser::{Lexeme, Parser};
+pub use tree::{
+    CustomOptions, Enum, Field, FieldType, File, FileItem, Heading, Import, ImportKind, Label,
+    Leaf, MapField, Message, MessageItem, Method, Oneof, Service, TypeName,
+};

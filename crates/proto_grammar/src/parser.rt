@@ -1,0 +1,375 @@
+//! The parser's place among the tokens, and single tokens.
+
+ghost use Rattle.std.specs.Prelude.{◌≡◌, ◌==◌, length, option_map};
+ghost use Rattle.std.specs.List.{list_any};
+ghost use Rattle.proto_grammar.specs.Gives.{Gives};
+ghost use Rattle.proto_grammar.specs.declared.tree.CustomOptions.TheVariants.{Skip};
+ghost use Rattle.proto_grammar.specs.Terminal.{first, others, first_is, of_kind, is_word, is_scalar, is_key, is_sign, is_numeral, is_number, is_plain_literal, between_quotes, begins_scalar, is_end};
+ghost use Rattle.proto_grammar.specs.Reading.Steps.{token_that, span_at};
+ghost use Rattle.proto_grammar.specs.Lexeme.{lexemes_of};
+ghost use Rattle.proto_grammar.specs.View.{lexeme_view};
+
+use crate::fault::SyntaxFault;
+use proto_lex::{Span, TokenKind, Tokens};
+use std::marker::Model;
+
+/// A token with its spelling.
+#[derive(Clone, Copy, Debug)]
+pub struct Lexeme<'t> {
+    pub kind: TokenKind,
+    /// The part of the text that is the token.
+    pub spelling: &'t str,
+    /// Where it stands in the text.
+    pub span: Span,
+}
+
+impl<'t> Lexeme<'t> {
+    /// What stands between a string literal's quotes, as it is spelled.
+    pub fn between_quotes(self) -> &'t [u8]
+        ensures { result.now ≡ between_quotes self.entry.spelling.now }
+    {
+        match self.spelling.as_bytes() {
+            [_, content @ .., _] => content,
+            _ => &[],
+        }
+    }
+
+    /// Whether it is the word.
+    pub fn is_word(self, word: &str) -> bool
+        ensures { result ≡ is_word word.now (lexeme_view self.entry) }
+    {
+        self.kind == TokenKind::Identifier && self.spelling == word
+    }
+
+    /// Whether it is the word of a scalar type (proto3 specification, "Fields").
+    fn is_scalar(self) -> bool
+        ensures { result ≡ is_scalar (lexeme_view self.entry) }
+    {
+        self.kind == TokenKind::Identifier
+            && matches!(
+                self.spelling,
+                "double"
+                    | "float"
+                    | "bytes"
+                    | "int32"
+                    | "int64"
+                    | "uint32"
+                    | "uint64"
+                    | "sint32"
+                    | "sint64"
+                    | "fixed32"
+                    | "fixed64"
+                    | "sfixed32"
+                    | "sfixed64"
+                    | "bool"
+                    | "string"
+            )
+    }
+
+    /// Whether it is the word of a scalar type that may be a map's key (proto3 specification,
+    /// "Map field").
+    fn is_key(self) -> bool
+        ensures { result ≡ is_key (lexeme_view self.entry) }
+    {
+        self.kind == TokenKind::Identifier
+            && matches!(
+                self.spelling,
+                "int32"
+                    | "int64"
+                    | "uint32"
+                    | "uint64"
+                    | "sint32"
+                    | "sint64"
+                    | "fixed32"
+                    | "fixed64"
+                    | "sfixed32"
+                    | "sfixed64"
+                    | "bool"
+                    | "string"
+            )
+    }
+
+    /// Whether it is `-` or `+`.
+    fn is_sign(self) -> bool
+        ensures { result ≡ is_sign (lexeme_view self.entry) }
+    {
+        self.kind == TokenKind::Minus || self.kind == TokenKind::Plus
+    }
+
+    /// Whether it is a number.
+    fn is_numeral(self) -> bool
+        ensures { result ≡ is_numeral (lexeme_view self.entry) }
+    {
+        self.kind == TokenKind::Integer || self.kind == TokenKind::Float
+    }
+
+    /// Whether it is what may stand behind a sign.
+    fn is_number(self) -> bool
+        ensures { result ≡ is_number (lexeme_view self.entry) }
+    {
+        self.is_numeral() || self.is_word("inf") || self.is_word("nan")
+    }
+
+    /// Whether it is a string literal in which no `\` stands.
+    fn is_plain_literal(self) -> bool
+        ensures { result ≡ is_plain_literal (lexeme_view self.entry) }
+    {
+        self.kind == TokenKind::StringLiteral && !has_backslash(self.spelling.as_bytes())
+    }
+}
+
+fn has_backslash(text: &[u8]) -> bool
+    ensures { result ≡ list_any (λ byte. byte == 92) text.now }
+{
+    text.contains(&b'\\')
+}
+
+/// A place among the tokens of a text. Contracts see the tokens behind it, with their spellings.
+#[derive(Drop)]
+pub struct Parser<'t> {
+    tokens: &'t Tokens<'t>,
+    next: usize,
+}
+
+impl<'t> Model for Parser<'t> {
+    ghost use Rattle.std.specs.Prelude.{List, drop};
+    ghost use Rattle.proto_grammar.specs.Lexeme.{Lexeme, lexemes_of};
+
+    ghost Value = { List Lexeme };
+
+    ghost view = { λ parser. drop parser.next (lexemes_of parser.tokens.now.text parser.tokens.now.tokens) };
+}
+
+impl<'t> Parser<'t> {
+    /// The place before the first token.
+    pub fn new(tokens: &'t Tokens<'t>) -> Parser<'t>
+        ensures { result ≡ lexemes_of tokens.now.text tokens.now.tokens }
+    {
+        Parser { tokens, next: 0 }
+    }
+
+    /// The next token, if there is one.
+    pub fn peek(&self) -> Option<Lexeme<'t>>
+        ensures { first self.now ≡ option_map lexeme_view result }
+    {
+        let tokens = self.tokens;
+        let token = tokens.tokens().get(self.next)?;
+        let spelling = tokens.slice(self.next);
+        Some(Lexeme {
+            kind: token.kind,
+            spelling,
+            span: token.span,
+        })
+    }
+
+    /// Takes the next token, if there is one.
+    pub fn next(&mut self) -> Option<Lexeme<'t>>
+        ensures token { first self.old ≡ option_map lexeme_view result }
+        ensures rest { self.new ≡ others self.old }
+    {
+        let lexeme = self.peek();
+        self.advance();
+        lexeme
+    }
+
+    /// Goes behind the next token, if there is one.
+    #[tactic(auto, using(crate::proofs::Places::others_drop))]
+    pub fn advance(&mut self)
+        ensures { self.new ≡ others self.old }
+    {
+        if self.next < self.tokens.tokens().len() {
+            self.next += 1;
+        }
+    }
+
+    /// How many tokens are left.
+    pub(crate) fn left(&self) -> usize
+        ensures { result ≡ length self.now }
+    {
+        self.tokens.tokens().len().saturating_sub(self.next)
+    }
+
+    /// The offset of the next token, or the text's length.
+    pub fn offset(&self) -> usize {
+        match self.peek() {
+            Some(lexeme) => lexeme.span.start,
+            None => self.tokens.text().len(),
+        }
+    }
+
+    /// Whether no token is left.
+    pub fn is_at_end(&self) -> bool
+        ensures { result ≡ is_end self.now }
+    {
+        self.peek().is_none()
+    }
+
+    /// Whether the next token is of the kind.
+    pub fn is_at(&self, kind: TokenKind) -> bool
+        ensures { result ≡ first_is (of_kind kind) self.now }
+    {
+        match self.peek() {
+            Some(lexeme) => lexeme.kind == kind,
+            None => false,
+        }
+    }
+
+    /// Whether the next token is the word.
+    pub fn is_at_word(&self, word: &str) -> bool
+        ensures { result ≡ first_is (is_word word.now) self.now }
+    {
+        match self.peek() {
+            Some(lexeme) => lexeme.is_word(word),
+            None => false,
+        }
+    }
+
+    /// Whether the next token is `-` or `+`.
+    pub(crate) fn is_at_sign(&self) -> bool
+        ensures { result ≡ first_is is_sign self.now }
+    {
+        match self.peek() {
+            Some(lexeme) => lexeme.is_sign(),
+            None => false,
+        }
+    }
+
+    /// The place behind the next token, if there is one.
+    fn behind(&self) -> Parser<'t>
+        ensures { result ≡ others self.now }
+    {
+        let mut behind = Parser {
+            tokens: self.tokens,
+            next: self.next,
+        };
+        behind.advance();
+        behind
+    }
+
+    /// Whether the token behind the next one is of the kind.
+    pub fn is_before(&self, kind: TokenKind) -> bool
+        ensures { result ≡ first_is (of_kind kind) (others self.now) }
+    {
+        self.behind().is_at(kind)
+    }
+
+    /// Whether the next token is the word of a scalar type, which no `.` follows.
+    pub(crate) fn is_at_scalar(&self) -> bool
+        ensures { result ≡ begins_scalar self.now }
+    {
+        match self.peek() {
+            Some(lexeme) => lexeme.is_scalar() && !self.is_before(TokenKind::Dot),
+            None => false,
+        }
+    }
+
+    /// Where the next token stands, which is left.
+    #[tactic(auto, unfolding(crate::specs::Reading::Steps::span_at))]
+    pub(crate) fn span(&self) -> Result<Span, SyntaxFault>
+        ensures { Gives Skip (λ x. x) self.now result (span_at self.now) }
+    {
+        match self.peek() {
+            Some(lexeme) => Ok(lexeme.span),
+            None => Err(SyntaxFault::Grammar(self.offset())),
+        }
+    }
+
+    /// Takes a token of the kind.
+    #[tactic(auto, unfolding(crate::specs::Reading::Steps::token_that))]
+    pub fn token(&mut self, kind: TokenKind) -> Result<Span, SyntaxFault>
+        ensures { Gives Skip (λ x. x) self.new result (token_that (of_kind kind) self.old) }
+    {
+        let offset = self.offset();
+        match self.next() {
+            Some(lexeme) if lexeme.kind == kind => Ok(lexeme.span),
+            _ => Err(SyntaxFault::Grammar(offset)),
+        }
+    }
+
+    /// Takes the word.
+    #[tactic(auto, unfolding(crate::specs::Reading::Steps::token_that))]
+    pub fn word(&mut self, word: &str) -> Result<Span, SyntaxFault>
+        ensures { Gives Skip (λ x. x) self.new result (token_that (is_word word.now) self.old) }
+    {
+        let offset = self.offset();
+        match self.next() {
+            Some(lexeme) if lexeme.is_word(word) => Ok(lexeme.span),
+            _ => Err(SyntaxFault::Grammar(offset)),
+        }
+    }
+
+    /// Takes the word of a scalar type.
+    #[tactic(auto, unfolding(crate::specs::Reading::Steps::token_that))]
+    pub(crate) fn scalar(&mut self) -> Result<Span, SyntaxFault>
+        ensures { Gives Skip (λ x. x) self.new result (token_that is_scalar self.old) }
+    {
+        let offset = self.offset();
+        match self.next() {
+            Some(lexeme) if lexeme.is_scalar() => Ok(lexeme.span),
+            _ => Err(SyntaxFault::Grammar(offset)),
+        }
+    }
+
+    /// Takes the word of a scalar type that may be a map's key.
+    #[tactic(auto, unfolding(crate::specs::Reading::Steps::token_that))]
+    pub(crate) fn key(&mut self) -> Result<Span, SyntaxFault>
+        ensures { Gives Skip (λ x. x) self.new result (token_that is_key self.old) }
+    {
+        let offset = self.offset();
+        match self.next() {
+            Some(lexeme) if lexeme.is_key() => Ok(lexeme.span),
+            _ => Err(SyntaxFault::Grammar(offset)),
+        }
+    }
+
+    /// Takes a number without a sign.
+    #[tactic(auto, unfolding(crate::specs::Reading::Steps::token_that))]
+    pub(crate) fn numeral(&mut self) -> Result<Span, SyntaxFault>
+        ensures { Gives Skip (λ x. x) self.new result (token_that is_numeral self.old) }
+    {
+        let offset = self.offset();
+        match self.next() {
+            Some(lexeme) if lexeme.is_numeral() => Ok(lexeme.span),
+            _ => Err(SyntaxFault::Grammar(offset)),
+        }
+    }
+
+    /// Takes what may stand behind a sign.
+    #[tactic(auto, unfolding(crate::specs::Reading::Steps::token_that))]
+    pub(crate) fn number(&mut self) -> Result<Span, SyntaxFault>
+        ensures { Gives Skip (λ x. x) self.new result (token_that is_number self.old) }
+    {
+        let offset = self.offset();
+        match self.next() {
+            Some(lexeme) if lexeme.is_number() => Ok(lexeme.span),
+            _ => Err(SyntaxFault::Grammar(offset)),
+        }
+    }
+
+    /// Takes a `-` or `+`.
+    #[tactic(auto, unfolding(crate::specs::Reading::Steps::token_that))]
+    pub(crate) fn sign(&mut self) -> Result<Span, SyntaxFault>
+        ensures { Gives Skip (λ x. x) self.new result (token_that is_sign self.old) }
+    {
+        let offset = self.offset();
+        match self.next() {
+            Some(lexeme) if lexeme.is_sign() => Ok(lexeme.span),
+            _ => Err(SyntaxFault::Grammar(offset)),
+        }
+    }
+
+    /// Takes a literal of an import's path.
+    #[tactic(auto, unfolding(crate::specs::Reading::Steps::token_that))]
+    pub fn plain_literal(&mut self) -> Result<Span, SyntaxFault>
+        ensures { Gives Skip (λ x. x) self.new result (token_that is_plain_literal self.old) }
+    {
+        let offset = self.offset();
+        match self.next() {
+            Some(lexeme) if lexeme.is_plain_literal() => Ok(lexeme.span),
+            Some(lexeme) if lexeme.kind == TokenKind::StringLiteral => {
+                Err(SyntaxFault::ImportEscape(offset))
+            }
+            _ => Err(SyntaxFault::Grammar(offset)),
+        }
+    }
+}

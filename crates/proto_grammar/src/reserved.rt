@@ -1,0 +1,95 @@
+//! Reserved statements.
+
+ghost use Rattle.std.specs.Prelude.{◌≡◌};
+ghost use Rattle.proto_grammar.specs.Gives.{Gives};
+ghost use Rattle.proto_grammar.specs.declared.tree.CustomOptions.TheVariants.{Skip};
+ghost use Rattle.proto_grammar.specs.Reading.Reserved.{plain_integer_at, integer_at, range_end_at, range_at, reserved_item_at, comma_item_at, comma_items_at, reserved_at};
+
+use crate::fault::SyntaxFault;
+use crate::parser::Parser;
+use proto_lex::TokenKind;
+
+impl<'t> Parser<'t> {
+    #[tactic(auto, unfolding(crate::specs::Reading::Reserved::plain_integer_at))]
+    fn plain_integer(&mut self) -> Result<(), SyntaxFault>
+        ensures { Gives Skip (λ x. x) self.new result (plain_integer_at self.old) }
+    {
+        self.token(TokenKind::Integer)?;
+        Ok(())
+    }
+
+    /// A whole number, behind a `-` only where it may be negative.
+    #[tactic(auto, unfolding(crate::specs::Reading::Reserved::integer_at))]
+    pub fn integer(&mut self, negative: bool) -> Result<(), SyntaxFault>
+        ensures { Gives Skip (λ x. x) self.new result (integer_at negative self.old) }
+    {
+        if negative && self.is_at(TokenKind::Minus) {
+            self.advance();
+        }
+        self.plain_integer()
+    }
+
+    #[tactic(auto, unfolding(crate::specs::Reading::Reserved::range_end_at))]
+    fn range_end(&mut self, negative: bool) -> Result<(), SyntaxFault>
+        ensures { Gives Skip (λ x. x) self.new result (range_end_at negative self.old) }
+    {
+        if self.is_at_word("max") {
+            self.advance();
+            return Ok(());
+        }
+        self.integer(negative)
+    }
+
+    #[tactic(auto, unfolding(crate::specs::Reading::Reserved::range_at))]
+    fn range(&mut self, negative: bool) -> Result<(), SyntaxFault>
+        ensures { Gives Skip (λ x. x) self.new result (range_at negative self.old) }
+    {
+        self.integer(negative)?;
+        if self.is_at_word("to") {
+            self.advance();
+            return self.range_end(negative);
+        }
+        Ok(())
+    }
+
+    #[tactic(auto, unfolding(crate::specs::Reading::Reserved::reserved_item_at))]
+    fn reserved_item(&mut self, negative: bool, names: bool) -> Result<(), SyntaxFault>
+        ensures { Gives Skip (λ x. x) self.new result (reserved_item_at negative names self.old) }
+    {
+        if names {
+            return self.strings();
+        }
+        self.range(negative)
+    }
+
+    #[tactic(auto, unfolding(crate::specs::Reading::Reserved::comma_item_at))]
+    fn comma_item(&mut self, negative: bool, names: bool) -> Result<(), SyntaxFault>
+        ensures { Gives Skip (λ x. x) self.new result (comma_item_at negative names self.old) }
+    {
+        self.token(TokenKind::Comma)?;
+        self.reserved_item(negative, names)
+    }
+
+    fn comma_items(&mut self, negative: bool, names: bool) -> Result<(), SyntaxFault>
+        ensures { Gives Skip (λ x. x) self.new result (comma_items_at negative names self.old) }
+    {
+        'items: while self.is_at(TokenKind::Comma) {
+            self.comma_item(negative, names)?;
+        }
+        Ok(())
+    }
+
+    /// A reserved statement (proto3 specification, "Reserved"). Its numbers may be negative in an
+    /// enum.
+    #[tactic(auto, unfolding(crate::specs::Reading::Reserved::reserved_at))]
+    pub fn reserved(&mut self, negative: bool) -> Result<(), SyntaxFault>
+        ensures { Gives Skip (λ x. x) self.new result (reserved_at negative self.old) }
+    {
+        self.word("reserved")?;
+        let names = self.is_at(TokenKind::StringLiteral);
+        self.reserved_item(negative, names)?;
+        self.comma_items(negative, names)?;
+        self.token(TokenKind::Semicolon)?;
+        Ok(())
+    }
+}

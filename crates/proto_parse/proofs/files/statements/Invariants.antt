@@ -1,0 +1,12 @@
+use Rattle.std.proofs.Common.{◌≡◌, length}
+use Rattle.proto_grammar.specs.Terminal.{is_end}
+use Rattle.proto_parse.specs.Grammar.Files.{empty_file}
+use Rattle.proto_grammar.specs.Reading.Steps.{until_at}
+use Rattle.proto_parse.specs.Reading.Files.{statement_at}
+use Rattle.proto_parse.proofs.files.statements.Given as goal
+
+abbrev pub invariant-statements : goal.invariant-statements
+invariant-statements l = until_at is_end (statement_at l.custom) l.file l.parser ≡ until_at is_end (statement_at l.custom) empty_file l.initial.parser
+
+abbrev pub decreases-statements : goal.decreases-statements
+decreases-statements l = length l.parser

@@ -1,8 +1,0 @@
-use Rattle.std.proofs.Common.{◌<◌, length, arith}
-use Rattle.proto_parse.proofs.TokenLemmas.{token_found, one_shorter}
-use Rattle.proto_parse.proofs.parser.Parser.aggregate.Goals as goal
-
-pub closed-requires : goal.closed-requires
-closed-requires c =
-    let shorter : length c.token.new.self < length c.args.self.now = one_shorter (token_found c.args.self.now (_, c.token.new.self) c.in_ok-token.ensures) in
-    omega (arith, c.left-left.ensures)

@@ -2,7 +2,7 @@
 
 ghost use Rattle.std.specs.Prelude.{◌≡◌, ◌+◌, ◌<◌, ◌≤◌, ◌⊎◌, length, IfOk, IfErr, IsOkUnless, IsCharBoundary};
 ghost use Rattle.std.specs.List.Sorted.{IsPartitionPoint};
-ghost use Rattle.proto_lex.specs.Position.{line_starts, position_of};
+ghost use Rattle.proto_lex.specs.Position.{line_of, line_starts, position_of};
 ghost use Rattle.proto_lex.specs.Text.{IsText, IsNoText};
 
 use crate::fault::LexFault;
@@ -88,6 +88,14 @@ impl<'a> Text<'a> {
             line: line as u32,
             column: columns(encoding, &self.text.as_bytes()[start..offset]),
         }
+    }
+
+    /// The line of `offset`, from 0: how many `\n` stand before it. It is found by a search among the
+    /// line starts, without a look at the line.
+    pub fn line(&self, offset: usize) -> usize
+        ensures { result ≡ line_of self.now offset }
+    {
+        self.line_at(offset)
     }
 
     /// The line of `offset`, whose start is the last that is not after it.

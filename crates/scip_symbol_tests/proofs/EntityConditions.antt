@@ -1,0 +1,72 @@
+-- What the tests name are entities.
+use Rattle.std.proofs.Common.{◌≡◌, ℕ, ◌≤◌, true, List, [], ◌∷◌, codes, refl, sym, subst, arith}
+use Rattle.std.specs.Prelude.{All, nat_le}
+use Rattle.std.specs.List.{list_all}
+use Rattle.std.proofs.lemmas.List.Elements.{All-cons, All-nil}
+use Rattle.std.proofs.lemmas.Bool.{and_parts}
+use Rattle.std.proofs.lemmas.Bool.Decides.{nat_tests}
+use Rattle.proto_lex.specs.Lexes.{identifier}
+use Rattle.scip_symbol.specs.Path.{IsComponent}
+use Rattle.scip_symbol.specs.Entities.{IsIdentifier, OfFile, OfPackage, OfDeclaration, IsEntity}
+use Rattle.scip_symbol.specs.declared.declaration.DeclarationKind.{DeclarationKind}
+use Rattle.scip_symbol.specs.declared.declaration.DeclarationStep.{DeclarationStep}
+
+at_least : (x : ℕ) → nat_le 32 x ≡ true → 32 ≤ x
+at_least x h = grind (arith, nat_tests)
+
+printable : (xs : List ℕ) → list_all (nat_le 32) xs ≡ true → All (λ b. 32 ≤ b) xs
+printable [] h = All-nil (λ b. 32 ≤ b)
+printable (x ∷ xs) h =
+    let p = and_parts (nat_le 32 x) (list_all (nat_le 32) xs) h in
+    All-cons (λ b. 32 ≤ b) x xs (at_least x p.0) (printable xs p.1)
+
+pub spaced_file : IsEntity (OfFile (codes "a b.proto"))
+spaced_file = record {
+  short = omega arith;
+  printable = printable (codes "a b.proto") refl;
+  components = All-cons IsComponent (codes "a b.proto") [] (record { some = λ e. cc; no_dot = λ e. cc; no_dots = λ e. cc }) (All-nil IsComponent);
+  name = codes "a b";
+  ending = refl;
+}
+
+pub inner_file : IsEntity (OfFile (codes "a/b.proto"))
+inner_file = record {
+  short = omega arith;
+  printable = printable (codes "a/b.proto") refl;
+  components = All-cons IsComponent (codes "a") (codes "b.proto" ∷ []) (record { some = λ e. cc; no_dot = λ e. cc; no_dots = λ e. cc })
+      (All-cons IsComponent (codes "b.proto") [] (record { some = λ e. cc; no_dot = λ e. cc; no_dots = λ e. cc }) (All-nil IsComponent));
+  name = codes "a/b";
+  ending = refl;
+}
+
+word : (name : List ℕ) (text : List ℕ) → IsIdentifier text → name ≡ text → IsIdentifier name
+word name text h e = subst IsIdentifier (sym e) h
+
+pub two_components : (a b : List ℕ) → a ≡ codes "a" → b ≡ codes "b" → IsEntity (OfPackage (a ∷ b ∷ []))
+two_components a b e f = (
+  λ none. cc,
+  All-cons IsIdentifier a (b ∷ []) (word a (codes "a") (identifier refl refl) e)
+      (All-cons IsIdentifier b [] (word b (codes "b") (identifier refl refl) f) (All-nil IsIdentifier)),
+)
+
+abbrev step : DeclarationKind → List ℕ → DeclarationStep
+step kind name = record { kind = kind; name = name }
+
+abbrev IsNamed : DeclarationStep → Type 0
+IsNamed s = IsIdentifier s.name
+
+pub message : (kind : DeclarationKind) (a : List ℕ) → a ≡ codes "A" → IsEntity (OfDeclaration [] (step kind a ∷ []))
+message kind a e = (
+  All-nil IsIdentifier,
+  λ none. cc,
+  All-cons IsNamed (step kind a) [] (word a (codes "A") (identifier refl refl) e) (All-nil IsNamed),
+)
+
+pub declared : (p a b : List ℕ) (outer kind : DeclarationKind) → p ≡ codes "p" → a ≡ codes "A" → b ≡ codes "b"
+    → IsEntity (OfDeclaration (p ∷ []) (step outer a ∷ step kind b ∷ []))
+declared p a b outer kind d e f = (
+  All-cons IsIdentifier p [] (word p (codes "p") (identifier refl refl) d) (All-nil IsIdentifier),
+  λ none. cc,
+  All-cons IsNamed (step outer a) (step kind b ∷ []) (word a (codes "A") (identifier refl refl) e)
+      (All-cons IsNamed (step kind b) [] (word b (codes "b") (identifier refl refl) f) (All-nil IsNamed)),
+)

@@ -1,0 +1,74 @@
+//! The calls that may want for memory, and how a test tells what it saw.
+
+ghost use Rattle.scip_symbol.specs.Entities.{OfFile, OfPackage, OfDeclaration, IsEntity};
+
+use scip_symbol::{
+    DeclarationStep, PackageId, Symbol, SymbolFault, file_symbol, package_symbol, print, read,
+    symbol_of,
+};
+use sequences::OwnedText;
+use std::alloc::{AllocError, Global};
+use std::process::Abort;
+
+/// Ends the test where this isn't so.
+pub(crate) fn see(rt: &impl Abort, so: bool, what: &str) {
+    assert!(rt; so, "{what}");
+}
+
+/// Ends the test where a case of its table went wrong, with the first such case, from 0.
+pub(crate) fn see_all(rt: &impl Abort, wrong: Option<usize>) {
+    assert!(rt; wrong.is_none(), "case {wrong:?}");
+}
+
+/// What `read` answers for a text. After `Memory` it is called again, and the second answer counts.
+pub(crate) fn read_again(alloc: Global, text: &str) -> Result<Symbol, SymbolFault> {
+    match read(alloc, text) {
+        Err(SymbolFault::Memory) => read(alloc, text),
+        answer => answer,
+    }
+}
+
+/// What `print` answers for a symbol. After want of memory it is called again, and the second
+/// answer counts; so it is with the calls below.
+pub(crate) fn print_again(alloc: Global, symbol: &Symbol) -> Result<String, AllocError> {
+    match print(alloc, symbol) {
+        Err(_) => print(alloc, symbol),
+        text => text,
+    }
+}
+
+pub(crate) fn file_again(alloc: Global, id: &PackageId, path: &str) -> Result<Symbol, AllocError>
+    requires { IsEntity (OfFile path.now) }
+{
+    match file_symbol(alloc, id, path) {
+        Err(_) => file_symbol(alloc, id, path),
+        symbol => symbol,
+    }
+}
+
+pub(crate) fn package_again(
+    alloc: Global,
+    id: &PackageId,
+    components: &[OwnedText],
+) -> Result<Symbol, AllocError>
+    requires { IsEntity (OfPackage components.now) }
+{
+    match package_symbol(alloc, id, components) {
+        Err(_) => package_symbol(alloc, id, components),
+        symbol => symbol,
+    }
+}
+
+pub(crate) fn declaration_again(
+    alloc: Global,
+    id: &PackageId,
+    components: &[OwnedText],
+    way: &[DeclarationStep],
+) -> Result<Symbol, AllocError>
+    requires { IsEntity (OfDeclaration components.now way.now) }
+{
+    match symbol_of(alloc, id, components, way) {
+        Err(_) => symbol_of(alloc, id, components, way),
+        symbol => symbol,
+    }
+}

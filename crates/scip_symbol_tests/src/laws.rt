@@ -1,0 +1,10 @@
+//! The laws, which do nothing and end.
+
+use scip_symbol::{symbols_have_spellings, symbols_name_one_entity, text_spells_one_symbol};
+
+#[test]
+fn laws_are_called() {
+    text_spells_one_symbol();
+    symbols_have_spellings();
+    symbols_name_one_entity();
+}

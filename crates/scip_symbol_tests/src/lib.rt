@@ -1,0 +1,13 @@
+//! Tests of `scip_symbol`, by its public calls.
+#![tactic(auto)]
+
+#[cfg(test)]
+mod calls;
+#[cfg(test)]
+mod entities;
+#[cfg(test)]
+mod fronts;
+#[cfg(test)]
+mod laws;
+#[cfg(test)]
+mod symbols;

@@ -1,14 +1,12 @@
 -- Each possible event keeps the core machine sound.
-use Rattle.std.proofs.Common.{◌≡◌, ℕ, ◌+◌, ◌%◌, ◌<◌, ◌≤◌, true, false, List, [], ◌∷◌, ◌++◌, length, drop, set, get_or, slice_index, sum_by, All, refl, sym, ap, ◌∙◌, subst, arith}
+use Rattle.std.proofs.Common.{◌≡◌, ℕ, ◌+◌, ◌%◌, ◌<◌, [], length, drop, set, slice_index, sum_by, All, refl, ap, ◌∙◌, arith}
 use Rattle.std.proofs.Math.ListN.{length-set}
 use Rattle.std.proofs.lemmas.List.Sums.{sum_by-set, sum_by_push}
 use Rattle.std.proofs.lemmas.List.Folds.{sum_by-replicate}
 use Rattle.std.proofs.lemmas.List.Elements.{All-set, All-get_or, All-replicate, All-weaker}
-use Rattle.std.proofs.Math.Nat.{mod-lt}
-use Rattle.std.specs.List.{range_with_len}
 use Rattle.index_pool.specs.declared.core_machine.Event.{Event}
 use Rattle.index_pool.specs.declared.core_machine.Event.TheVariants.{Seed, Pop, PopEmpty, Steal, StealEmpty, StealRetry}
-use Rattle.index_pool.specs.CoreMachine.{WorkerState, CoreState, idle, core_start, worker_at, queue_of, neighbour, IsReady, HasNoted, MayHappen, queued, unqueued, taken, noted, with_worker, after_take, state_after}
+use Rattle.index_pool.specs.CoreMachine.{WorkerState, CoreState, idle, core_start, worker_at, queue_of, neighbour, IsReady, MayHappen, queued, unqueued, taken, noted, with_worker, after_take, state_after}
 use Rattle.index_pool.specs.CoreFields.{held, NotesTruly, IsSound}
 use Rattle.index_pool.proofs.OnceLemmas.{sum_by-range_more, sum_by-front}
 
@@ -28,7 +26,7 @@ weigh_with h s w y within = sum_by-set (held h) s.workers w y idle within
 pub take_weighs : (h : ℕ → ℕ) (s : CoreState) (from : ℕ) → from < length s.workers → 0 < length (queue_of s from) → sum_by (held h) (set s.workers from (unqueued (worker_at s from))) + h (slice_index (queue_of s from) 0) ≡ sum_by (held h) s.workers
 take_weighs h s from within some = let a = weigh_with h s from (unqueued (worker_at s from)) within in let b = held_unqueued h (worker_at s from) some in omega arith
 
-notes_at : (s : CoreState) (w : ℕ) → IsSound s → w < length s.workers → NotesTruly s (worker_at s w)
+pub notes_at : (s : CoreState) (w : ℕ) → IsSound s → w < length s.workers → NotesTruly s (worker_at s w)
 notes_at s w sound within = All-get_or (NotesTruly s) s.workers w idle within sound.noted
 
 pub sound_start : (inputs workers : ℕ) → IsSound (core_start inputs workers)
@@ -69,7 +67,7 @@ sound_note s w sound ready empty = record {
   within = sound.within;
 }
 
-neighbour_within : (s : CoreState) (w : ℕ) → 0 < length s.workers → neighbour s w < length s.workers
+pub neighbour_within : (s : CoreState) (w : ℕ) → 0 < length s.workers → neighbour s w < length s.workers
 neighbour_within s w some = omega arith
 
 pub sound_after : (s : CoreState) (e : Event) → IsSound s → 0 < length s.workers → MayHappen s e → IsSound (state_after s e)

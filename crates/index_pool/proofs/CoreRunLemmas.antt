@@ -1,14 +1,13 @@
 -- The laws of the core machine's runs.
-use Rattle.std.proofs.Common.{◌≡◌, ℕ, ◌+◌, ◌<◌, true, List, [], ◌∷◌, ◌++◌, length, get_or, sum_by, All, nat_lt, if◌then◌else◌, refl, sym, ap, ◌∙◌, subst, arith}
+use Rattle.std.proofs.Common.{◌≡◌, ℕ, ◌<◌, true, List, [], ◌∷◌, ◌++◌, length, sum_by, All, nat_lt, if◌then◌else◌, refl, sym, ap, ◌∙◌, subst, arith}
 use Rattle.std.proofs.lemmas.List.Sums.{sum_by-append, sum_by-cons}
 use Rattle.std.proofs.Math.ListN.{length-replicate}
 use Rattle.std.proofs.lemmas.List.Elements.{All-nil, All-cons, All-get_or, All-head, All-tail}
-use Rattle.std.specs.List.{range_with_len, flat_map}
+use Rattle.std.specs.List.{flat_map}
 use Rattle.index_pool.specs.declared.core_machine.Event.{Event}
-use Rattle.index_pool.specs.Once.{times, HasEachOnceBelow}
-use Rattle.index_pool.specs.CoreMachine.{WorkerState, CoreState, idle, core_start, state_after, MayHappen, CoreRun, numbers_held, all_takings, LosesNoNumber, TakesEachNumber}
+use Rattle.index_pool.specs.CoreMachine.{WorkerState, CoreState, idle, core_start, state_after, CoreRun, LosesNoNumber, TakesEachNumber}
 use Rattle.index_pool.specs.CoreFields.{held, NotesTruly, IsSound}
-use Rattle.index_pool.proofs.OnceLemmas.{only_at, sum_only_at-range, sum_by-flat_map}
+use Rattle.index_pool.proofs.OnceLemmas.{only_at, sum_only_at-range}
 use Rattle.index_pool.proofs.CoreMachineLemmas.{sound_start, sound_after, workers_after, inputs_after}
 
 -- after a run the machine is sound, with as many workers and inputs as at first

@@ -1,5 +1,5 @@
 -- The results, put into the order of their inputs.
-use Rattle.std.proofs.Common.{◌≡◌, ◌≢◌, ℕ, zero, suc, ◌+◌, ◌-◌, ◌<◌, ◌≤◌, Bool, true, false, List, [], ◌∷◌, ◌++◌, length, set, get_or, drop, slice_get, All, Contains, Option, Some, None, Result, Ok, Err, sum_by, refl, sym, ap, ◌∙◌, subst, append-nil, ◌⊎◌, inl, inr, ⊎_elim, add-one, ◌==◌, nat_lt, if◌then◌else◌, arith}
+use Rattle.std.proofs.Common.{◌≡◌, ◌≢◌, ℕ, zero, suc, ◌+◌, ◌<◌, ◌≤◌, true, false, List, [], ◌∷◌, ◌++◌, length, set, get_or, drop, slice_get, All, Option, Some, None, Result, Ok, Err, refl, sym, ap, ◌∙◌, subst, append-nil, ◌⊎◌, inl, inr, ⊎_elim, add-one, ◌==◌, arith}
 use Rattle.std.proofs.Math.ListN.{length-set, length-drop}
 use Rattle.std.proofs.Math.Seq.{drop-cons}
 use Rattle.std.proofs.lemmas.List.{length_push, get_or-set_same, get_or-set_other}
@@ -7,13 +7,14 @@ use Rattle.std.proofs.lemmas.Option.{slice_get_within, get_or_from_slice_get, sl
 use Rattle.std.proofs.lemmas.List.Elements.{All-get_or, Contains-append_left, Contains-push}
 use Rattle.std.proofs.lemmas.List.Sums.{sum_by_push}
 use Rattle.std.proofs.lemmas.Bool.Decides.{eqb_tells}
-use Rattle.std.specs.List.{range_with_len}
 use Rattle.index_pool.specs.declared.phase.worker.Ran.{Ran}
 use Rattle.index_pool.specs.declared.phase.fault.PoolFault.{PoolFault}
 use Rattle.index_pool.specs.declared.phase.fault.PoolFault.TheVariants.{Spawn, Memory, Job}
-use Rattle.index_pool.specs.Phase.{AnswersEach, IsLeastFault, MayRefuse}
-use Rattle.index_pool.specs.PhaseSteps.{weight, IsAmong, IsFilled, IsFull, HasResult}
-use Rattle.index_pool.proofs.OnceLemmas.{only_at, sum_only_at-range, only_at_other, one_below}
+use Rattle.index_pool.specs.Once.{HasEachOnceBelow}
+use Rattle.index_pool.specs.Phase.{AnswersEach, MayRefuse}
+use Rattle.index_pool.specs.PhaseSteps.{weight, numbers_of, IsAmong, IsFilled, IsFull, HasResult}
+use Rattle.index_pool.proofs.OnceLemmas.{only_at, only_at_other, one_below}
+use Rattle.index_pool.proofs.ResultsLemmas.{once_weighs}
 
 some_none : {A : Type 0} (a : A) → ◌≡◌ {A = Option A} (Some a) None → ⊥
 some_none a e = cc
@@ -97,13 +98,13 @@ placed_more {A} ys slots number answer p =
           (slice_get_set slots number k (Some answer) None e);
     }
 
-slot_filled : {A : Type 0} (n : ℕ) (rs : List (Ran A)) (slots : List (Option A)) → Placed rs slots → ((h : ℕ → ℕ) → weight h rs ≡ sum_by h (range_with_len 0 n)) → (k : ℕ) → k < n
+slot_filled : {A : Type 0} (n : ℕ) (rs : List (Ran A)) (slots : List (Option A)) → Placed rs slots → HasEachOnceBelow n (numbers_of rs) → (k : ℕ) → k < n
     → (o : Option A) → slice_get slots k ≡ Some o → (a : A) × (slice_get slots k ≡ Some (Some a)) × IsAmong rs k a
-slot_filled n rs slots p weighed k below (Some a) e = (a, e, p.held k a e)
-slot_filled n rs slots p weighed k below None e = absurd (let a = p.lacking k e in let b = weighed (only_at k) in let c = sum_only_at-range k n in let d = one_below k n below in omega arith)
+slot_filled n rs slots p once k below (Some a) e = (a, e, p.held k a e)
+slot_filled n rs slots p once k below None e = absurd (let a = p.lacking k e in let b = once_weighs n rs once k in let d = one_below k n below in omega arith)
 
-pub placed_fills : {A : Type 0} (n : ℕ) (rs : List (Ran A)) (slots : List (Option A)) → Placed rs slots → length slots ≡ n → ((h : ℕ → ℕ) → weight h rs ≡ sum_by h (range_with_len 0 n)) → IsFilled (IsAmong rs) n slots
-placed_fills n rs slots p count weighed = (count, λ k below. (let o = slice_get_some slots k (omega arith) in slot_filled n rs slots p weighed k below o.0 o.1))
+pub placed_fills : {A : Type 0} (n : ℕ) (rs : List (Ran A)) (slots : List (Option A)) → Placed rs slots → length slots ≡ n → HasEachOnceBelow n (numbers_of rs) → IsFilled (IsAmong rs) n slots
+placed_fills n rs slots p count once = (count, λ k below. (let o = slice_get_some slots k (omega arith) in slot_filled n rs slots p once k below o.0 o.1))
 
 -- the answers of the slots so far
 pub record Answered {Out Fault : Type 0} (slots : List (Option (Result Out Fault))) (rest : List (Option (Result Out Fault))) (outs : List Out) : Type 0 where

@@ -1,8 +1,8 @@
 -- What the ends of a lane show, step after step.
-use Rattle.std.proofs.Common.{◌≡◌, ℕ, ◌+◌, ◌<◌, ◌≤◌, true, false, List, [], ◌∷◌, ◌++◌, length, All, refl, sym, ap, ◌∙◌, subst, arith}
+use Rattle.std.proofs.Common.{◌≡◌, ℕ, ◌<◌, ◌≤◌, true, false, List, [], ◌∷◌, ◌++◌, refl, sym, ap, ◌∙◌, subst, arith}
 use Rattle.index_pool.specs.declared.lanes.ends.LaneOwner.{LaneOwner}
 use Rattle.index_pool.specs.declared.lanes.ends.LaneThief.{LaneThief}
-use Rattle.index_pool.specs.Lane.{lane_view, lane_numbers}
+use Rattle.index_pool.specs.Lane.{lane_view, lane_numbers, more_popped, more_stolen}
 use Rattle.index_pool.specs.LaneEnds.{owner_view, owner_deque, thief_view, thief_deque}
 use Rattle.index_pool.specs.PhaseSteps.{AllBelow, FreshOwner, FreshThief, FreshLane, PoppedMore, StoleMore}
 use Rattle.std.proofs.lemmas.List.Elements.{All-weaker}
@@ -12,8 +12,8 @@ pub popped_none : (o : LaneOwner) → PoppedMore o o
 popped_none o = let v = owner_view o in (refl, ap (λ b. lane_view b v.steals v.given v.popped v.stolen) o.owns)
 
 -- one more number was popped
-pub popped_one : (o p : LaneOwner) (k : ℕ) → owner_deque p ≡ owner_deque o → owner_view p ≡ lane_view true (owner_view o).steals (owner_view o).given ((owner_view o).popped ++ k ∷ []) (owner_view o).stolen → PoppedMore o p
-popped_one o p k deque e = let v = owner_view o in (deque, e ∙ ap (λ xs. lane_view true v.steals v.given xs v.stolen) (sym (ap (λ w. w.popped) e)))
+pub popped_one : (o p : LaneOwner) (k : ℕ) → owner_deque p ≡ owner_deque o → owner_view p ≡ more_popped (owner_view o) (k ∷ []) → PoppedMore o p
+popped_one o p k deque e = let v = owner_view o in (deque, e ∙ (ap (λ b. lane_view b v.steals v.given (v.popped ++ k ∷ []) v.stolen) o.owns ∙ ap (λ xs. lane_view true v.steals v.given xs v.stolen) (sym (ap (λ w. w.popped) e))))
 
 pub popped_trans : (o p q : LaneOwner) → PoppedMore o p → PoppedMore p q → PoppedMore o q
 popped_trans o p q a b = let xs = (owner_view q).popped in (b.0 ∙ a.0, b.1 ∙ ap (λ v. lane_view true v.steals v.given xs v.stolen) a.1)
@@ -32,8 +32,8 @@ pub stole_none : (t : LaneThief) → StoleMore t t
 stole_none t = let v = thief_view t in (refl, ap (λ b. lane_view v.owns b v.given v.popped v.stolen) t.steals)
 
 -- one more number was stolen
-pub stole_one : (t u : LaneThief) (k : ℕ) → thief_deque u ≡ thief_deque t → thief_view u ≡ lane_view (thief_view t).owns true (thief_view t).given (thief_view t).popped ((thief_view t).stolen ++ k ∷ []) → StoleMore t u
-stole_one t u k deque e = let v = thief_view t in (deque, e ∙ ap (λ xs. lane_view v.owns true v.given v.popped xs) (sym (ap (λ w. w.stolen) e)))
+pub stole_one : (t u : LaneThief) (k : ℕ) → thief_deque u ≡ thief_deque t → thief_view u ≡ more_stolen (thief_view t) (k ∷ []) → StoleMore t u
+stole_one t u k deque e = let v = thief_view t in (deque, e ∙ (ap (λ b. lane_view v.owns b v.given v.popped (v.stolen ++ k ∷ [])) t.steals ∙ ap (λ xs. lane_view v.owns true v.given v.popped xs) (sym (ap (λ w. w.stolen) e))))
 
 pub stole_trans : (t u w : LaneThief) → StoleMore t u → StoleMore u w → StoleMore t w
 stole_trans t u w a b = let xs = (thief_view w).stolen in (b.0 ∙ a.0, b.1 ∙ ap (λ v. lane_view v.owns true v.given v.popped xs) a.1)

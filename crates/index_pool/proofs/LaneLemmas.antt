@@ -1,5 +1,5 @@
 -- Each step at a deque keeps the lane's rule.
-use Rattle.std.proofs.Common.{◌≡◌, ◌≢◌, ℕ, zero, suc, ◌+◌, ◌<◌, ◌≤◌, true, false, true≢false, List, [], ◌∷◌, ◌++◌, length, set, sym, refl, ap, ◌∙◌, subst, ⊎_elim, append_assoc, append-nil, length-append, arith, All, Contains}
+use Rattle.std.proofs.Common.{◌≡◌, ◌≢◌, ℕ, zero, suc, ◌+◌, ◌≤◌, true, false, true≢false, List, [], ◌∷◌, ◌++◌, length, set, sym, refl, ap, ◌∙◌, subst, ⊎_elim, append_assoc, append-nil, length-append, arith, All, Contains}
 use Rattle.std.specs.List.Sorted.{IsPermutation}
 use Rattle.std.proofs.lemmas.List.Sorted.{IsPermutation-refl, IsPermutation-append_left, IsPermutation-append_right, IsPermutation-append_comm, IsPermutation-trans, length_permutation}
 use Rattle.std.proofs.lemmas.List.Elements.{All-contains_itself, All-weaker, Contains-append_left, Contains-append_right}
@@ -8,7 +8,7 @@ use lib.ListN.{get_elem?}
 use Rattle.crossbeam_deque.specs.Tasks.{Pushes, Takes, Finds, Forks, Merges}
 use Rattle.crossbeam_deque.proofs.Lists.{at_set, at_snoc}
 use Rattle.index_pool.specs.declared.lanes.rule.LaneView.{LaneView}
-use Rattle.index_pool.specs.Lane.{IsLane, lane_view, Fits, HoldsLane}
+use Rattle.index_pool.specs.Lane.{IsLane, lane_view, more_given, more_popped, more_stolen, Fits, HoldsLane}
 
 at_end : (l : List LaneView) (a b : LaneView) (j : ℕ) → get_elem? l j ≢ some b → get_elem? (l ++ a ∷ []) j ≡ some b → j ≡ length l
 at_end [] a b zero n e = refl
@@ -36,11 +36,11 @@ begins = (
 )
 
 -- numbers that join at the back
-lane_given : (given queue popped stolen xs : List ℕ) → IsLane given queue popped stolen → IsLane (given ++ xs) (queue ++ xs) popped stolen
+pub lane_given : (given queue popped stolen xs : List ℕ) → IsLane given queue popped stolen → IsLane (given ++ xs) (queue ++ xs) popped stolen
 lane_given given queue popped stolen xs l = (l.0, ap (λ g. g ++ xs) l.1 ∙ append_assoc l.0 queue xs, l.2)
 
 -- numbers that leave at the front, to one of the two lists
-lane_popped : (given queue popped stolen xs : List ℕ) → IsLane given (xs ++ queue) popped stolen → IsLane given queue (popped ++ xs) stolen
+pub lane_popped : (given queue popped stolen xs : List ℕ) → IsLane given (xs ++ queue) popped stolen → IsLane given queue (popped ++ xs) stolen
 lane_popped given queue popped stolen xs l = (
   l.0 ++ xs,
   l.1 ∙ sym (append_assoc l.0 xs queue),
@@ -49,7 +49,7 @@ lane_popped given queue popped stolen xs l = (
       (subst (λ ys. IsPermutation ys (popped ++ (xs ++ stolen))) (sym (append_assoc popped stolen xs)) (IsPermutation-append_right popped _ _ (IsPermutation-append_comm stolen xs)))),
 )
 
-lane_stolen : (given queue popped stolen xs : List ℕ) → IsLane given (xs ++ queue) popped stolen → IsLane given queue popped (stolen ++ xs)
+pub lane_stolen : (given queue popped stolen xs : List ℕ) → IsLane given (xs ++ queue) popped stolen → IsLane given queue popped (stolen ++ xs)
 lane_stolen given queue popped stolen xs l = (
   l.0 ++ xs,
   l.1 ∙ sym (append_assoc l.0 xs queue),
@@ -69,9 +69,9 @@ lane_counts given queue popped stolen l =
     let c = length_permutation l.0 (popped ++ stolen) l.2 in
     let d = length-append popped stolen in omega arith
 
-pub gives : (party : ℕ) (v : LaneView) (xs : List ℕ) → v.owns ≡ true → v.steals ≡ true → Pushes HoldsLane party v xs (λ w. w ≡ lane_view v.owns v.steals (v.given ++ xs) v.popped v.stolen)
+pub gives : (party : ℕ) (v : LaneView) (xs : List ℕ) → v.owns ≡ true → v.steals ≡ true → Pushes HoldsLane party v xs (λ w. w ≡ more_given v xs)
 gives party v xs owns steals queue views h at =
-    let w : LaneView = lane_view v.owns v.steals (v.given ++ xs) v.popped v.stolen in
+    let w : LaneView = more_given v xs in
     let mine = h.6 party v at in
     let own = mine.0 owns in
     let rob = mine.1 steals in (
@@ -90,9 +90,9 @@ gives party v xs owns steals queue views h at =
       refl,
     )
 
-pub pops : (party : ℕ) (v : LaneView) → v.owns ≡ true → Takes HoldsLane party v 1 (λ xs w. (w ≡ lane_view v.owns v.steals v.given (v.popped ++ xs) v.stolen) × All (Contains v.given) xs × (length (v.popped ++ xs) ≤ length v.given))
+pub pops : (party : ℕ) (v : LaneView) → v.owns ≡ true → Takes HoldsLane party v 1 (λ xs w. (w ≡ more_popped v xs) × All (Contains v.given) xs × (length (v.popped ++ xs) ≤ length v.given))
 pops party v owns xs queue views _ _ h at =
-    let w : LaneView = lane_view v.owns v.steals v.given (v.popped ++ xs) v.stolen in
+    let w : LaneView = more_popped v xs in
     let mine = h.6 party v at in
     let own = mine.0 owns in
     let lane = lane_popped h.2 queue h.3 h.4 xs h.5 in
@@ -112,9 +112,9 @@ pops party v owns xs queue views _ _ h at =
       (refl, subst (λ g. All (Contains g) xs) (sym own.1) (lane_contains h.2 queue h.3 h.4 xs h.5), count),
     )
 
-pub steals : (party : ℕ) (v : LaneView) → v.steals ≡ true → Takes HoldsLane party v 1 (λ xs w. (w ≡ lane_view v.owns v.steals v.given v.popped (v.stolen ++ xs)) × All (Contains v.given) xs × (length (v.stolen ++ xs) ≤ length v.given))
+pub steals : (party : ℕ) (v : LaneView) → v.steals ≡ true → Takes HoldsLane party v 1 (λ xs w. (w ≡ more_stolen v xs) × All (Contains v.given) xs × (length (v.stolen ++ xs) ≤ length v.given))
 steals party v may xs queue views _ _ h at =
-    let w : LaneView = lane_view v.owns v.steals v.given v.popped (v.stolen ++ xs) in
+    let w : LaneView = more_stolen v xs in
     let mine = h.6 party v at in
     let rob = mine.1 may in
     let lane = lane_stolen h.2 queue h.3 h.4 xs h.5 in

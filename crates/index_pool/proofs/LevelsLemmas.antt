@@ -1,5 +1,5 @@
 -- The recursion over the workers' threads.
-use Rattle.std.proofs.Common.{◌≡◌, ℕ, ◌+◌, ◌<◌, ◌≤◌, true, false, List, [], ◌∷◌, ◌++◌, length, All, Some, option_to_list, sum_by, refl, sym, ap, ◌∙◌, subst, arith}
+use Rattle.std.proofs.Common.{◌≡◌, ℕ, ◌+◌, true, false, List, [], ◌++◌, All, Some, option_to_list, sum_by, sym, ap, ◌∙◌, subst, arith}
 use Rattle.std.specs.List.Sorted.{IsPermutation}
 use Rattle.std.proofs.lemmas.List.Sorted.{sum_by-IsPermutation}
 use Rattle.std.proofs.lemmas.List.Sums.{sum_by-append, sum_by_push}
@@ -14,7 +14,7 @@ use Rattle.std.specs.List.{range_with_len}
 use Rattle.index_pool.specs.Lane.{lane_numbers, lane_view}
 use Rattle.index_pool.specs.LaneEnds.{owner_view, owner_deque, thief_view, thief_deque}
 use Rattle.index_pool.specs.PhaseSteps.{AllBelow, FreshPost, FreshLane, AllGiven, weight, Worked, Gathers, Settles, RanEach}
-use Rattle.index_pool.proofs.ResultsLemmas.{weight_append}
+use Rattle.index_pool.proofs.ResultsLemmas.{weight_append, each_once}
 use Rattle.index_pool.proofs.LaneEndsLemmas.{popped_given, popped_below}
 
 -- what a lane was given is what was popped and stolen, however it is weighed
@@ -45,11 +45,11 @@ pub run_ends : {A : Type 0} (gives : ℕ → A → Type 0) (n lanes : ℕ) (post
     → RanEach gives n final
 run_ends gives n lanes post further all final view g whole answers closed = (
   answers g.answers,
-  λ h. (
+  each_once n final (λ h. (
       let a = g.weighed h in
       let b = whole h in
       let c = closed h in
-      let d = ap (sum_by h) (popped_given post.owner all.post.owner g.owner ∙ ap (λ v. v.given) view) in omega arith),
+      let d = ap (sum_by h) (popped_given post.owner all.post.owner g.owner ∙ ap (λ v. v.given) view) in omega arith)),
 )
 
 pub alone_gathers : {A : Type 0} (gives : ℕ → A → Type 0) (post : Post) (done : Done A) → Worked gives post done → done.starved ≡ false → Gathers gives post [] (record { post = done.post; results = done.results })

@@ -8,6 +8,7 @@ mod CoreFieldsLemmas
 mod LaneNumbersLemmas
 mod LaneLemmas
 mod LaneEndsLemmas
+mod CoreLanesLemmas
 -- phases: results, the recursion over threads, and the results in order
 mod ResultsLemmas
 mod LevelsLemmas

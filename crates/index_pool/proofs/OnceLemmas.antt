@@ -1,9 +1,8 @@
 -- Sums over the numbers below a bound, and how often a number stands in a list.
-use Rattle.std.proofs.Common.{◌≡◌, ◌≢◌, ℕ, zero, suc, ◌+◌, ◌<◌, ◌≤◌, ◌==◌, List, [], ◌∷◌, ◌++◌, length, drop, slice_index, sum_by, cond, nat_lt, if◌then◌else◌, refl, sym, ap, ◌∙◌, add-zero, zero-add, add-one, add-suc, arith, rules}
+use Rattle.std.proofs.Common.{◌≡◌, ◌≢◌, ℕ, zero, suc, ◌+◌, ◌<◌, ◌≤◌, ◌==◌, List, [], ◌∷◌, ◌++◌, length, drop, slice_index, sum_by, cond, nat_lt, if◌then◌else◌, refl, sym, ap, ◌∙◌, add-zero, zero-add, add-one, arith}
 use Rattle.std.proofs.lemmas.List.Sums.{sum_by-cons, sum_by-append, sum_by_push}
 use Rattle.std.proofs.lemmas.Bool.Decides.{nat_tests}
 use Rattle.std.specs.List.{range_with_len, flat_map}
-use Rattle.index_pool.specs.Once.{times}
 
 -- 1 at one number, 0 elsewhere
 abbrev pub only_at : ℕ → ℕ → ℕ

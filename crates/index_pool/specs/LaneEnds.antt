@@ -1,5 +1,4 @@
 -- What the two ends of a lane show.
-use Rattle.std.specs.Prelude.{List, ℕ}
 use Rattle.std.specs.Global.{Global}
 use Rattle.atomic_blocks.specs.Lent.{RowsId}
 use Rattle.crossbeam_deque.specs.Handles.{view, worker_view, worker_deque, stealer_deque}

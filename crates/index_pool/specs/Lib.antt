@@ -3,6 +3,7 @@ pub mod CoreMachine
 pub mod CoreFields
 pub mod Lane
 pub mod LaneEnds
+pub mod CoreLanes
 pub mod StolenCases
 pub mod Phase
 pub mod PhaseSteps

@@ -1,5 +1,5 @@
 -- Lists in which each number below a bound stands once.
-use Rattle.std.specs.Prelude.{◌≡◌, ℕ, ◌<◌, nat_lt, ◌==◌, if◌then◌else◌, List, count_by}
+use Rattle.std.specs.Prelude.{◌≡◌, ℕ, nat_lt, ◌==◌, if◌then◌else◌, List, count_by}
 
 -- how often a number stands in the list
 abbrev pub times : ℕ → List ℕ → ℕ

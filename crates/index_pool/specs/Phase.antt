@@ -1,5 +1,5 @@
 -- What a phase answers, by the meaning of its job: `gives k r` says that `run` may return r for input k.
-use Rattle.std.specs.Prelude.{◌≡◌, ℕ, ◌<◌, ⊤, List, length, slice_get, Option, Some, Result, Ok, Err}
+use Rattle.std.specs.Prelude.{◌≡◌, ℕ, ◌<◌, ⊤, List, length, slice_get, Some, Result, Ok, Err}
 use Rattle.index_pool.specs.declared.phase.fault.PoolFault.{PoolFault}
 use Rattle.index_pool.specs.declared.phase.fault.PoolFault.TheVariants.{Spawn, Memory, Job}
 

@@ -1,12 +1,12 @@
 -- What the parts of a phase do: what a worker ran, what a level of the recursion gathers, and how the results are put in order.
-use Rattle.std.specs.Prelude.{◌≡◌, ℕ, ◌+◌, ◌<◌, true, false, List, [], length, All, Contains, sum_by, Option, Some, None, Result, slice_get}
-use Rattle.std.specs.List.{range_with_len}
+use Rattle.std.specs.Prelude.{◌≡◌, ℕ, ◌+◌, ◌<◌, true, false, List, [], length, map, All, Contains, sum_by, Option, Some, slice_get}
 use Rattle.index_pool.specs.declared.lanes.ends.LaneOwner.{LaneOwner}
 use Rattle.index_pool.specs.declared.lanes.ends.LaneThief.{LaneThief}
 use Rattle.index_pool.specs.declared.phase.worker.Ran.{Ran}
 use Rattle.index_pool.specs.declared.phase.worker.Post.{Post}
 use Rattle.index_pool.specs.declared.phase.worker.Done.{Done}
 use Rattle.index_pool.specs.declared.phase.levels.Gathered.{Gathered}
+use Rattle.index_pool.specs.Once.{HasEachOnceBelow}
 use Rattle.index_pool.specs.Lane.{lane_view}
 use Rattle.index_pool.specs.LaneEnds.{owner_view, owner_deque, thief_view, thief_deque}
 
@@ -63,9 +63,13 @@ pub record Settles {A : Type 0} (gives : ℕ → A → Type 0) (done : Done A) (
   pub answers : AllGiven gives done.results.items → AllGiven gives rest.results.items → AllGiven gives all.results.items
   pub weighed : (h : ℕ → ℕ) → weight h all.results.items + (sum_by h (owner_view done.post.owner).popped + sum_by h (thief_view rest.post.thief).stolen) ≡ (weight h done.results.items + weight h rest.results.items) + sum_by h (owner_view done.post.owner).given
 
+-- the inputs' numbers of the results
+abbrev pub numbers_of : {A : Type 0} → List (Ran A) → List ℕ
+numbers_of rs = map (λ r. r.number) rs
+
 -- results for the numbers below n, one for each
 abbrev pub RanEach : {A : Type 0} → (ℕ → A → Type 0) → ℕ → List (Ran A) → Type 0
-RanEach gives n rs = AllGiven gives rs × ((h : ℕ → ℕ) → weight h rs ≡ sum_by h (range_with_len 0 n))
+RanEach gives n rs = AllGiven gives rs × HasEachOnceBelow n (numbers_of rs)
 
 -- the result a for number k is among the results
 abbrev pub IsAmong : {A : Type 0} → List (Ran A) → ℕ → A → Type 0

@@ -2,7 +2,7 @@
 
 ghost use Rattle.std.specs.Prelude.{◌≡◌, ◌+◌, ◌<◌, ◌≤◌, ◌%◌, ◌/◌, true, false, [], ◌∷◌, ◌++◌, Contains, IfOk, IfSome, IfNone, length};
 ghost use Rattle.std.specs.List.Sorted.{IsPermutation};
-ghost use Rattle.index_pool.specs.Lane.{lane_numbers, lane_view};
+ghost use Rattle.index_pool.specs.Lane.{lane_numbers, lane_view, more_given, more_popped, more_stolen};
 ghost use Rattle.crossbeam_deque.specs.Handles.{worker_capacity, worker_flavor, worker_index, worker_view, SameWorker};
 ghost use Rattle.index_pool.specs.StolenCases.{IfGot, IfNotGot};
 ghost use Rattle.index_pool.specs.LaneEnds.{owner_view, owner_deque, thief_view, thief_deque};
@@ -66,7 +66,7 @@ fn give(deque: &mut LaneWorker, number: usize)
     requires both { ((worker_view deque.old).owns ≡ true) × ((worker_view deque.old).steals ≡ true) }
     requires room { worker_index deque.old < worker_capacity deque.old }
     ensures same { SameWorker deque.old deque.new × (worker_index deque.new ≡ worker_index deque.old + 1) }
-    ensures view { worker_view deque.new ≡ lane_view true true ((worker_view deque.old).given ++ number ∷ []) (worker_view deque.old).popped (worker_view deque.old).stolen }
+    ensures view { worker_view deque.new ≡ more_given (worker_view deque.old) (number ∷ []) }
 {
     match deque.push_as::<Gives>(number) {
         Ok(()) => {}
@@ -80,7 +80,7 @@ impl LaneOwner {
     /// Once the thief's end was taken in, None tells that each of the lane's numbers was popped or
     /// stolen, once.
     pub fn pop(&mut self) -> Option<usize>
-        ensures some { IfSome result (λ k. owner_view self.new ≡ lane_view true (owner_view self.old).steals (owner_view self.old).given ((owner_view self.old).popped ++ k ∷ []) (owner_view self.old).stolen) }
+        ensures some { IfSome result (λ k. owner_view self.new ≡ more_popped (owner_view self.old) (k ∷ [])) }
         ensures one_given { IfSome result (λ k. Contains (owner_view self.old).given k × (length (owner_view self.old).popped < length (owner_view self.old).given)) }
         ensures none { IfNone result (owner_view self.new ≡ owner_view self.old) }
         ensures whole { IfNone result ((owner_view self.old).steals ≡ true → IsPermutation (owner_view self.old).given ((owner_view self.old).popped ++ (owner_view self.old).stolen)) }
@@ -104,7 +104,7 @@ impl LaneOwner {
 impl LaneThief {
     /// Tries to take the first number of the lane's queue.
     pub fn steal(&mut self) -> Stolen
-        ensures got { IfGot result (λ k. thief_view self.new ≡ lane_view (thief_view self.old).owns true (thief_view self.old).given (thief_view self.old).popped ((thief_view self.old).stolen ++ k ∷ [])) }
+        ensures got { IfGot result (λ k. thief_view self.new ≡ more_stolen (thief_view self.old) (k ∷ [])) }
         ensures one_given { IfGot result (λ k. Contains (thief_view self.old).given k × (length (thief_view self.old).stolen < length (thief_view self.old).given)) }
         ensures none { IfNotGot result (thief_view self.new ≡ thief_view self.old) }
         ensures same { thief_deque self.new ≡ thief_deque self.old }

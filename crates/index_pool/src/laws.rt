@@ -1,6 +1,7 @@
 //! Laws about the core machine, each the contract of an empty function.
 
 ghost use Rattle.index_pool.specs.CoreMachine.{LosesNoNumber, TakesEachNumber};
+ghost use Rattle.index_pool.specs.CoreLanes.{ShowsLanes};
 
 /// In every state to which events lead, each seeded number stands in one queue or in one worker's
 /// takings, once.
@@ -12,4 +13,11 @@ pub fn core_loses_no_number()
 /// the bound, each once.
 pub fn core_takes_each_number()
     ensures { TakesEachNumber }
+{}
+
+/// In every state to which events lead, each queue is that of a lane, and a worker took what it
+/// popped of its own lane and then what it stole of its neighbour's: each event changes what is
+/// known of the lanes as the push, the pop or the steal does whose event it is.
+pub fn core_shows_lanes()
+    ensures { ShowsLanes }
 {}

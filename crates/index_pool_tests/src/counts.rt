@@ -4,7 +4,8 @@ ghost use Rattle.std.specs.Prelude.{◌≡◌, ◌*◌, Ok};
 
 use crate::calls::{see, workers};
 use index_pool::{
-    Gate, Job, MAX_WORKERS, NoGate, PoolFault, Workers, run_phase, run_phase_with_starts,
+    Gate, Job, MAX_INPUTS, MAX_WORKERS, NoGate, PoolFault, Workers, run_phase,
+    run_phase_with_starts,
 };
 use std::alloc::{AllocError, Global};
 use std::sync::Wait;
@@ -77,38 +78,73 @@ fn how_many(counts: &Vec<AtomicU64>, wanted: u64) -> usize {
         .count()
 }
 
-/// Whether a phase of `INPUTS` inputs gives twice each number, and calls the job and the gate once
-/// for each. False also where memory or a thread is refused.
+/// Whether each answer is twice its number.
+fn are_doubled(outs: &Vec<usize>) -> bool {
+    outs.iter()
+        .enumerate()
+        .all(|(i, out)| *out / 2 == i && *out % 2 == 0)
+}
+
+/// Whether a phase of so many inputs (`INPUTS` at most) gives twice each number, and calls the job
+/// and the gate once for each. False also where memory or a thread is refused.
 fn runs_each_once<R: Threads + Wait>(
     rt: &R,
     alloc: Global,
+    inputs: usize,
     workers: Workers,
 ) -> Result<bool, AllocError> {
+    let inputs = inputs.min(INPUTS);
     let counts = no_counts(alloc)?;
-    let Ok(outs) = run_phase(rt, alloc, &counts, INPUTS, workers, &counts) else {
+    let Ok(outs) = run_phase(rt, alloc, &counts, inputs, workers, &counts) else {
         return Ok(false);
     };
-    let doubled = outs
-        .iter()
-        .enumerate()
-        .all(|(i, out)| *out / 2 == i && *out % 2 == 0);
     Ok(
-        doubled
-            && outs.len() == INPUTS
-            && how_many(&counts.runs, 1) == INPUTS
-            && how_many(&counts.before, 1) == INPUTS
-            && how_many(&counts.after, 1) == INPUTS,
+        outs.len() == inputs
+            && are_doubled(&outs)
+            && once_below(&counts.runs, inputs)
+            && once_below(&counts.before, inputs)
+            && once_below(&counts.after, inputs),
     )
+}
+
+/// Whether the counts below this number are 1, and the others 0.
+fn once_below(counts: &Vec<AtomicU64>, inputs: usize) -> bool {
+    counts.iter().enumerate().all(|(i, count)| count.load(Ordering::SeqCst)
+        == u64::from(i < inputs))
 }
 
 #[test]
 fn each_input_is_run_once(rt: HostRuntime) -> Result<(), Fail> {
-    for count in [1, 2, 3, 16] {
+    for (inputs, count) in [(100, 1), (100, 2), (100, 3), (100, 16), (1, 2), (3, 16)] {
         let workers = workers(&rt, count);
-        let once = runs_each_once(&rt, rt.alloc(), workers)?
-            || runs_each_once(&rt, rt.alloc(), workers)?;
+        let once = runs_each_once(&rt, rt.alloc(), inputs, workers)?
+            || runs_each_once(&rt, rt.alloc(), inputs, workers)?;
         see(&rt, once, "each once");
     }
+    Ok(())
+}
+
+/// Whether a phase of the most inputs gives twice each number. False also where memory or a thread
+/// is refused.
+fn answers_the_most<R: Threads + Wait>(
+    rt: &R,
+    alloc: Global,
+    counts: &Counts,
+    workers: Workers,
+) -> bool {
+    match run_phase(rt, alloc, counts, MAX_INPUTS, workers, &NoGate) {
+        Ok(outs) => outs.len() == MAX_INPUTS && are_doubled(&outs),
+        Err(_) => false,
+    }
+}
+
+#[test]
+fn the_most_inputs_are_answered(rt: HostRuntime) -> Result<(), Fail> {
+    let counts = no_counts(rt.alloc())?;
+    let three = workers(&rt, 3);
+    let answered = answers_the_most(&rt, rt.alloc(), &counts, three)
+        || answers_the_most(&rt, rt.alloc(), &counts, three);
+    see(&rt, answered, "the most inputs");
     Ok(())
 }
 
@@ -137,36 +173,51 @@ fn no_input_gives_no_answers(rt: HostRuntime) -> Result<(), Fail> {
     Ok(())
 }
 
-/// Whether a phase on four workers of which so many can be started gives this, and leaves no run
-/// half done.
+/// Whether a phase of whose threads so many can be started gives this, leaves no run half done, and
+/// answers where no start is refused after it.
 fn ends_with<R: Threads + Wait>(
     rt: &R,
     alloc: Global,
-    four: Workers,
+    workers: Workers,
     starts: usize,
     spawned: bool,
 ) -> Result<bool, AllocError> {
     let counts = no_counts(alloc)?;
-    let answer = run_phase_with_starts(rt, alloc, &counts, INPUTS, four, &counts, starts);
-    let ended = how_many(&counts.before, 0) == how_many(&counts.after, 0)
-        && how_many(&counts.before, 1) == how_many(&counts.after, 1)
+    let answer = run_phase_with_starts(rt, alloc, &counts, INPUTS, workers, &counts, starts);
+    let ended = are_same(&counts.before, &counts.runs)
+        && are_same(&counts.before, &counts.after)
         && how_many(&counts.before, 0).wrapping_add(how_many(&counts.before, 1)) == INPUTS;
-    Ok(
-        ended
-            && match answer {
-                Ok(outs) => spawned && outs.len() == INPUTS,
-                Err(PoolFault::Spawn) => !spawned,
-                Err(_) => false,
-            },
-    )
+    let as_told = match answer {
+        Ok(outs) => spawned && outs.len() == INPUTS && are_doubled(&outs),
+        Err(PoolFault::Spawn) => !spawned,
+        Err(_) => false,
+    };
+    let again = run_phase(rt, alloc, &counts, INPUTS, workers, &NoGate);
+    Ok(ended && as_told && matches!(again, Ok(outs) if outs.len() == INPUTS))
+}
+
+/// Whether there are as many calls of both kinds for each input.
+fn are_same(some: &Vec<AtomicU64>, others: &Vec<AtomicU64>) -> bool {
+    some.iter().zip(others.iter()).all(|(a, b)| a.load(Ordering::SeqCst)
+        == b.load(Ordering::SeqCst))
 }
 
 #[test]
 fn a_refused_start_is_spawn(rt: HostRuntime) -> Result<(), Fail> {
-    let four = workers(&rt, 4);
-    for (starts, spawned) in [(0, false), (1, false), (2, false), (3, true)] {
-        let ended = ends_with(&rt, rt.alloc(), four, starts, spawned)?
-            || ends_with(&rt, rt.alloc(), four, starts, spawned)?;
+    for (count, starts, spawned) in [
+        (1, 0, true),
+        (2, 0, false),
+        (4, 0, false),
+        (4, 1, false),
+        (4, 2, false),
+        (4, 3, true),
+        (16, 0, false),
+        (16, 14, false),
+        (16, 15, true),
+    ] {
+        let workers = workers(&rt, count);
+        let ended = ends_with(&rt, rt.alloc(), workers, starts, spawned)?
+            || ends_with(&rt, rt.alloc(), workers, starts, spawned)?;
         see(&rt, ended, "refused start");
     }
     Ok(())

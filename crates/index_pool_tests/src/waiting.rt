@@ -3,7 +3,7 @@
 ghost use Rattle.std.specs.Prelude.{◌≡◌, ◌≤◌, Ok, length};
 
 use crate::calls::{see, workers};
-use index_pool::{Gate, Job, PoolFault, Workers, run_phase};
+use index_pool::{Gate, Job, Workers, run_phase};
 use std::alloc::{AllocError, Global};
 use std::sync::Wait;
 use std::sync::atomic::{AtomicU64, Ordering};
@@ -15,10 +15,51 @@ use std::time::{Clock, Duration};
 /// How many milliseconds a gate waits at most.
 const MOST_TURNS: u64 = 5000;
 
-/// A job that does nothing.
-struct Nothing;
+/// Calls for inputs: how many there were, and a bit for each input, added up.
+#[derive(Drop)]
+struct Tally {
+    calls: AtomicU64,
+    bits: AtomicU64,
+}
 
-impl Job for Nothing {
+impl Tally {
+    fn new() -> Tally {
+        Tally {
+            calls: AtomicU64::new(0),
+            bits: AtomicU64::new(0),
+        }
+    }
+
+    /// Adds a call, and gives how many there were before.
+    fn add(&self, number: usize) -> u64 {
+        let ticket = self.calls.fetch_add(1, Ordering::SeqCst);
+        self.bits.fetch_add(bit_of(number), Ordering::SeqCst);
+        ticket
+    }
+
+    /// Whether there was one call for each of the inputs: so many powers of two give all bits below
+    /// `inputs` only where they are one of each.
+    fn is_each_once(&self, inputs: usize) -> bool {
+        self.calls.load(Ordering::SeqCst) == inputs as u64
+            && self.bits.load(Ordering::SeqCst) == bit_of(inputs).wrapping_sub(1)
+    }
+}
+
+/// A job that does nothing, and its gate. Before an input is run, this waits until the inputs that
+/// the input awaits were entered: a bit for each. It keeps the order in which inputs are entered, how
+/// many waits ran out, and the calls for each input.
+#[derive(Drop)]
+struct Waiting<C> {
+    clock: C,
+    awaited: Vec<u64>,
+    order: Vec<AtomicU64>,
+    run_outs: AtomicU64,
+    before: Tally,
+    runs: Tally,
+    after: Tally,
+}
+
+impl<C: Clock + Sync> Job for Waiting<C> {
     type Out = ();
 
     type Fault = ();
@@ -27,33 +68,21 @@ impl Job for Nothing {
 
     ghost gives = { λ _ _ r. r ≡ Ok tt };
 
-    fn run(&self, _number: usize) -> Result<(), ()> {
+    fn run(&self, number: usize) -> Result<(), ()> {
+        self.runs.add(number);
         Ok(())
     }
 }
 
-/// Before an input is run, this waits until the inputs that the input awaits were entered: a bit
-/// for each. It keeps the order in which inputs are entered, and how many waits ran out.
-#[derive(Drop)]
-struct Waiting<C> {
-    clock: C,
-    awaited: Vec<u64>,
-    entered: AtomicU64,
-    tickets: AtomicU64,
-    order: Vec<AtomicU64>,
-    run_outs: AtomicU64,
-}
-
 impl<C: Clock + Sync> Gate for Waiting<C> {
     fn before(&self, number: usize) {
-        let ticket = self.tickets.fetch_add(1, Ordering::SeqCst);
+        let ticket = self.before.add(number);
         if number < self.order.len() {
             self.order[number].store(ticket, Ordering::SeqCst);
         }
-        self.entered.fetch_add(bit_of(number), Ordering::SeqCst);
         let awaited = self.awaited.get(number).copied().unwrap_or(0);
         for _ in 0..MOST_TURNS {
-            if self.entered.load(Ordering::SeqCst) & awaited == awaited {
+            if self.before.bits.load(Ordering::SeqCst) & awaited == awaited {
                 return;
             }
             thread::sleep(&self.clock, Duration::from_millis(1));
@@ -61,7 +90,9 @@ impl<C: Clock + Sync> Gate for Waiting<C> {
         self.run_outs.fetch_add(1, Ordering::SeqCst);
     }
 
-    fn after(&self, _number: usize) {}
+    fn after(&self, number: usize) {
+        self.after.add(number);
+    }
 }
 
 fn bit_of(number: usize) -> u64 {
@@ -84,14 +115,16 @@ fn waiting_gate<C: Drop>(
     Ok(Waiting {
         clock,
         awaited: masks,
-        entered: AtomicU64::new(0),
-        tickets: AtomicU64::new(0),
         order,
         run_outs: AtomicU64::new(0),
+        before: Tally::new(),
+        runs: Tally::new(),
+        after: Tally::new(),
     })
 }
 
-/// The order in which the inputs were entered, where the phase answers and no wait ran out.
+/// The order in which the inputs were entered, where the phase answers, no wait ran out, and the job
+/// and the gate were called once for each input.
 fn entry_order<R: Threads + Wait + Clock + Sync>(
     rt: &R,
     alloc: Global,
@@ -101,8 +134,12 @@ fn entry_order<R: Threads + Wait + Clock + Sync>(
     requires { length awaited.now ≤ 64 }
 {
     let gate = waiting_gate(alloc, rt, awaited)?;
-    let answer = run_phase(rt, alloc, &Nothing, awaited.len(), workers, &gate);
-    if answer.is_err() || gate.run_outs.load(Ordering::SeqCst) != 0 {
+    let inputs = awaited.len();
+    let answer = run_phase(rt, alloc, &gate, inputs, workers, &gate);
+    let once = gate.before.is_each_once(inputs)
+        && gate.runs.is_each_once(inputs)
+        && gate.after.is_each_once(inputs);
+    if answer.is_err() || !once || gate.run_outs.load(Ordering::SeqCst) != 0 {
         return Ok(None);
     }
     let mut order = Vec::new(alloc);

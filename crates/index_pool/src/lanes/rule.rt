@@ -56,9 +56,9 @@ impl Join<LaneView> for Ends {
 pub(crate) struct Gives;
 
 impl Outcome<usize, LaneView> for Gives {
-    ghost use Rattle.index_pool.specs.Lane.{lane_view};
+    ghost use Rattle.index_pool.specs.Lane.{more_given};
 
-    ghost then = { λ v xs w. w ≡ lane_view v.owns v.steals (v.given ++ xs) v.popped v.stolen };
+    ghost then = { λ v xs w. w ≡ more_given v xs };
 }
 
 // A pop: the numbers popped grow by one of those given. Where an owner that is the thief too finds
@@ -66,9 +66,9 @@ impl Outcome<usize, LaneView> for Gives {
 pub(crate) struct Pops;
 
 impl Outcome<usize, LaneView> for Pops {
-    ghost use Rattle.index_pool.specs.Lane.{lane_view};
+    ghost use Rattle.index_pool.specs.Lane.{more_popped};
 
-    ghost then = { λ v xs w. (w ≡ lane_view v.owns v.steals v.given (v.popped ++ xs) v.stolen) × All (Contains v.given) xs × (length (v.popped ++ xs) ≤ length v.given) };
+    ghost then = { λ v xs w. (w ≡ more_popped v xs) × All (Contains v.given) xs × (length (v.popped ++ xs) ≤ length v.given) };
 
     ghost empty = { λ v. v.owns ≡ true → v.steals ≡ true → IsPermutation v.given (v.popped ++ v.stolen) };
 }
@@ -77,7 +77,7 @@ impl Outcome<usize, LaneView> for Pops {
 pub(crate) struct Steals;
 
 impl Outcome<usize, LaneView> for Steals {
-    ghost use Rattle.index_pool.specs.Lane.{lane_view};
+    ghost use Rattle.index_pool.specs.Lane.{more_stolen};
 
-    ghost then = { λ v xs w. (w ≡ lane_view v.owns v.steals v.given v.popped (v.stolen ++ xs)) × All (Contains v.given) xs × (length (v.stolen ++ xs) ≤ length v.given) };
+    ghost then = { λ v xs w. (w ≡ more_stolen v xs) × All (Contains v.given) xs × (length (v.stolen ++ xs) ≤ length v.given) };
 }

@@ -1,9 +1,9 @@
 //! The results of a phase, put into the order of their inputs.
 
-ghost use Rattle.std.specs.Prelude.{◌≡◌, ℕ, ◌<◌, ◌≤◌, [], Some, None, length, All, sum_by, vec_capacity, IfOk, IfErr, slice_set};
-ghost use Rattle.std.specs.List.{range_with_len};
+ghost use Rattle.std.specs.Prelude.{◌≡◌, ◌<◌, ◌≤◌, [], Some, None, length, All, vec_capacity, IfOk, IfErr, slice_set};
+ghost use Rattle.index_pool.specs.Once.{HasEachOnceBelow};
 ghost use Rattle.index_pool.specs.Phase.{AnswersEach, MayRefuse};
-ghost use Rattle.index_pool.specs.PhaseSteps.{weight, IsAmong, IsFilled, IsFull, HasResult};
+ghost use Rattle.index_pool.specs.PhaseSteps.{numbers_of, IsAmong, IsFilled, IsFull, HasResult};
 
 use super::fault::PoolFault;
 use super::worker::Ran;
@@ -16,7 +16,7 @@ pub(crate) fn in_order<Out: Drop, Fault: Drop>(
     inputs: usize,
     results: Vec<Ran<Result<Out, Fault>>>,
 ) -> Result<Vec<Out>, PoolFault<Fault>>
-    requires { (h : ℕ → ℕ) → weight h results.items ≡ sum_by h (range_with_len 0 inputs) }
+    requires { HasEachOnceBelow inputs (numbers_of results.items) }
     ensures answers { IfOk result (λ outs. AnswersEach (IsAmong results.items) inputs outs.items) }
     ensures refused { IfErr result (MayRefuse (IsAmong results.items) inputs) }
 {
@@ -35,7 +35,7 @@ fn placed<A: Drop>(
     inputs: usize,
     results: Vec<Ran<A>>,
 ) -> Result<Vec<Option<A>>, AllocError>
-    requires { (h : ℕ → ℕ) → weight h results.items ≡ sum_by h (range_with_len 0 inputs) }
+    requires { HasEachOnceBelow inputs (numbers_of results.items) }
     ensures { IfOk result (λ slots. IsFilled (IsAmong results.items) inputs slots.items) }
 {
     let mut slots = empty_slots(alloc, inputs)?;

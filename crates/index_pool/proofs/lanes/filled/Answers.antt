@@ -1,6 +1,6 @@
-use Rattle.std.proofs.Common.{◌≡◌, ◌+◌, ◌/◌, ◌<◌, ◌≤◌, true, [], ◌∷◌, ◌++◌, length, sym, ap, ◌∙◌, arith}
+use Rattle.std.proofs.Common.{◌+◌, ◌/◌, ◌<◌, ◌≤◌, true, [], ◌∷◌, length, sym, ap, ◌∙◌, arith}
 use Rattle.crossbeam_deque.specs.Handles.{worker_capacity}
-use Rattle.index_pool.specs.Lane.{lane_numbers, lane_view}
+use Rattle.index_pool.specs.Lane.{lane_numbers, lane_view, more_given}
 use Rattle.index_pool.proofs.LaneLemmas.{begins}
 use Rattle.index_pool.proofs.LaneNumbersLemmas.{lane_none, lane_more_own, lane_more_other, lane_has_room}
 use Rattle.std.proofs.lemmas.List.{length_push}
@@ -38,7 +38,7 @@ loop-number-preserved c =
             fifo = same.0.1 ∙ before.fifo;
             room = wide;
             index = same.1 ∙ (ap (λ i. i + 1) before.index ∙ (sym (length_push (lane_numbers n count c.args.worker) n) ∙ ap length (sym more)));
-            view = w.give.ensures.view ∙ (ap (λ v. lane_view true true (v.given ++ n ∷ []) v.popped v.stolen) before.view ∙ ap (λ g. lane_view true true g [] []) (sym more));
+            view = w.give.ensures.view ∙ (ap (λ v. more_given v (n ∷ [])) before.view ∙ ap (λ g. lane_view true true g [] []) (sym more));
           })
       | else-number-count w ↦ (
           let same = lane_more_other count c.args.worker n w.if-number-count.false in

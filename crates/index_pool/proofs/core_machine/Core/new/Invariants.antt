@@ -1,4 +1,4 @@
-use Rattle.std.proofs.Common.{◌≡◌, ◌≤◌, length, All}
+use Rattle.std.proofs.Common.{◌≡◌, length, All}
 use Rattle.index_pool.specs.CoreMachine.{idle}
 use Rattle.index_pool.specs.CoreFields.{worker_state, HasRoom}
 use Rattle.index_pool.proofs.core_machine.Core.new.Given as goal

@@ -1,4 +1,4 @@
-use Rattle.std.proofs.Common.{◌≡◌, ◌≤◌, ◌∷◌, Some, Ok, Err, length, sym, ap, ◌∙◌, subst, vec_capacity, arith}
+use Rattle.std.proofs.Common.{◌≡◌, ◌∷◌, Some, Ok, Err, length, sym, ap, ◌∙◌, subst, arith}
 use Rattle.std.specs.Vec.Iter.{into_iter_items}
 use Rattle.index_pool.specs.Phase.{IsLeastFault}
 use Rattle.index_pool.specs.PhaseSteps.{HasResult}

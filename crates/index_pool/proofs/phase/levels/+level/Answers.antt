@@ -2,7 +2,7 @@ use Rattle.std.proofs.Common.{subst}
 use Rattle.std.proofs.lemmas.Result.{IfOk-weaker}
 use Rattle.index_pool.specs.declared.phase.worker.Post.{Post}
 use Rattle.index_pool.specs.PhaseSteps.{Worked, Gathers, Settles}
-use Rattle.index_pool.proofs.LevelsLemmas.{last_fresh, rest_fresh, theirs_fresh, ours_fresh, same_lane, done_below, level_gathers}
+use Rattle.index_pool.proofs.LevelsLemmas.{rest_fresh, theirs_fresh, ours_fresh, same_lane, done_below, level_gathers}
 use Rattle.index_pool.proofs.phase.levels.+level.Goals as goal
 
 pub start-requires-after_bounds : goal.start-requires-after_bounds

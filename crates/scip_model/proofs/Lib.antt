@@ -1,1 +1,2 @@
 pub mod WholeWriteLemmas
+pub mod WholeReadLemmas

@@ -1,8 +1,10 @@
 mod AnswerLemmas
 mod CommandLemmas
+mod ConversationLemmas
 mod EntryLemmas
 mod GrammarLemmas
 mod InnermostLemmas
+mod LineLemmas
 mod OutcomeLemmas
 mod RunLemmas
 mod SiteLemmas

@@ -8,6 +8,8 @@ pub mod CommandReading
 pub mod CommandViews
 pub mod AnswerText
 pub mod Answering
+pub mod Conversing
+pub mod ConversingSteps
 pub mod Tables
 pub mod Outcomes
 pub mod Views

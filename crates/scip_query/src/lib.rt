@@ -4,6 +4,7 @@
 mod answer;
 mod answer_fault;
 mod command;
+mod conversation;
 mod innermost;
 mod laws;
 mod listed;

@@ -1,0 +1,38 @@
+-- What becomes of the answers to commands that are read.
+-- `contents`, `failures`, `reads` and `ends` are the sink's or the feed's, `before` and `after` it around the call.
+use Rattle.std.specs.Prelude.{◌≡◌, ℕ, ◌==◌, ◌<◌, min, Bool, List, ◌++◌, length, take, Option, Some, Result, Ok, Err}
+use Rattle.std.specs.List.{flat_map, count_by}
+use Rattle.scip_model.specs.Streams.{last_count}
+use Rattle.scip_model.specs.WholeReads.{IsReadThrough, IsReadFault}
+use Rattle.scip_model.specs.WholeWrites.{IsWritten, IsCutOff}
+use Rattle.scip_model.specs.declared.records.Index.{Index}
+use Rattle.scip_query.specs.Commands.{lines_of}
+use Rattle.scip_query.specs.AnswerText.{answer_to, answer_text}
+use Rattle.scip_query.specs.declared.answer_fault.AnswerFault.{AnswerFault}
+use Rattle.scip_query.specs.declared.answer_fault.AnswerFault.TheVariants.{Read, Write, Memory}
+
+-- the due text goes out whole, or is cut off when `count` bytes of it went out. (Counts stop at the last u64.)
+abbrev pub Replies : {W : Type 0} → (W → Option (List ℕ)) → (W → ℕ) → W → W → List ℕ → Result (Unit {0}) AnswerFault → Type 0
+Replies contents failures before after due (Err (Write count)) = (n : ℕ) × (count ≡ min n last_count) × IsCutOff contents failures before after due n
+Replies contents failures before after due other = IsWritten contents failures before after due
+
+abbrev pub is_line_end : ℕ → Bool
+is_line_end b = b == 10
+
+-- those lines of bytes that have their `\n`
+abbrev pub ended_lines : List ℕ → List (List ℕ)
+ended_lines bytes = take (count_by is_line_end bytes) (lines_of bytes)
+
+-- what is due, where `all` was left to read and `left` still is: the answers to all lines; at Read those to the lines that
+-- had ended; at Memory those to the lines before some line
+abbrev pub IsDue : Index → List ℕ → Option (List ℕ) → List ℕ → Result (Unit {0}) AnswerFault → Type 0
+IsDue index all left due (Ok done) = due ≡ answer_text index all
+IsDue index all left due (Err Read) = (read : List ℕ) × (rest : List ℕ) × (left ≡ Some rest) × (all ≡ read ++ rest) × (due ≡ flat_map (answer_to index) (ended_lines read))
+IsDue index all left due (Err (Write count)) = due ≡ answer_text index all
+IsDue index all left due (Err Memory) = (k : ℕ) × (k < length (lines_of all)) × (due ≡ flat_map (answer_to index) (take k (lines_of all)))
+
+-- the feed: it was read to its end; at Read, why it wasn't; else no read failed
+abbrev pub LeavesFeed : {R : Type 0} → (failures reads ends : R → ℕ) → R → R → Result (Unit {0}) AnswerFault → Type 0
+LeavesFeed failures reads ends before after (Ok done) = IsReadThrough failures ends before after
+LeavesFeed failures reads ends before after (Err Read) = IsReadFault failures reads ends before after
+LeavesFeed failures reads ends before after (Err other) = failures after ≡ failures before

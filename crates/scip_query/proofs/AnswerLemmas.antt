@@ -1,8 +1,8 @@
 -- Texts of what is found.
 use Rattle.std.proofs.Common.{◌≡◌, ℕ, List, [], ◌∷◌, ◌++◌, length, map, Ok, Err, refl, sym, ◌∙◌, ap, subst}
 use Rattle.std.proofs.lemmas.List.{length-map}
-use Rattle.std.specs.Prelude.{Result, Option, Some}
-use Rattle.std.specs.List.{flat_map, filter, AllZip}
+use Rattle.std.specs.Prelude.{Result, Some}
+use Rattle.std.specs.List.{flat_map, AllZip}
 use Rattle.std.specs.Result.{result_map_both}
 use Rattle.scip_model.specs.declared.records.Index.{Index}
 use Rattle.scip_query.specs.declared.place.Place.{Place}

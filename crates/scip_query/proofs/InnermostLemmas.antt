@@ -1,7 +1,7 @@
 -- The first in a table that passes a test is, of those that pass, the first listed than which none is less.
-use Rattle.std.proofs.Common.{◌≡◌, ℕ, zero, suc, ◌+◌, ◌<◌, ◌≤◌, Bool, true, false, not, ◌&&◌, ◌||◌, List, [], ◌∷◌, length, take, drop, get_or, cond, refl, sym, ◌∙◌, ap, subst, arith}
+use Rattle.std.proofs.Common.{◌≡◌, ℕ, zero, suc, Bool, true, false, not, ◌&&◌, ◌||◌, List, [], ◌∷◌, length, drop, get_or, cond, refl, sym, ◌∙◌, ap, subst, arith}
 use Rattle.std.specs.Prelude.{Option, None, Some}
-use Rattle.std.specs.List.{filter, find, filter_map, list_all, slice_get, All, AllWithin, AllPairs}
+use Rattle.std.specs.List.{filter, find, list_all, slice_get, All, AllWithin, AllPairs}
 use Rattle.std.specs.List.Sorted.{IsPermutation, IsSortedBy, IsStableBy, ties}
 use Rattle.std.specs.Cmp.{IsStrictWeakOrder}
 use Rattle.std.proofs.lemmas.List.Elements.{filter_passes, All-filter}
@@ -21,7 +21,7 @@ use Rattle.scip_query.specs.declared.position.Position.{Position}
 use Rattle.scip_query.specs.Positions.{position_cmp, start_of, end_of}
 use Rattle.scip_query.specs.OccurrenceAt.{stands_at, innermost_cmp, innermost_of}
 use Rattle.scip_query.specs.Tables.{is_behind, starts_behind, stands_or_not, stands_listed, inner_cmp, numbers, IsTable}
-use Rattle.scip_query.proofs.RunLemmas.{not_false, all_fail, none_pass, find_first, first_and_others}
+use Rattle.scip_query.proofs.RunLemmas.{not_false, all_fail, none_pass, find_first, first_and_others, filter_swap}
 use Rattle.scip_query.proofs.TableLemmas.{positions_total, inner_ranks}
 use Rattle.scip_query.proofs.ZipLemmas.{numbers_stand, zip_filter, zip_all, zip_find}
 
@@ -32,15 +32,6 @@ not_true false h = refl
 both_not : (a b : Bool) → b ≡ false → (not a && not b) ≡ not a
 both_not true b e = refl
 both_not false b e = rw e refl
-
-pub filter_swap : {X : Type 0} (p q : X → Bool) (xs : List X) → filter p (filter q xs) ≡ filter q (filter p xs)
-filter_swap p q [] = refl
-filter_swap p q (x ∷ xs) = by (filter_swap p q xs) (p x) refl (q x) refl where
-  by : filter p (filter q xs) ≡ filter q (filter p xs) → (a : Bool) → p x ≡ a → (b : Bool) → q x ≡ b → filter p (filter q (x ∷ xs)) ≡ filter q (filter p (x ∷ xs))
-  by rest true e true f = rw (e, f, e) (ap (λ l. x ∷ l) rest)
-  by rest true e false f = rw (e, f) rest
-  by rest false e true f = rw (e, f, e) rest
-  by rest false e false f = rw (e, f) rest
 
 pub filter_alike : {X : Type 0} (p q : X → Bool) (xs : List X) → All (λ x. p x ≡ q x) xs → filter p xs ≡ filter q xs
 filter_alike p q [] all = refl

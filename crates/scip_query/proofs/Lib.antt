@@ -6,6 +6,7 @@ mod GrammarLemmas
 mod InnermostLemmas
 mod LineLemmas
 mod OutcomeLemmas
+mod RisingLemmas
 mod RunLemmas
 mod SiteLemmas
 mod TableLemmas

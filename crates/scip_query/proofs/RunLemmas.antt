@@ -1,22 +1,24 @@
--- A run of a table: the names whose key ties one, which stand together where the table is in the order of the keys.
-use Rattle.std.proofs.Common.{◌≡◌, ℕ, zero, suc, ◌+◌, ◌≤◌, ◌<◌, Bool, true, false, not, ◌&&◌, List, [], ◌∷◌, length, take, drop, get_or, refl, sym, ◌∙◌, ap, subst, arith, cond}
+-- A run of a table: what compares as equal, which stands together where the table rises.
+use Rattle.std.proofs.Common.{◌≡◌, ℕ, zero, suc, ◌+◌, ◌≤◌, Bool, true, false, not, ◌&&◌, List, [], ◌∷◌, length, take, drop, get_or, refl, sym, ◌∙◌, ap, subst, arith}
 use Rattle.std.specs.List.{filter, find, slice_get, All, AllWithin}
-use Rattle.std.specs.List.Sorted.{IsPermutation, IsSortedBy, IsStableBy, ties, IsPartitionedBy, IsPartitionPoint}
+use Rattle.std.specs.List.Sorted.{IsPermutation, IsSortedBy, IsStableBy, ties, IsPartitionedBy, IsPartitionPoint, IsNonDecreasingBy}
+use Rattle.std.specs.Fn.{AlwaysReturns, Called, Mut}
 use Rattle.std.specs.declared.cmp.Ordering.{Ordering}
 use Rattle.std.specs.declared.cmp.Ordering.TheVariants.{Less, Equal, Greater}
-use Rattle.std.specs.Ordering.{nat_cmp, is_lt, is_eq, ordering_reverse}
+use Rattle.std.specs.Ordering.{nat_cmp, is_lt, is_gt, is_eq, ordering_reverse, ordering_index}
+use Rattle.std.proofs.lemmas.Cmp.{nat_cmp_total}
 use Rattle.std.proofs.lemmas.Bool.Decides.{nat_tests}
 use Rattle.std.specs.Cmp.{IsTotalOrder}
 use Rattle.std.proofs.lemmas.List.{get_or-drop, length-drop}
 use Rattle.std.proofs.lemmas.List.Elements.{filter_passes}
 use Rattle.std.proofs.lemmas.List.Sorted.{ranks_by, sorted_far, All-permutation}
-use Rattle.scip_query.specs.Tables.{IsTable}
+use Rattle.scip_query.specs.Runs.{Rises}
 
 pub not_false : (b : Bool) → (b ≡ false → ⊥) → b ≡ true
 not_false true h = refl
 not_false false h = absurd (h refl)
 
-pub not_below : (a b : ℕ) → b ≤ a → is_lt (nat_cmp a b) ≡ false
+not_below : (a b : ℕ) → b ≤ a → is_lt (nat_cmp a b) ≡ false
 not_below a b h = grind (arith, nat_tests)
 
 equal_is : (r : Ordering) → is_eq r ≡ true → r ≡ Equal
@@ -29,10 +31,35 @@ less_not_equal Less e = refl
 less_not_equal Equal e = cc
 less_not_equal Greater e = cc
 
-level : (r : Ordering) → is_lt r ≡ false → is_lt (ordering_reverse r) ≡ false → is_eq (ordering_reverse r) ≡ true
-level Less below above = cc
-level Equal below above = refl
-level Greater below above = cc
+gt_reversed : (r : Ordering) → is_gt (ordering_reverse r) ≡ is_lt r
+gt_reversed Less = refl
+gt_reversed Equal = refl
+gt_reversed Greater = refl
+
+index_below : (a b : Ordering) → (is_lt b ≡ true → is_lt a ≡ true) → (is_eq b ≡ true → is_gt a ≡ false) → ordering_index a ≤ ordering_index b
+index_below Less b less equal = omega arith
+index_below Equal Less less equal = let clash : false ≡ true = less refl in cc
+index_below Equal Equal less equal = omega arith
+index_below Equal Greater less equal = omega arith
+index_below Greater Less less equal = let clash : false ≡ true = less refl in cc
+index_below Greater Equal less equal = let clash : true ≡ false = equal refl in cc
+index_below Greater Greater less equal = omega arith
+
+less_below : (a b : Ordering) → ordering_index a ≤ ordering_index b → is_lt b ≡ true → is_lt a ≡ true
+less_below Less b le less = refl
+less_below Equal Less le less = absurd (omega (arith, le))
+less_below Equal Equal le less = cc
+less_below Equal Greater le less = cc
+less_below Greater Less le less = absurd (omega (arith, le))
+less_below Greater Equal le less = cc
+less_below Greater Greater le less = cc
+
+equal_below : (a b : Ordering) → ordering_index a ≤ ordering_index b → is_lt a ≡ false → is_eq b ≡ true → is_eq a ≡ true
+equal_below Less b le not_less equal = cc
+equal_below Equal b le not_less equal = refl
+equal_below Greater Less le not_less equal = cc
+equal_below Greater Equal le not_less equal = absurd (omega (arith, le))
+equal_below Greater Greater le not_less equal = cc
 
 tied : (r : Ordering) → (not (is_lt r) && not (is_lt (ordering_reverse r))) ≡ is_eq (ordering_reverse r)
 tied Less = refl
@@ -80,40 +107,49 @@ find_first p (x ∷ xs) = by (find_first p xs) (p x) refl where
   by rest true passes = rw passes refl
   by rest false fails = rw fails rest
 
+pub filter_swap : {X : Type 0} (p q : X → Bool) (xs : List X) → filter p (filter q xs) ≡ filter q (filter p xs)
+filter_swap p q [] = refl
+filter_swap p q (x ∷ xs) = by (filter_swap p q xs) (p x) refl (q x) refl where
+  by : filter p (filter q xs) ≡ filter q (filter p xs) → (a : Bool) → p x ≡ a → (b : Bool) → q x ≡ b → filter p (filter q (x ∷ xs)) ≡ filter q (filter p (x ∷ xs))
+  by rest true e true f = rw (e, f, e) (ap (λ l. x ∷ l) rest)
+  by rest true e false f = rw (e, f) rest
+  by rest false e true f = rw (e, f, e) rest
+  by rest false e false f = rw (e, f) rest
+
+-- what one call answers
+pub answer_of : {F X R : Type 0} (g : Mut F X R) (P : X → R → Type 0) (f : F) (a : X) (r : R) (f' : F) → Called g f a r f' → AlwaysReturns g P f → P a r
+answer_of g P f a r f' call always = (always.at (a ∷ []) r f' call).0
+
+module _ {N : Type 0} (to : N → Ordering) (xs : List N) (rises : Rises to xs) where
+  pub less_first : IsPartitionedBy (λ n. is_lt (to n)) xs
+  less_first i j d before inside less = less_below (to (get_or xs i d)) (to (get_or xs j d)) (rises i j d before inside) less
+
+  -- behind the lesser ones the equal ones come first
+  pub equal_first : (from : ℕ) → AllWithin (λ n. is_lt (to n) ≡ false) xs from (length xs) → IsPartitionedBy (λ n. is_eq (to n)) (drop from xs)
+  equal_first from least i j d before inside equal =
+      rw (get_or-drop from xs i d)
+      (equal_below (to (get_or xs (from + i) d)) (to (get_or xs (from + j) d)) (rises (from + i) (from + j) d (omega arith) (omega (arith, length-drop from xs)))
+      (least (from + i) d (omega arith) (omega (arith, length-drop from xs))) (rw (get_or-drop from xs j d) at equal))
+
+  pub is_run : (from n : ℕ) → IsPartitionPoint (λ m. is_lt (to m) ≡ true) (λ m. is_lt (to m) ≡ false) xs from
+      → IsPartitionPoint (λ m. is_eq (to m) ≡ true) (λ m. is_eq (to m) ≡ false) (drop from xs) n
+      → filter (λ m. is_eq (to m)) xs ≡ take n (drop from xs)
+  is_run from n split equal =
+      filter_run (λ m. is_eq (to m)) xs from n (λ k d low high. less_not_equal (to (get_or xs k d)) (split.0 k d low high)) equal.0 equal.1
+
 module _ {N K : Type 0} {R : K → K → Ordering} (o : IsTotalOrder R) (key : N → K) where
   abbrev pub below : N → N → Bool
   below a b = is_lt (R (key a) (key b))
 
-  pub below_partitioned : (xs : List N) → IsSortedBy below xs → (s : K) → IsPartitionedBy (λ n. is_lt (R (key n) s)) xs
-  below_partitioned xs sorted s i j d before inside less =
-      not_false (is_lt (R (key (get_or xs i d)) s))
-      (λ e. let clash : true ≡ false = sym less ∙ (ranks_by o (λ (k : K). k)).chain (key (get_or xs j d)) (key (get_or xs i d)) s (sorted_far below (ranks_by o key) xs sorted i j d before inside) e in cc)
-
-  equal_partitioned : (xs : List N) → ((i j : ℕ) (d : N) → i ≤ j → j < length xs → below (get_or xs j d) (get_or xs i d) ≡ false) → (s : K)
-      → AllWithin (λ n. is_lt (R (key n) s) ≡ false) xs 0 (length xs) → IsPartitionedBy (λ n. is_eq (R (key n) s)) xs
-  equal_partitioned xs rising s least i j d before inside equal =
+  -- a table in the order of the keys rises as they compare to one
+  pub sorted_rises : (xs : List N) → IsSortedBy below xs → (s : K) → Rises (λ n. R (key n) s) xs
+  sorted_rises xs sorted s i j d before inside =
       let a = key (get_or xs i d) in
       let b = key (get_or xs j d) in
-      let same : R b a ≡ R s a = o.congr b s a (equal_is (R b s) equal) in
-      let not_less : is_lt (R s a) ≡ false = ap is_lt (sym same) ∙ rising i j d before inside in
-      let turned : R a s ≡ ordering_reverse (R s a) = o.antisymm a s in
-      let not_more : is_lt (ordering_reverse (R s a)) ≡ false = ap is_lt (sym turned) ∙ least i d (omega arith) (omega arith) in
-      ap is_eq turned ∙ level (R s a) not_less not_more
-
-  -- behind those with a lesser key come those with the key
-  pub equal_behind : (xs : List N) → IsSortedBy below xs → (s : K) (from : ℕ) → AllWithin (λ n. is_lt (R (key n) s) ≡ false) xs from (length xs)
-      → IsPartitionedBy (λ n. is_eq (R (key n) s)) (drop from xs)
-  equal_behind xs sorted s from least =
-      equal_partitioned (drop from xs)
-      (λ i j d before inside. rw (get_or-drop from xs j d, get_or-drop from xs i d)
-      (sorted_far below (ranks_by o key) xs sorted (from + i) (from + j) d (omega arith) (omega (arith, length-drop from xs))))
-      s (λ k d low high. rw (get_or-drop from xs k d) (least (from + k) d (omega arith) (omega (arith, length-drop from xs))))
-
-  pub is_run : (xs : List N) (s : K) (from n : ℕ) → IsPartitionPoint (λ m. is_lt (R (key m) s) ≡ true) (λ m. is_lt (R (key m) s) ≡ false) xs from
-      → IsPartitionPoint (λ m. is_eq (R (key m) s) ≡ true) (λ m. is_eq (R (key m) s) ≡ false) (drop from xs) n
-      → filter (λ m. is_eq (R (key m) s)) xs ≡ take n (drop from xs)
-  is_run xs s from n split equal =
-      filter_run (λ m. is_eq (R (key m) s)) xs from n (λ k d low high. less_not_equal (R (key (get_or xs k d)) s) (split.0 k d low high)) equal.0 equal.1
+      let later : is_lt (R b a) ≡ false = sorted_far below (ranks_by o key) xs sorted i j d before inside in
+      index_below (R a s) (R b s)
+      (λ less. not_false (is_lt (R a s)) (λ e. let clash : true ≡ false = sym less ∙ (ranks_by o (λ (k : K). k)).chain b a s later e in cc))
+      (λ equal. ap is_gt (o.antisymm a s) ∙ gt_reversed (R s a) ∙ ap is_lt (sym (o.congr b s a (equal_is (R b s) equal))) ∙ later)
 
   abbrev pub has : K → N → Bool
   has s m = is_eq (R (key m) s)
@@ -134,3 +170,7 @@ module _ {N K : Type 0} {R : K → K → Ordering} (o : IsTotalOrder R) (key : N
     by (x ∷ rest) some =
         let passes : has s x ≡ true = subst (All (λ m. has s m ≡ true)) some (filter_passes (has s) all) zero x (omega arith) in
         (λ i. filter (λ m. sym (tie s x passes m) i) xs) ∙ stable x ∙ (λ i. filter (λ m. tie s x passes m i) all)
+
+pub nondecreasing_rises : {N : Type 0} (key : N → ℕ) (xs : List N) → IsNonDecreasingBy key xs → (s : ℕ) → Rises (λ n. nat_cmp (key n) s) xs
+nondecreasing_rises key xs rising s =
+    sorted_rises nat_cmp_total key xs (λ k d low high. not_below (key (get_or xs (k + 1) d)) (key (get_or xs k d)) (rising k (k + 1) d (omega arith) high)) s

@@ -1,5 +1,5 @@
 -- Places and the sites that they stand for.
-use Rattle.std.proofs.Common.{◌≡◌, ℕ, zero, suc, ◌+◌, ◌≤◌, ◌<◌, Bool, true, false, not, ◌&&◌, ◌||◌, ◌==◌, List, [], ◌∷◌, ◌++◌, length, map, cond, get_or, refl, sym, ◌∙◌, ap, subst, append_assoc, arith}
+use Rattle.std.proofs.Common.{◌≡◌, ℕ, ◌+◌, Bool, true, false, not, ◌&&◌, ◌||◌, ◌==◌, List, [], ◌∷◌, ◌++◌, length, map, cond, refl, sym, ◌∙◌, ap, subst, append_assoc, arith}
 use Rattle.std.specs.Prelude.{Option, None, Some}
 use Rattle.std.specs.List.{filter, find, slice_get, AllZip, range_with_len, enumerate_from, flat_map}
 use Rattle.std.specs.List.Sorted.{IsNonDecreasingBy}
@@ -18,13 +18,8 @@ use Rattle.scip_query.specs.Sites.{Site, Numbered, numbered_documents, document_
 use Rattle.scip_query.specs.OccurrenceAt.{Subject}
 use Rattle.scip_query.specs.References.{is_local, is_of, is_definition, references_of, definitions_of}
 use Rattle.scip_query.specs.Tables.{numbers, places_in, places_from, path_or_none, symbol_or_none, path_listed, symbol_listed, occurrence_listed, numbered_listed, site_or_none, site_listed, defines_listed, definition_or_not}
-use Rattle.scip_query.proofs.ZipLemmas.{slice_get_at, zip_filter, zip_find}
-
-zip_append : {A B : Type 0} (R : A → B → Type 0) (xs : List A) (ys : List B) (us : List A) (vs : List B) → AllZip R xs ys → AllZip R us vs → AllZip R (xs ++ us) (ys ++ vs)
-zip_append R [] [] us vs front back = back
-zip_append R [] (y ∷ ys) us vs front back = absurd front
-zip_append R (x ∷ xs) [] us vs front back = absurd front
-zip_append R (x ∷ xs) (y ∷ ys) us vs front back = (front.0, zip_append R xs ys us vs front.1 back)
+use Rattle.scip_query.proofs.RisingLemmas.{IsRising, rising_from_less, rising_same, rising_filtered}
+use Rattle.scip_query.proofs.ZipLemmas.{slice_get_at, zip_append, zip_filter, zip_find}
 
 zip_map : {A B : Type 0} (R : A → B → Type 0) (f : B → A) → ((a : A) (b : B) → R a b → a ≡ f b) → (xs : List A) (ys : List B) → AllZip R xs ys → xs ≡ map f ys
 zip_map R f is [] [] all = refl
@@ -211,45 +206,15 @@ definitions_stand index subject places all =
 
 -- ---- places rise by their documents
 
-abbrev pub IsRising : ℕ → List Place → Type 0
-IsRising low [] = Unit {0}
-IsRising low (p ∷ places) = (low ≤ p.document) × IsRising p.document places
-
-rising_from_less : (low high : ℕ) (places : List Place) → low ≤ high → IsRising high places → IsRising low places
-rising_from_less low high [] le rising = tt
-rising_from_less low high (p ∷ places) le rising = (omega (arith, rising.0), rising.1)
-
-rising_in : (n low count : ℕ) (rest : List Place) → IsRising n rest → IsRising n (map (λ (k : ℕ). record { document = n; occurrence = k }) (range_with_len low count) ++ rest)
-rising_in n low zero rest rising = rising
-rising_in n low (suc count) rest rising = (omega arith, rising_in n (low + 1) count rest rising)
-
-rising_places : (n : ℕ) (documents : List Document) → IsRising n (places_from n documents)
+rising_places : (n : ℕ) (documents : List Document) → IsRising (λ (p : Place). p.document) n (places_from n documents)
 rising_places n [] = tt
 rising_places n (d ∷ documents) =
-    rising_in n 0 (length d.occurrences) (places_from (n + 1) documents) (rising_from_less n (n + 1) (places_from (n + 1) documents) (omega arith) (rising_places (n + 1) documents))
-
-rising_filter : (p : Place → Bool) (low : ℕ) (places : List Place) → IsRising low places → IsRising low (filter p places)
-rising_filter p low [] rising = tt
-rising_filter p low (x ∷ places) rising = by (rising_filter p x.document places rising.1) (p x) refl where
-  by : IsRising x.document (filter p places) → (b : Bool) → p x ≡ b → IsRising low (filter p (x ∷ places))
-  by rest true passes = rw passes (rising.0, rest)
-  by rest false fails = rw fails (rising_from_less low x.document (filter p places) rising.0 rest)
-
-rising_all : (low : ℕ) (places : List Place) → IsRising low places → (j : ℕ) (d : Place) → j < length places → low ≤ (get_or places j d).document
-rising_all low [] rising j d inside = absurd (omega arith)
-rising_all low (p ∷ places) rising zero d inside = rising.0
-rising_all low (p ∷ places) rising (suc j) d inside = omega (arith, rising.0, rising_all p.document places rising.1 j d (omega arith))
-
-pub rising_by_document : (low : ℕ) (places : List Place) → IsRising low places → IsNonDecreasingBy (λ (p : Place). p.document) places
-rising_by_document low [] rising i j d before inside = absurd (omega arith)
-rising_by_document low (p ∷ places) rising zero zero d before inside = omega arith
-rising_by_document low (p ∷ places) rising zero (suc j) d before inside = rising_all p.document places rising.1 j d (omega arith)
-rising_by_document low (p ∷ places) rising (suc i) zero d before inside = absurd (omega arith)
-rising_by_document low (p ∷ places) rising (suc i) (suc j) d before inside = rising_by_document p.document places rising.1 i j d (omega arith) (omega arith)
+    rising_same (λ (p : Place). p.document) n (λ k. record { document = n; occurrence = k }) (λ k. refl) (numbers (length d.occurrences)) (places_from (n + 1) documents)
+    (rising_from_less (λ (p : Place). p.document) n (n + 1) (places_from (n + 1) documents) (omega arith) (rising_places (n + 1) documents))
 
 -- the places that pass a test do
 pub passing_rise : (documents : List Document) (p : Place → Bool) → IsNonDecreasingBy (λ (place : Place). place.document) (filter p (places_from 0 documents))
-passing_rise documents p = rising_by_document 0 (filter p (places_from 0 documents)) (rising_filter p 0 (places_from 0 documents) (rising_places 0 documents))
+passing_rise documents p = rising_filtered (λ (place : Place). place.document) p 0 (places_from 0 documents) (rising_places 0 documents)
 
 -- of places that are those of references, the defining ones are those of definitions
 pub defining_are : (index : Index) (subject : Subject) (places : List Place)

@@ -1,21 +1,23 @@
 -- The orders of tables, and lists of numbers and of tables one longer.
-use Rattle.std.proofs.Common.{◌≡◌, ℕ, zero, suc, ◌+◌, Bool, subst, List, [], ◌∷◌, ◌++◌, map, refl, arith, sym, ◌∙◌, ap, map-id}
+use Rattle.std.proofs.Common.{◌≡◌, ℕ, zero, suc, ◌+◌, subst, List, [], ◌∷◌, ◌++◌, map, arith, sym, ◌∙◌, ap, map-id}
 use Rattle.std.specs.Cmp.{IsTotalOrder, IsStrictWeakOrder}
-use Rattle.std.specs.Ordering.{is_lt, nat_cmp}
-use Rattle.std.specs.List.{AllZip, range_with_len}
+use Rattle.std.specs.Ordering.{is_lt}
+use Rattle.std.specs.List.{AllZip}
 use Rattle.std.proofs.lemmas.Cmp.{on_total, then_total, nat_cmp_total, nat_list_cmp_total, back_total}
 use Rattle.std.specs.Cmp.Lexicographic.{options_total}
 use Rattle.std.proofs.lemmas.List.FromFn.{map-range_with_len_more}
 use Rattle.std.proofs.lemmas.List.Sorted.{ranks_by}
 use Rattle.scip_model.specs.declared.records.Occurrence.{Occurrence}
+use Rattle.scip_model.specs.declared.records.Index.{Index}
 use Rattle.scip_model.specs.declared.records.Document.{Document}
 use Rattle.scip_query.specs.Positions.{position_cmp, start_of, end_of}
 use Rattle.scip_query.specs.declared.position.Position.{Position}
 use Rattle.scip_query.specs.declared.place.Place.{Place}
+use Rattle.scip_query.specs.declared.place.EntryPlace.{EntryPlace}
 use Rattle.scip_query.specs.OccurrenceAt.{innermost_cmp}
-use Rattle.scip_query.specs.Tables.{numbers, path_listed, symbol_listed, path_cmp, symbol_cmp, inner_cmp, IsInnermostFirst}
+use Rattle.scip_query.specs.Tables.{numbers, path_listed, symbol_listed, entry_symbol_listed, path_cmp, symbol_cmp, entry_symbol_cmp, inner_cmp, IsInnermostFirst}
 use Rattle.std.specs.List.{slice_get}
-use Rattle.std.specs.Prelude.{Option, Some}
+use Rattle.std.specs.Prelude.{Some}
 use Rattle.std.specs.Option.{unwrap_or}
 
 pub positions_total : IsTotalOrder position_cmp
@@ -32,6 +34,9 @@ paths_rank documents = ranks_by nat_list_cmp_total (path_listed documents)
 
 pub symbols_rank : (documents : List Document) → IsStrictWeakOrder (λ (a b : Place). is_lt (symbol_cmp documents a b))
 symbols_rank documents = ranks_by nat_list_cmp_total (symbol_listed documents)
+
+pub entry_symbols_rank : (index : Index) → IsStrictWeakOrder (λ (a b : EntryPlace). is_lt (entry_symbol_cmp index a b))
+entry_symbols_rank index = ranks_by nat_list_cmp_total (entry_symbol_listed index)
 
 pub inner_ranks : (occurrences : List Occurrence) → IsStrictWeakOrder (λ a b. is_lt (inner_cmp occurrences a b))
 inner_ranks occurrences = ranks_by (options_total innermost_total) (slice_get occurrences)

@@ -1,6 +1,6 @@
 -- Two lists of which each element of one stands for the element of the other: what tests keep and find in them.
-use Rattle.std.proofs.Common.{◌≡◌, ℕ, zero, suc, ◌+◌, Bool, true, false, ◌&&◌, List, [], ◌∷◌, ◌++◌, length, cond, refl, sym, ◌∙◌, ap, subst, append_assoc, arith}
-use Rattle.std.specs.Prelude.{Option, None, Some}
+use Rattle.std.proofs.Common.{◌≡◌, Bool, true, false, ◌&&◌, List, [], ◌∷◌, ◌++◌, length, map, cond, refl, ◌∙◌, ap, subst, append_assoc}
+use Rattle.std.specs.Prelude.{Option, Some}
 use Rattle.std.specs.List.{filter, find, list_all, slice_get, AllZip, range_with_len}
 use Rattle.std.specs.Option.{option_and_then}
 use Rattle.std.proofs.lemmas.List.{length_push}
@@ -49,3 +49,16 @@ zip_find f p q same (x ∷ xs) (y ∷ ys) all = by (zip_find f p q same xs ys al
   by : option_and_then f (find p xs) ≡ find q ys → (b : Bool) → p x ≡ b → option_and_then f (find p (x ∷ xs)) ≡ cond b (Some y) (find q ys)
   by rest true passes = rw passes all.0
   by rest false fails = rw fails rest
+
+pub zip_append : {A B : Type 0} (R : A → B → Type 0) (xs : List A) (ys : List B) (us : List A) (vs : List B) → AllZip R xs ys → AllZip R us vs → AllZip R (xs ++ us) (ys ++ vs)
+zip_append R [] [] us vs front back = back
+zip_append R [] (y ∷ ys) us vs front back = absurd front
+zip_append R (x ∷ xs) [] us vs front back = absurd front
+zip_append R (x ∷ xs) (y ∷ ys) us vs front back = (front.0, zip_append R xs ys us vs front.1 back)
+
+-- other names for the same elements
+pub zip_renamed : {A B C : Type 0} (R : A → B → Type 0) (S : C → B → Type 0) (f : A → C) → ((a : A) (b : B) → R a b → S (f a) b) → (xs : List A) (ys : List B) → AllZip R xs ys → AllZip S (map f xs) ys
+zip_renamed R S f turn [] [] all = tt
+zip_renamed R S f turn [] (y ∷ ys) all = absurd all
+zip_renamed R S f turn (x ∷ xs) [] all = absurd all
+zip_renamed R S f turn (x ∷ xs) (y ∷ ys) all = (turn x y all.0, zip_renamed R S f turn xs ys all.1)

@@ -5,11 +5,9 @@ use Rattle.std.specs.Fmt.{decimal, signed_decimal}
 use Rattle.scip_model.specs.Range.{RangeNumbers}
 use Rattle.scip_model.specs.declared.records.Index.{Index}
 use Rattle.scip_model.specs.declared.records.Info.{Info}
-use Rattle.scip_query.specs.declared.position.Position.{Position}
 use Rattle.scip_query.specs.Sites.{Site}
 use Rattle.scip_query.specs.References.{definitions_at, references_at}
 use Rattle.scip_query.specs.Documentation.{documentation_at, symbols_of}
-use Rattle.scip_query.specs.declared.command.Question.{Question}
 use Rattle.scip_query.specs.declared.command.Question.TheVariants.{Definitions, References, Documentation}
 use Rattle.scip_query.specs.Commands.{Command, Ask, Symbols, space, max_command_length, lines_of}
 use Rattle.scip_query.specs.CommandReading.{command_of}

@@ -3,7 +3,6 @@ use Rattle.std.specs.Prelude.{ℕ, ◌==◌, Bool, nat_le, nat_lt, ◌&&◌, con
 use Rattle.std.specs.List.{list_all}
 use Rattle.std.specs.Option.{option_and_then, option_map}
 use Rattle.std.specs.Str.{bytes_eq, is_utf8}
-use Rattle.scip_query.specs.declared.position.Position.{Position}
 use Rattle.scip_query.specs.declared.command.Question.{Question}
 use Rattle.scip_query.specs.declared.command.Question.TheVariants.{Definitions, References, Documentation}
 use Rattle.scip_query.specs.Commands.{Command, Ask, Symbols, is_digit, value_of, max_number, max_digits}

@@ -1,6 +1,5 @@
 -- The code's parts of lines and commands as those of the definitions.
-use Rattle.std.specs.Prelude.{ℕ, List, Option}
-use Rattle.std.specs.Option.{option_map}
+use Rattle.std.specs.Prelude.{ℕ, List}
 use Rattle.std.specs.Borrow.{Bor}
 use Rattle.scip_query.specs.Commands
 use Rattle.scip_query.specs.CommandReading.{Parts}

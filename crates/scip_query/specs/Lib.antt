@@ -10,6 +10,7 @@ pub mod AnswerText
 pub mod Answering
 pub mod Conversing
 pub mod ConversingSteps
+pub mod Runs
 pub mod Tables
 pub mod Outcomes
 pub mod Views

@@ -1,5 +1,5 @@
 -- Positions and ranges (`scip.proto`, Occurrence.range).
-use Rattle.std.specs.Prelude.{ℕ, Bool, ◌&&◌, ◌||◌}
+use Rattle.std.specs.Prelude.{Bool, ◌&&◌, ◌||◌}
 use Rattle.std.specs.declared.cmp.Ordering.{Ordering}
 use Rattle.std.specs.Ordering.{nat_cmp, on, then_cmp, is_lt, is_le, is_eq}
 use Rattle.scip_model.specs.Range.{RangeNumbers}

@@ -14,6 +14,7 @@ mod place;
 mod position;
 mod queries;
 mod query_fault;
+mod run;
 mod search;
 mod tables;
 

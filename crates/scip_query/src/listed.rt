@@ -1,11 +1,11 @@
 //! What the numbers and places of an index stand for.
 
 ghost use Rattle.std.specs.Prelude.{◌≡◌, option_copied};
-ghost use Rattle.scip_query.specs.Tables.{path_listed, occurrence_listed, symbol_listed, path_cmp, symbol_cmp, inner_cmp};
+ghost use Rattle.scip_query.specs.Tables.{path_listed, occurrence_listed, symbol_listed, entries_listed, entry_listed, entry_symbol_listed, path_cmp, symbol_cmp, entry_symbol_cmp, inner_cmp};
 
-use crate::place::Place;
+use crate::place::{EntryPlace, Place};
 use crate::position::compare_innermost;
-use scip_model::{Document, Occurrence};
+use scip_model::{Document, Index, Info, Occurrence};
 use std::cmp::Ordering;
 
 /// The path of the document with a number; no text where there is none.
@@ -38,6 +38,34 @@ pub(crate) fn symbol_listed(documents: &[Document], place: Place) -> &str
     }
 }
 
+/// The symbol entries with a list's number: those of a document, and behind the documents the
+/// external ones.
+fn entries_listed(index: &Index, list: usize) -> &[Info]
+    ensures { result.now ≡ entries_listed index.now list }
+{
+    match index.documents.as_slice().get(list) {
+        Some(document) => document.symbols.as_slice(),
+        None => index.external_symbols.as_slice(),
+    }
+}
+
+/// The symbol entry at a place, where there is one.
+pub(crate) fn entry_listed(index: &Index, place: EntryPlace) -> Option<&Info>
+    ensures { option_copied result ≡ entry_listed index.now place }
+{
+    entries_listed(index, place.list).get(place.entry)
+}
+
+/// The symbol of the entry at a place; no text where there is none.
+pub(crate) fn entry_symbol_listed(index: &Index, place: EntryPlace) -> &str
+    ensures { result.now ≡ entry_symbol_listed index.now place }
+{
+    match entry_listed(index, place) {
+        Some(entry) => entry.symbol.as_str(),
+        None => "",
+    }
+}
+
 /// By path.
 pub(crate) fn compare_paths(documents: &[Document], a: usize, b: usize) -> Ordering
     ensures { result ≡ path_cmp documents.now a b }
@@ -50,6 +78,13 @@ pub(crate) fn compare_symbols(documents: &[Document], a: Place, b: Place) -> Ord
     ensures { result ≡ symbol_cmp documents.now a b }
 {
     symbol_listed(documents, a).cmp(symbol_listed(documents, b))
+}
+
+/// By symbol.
+pub(crate) fn compare_entry_symbols(index: &Index, a: EntryPlace, b: EntryPlace) -> Ordering
+    ensures { result ≡ entry_symbol_cmp index.now a b }
+{
+    entry_symbol_listed(index, a).cmp(entry_symbol_listed(index, b))
 }
 
 /// The innermost first.

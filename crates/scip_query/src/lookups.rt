@@ -1,10 +1,9 @@
 //! Definitions, references, documentation and symbols.
 
-ghost use Rattle.std.specs.Prelude.{◌≡◌, ℕ, List, IfOk, map, filter, option_copied};
+ghost use Rattle.std.specs.Prelude.{◌≡◌, ℕ, List, Some, IfOk, map, filter, option_copied};
 ghost use Rattle.std.specs.Borrow.{Bor};
-ghost use Rattle.std.specs.List.{find, flat_map};
+ghost use Rattle.std.specs.List.{find, slice_get};
 ghost use Rattle.std.specs.Str.{bytes_eq};
-ghost use Rattle.scip_model.specs.declared.records.Document.{Document};
 ghost use Rattle.scip_model.specs.declared.records.Info.{Info};
 ghost use Rattle.scip_query.specs.Sites.{Site};
 ghost use Rattle.scip_query.specs.References.{references_at, definitions_of, definitions_at, site_places};
@@ -18,6 +17,7 @@ use crate::place::Place;
 use crate::position::Position;
 use crate::queries::{Queries, Subject, is_local};
 use crate::query_fault::{QueryFault, fault_of};
+use crate::search::entry_places_in;
 use scip_model::{Document, Info, OwnedText};
 use std::alloc::{AllocError, Global};
 
@@ -49,31 +49,6 @@ fn defining(
         }
     }
     Ok(found)
-}
-
-/// The first of some entries with a symbol.
-fn entry_among<'a>(entries: &'a [Info], symbol: &str) -> Option<&'a Info>
-    ensures { option_copied result ≡ find (λ (entry : Info). bytes_eq entry.symbol symbol.now) entries.now }
-{
-    for entry in entries {
-        if entry.symbol.as_str() == symbol {
-            return Some(entry);
-        }
-    }
-    None
-}
-
-/// The first entry with a symbol among those of some documents.
-fn entry_in<'a>(documents: &'a [Document], symbol: &str) -> Option<&'a Info>
-    ensures { option_copied result ≡ find (λ (entry : Info). bytes_eq entry.symbol symbol.now) (flat_map (λ (d : Document). d.symbols) documents.now) }
-{
-    for document in documents {
-        match entry_among(document.symbols.as_slice(), symbol) {
-            Some(entry) => return Some(entry),
-            None => {}
-        }
-    }
-    None
 }
 
 /// The texts of an entry, or none.
@@ -118,16 +93,15 @@ impl Queries {
 
     /// The entry in which a subject's documentation is: the first with its symbol, in the documents
     /// in their order and then among the external symbols; of a local symbol in its document alone.
-    fn entry_of<'a>(&'a self, subject: &Subject<'a>) -> Option<&'a Info>
+    fn entry_of(&self, subject: &Subject<'_>) -> Option<&Info>
+        requires { slice_get self.now.documents subject.now.asked.number ≡ Some subject.now.asked.document.now }
         ensures { option_copied result ≡ find (λ (entry : Info). bytes_eq entry.symbol subject.now.symbol.now) (entries_for self.now (subject_view subject.now)) }
     {
+        let places = self.entry_places_with(subject.symbol);
         if is_local(subject.symbol) {
-            entry_among(subject.asked.document.symbols.as_slice(), subject.symbol)
+            self.first_entry(entry_places_in(places, subject.asked.number))
         } else {
-            match entry_in(self.documents(), subject.symbol) {
-                Some(entry) => Some(entry),
-                None => entry_among(self.external_symbols(), subject.symbol),
-            }
+            self.first_entry(places)
         }
     }
 

@@ -1,4 +1,4 @@
-//! Where an occurrence is listed.
+//! Where occurrences and symbol entries are listed.
 
 /// Where an index lists an occurrence.
 #[derive(Clone, Copy, Debug, PartialEq, Eq)]
@@ -7,4 +7,14 @@ pub struct Place {
     pub document: usize,
     /// Its own number, from 0, among the document's occurrences.
     pub occurrence: usize,
+}
+
+/// Where an index lists a symbol entry.
+#[derive(Clone, Copy, Debug)]
+pub(crate) struct EntryPlace {
+    /// The number of its list: its document's, or that behind those of all documents, which the
+    /// external symbols have.
+    pub list: usize,
+    /// Its own number, from 0, in the list.
+    pub entry: usize,
 }

@@ -1,24 +1,26 @@
 //! Queries over an index.
 
-ghost use Rattle.std.specs.Prelude.{◌≡◌, [], Some, MatchResult, IfSome, map, filter, option_copied};
+ghost use Rattle.std.specs.Prelude.{◌≡◌, [], Some, MatchResult, IfOk, IfSome, map, filter, option_copied};
 ghost use Rattle.std.specs.List.{slice_get};
 ghost use Rattle.std.specs.Option.{option_map, option_and_then, unwrap_or};
 ghost use Rattle.std.specs.Result.{result_map_both};
 ghost use Rattle.std.specs.Ordering.{nat_cmp, is_eq};
 ghost use Rattle.std.specs.Cmp.Lexicographic.{slice_cmp};
 ghost use Rattle.scip_query.specs.declared.place.Place.{Place};
+ghost use Rattle.scip_query.specs.declared.place.EntryPlace.{EntryPlace};
 ghost use Rattle.scip_query.specs.declared.miss.Miss.{Miss};
 ghost use Rattle.scip_query.specs.Sites.{Site, document_named};
 ghost use Rattle.scip_query.specs.OccurrenceAt.{occurrence_in, occurrence_at, subject_at};
 ghost use Rattle.scip_query.specs.References.{is_local, references_of};
-ghost use Rattle.scip_query.specs.Tables.{numbered_listed, symbol_listed, places_from, IsInnermostFirst};
+ghost use Rattle.scip_query.specs.Tables.{numbered_listed, symbol_listed, entry_listed, entry_symbol_listed, places_from, entry_places_from, IsInnermostFirst};
 ghost use Rattle.scip_query.specs.Views.{named_view, subject_view};
 
 use crate::innermost::innermost_at;
+use crate::listed::entry_listed;
 use crate::miss::Miss;
-use crate::place::Place;
+use crate::place::{EntryPlace, Place};
 use crate::position::Position;
-use crate::search::{number_named, places_in, places_of};
+use crate::search::{entry_places_of, number_named, places_in, places_of};
 use crate::tables::{Tables, tables_of};
 use scip_model::{Document, Index, Info, Occurrence, Sequence};
 use std::alloc::{AllocError, AllocFailed, Global};
@@ -43,7 +45,7 @@ impl Model for Queries {
 
     ghost view = { λ q. q.index };
 
-    ghost invariant = { λ q. AreTables q.index.documents q.tables.by_path q.tables.inner q.tables.by_symbol };
+    ghost invariant = { λ q. AreTables q.index q.tables.by_path q.tables.inner q.tables.by_symbol q.tables.entries_by_symbol };
 }
 
 /// A document and its number.
@@ -95,7 +97,7 @@ impl Queries {
     pub fn new(alloc: Global, index: Index) -> Result<Queries, AllocFailed<Index>>
         ensures { MatchResult result (λ queries. queries ≡ index) (λ refused. refused.value ≡ index) }
     {
-        match tables_of(alloc, index.documents.as_slice()) {
+        match tables_of(alloc, &index) {
             Ok(tables) => Ok(Queries { index, tables }),
             Err(AllocError) => Err(AllocFailed { value: index }),
         }
@@ -106,13 +108,6 @@ impl Queries {
         ensures { result.now ≡ self.now.documents }
     {
         self.index.documents.as_slice()
-    }
-
-    /// The symbol entries of what the index doesn't hold.
-    pub(crate) fn external_symbols(&self) -> &[Info]
-        ensures { result.now ≡ self.now.external_symbols }
-    {
-        self.index.external_symbols.as_slice()
     }
 
     /// The number of the first document with a path.
@@ -166,7 +161,8 @@ impl Queries {
 
     /// The symbol at a position of the document that a path names.
     pub(crate) fn subject_at(&self, path: &str, position: Position) -> Result<Subject<'_>, Miss>
-        ensures { result_map_both subject_view (λ (miss : Miss). miss) result ≡ subject_at self.now path.now position }
+        ensures is { result_map_both subject_view (λ (miss : Miss). miss) result ≡ subject_at self.now path.now position }
+        ensures listed { IfOk result (λ subject. slice_get self.now.documents subject.asked.number ≡ Some subject.asked.document.now) }
     {
         let Some(asked) = self.named(path) else {
             return Err(Miss::NoDocument);
@@ -196,6 +192,27 @@ impl Queries {
             places_in(places, subject.asked.number)
         } else {
             places
+        }
+    }
+
+    /// The places of the symbol entries with a symbol, those of external symbols last.
+    pub(crate) fn entry_places_with(&self, symbol: &str) -> &[EntryPlace]
+        ensures { result.now ≡ filter (λ (place : EntryPlace). is_eq (slice_cmp nat_cmp (entry_symbol_listed self.now place) symbol.now)) (entry_places_from 0 self.now.external_symbols self.now.documents) }
+    {
+        entry_places_of(
+            &self.index,
+            self.tables.entries_by_symbol.as_slice(),
+            symbol,
+        )
+    }
+
+    /// The symbol entry at the first of some places.
+    pub(crate) fn first_entry(&self, places: &[EntryPlace]) -> Option<&Info>
+        ensures { option_copied result ≡ option_and_then (entry_listed self.now) (slice_get places.now 0) }
+    {
+        match places.first() {
+            Some(place) => entry_listed(&self.index, *place),
+            None => None,
         }
     }
 }

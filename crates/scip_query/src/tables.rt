@@ -1,15 +1,15 @@
 //! The tables by which an index is searched.
 
 ghost use Rattle.std.specs.Prelude.{◌≡◌, ◌++◌, ◌^◌, ◌<◌, ◌≤◌, ◌+◌, IfOk, OnOk, length};
-ghost use Rattle.scip_query.specs.Tables.{numbers, places_in, places_from, IsByPath, IsInnermostFirst, IsBySymbol, AreTables};
+ghost use Rattle.scip_query.specs.Tables.{numbers, places_in, places_from, entry_places_in, entry_places_from, IsByPath, IsInnermostFirst, IsBySymbol, AreEntriesBySymbol, AreTables};
 ghost use Rattle.std.specs.List.{AllZip};
 
-use crate::listed::{compare_inner, compare_paths, compare_symbols};
-use crate::place::Place;
-use scip_model::{Document, Occurrence, Sequence};
+use crate::listed::{compare_entry_symbols, compare_inner, compare_paths, compare_symbols};
+use crate::place::{EntryPlace, Place};
+use scip_model::{Document, Index, Info, Occurrence, Sequence};
 use std::alloc::{AllocError, Global};
 
-/// Tables of numbers over the documents of an index.
+/// Tables of numbers over the documents and symbol entries of an index.
 #[derive(Drop)]
 pub(crate) struct Tables {
     /// The documents by path, of one path the first listed first.
@@ -18,6 +18,9 @@ pub(crate) struct Tables {
     pub inner: Sequence<Sequence<usize>>,
     /// All occurrences by symbol, of one symbol in the index's order.
     pub by_symbol: Sequence<Place>,
+    /// All symbol entries by symbol, of one symbol those of documents in the index's order, and
+    /// then the external ones.
+    pub entries_by_symbol: Sequence<EntryPlace>,
 }
 
 /// The numbers from 0 below a count.
@@ -86,13 +89,54 @@ fn by_symbol(alloc: Global, documents: &[Document]) -> Result<Sequence<Place>, A
     Ok(Sequence::from_vec(places))
 }
 
-/// The tables of an index's documents.
-pub(crate) fn tables_of(alloc: Global, documents: &[Document]) -> Result<Tables, AllocError>
-    ensures { IfOk result (λ tables. AreTables documents.now tables.by_path tables.inner tables.by_symbol) }
+/// Appends the places in a list of symbol entries.
+fn push_entry_places(
+    places: &mut Vec<EntryPlace>,
+    list: usize,
+    entries: &[Info],
+) -> Result<(), AllocError>
+    ensures { OnOk result (places.new.items ≡ places.old.items ++ entry_places_in list entries.now) }
 {
+    for entry in 0..entries.len() {
+        places.push(EntryPlace { list, entry })?;
+    }
+    Ok(())
+}
+
+/// The places of all symbol entries.
+fn entry_places(alloc: Global, index: &Index) -> Result<Vec<EntryPlace>, AllocError>
+    ensures { IfOk result (λ places. places.items ≡ entry_places_from 0 index.now.external_symbols index.now.documents) }
+{
+    let documents = index.documents.as_slice();
+    let mut places = Vec::new(alloc);
+    for (list, document) in documents.iter().enumerate() {
+        push_entry_places(&mut places, list, document.symbols.as_slice())?;
+    }
+    push_entry_places(
+        &mut places,
+        documents.len(),
+        index.external_symbols.as_slice(),
+    )?;
+    Ok(places)
+}
+
+fn entries_by_symbol(alloc: Global, index: &Index) -> Result<Sequence<EntryPlace>, AllocError>
+    ensures { IfOk result (λ table. AreEntriesBySymbol index.now table) }
+{
+    let mut places = entry_places(alloc, index)?;
+    places.sort_by(|a, b| compare_entry_symbols(index, *a, *b))?;
+    Ok(Sequence::from_vec(places))
+}
+
+/// The tables of an index.
+pub(crate) fn tables_of(alloc: Global, index: &Index) -> Result<Tables, AllocError>
+    ensures { IfOk result (λ tables. AreTables index.now tables.by_path tables.inner tables.by_symbol tables.entries_by_symbol) }
+{
+    let documents = index.documents.as_slice();
     Ok(Tables {
         by_path: by_path(alloc, documents)?,
         inner: inner(alloc, documents)?,
         by_symbol: by_symbol(alloc, documents)?,
+        entries_by_symbol: entries_by_symbol(alloc, index)?,
     })
 }

@@ -1,4 +1,4 @@
-use Rattle.std.proofs.Common.{◌≡◌, ◌∙◌, ap, sym}
+use Rattle.std.proofs.Common.{◌∙◌, ap, sym}
 use Rattle.scip_query.specs.CommandReading.{at_most}
 use Rattle.scip_query.proofs.CommandLemmas.{written_digits, number_written, number_unwritten}
 use Rattle.scip_query.proofs.command.number_of.Goals as goal

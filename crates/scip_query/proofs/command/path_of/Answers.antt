@@ -1,4 +1,4 @@
-use Rattle.std.proofs.Common.{◌≡◌, ◌∙◌, ap, sym, Some}
+use Rattle.std.proofs.Common.{◌∙◌, ap, sym, Some}
 use Rattle.scip_query.proofs.CommandLemmas.{path_is, path_isnt}
 use Rattle.scip_query.proofs.command.path_of.Goals as goal
 

@@ -1,4 +1,4 @@
-use Rattle.std.proofs.Common.{rules, ◌≡◌, ◌∙◌, ap, ℕ, true, false, drop}
+use Rattle.std.proofs.Common.{rules, ◌≡◌, ◌∙◌, ap, true, false}
 use Rattle.std.specs.List.{slice_get, find}
 use Rattle.std.specs.Option.{option_and_then}
 use Rattle.std.specs.List.Sorted.{IsPartitionPoint}

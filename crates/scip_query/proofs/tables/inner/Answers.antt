@@ -1,5 +1,4 @@
-use Rattle.std.proofs.Common.{◌≡◌, ◌<◌, ◌∙◌, ap, sym, subst, ◌+◌, ◌++◌, ◌∷◌, [], take, length}
-use Rattle.std.specs.List.{AllZip}
+use Rattle.std.proofs.Common.{◌≡◌, ◌<◌, ◌∙◌, ap, sym, ◌+◌, ◌++◌, ◌∷◌, [], take, length}
 use Rattle.std.proofs.lemmas.List.{take_more}
 use Rattle.scip_query.specs.Tables.{IsInnermostFirst}
 use Rattle.scip_query.proofs.TableLemmas.{zipped_more}

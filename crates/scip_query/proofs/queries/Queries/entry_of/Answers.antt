@@ -1,28 +1,27 @@
-use Rattle.std.proofs.Common.{◌≡◌, ◌∙◌, ap, sym, List}
-use Rattle.std.specs.List.{find, flat_map}
-use Rattle.std.specs.Option.{option_or}
-use Rattle.std.specs.Str.{bytes_eq}
-use Rattle.scip_model.specs.declared.records.Document.{Document}
-use Rattle.scip_model.specs.declared.records.Info.{Info}
+use Rattle.std.proofs.Common.{◌∙◌, ap, sym, List}
+use Rattle.std.specs.List.{filter, slice_get}
+use Rattle.std.specs.Option.{option_and_then}
+use Rattle.scip_query.specs.declared.place.EntryPlace.{EntryPlace}
+use Rattle.scip_query.specs.Tables.{entry_listed}
 use Rattle.scip_query.specs.Views.{subject_view}
-use Rattle.scip_query.proofs.EntryLemmas.{found_globally}
+use Rattle.scip_query.proofs.EntryLemmas.{has_symbol, is_in, found_globally, found_locally, passing_rise}
 use Rattle.scip_query.proofs.queries.Queries.entry_of.Goals as goal
 
-pub returns-in-Some : goal.returns-in-Some
-returns-in-Some c =
-    let index = c.args.self.now in
-    let subject = subject_view c.args.subject.now in
-    let p = λ (entry : Info). bytes_eq entry.symbol c.args.subject.now.symbol.now in
-    sym (found_globally p index subject (sym c.is_local.ensures ∙ c.if-is_local.false)
-    ∙ ap (λ o. option_or o (find p index.external_symbols))
-    (sym (c.in-Some.ensures ∙ ap (λ (l : List Document). find p (flat_map (λ (d : Document). d.symbols) l)) c.documents.ensures)))
+pub entry_places_in-requires : goal.entry_places_in-requires
+entry_places_in-requires c =
+    rw c.entry_places_with-places.ensures (passing_rise c.args.self.now (has_symbol c.args.self.now c.args.subject.now.symbol.now))
 
-pub returns-in-None : goal.returns-in-None
-returns-in-None c =
+pub returns-then-is_local : goal.returns-then-is_local
+returns-then-is_local c =
     let index = c.args.self.now in
     let subject = subject_view c.args.subject.now in
-    let p = λ (entry : Info). bytes_eq entry.symbol c.args.subject.now.symbol.now in
-    c.entry_among-in-None.ensures ∙ ap (find p) c.external_symbols.ensures
-    ∙ sym (found_globally p index subject (sym c.is_local.ensures ∙ c.if-is_local.false)
-    ∙ ap (λ o. option_or o (find p index.external_symbols))
-    (sym (c.in-None.ensures ∙ ap (λ (l : List Document). find p (flat_map (λ (d : Document). d.symbols) l)) c.documents.ensures)))
+    c.first_entry.ensures
+    ∙ ap (λ (l : List EntryPlace). option_and_then (entry_listed index) (slice_get l 0)) (c.entry_places_in.ensures ∙ ap (filter (is_in subject.asked.number)) c.entry_places_with-places.ensures)
+    ∙ found_locally index subject (sym c.is_local.ensures ∙ c.if-is_local.true) c.requires
+
+pub returns-else-is_local : goal.returns-else-is_local
+returns-else-is_local c =
+    let index = c.args.self.now in
+    let subject = subject_view c.args.subject.now in
+    c.first_entry-else-is_local.ensures ∙ ap (λ (l : List EntryPlace). option_and_then (entry_listed index) (slice_get l 0)) c.entry_places_with-places.ensures
+    ∙ found_globally index subject (sym c.is_local.ensures ∙ c.if-is_local.false)

@@ -1,4 +1,4 @@
-use Rattle.std.proofs.Common.{◌≡◌, ◌∙◌, sym, subst, ap, ℕ, List, []}
+use Rattle.std.proofs.Common.{◌∙◌, sym, subst, ap, ℕ, List, []}
 use Rattle.std.specs.List.{slice_get, AllZip}
 use Rattle.std.specs.Option.{unwrap_or}
 use Rattle.scip_model.specs.declared.records.Index.{Index}

@@ -1,10 +1,9 @@
-use Rattle.std.proofs.Common.{◌≡◌, ◌++◌, ◌∙◌, ap, List, length, append_assoc}
+use Rattle.std.proofs.Common.{◌++◌, ◌∙◌, ap, List, length, append_assoc}
 use Rattle.std.specs.List.{flat_map}
 use Rattle.std.specs.String.{string_bytes}
 use Rattle.std.proofs.lemmas.Result.{on_ok_weaker}
 use Rattle.scip_model.specs.declared.records.Document.{Document}
 use Rattle.scip_query.specs.declared.place.Place.{Place}
-use Rattle.scip_query.specs.References.{definitions_at}
 use Rattle.scip_query.specs.Tables.{site_listed}
 use Rattle.scip_query.specs.AnswerText.{count_line}
 use Rattle.scip_query.specs.Answering.{line_or_none}

@@ -1,9 +1,8 @@
-use Rattle.std.proofs.Common.{◌≡◌, ◌++◌, ◌∙◌, ap, ℕ, List, length, append_assoc}
+use Rattle.std.proofs.Common.{◌++◌, ◌∙◌, ap, ℕ, List, length, append_assoc}
 use Rattle.std.specs.Borrow.{Bor}
 use Rattle.std.specs.List.{flat_map}
 use Rattle.std.specs.String.{string_bytes}
 use Rattle.std.proofs.lemmas.Result.{on_ok_weaker}
-use Rattle.scip_model.specs.declared.records.Info.{Info}
 use Rattle.scip_query.specs.Documentation.{documentation_at}
 use Rattle.scip_query.specs.AnswerText.{count_line, quoted}
 use Rattle.scip_query.proofs.AnswerLemmas.{listing_found}

@@ -7,7 +7,8 @@ use thiserror::Error;
 ///
 /// Offsets are byte offsets from the text's start, of the token that can't stand at its place, or
 /// the text's length where tokens are missing. Of several faults it is the one that reading from
-/// left to right meets first.
+/// left to right meets first. That a fault comes only where there is no tree is proved; which one
+/// comes, and its offset, tests show.
 #[derive(Clone, Copy, Debug, Drop, PartialEq, Eq, Error)]
 pub enum SyntaxFault {
     /// The first token is not the word `syntax` (its offset), or the syntax statement's literals

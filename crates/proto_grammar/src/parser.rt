@@ -16,10 +16,11 @@ use std::marker::Model;
 /// A token with its spelling.
 #[derive(Clone, Copy, Debug)]
 pub struct Lexeme<'t> {
+    /// What it is.
     pub kind: TokenKind,
     /// The part of the text that is the token.
     pub spelling: &'t str,
-    /// Where it stands in the text.
+    /// Where it stands in the text, in bytes.
     pub span: Span,
 }
 
@@ -274,7 +275,8 @@ impl<'t> Parser<'t> {
         }
     }
 
-    /// Takes a token of the kind.
+    /// Takes a token of the kind, and gives where it stands. Grammar at another token, or at the
+    /// text's length, as in all methods that take a part where nothing else is said.
     #[tactic(auto, unfolding(crate::specs::Reading::Steps::token_that))]
     pub fn token(&mut self, kind: TokenKind) -> Result<Span, SyntaxFault>
         ensures { Gives Skip (λ x. x) self.new result (token_that (of_kind kind) self.old) }
@@ -358,7 +360,7 @@ impl<'t> Parser<'t> {
         }
     }
 
-    /// Takes a literal of an import's path.
+    /// Takes a literal of an import's path: ImportEscape where a `\` stands in it.
     #[tactic(auto, unfolding(crate::specs::Reading::Steps::token_that))]
     pub fn plain_literal(&mut self) -> Result<Span, SyntaxFault>
         ensures { Gives Skip (λ x. x) self.new result (token_that is_plain_literal self.old) }

@@ -30,6 +30,7 @@ pub struct File {
 /// An import (proto3 specification, "Import statement").
 #[derive(Debug, Drop)]
 pub struct Import {
+    /// What stands behind the word `import`.
     pub kind: ImportKind,
     /// The literals that spell the path when joined, each with its quotes. None of them holds a
     /// `\`.
@@ -41,15 +42,20 @@ pub struct Import {
 pub enum ImportKind {
     /// With neither `weak` nor `public`.
     Plain,
+    /// With `weak`.
     Weak,
+    /// With `public`: whoever imports the file sees what this import brings.
     Public,
 }
 
 /// What stands in a file.
 #[derive(Debug, Drop)]
 pub enum FileItem {
+    /// A message.
     Message(Message),
+    /// An enum.
     Enum(Enum),
+    /// A service.
     Service(Service),
 }
 
@@ -61,8 +67,11 @@ pub enum FileItem {
 /// of an enum's value, and the `;` or `{` behind a method's result type.
 #[derive(Clone, Copy, Debug, PartialEq, Eq)]
 pub struct Heading {
+    /// The first token. Of an enum's value it is the name.
     pub first: Span,
+    /// The identifier that is declared.
     pub name: Span,
+    /// The token up to which comments are the declaration's.
     pub closing: Span,
 }
 
@@ -70,6 +79,7 @@ pub struct Heading {
 #[derive(Debug, Drop)]
 #[cycle(tree)]
 pub struct Message {
+    /// From the word `message` to the `{`.
     pub heading: Heading,
     /// What stands between the braces, in order.
     pub items: Vec<MessageItem>,
@@ -79,22 +89,29 @@ pub struct Message {
 #[derive(Debug, Drop)]
 #[cycle(tree)]
 pub enum MessageItem {
+    /// A message.
     Message(Message),
+    /// Something in which no message stands.
     Leaf(Leaf),
 }
 
 /// What stands in a message, other than a message.
 #[derive(Debug, Drop)]
 pub enum Leaf {
+    /// An enum.
     Enum(Enum),
+    /// A oneof.
     Oneof(Oneof),
+    /// A field, outside of a oneof.
     Field(Field),
+    /// A map field.
     MapField(MapField),
 }
 
 /// An enum (proto3 specification, "Enum definition").
 #[derive(Debug, Drop)]
 pub struct Enum {
+    /// From the word `enum` to the `{`.
     pub heading: Heading,
     /// The values, in order.
     pub values: Sequence<Heading>,
@@ -103,6 +120,7 @@ pub struct Enum {
 /// A oneof (proto3 specification, "Oneof and oneof field").
 #[derive(Debug, Drop)]
 pub struct Oneof {
+    /// From the word `oneof` to the `{`.
     pub heading: Heading,
     /// The fields, in order, none with a label.
     pub fields: Sequence<Field>,
@@ -111,24 +129,31 @@ pub struct Oneof {
 /// A field (proto3 specification, "Normal field").
 #[derive(Debug, Drop)]
 pub struct Field {
+    /// From the label, or the type's first token, to the `;`.
     pub heading: Heading,
+    /// The label, if there is one.
     pub label: Option<Label>,
+    /// The type, behind the label.
     pub field_type: FieldType,
 }
 
 /// A label.
 #[derive(Clone, Copy, Debug, PartialEq, Eq)]
 pub enum Label {
+    /// `repeated`.
     Repeated,
+    /// `optional`.
     Optional,
 }
 
 /// A map field (proto3 specification, "Map field").
 #[derive(Debug, Drop)]
 pub struct MapField {
+    /// From the word `map` to the `;`.
     pub heading: Heading,
     /// The word of the key's scalar type.
     pub key: Span,
+    /// The value's type.
     pub value: FieldType,
 }
 
@@ -153,6 +178,7 @@ pub struct TypeName {
 /// A service (proto3 specification, "Service definition").
 #[derive(Debug, Drop)]
 pub struct Service {
+    /// From the word `service` to the `{`.
     pub heading: Heading,
     /// The methods, in order.
     pub methods: Sequence<Method>,
@@ -161,6 +187,7 @@ pub struct Service {
 /// A method (proto3 specification, "Service definition").
 #[derive(Debug, Drop)]
 pub struct Method {
+    /// From the word `rpc` to the `;` or `{` behind the result's type.
     pub heading: Heading,
     /// The type of what the method takes.
     pub input: TypeName,

@@ -8,3 +8,5 @@ pub mod StepsFall
 pub mod Exact
 -- Where the spans of a tree stand
 pub mod Walk
+-- The lists of a tree that are never empty
+pub mod Filled

@@ -11,5 +11,7 @@ pub mod Derives
 pub mod Faults
 -- Where the spans of a tree stand
 pub mod Walk
+-- The lists of a tree that are never empty
+pub mod Filled
 -- What the parser does
 pub mod Reading

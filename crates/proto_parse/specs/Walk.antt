@@ -125,3 +125,13 @@ marks_of_imports file = each_then import_then file.imports []
 
 abbrev pub marks_of_package : File → List Mark
 marks_of_package file = each_then names_then (option_to_list file.package_name) []
+
+-- The spans of the package's name stand between those of the items before the package statement and those of the items behind it.
+abbrev pub IsAmongItems : (components : List Span) → List FileItem → List Lexeme → Type 0
+IsAmongItems components items tokens =
+    (before : List FileItem)
+    × ((behind : List FileItem) × ((items ≡ before ++ behind) × Among (each_then item_then before (names_then components (each_then item_then behind []))) tokens))
+
+abbrev pub PackageIsAmongItems : Option (List Span) → List FileItem → List Lexeme → Type 0
+PackageIsAmongItems None items tokens = Unit {0}
+PackageIsAmongItems (Some components) items tokens = IsAmongItems components items tokens

@@ -4,7 +4,8 @@ ghost use Rattle.std.specs.Prelude.{◌≡◌, ℕ, List, map};
 ghost use Rattle.proto_lex.specs.Lexed.{AreInOrder};
 ghost use Rattle.proto_lex.specs.declared.token.Token.{Token};
 ghost use Rattle.proto_grammar.specs.Lexeme.{lexemes_of};
-ghost use Rattle.proto_parse.specs.Walk.{Mark, Among, MarksAreInOrder, marks_of_items, marks_of_imports, marks_of_package};
+ghost use Rattle.proto_parse.specs.Walk.{Mark, Among, MarksAreInOrder, marks_of_items, marks_of_imports, marks_of_package, PackageIsAmongItems};
+ghost use Rattle.proto_parse.specs.Filled.{FilledFile};
 ghost use Rattle.proto_parse.specs.Derives.{Derives};
 ghost use Rattle.proto_grammar.specs.declared.tree.CustomOptions.{CustomOptions};
 ghost use Rattle.proto_grammar.specs.declared.tree.File.{File};
@@ -25,10 +26,20 @@ pub fn spans_of_tokens()
         → Derives custom text tokens file → Among (marks_of_imports file) (lexemes_of text tokens) }
     ensures package_name { (custom : CustomOptions) (text : List ℕ) (tokens : List Token) (file : File)
         → Derives custom text tokens file → Among (marks_of_package file) (lexemes_of text tokens) }
+    // The package's name stands between the items before its statement and those behind it.
+    ensures package_place { (custom : CustomOptions) (text : List ℕ) (tokens : List Token) (file : File)
+        → Derives custom text tokens file → PackageIsAmongItems file.package_name file.items (lexemes_of text tokens) }
 {}
 
 /// Spans of tokens in the order of a walk are in order, where the tokens are.
 pub fn spans_in_order()
     ensures { (text : List ℕ) (tokens : List Token) (marks : List Mark)
         → Among marks (lexemes_of text tokens) → AreInOrder 0 (map (λ t. t.span) tokens) → MarksAreInOrder 0 marks }
+{}
+
+/// The names of a tree have a component at least, and its imports a literal: its package's name,
+/// the types of its fields, and those that its methods take and give.
+pub fn names_have_components()
+    ensures { (custom : CustomOptions) (text : List ℕ) (tokens : List Token) (file : File)
+        → Derives custom text tokens file → FilledFile file }
 {}

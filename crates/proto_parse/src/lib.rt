@@ -9,7 +9,7 @@ mod parsing;
 mod services;
 mod statement;
 
-pub use laws::{one_tree, spans_in_order, spans_of_tokens};
+pub use laws::{names_have_components, one_tree, spans_in_order, spans_of_tokens};
 pub use messages::MAX_MESSAGE_DEPTH;
 pub use parsing::{parse, parse_with};
 pub use proto_grammar::{

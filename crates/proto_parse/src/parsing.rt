@@ -15,7 +15,7 @@ use std::alloc::Global;
 /// The tree that the tokens derive where custom options are refused.
 ///
 /// It is Ok exactly where they derive one, but for want of memory. Otherwise the fault is the one
-/// that reading from left to right meets first.
+/// that reading from left to right meets first: which one that is, and its offset, tests show.
 pub fn parse(alloc: Global, tokens: &Tokens<'_>) -> Result<File, SyntaxFault>
     ensures found { IfOk result (λ file. Derives Refuse tokens.now.text tokens.now.tokens file) }
     ensures only { (file : File) → Derives Refuse tokens.now.text tokens.now.tokens file
@@ -27,7 +27,8 @@ pub fn parse(alloc: Global, tokens: &Tokens<'_>) -> Result<File, SyntaxFault>
 /// The tree that the tokens derive, with a choice of what is done with custom options.
 ///
 /// It is Ok exactly where they derive one, but for want of memory. Otherwise the fault is the one
-/// that reading from left to right meets first.
+/// that reading from left to right meets first (tests show which), and where custom options are
+/// read past none of CustomOption, Aggregate and Extend.
 pub fn parse_with(
     alloc: Global,
     tokens: &Tokens<'_>,

@@ -65,7 +65,7 @@ pub data IsOption (custom : CustomOptions) : List Lexeme → List Lexeme → Typ
   option : {a b c d : List Lexeme} {keyword semicolon : Span}
       → One (is_word (codes "option")) a keyword b → IsSetting custom b c → One (of_kind Semicolon) c semicolon d → IsOption custom a d
 
--- [ opts ], where opts = "[" name "=" constant { "," name "=" constant } "]"
+-- [ fieldOptions ], where fieldOptions = "[" name "=" constant { "," name "=" constant } "]"
 pub data IsOptions (custom : CustomOptions) : List Lexeme → List Lexeme → Type 0 where
   none : {a : List Lexeme} → first_is (of_kind OpenBracket) a ≡ false → IsOptions custom a a
   some : {a b c d e : List Lexeme} {open_bracket close_bracket : Span}

@@ -18,7 +18,7 @@ pub data IsRangeEnd (negative : Bool) : List Lexeme → List Lexeme → Type 0 w
   max : {a b : List Lexeme} {word : Span} → One (is_word (codes "max")) a word b → IsRangeEnd negative a b
 
 -- range = INT [ "to" ( INT | "max" ) ]
--- erange = [ "-" ] INT [ "to" ( [ "-" ] INT | "max" ) ]
+-- enumRange = [ "-" ] INT [ "to" ( [ "-" ] INT | "max" ) ]
 pub data IsRange (negative : Bool) : List Lexeme → List Lexeme → Type 0 where
   single : {a b : List Lexeme} → IsInteger negative a b → first_is (is_word (codes "to")) b ≡ false → IsRange negative a b
   range : {a b c d : List Lexeme} {word : Span}
@@ -33,7 +33,7 @@ pub data IsCommaItem (negative names : Bool) : List Lexeme → List Lexeme → T
   comma_item : {a b c : List Lexeme} {comma : Span} → One (of_kind Comma) a comma b → IsReservedItem negative names b c → IsCommaItem negative names a c
 
 -- reserved = "reserved" ( range { "," range } | strings { "," strings } ) ";", in a message
--- eresv = "reserved" ( erange { "," erange } | strings { "," strings } ) ";", in an enum, where numbers may be negative
+-- enumReserved = "reserved" ( enumRange { "," enumRange } | strings { "," strings } ) ";", in an enum, where numbers may be negative
 pub data IsReserved (negative : Bool) : List Lexeme → List Lexeme → Type 0 where
   reserved : {names : Bool} {a b c d e : List Lexeme} {keyword semicolon : Span}
       → One (is_word (codes "reserved")) a keyword b → first_is (of_kind StringLiteral) b ≡ names

@@ -68,17 +68,17 @@ use Rattle.proto_parse.specs.Grammar.Files.IsFile.{file}
 use Rattle.proto_parse.proofs.Walk.Past.{same_kind, past, at_a_name, at_a_scalar, at_a_key, at_a_literal, at_another, at_its_first, until_past, option_past, options_past, label_past, integer_past, reserved_past, extend_past, method_item_past, joined_past, enum_past, message_past, service_past, package_past, import_kind_past, import_past}
 
 -- marks of two lists
-each_then-append : {A : Type 0} (marks_then : A → List Mark → List Mark) (xs ys : List A) (marks : List Mark)
+pub each_then-append : {A : Type 0} (marks_then : A → List Mark → List Mark) (xs ys : List A) (marks : List Mark)
     → each_then marks_then (xs ++ ys) marks ≡ each_then marks_then xs (each_then marks_then ys marks)
 each_then-append marks_then [] ys marks = refl
 each_then-append marks_then (x ∷ xs) ys marks = ap (marks_then x) (each_then-append marks_then xs ys marks)
 
 -- what a chain of steps puts behind a list that a state holds
-abbrev Puts : {S A : Type 0} → (S → List A) → (A → List Mark → List Mark) → S → List Lexeme → S → List Lexeme → List Mark → Type 0
+abbrev pub Puts : {S A : Type 0} → (S → List A) → (A → List Mark → List Mark) → S → List Lexeme → S → List Lexeme → List Mark → Type 0
 Puts {S} {A} items_of marks_then s a t b marks = (xs : List A) × (items_of t ≡ items_of s ++ xs) × Among (each_then marks_then xs marks) a
 
 -- by what each step puts
-until_puts : {S A : Type 0} {ends : List Lexeme → Bool} {Step : S → List Lexeme → S → List Lexeme → Type 0} (items_of : S → List A) (marks_then : A → List Mark → List Mark)
+pub until_puts : {S A : Type 0} {ends : List Lexeme → Bool} {Step : S → List Lexeme → S → List Lexeme → Type 0} (items_of : S → List A) (marks_then : A → List Mark → List Mark)
     → ((s t : S) (a b : List Lexeme) → Step s a t b → (marks : List Mark) → Among marks b → Puts items_of marks_then s a t b marks)
     → (s t : S) (a b : List Lexeme) → Until ends Step s a t b → (marks : List Mark) → Among marks b → Puts items_of marks_then s a t b marks
 until_puts items_of marks_then puts s t a b (done e) marks behind = ([], sym (append-nil (items_of s)), behind)
@@ -237,11 +237,11 @@ import_marks (import k i l u s) behind =
     let others = others_marks literal_then path_literal_marks u (past s behind) in
     past k (import_kind_past i (rw others.1 (at_a_literal l others.2)))
 
-package_marks : {a b : List Lexeme} {x : List Span} {marks : List Mark} → IsPackage a x b → Among marks b → Among (names_then x marks) a
+pub package_marks : {a b : List Lexeme} {x : List Span} {marks : List Mark} → IsPackage a x b → Among marks b → Among (names_then x marks) a
 package_marks (package_statement k n s) behind = past k (name_marks n (past s behind))
 
 -- what a statement puts into the file
-statement_items : (custom : CustomOptions) (f g : File) (a b : List Lexeme) → IsStatement custom f a g b → (marks : List Mark) → Among marks b
+pub statement_items : (custom : CustomOptions) (f g : File) (a b : List Lexeme) → IsStatement custom f a g b → (marks : List Mark) → Among marks b
     → Puts (λ (x : File). x.items) item_then f a g b marks
 statement_items custom f g a b (statements-empty is s) marks behind = ([], sym (append-nil f.items), past s behind)
 statement_items custom f g a b (statements-import is i) marks behind = ([], sym (append-nil f.items), import_past i behind)
@@ -277,7 +277,7 @@ statement_package custom f g a b (statements-enum is i) marks behind = ([], sym 
 statement_package custom f g a b (statements-service is i) marks behind = ([], sym (append-nil (packages_of f)), service_past i behind)
 statement_package custom f g a b (statements-extend is e) marks behind = ([], sym (append-nil (packages_of f)), extend_past e behind)
 
-syntax_past : {a b : List Lexeme} {marks : List Mark} → IsSyntax a b → Among marks b → Among marks a
+pub syntax_past : {a b : List Lexeme} {marks : List Mark} → IsSyntax a b → Among marks b → Among marks a
 syntax_past (syntax k q t s) behind = past k (past q (joined_past t (past s behind)))
 
 pub items_among : {custom : CustomOptions} {a : List Lexeme} (f : File) → IsFile custom a f → Among (marks_of_items f) a

@@ -31,13 +31,13 @@ pub data IsHeading (word : List ℕ) : List Lexeme → Heading → List Lexeme �
       → One (is_word word) a first b → One (of_kind Identifier) b name c → One (of_kind OpenBrace) c closing d
       → IsHeading word a (record { first = first; name = name; closing = closing }) d
 
--- value = IDENT "=" [ "-" ] INT [ opts ] ";"
+-- value = IDENT "=" [ "-" ] INT [ fieldOptions ] ";"
 pub data IsValue (custom : CustomOptions) : List Lexeme → Heading → List Lexeme → Type 0 where
   value : {a b c d e f : List Lexeme} {name equals closing : Span}
       → One (of_kind Identifier) a name b → One (of_kind Equals) b equals c → IsInteger true c d → IsOptions custom d e → One (of_kind Semicolon) e closing f
       → IsValue custom a (record { first = name; name = name; closing = closing }) f
 
--- option | eresv | value | ";". The words `option` and `reserved` choose, anything else begins a value.
+-- option | enumReserved | value | ";". The words `option` and `reserved` choose, anything else begins a value.
 pub data IsEnumItem (custom : CustomOptions) : List Lexeme → Option Heading → List Lexeme → Type 0 where
   empty : {a b : List Lexeme} {semicolon : Span} → One (of_kind Semicolon) a semicolon b → IsEnumItem custom a None b
   option : {a b : List Lexeme} → first_is (is_word (codes "option")) a ≡ true → IsOption custom a b → IsEnumItem custom a None b
@@ -46,13 +46,13 @@ pub data IsEnumItem (custom : CustomOptions) : List Lexeme → Option Heading �
       → first_is (of_kind Semicolon) a ≡ false → first_is (is_word (codes "option")) a ≡ false → first_is (is_word (codes "reserved")) a ≡ false → IsValue custom a value b
       → IsEnumItem custom a (Some value) b
 
--- enum = "enum" IDENT "{" { option | eresv | value | ";" } "}"
+-- enum = "enum" IDENT "{" { option | enumReserved | value | ";" } "}"
 pub data IsEnum (custom : CustomOptions) : List Lexeme → Enum → List Lexeme → Type 0 where
   enum : {a b c d : List Lexeme} {heading : Heading} {values : List Heading} {close_brace : Span}
       → IsHeading (codes "enum") a heading b → Until closes (Adds (IsEnumItem custom)) [] b values c → One (of_kind CloseBrace) c close_brace d
       → IsEnum custom a (record { heading = heading; values = values }) d
 
--- option | ofield | ";". The word `option` chooses, anything else begins a field.
+-- option | oneofField | ";". The word `option` chooses, anything else begins a field.
 pub data IsOneofItem (custom : CustomOptions) : List Lexeme → Option Field → List Lexeme → Type 0 where
   empty : {a b : List Lexeme} {semicolon : Span} → One (of_kind Semicolon) a semicolon b → IsOneofItem custom a None b
   option : {a b : List Lexeme} → first_is (is_word (codes "option")) a ≡ true → IsOption custom a b → IsOneofItem custom a None b
@@ -60,7 +60,7 @@ pub data IsOneofItem (custom : CustomOptions) : List Lexeme → Option Field →
       → first_is (of_kind Semicolon) a ≡ false → first_is (is_word (codes "option")) a ≡ false → IsOneofField custom a field b
       → IsOneofItem custom a (Some field) b
 
--- oneof = "oneof" IDENT "{" { option | ofield | ";" } "}"
+-- oneof = "oneof" IDENT "{" { option | oneofField | ";" } "}"
 pub data IsOneof (custom : CustomOptions) : List Lexeme → Oneof → List Lexeme → Type 0 where
   oneof : {a b c d : List Lexeme} {heading : Heading} {fields : List Field} {close_brace : Span}
       → IsHeading (codes "oneof") a heading b → Until closes (Adds (IsOneofItem custom)) [] b fields c → One (of_kind CloseBrace) c close_brace d
@@ -78,7 +78,7 @@ pub data IsExtend : CustomOptions → List Lexeme → List Lexeme → Type 0 whe
       → Until closes (Passes IsExtendItem) tt d tt e → One (of_kind CloseBrace) e close_brace f
       → IsExtend Skip a f
 
--- message | enum | option | oneof | mapfield | reserved | field | ";", as the first word chooses. Nothing begins with `extensions`.
+-- message | enum | option | oneof | mapField | reserved | field | ";", as the first word chooses. Nothing begins with `extensions`.
 pub data IsMessageItem (custom : CustomOptions) (Inner : List Lexeme → MessageTree → List Lexeme → Type 0) : List Lexeme → Option MessageItem → List Lexeme → Type 0 where
   empty : {a b : List Lexeme} {semicolon : Span}
       → message_statement_of a ≡ chosen.Empty → One (of_kind Semicolon) a semicolon b → IsMessageItem custom Inner a None b

@@ -1,4 +1,5 @@
 use Rattle.proto_parse.proofs.Walk.Marks.{items_among, imports_among, package_among}
+use Rattle.proto_parse.proofs.Walk.Package.{package_among_items}
 use Rattle.proto_parse.proofs.laws.spans_of_tokens.Goals as goal
 
 pub returns-clause-items : goal.returns-clause-items
@@ -9,3 +10,6 @@ returns-clause-imports c = λ custom text tokens file d. imports_among file d
 
 pub returns-clause-package_name : goal.returns-clause-package_name
 returns-clause-package_name c = λ custom text tokens file d. package_among file d
+
+pub returns-clause-package_place : goal.returns-clause-package_place
+returns-clause-package_place c = λ custom text tokens file d. package_among_items file d

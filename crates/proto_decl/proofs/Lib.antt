@@ -1,0 +1,2 @@
+-- Walks over a tree
+pub mod OutlineLemmas

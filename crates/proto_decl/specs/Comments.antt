@@ -1,0 +1,72 @@
+-- Which comments document a declaration (proto3 language guide, "Adding Comments"; the rules are the profile's).
+use Rattle.std.specs.Prelude.{ℕ, ◌≡◌, ◌+◌, ◌<◌, ◌≤◌, List, [], ◌∷◌, ◌++◌, length, map, All, Contains}
+use Rattle.std.specs.List.{join_with_byte}
+use Rattle.proto_lex.specs.Position.{line_of}
+use Rattle.proto_lex.specs.Lexed.{Lexed, part_of}
+use Rattle.proto_lex.specs.CommentTexts.{Touches, StandsAlone, NoneBetween, comment_text}
+use Rattle.proto_lex.specs.declared.span.Span.{Span}
+use Rattle.proto_lex.specs.declared.token.Comment.{Comment}
+use Rattle.proto_lex.specs.declared.token.Token.{Token}
+
+-- the text of a comment, without its marks
+abbrev pub text_of : Lexed → Comment → List ℕ
+text_of lexed comment = comment_text comment.kind (part_of lexed.text comment.span)
+
+-- the line on which a span begins, and that on which it ends
+abbrev pub first_line : Lexed → Span → ℕ
+first_line lexed span = line_of lexed.text span.start
+
+abbrev pub last_line : Lexed → Span → ℕ
+last_line lexed span = line_of lexed.text span.end
+
+-- a token is the first on its line: no token that begins before it touches that line
+abbrev pub IsFirstOnLine : Lexed → Span → Type 0
+IsFirstOnLine lexed span = All (λ t. t.span.start < span.start → Touches lexed.text t.span (first_line lexed span) → ⊥) lexed.tokens
+
+-- each comment begins on the line on which the one before it ends, or on the next
+abbrev pub AreJoined : Lexed → List Comment → Type 0
+AreJoined lexed [] = Unit {0}
+AreJoined lexed (comment ∷ []) = Unit {0}
+AreJoined lexed (comment ∷ (next ∷ others)) =
+    (last_line lexed comment.span ≤ first_line lexed next.span) × (first_line lexed next.span ≤ last_line lexed comment.span + 1) × AreJoined lexed (next ∷ others)
+
+-- the last comment ends on the line before a line
+abbrev pub EndBefore : Lexed → (line : ℕ) → List Comment → Type 0
+EndBefore lexed line [] = Unit {0}
+EndBefore lexed line (comment ∷ []) = last_line lexed comment.span + 1 ≡ line
+EndBefore lexed line (comment ∷ (next ∷ others)) = EndBefore lexed line (next ∷ others)
+
+-- Comments that may lead a declaration on a line: consecutive ones of the file that stand alone, joined, up to the line
+-- before. No comments are such a list too.
+pub record AreLeading (lexed : Lexed) (line : ℕ) (comments : List Comment) : Type 0 where
+  pub before : List Comment
+  pub behind : List Comment
+  pub consecutive : lexed.comments ≡ before ++ (comments ++ behind)
+  pub alone : All (λ c. StandsAlone lexed.text lexed.tokens c.span) comments
+  pub joined : AreJoined lexed comments
+  pub adjoining : EndBefore lexed line comments
+
+-- the longest such list
+pub record AreLongestLeading (lexed : Lexed) (line : ℕ) (comments : List Comment) : Type 0 where
+  pub leading : AreLeading lexed line comments
+  pub longest : (others : List Comment) → AreLeading lexed line others → length others ≤ length comments
+
+-- The leading text of a declaration with this first token: the texts of the longest such list, a line each. Where the
+-- token isn't the first on its line there is none.
+pub data IsLeadingText (lexed : Lexed) (first : Span) : List ℕ → Type 0 where
+  leading : {comments : List Comment} → IsFirstOnLine lexed first → AreLongestLeading lexed (first_line lexed first) comments
+      → IsLeadingText lexed first (join_with_byte 10 (map (text_of lexed) comments))
+  not_first : (IsFirstOnLine lexed first → ⊥) → IsLeadingText lexed first []
+
+-- The first comment behind a declaration's closing token, where it begins on that token's line and no token stands between.
+pub record IsTrailing (lexed : Lexed) (closing : Span) (comment : Comment) : Type 0 where
+  pub listed : Contains lexed.comments comment
+  pub behind : closing.end ≤ comment.span.start
+  pub first : All (λ other. closing.end ≤ other.span.start → comment.span.start ≤ other.span.start) lexed.comments
+  pub on_line : first_line lexed comment.span ≡ last_line lexed closing
+  pub none_between : NoneBetween lexed.tokens closing.end comment.span.start
+
+-- The trailing text of a declaration with this closing token.
+pub data IsTrailingText (lexed : Lexed) (closing : Span) : List ℕ → Type 0 where
+  trailing : {comment : Comment} → IsTrailing lexed closing comment → IsTrailingText lexed closing (text_of lexed comment)
+  none : ((comment : Comment) → IsTrailing lexed closing comment → ⊥) → IsTrailingText lexed closing []

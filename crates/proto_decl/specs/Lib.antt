@@ -1,0 +1,16 @@
+-- names and scopes
+pub mod Names
+-- where names stand in the text
+pub mod Spans
+-- what a file imports
+pub mod Imports
+-- what a file declares, and which comments document it
+pub mod Outlines
+pub mod Comments
+pub mod Declares
+-- which types a file uses
+pub mod Uses
+-- all of it
+pub mod Facts
+-- what a callback sees of a declaration
+pub mod Seen

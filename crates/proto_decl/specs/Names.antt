@@ -1,0 +1,34 @@
+-- Names and scopes (proto3 specification, "Identifiers"; proto3 language guide, "Packages and Name Resolution").
+use Rattle.std.specs.Prelude.{ℕ, ◌==◌, if◌then◌else◌, List, [], ◌∷◌, ◌++◌, map, reverse}
+use Rattle.std.specs.List.{join_with_byte}
+use Rattle.proto_lex.specs.declared.span.Span.{Span}
+use Rattle.proto_lex.specs.Lexed.{part_of}
+use Rattle.proto_decl.specs.declared.type_use.Component.{Component}
+
+-- The full name of a name in the scope with this full name. The root's is empty.
+abbrev pub qualified : (scope name : List ℕ) → List ℕ
+qualified [] name = name
+qualified (byte ∷ scope) name = (byte ∷ scope) ++ 46 ∷ name
+
+-- Components that are joined by dots.
+abbrev pub dotted : List (List ℕ) → List ℕ
+dotted components = join_with_byte 46 components
+
+-- A component of a name: what stands at the span.
+abbrev pub component_at : (text : List ℕ) → Span → Component
+component_at text span = record { name = part_of text span; span = span }
+
+abbrev pub components_at : (text : List ℕ) → List Span → List Component
+components_at text spans = map (component_at text) spans
+
+-- The fronts of a name that end before a dot, the shortest first.
+abbrev pub fronts_before_dots : List ℕ → List (List ℕ)
+fronts_before_dots [] = []
+fronts_before_dots (byte ∷ others) =
+    let longer = map (λ front. byte ∷ front) (fronts_before_dots others) in if byte == 46 then [] ∷ longer else longer
+
+-- The scope with this full name and those around it, innermost first: the enclosing messages or the service, the
+-- package, each parent package, and the root.
+abbrev pub scopes_of : List ℕ → List (List ℕ)
+scopes_of [] = [] ∷ []
+scopes_of (byte ∷ scope) = (byte ∷ scope) ∷ (reverse (fronts_before_dots (byte ∷ scope)) ++ [] ∷ [])

@@ -1,0 +1,96 @@
+-- What a file declares, in order of the names' places (proto3 specification, "Top Level definitions"; proto3 language
+-- guide, "Enumerations" and "Oneof", for the scopes of values and of a oneof's fields).
+use Rattle.std.specs.Prelude.{ℕ, Option, Some, None, List, [], ◌∷◌, ◌++◌, map}
+use Rattle.std.specs.List.{flat_map}
+use Rattle.proto_lex.specs.declared.span.Span.{Span}
+use Rattle.proto_lex.specs.Lexed.{part_of}
+use Rattle.proto_parse.specs.declared.tree.Heading.{Heading}
+use Rattle.proto_parse.specs.declared.tree.Enum.{Enum}
+use Rattle.proto_parse.specs.declared.tree.Oneof.{Oneof}
+use Rattle.proto_parse.specs.declared.tree.Service.{Service}
+use Rattle.proto_parse.specs.declared.tree.Leaf.{Leaf}
+use Rattle.proto_parse.specs.declared.tree.Leaf.TheVariants as leaf
+use Rattle.proto_parse.specs.declared.tree.FileItem.{FileItem}
+use Rattle.proto_parse.specs.declared.tree.FileItem.TheVariants as item
+use Rattle.proto_parse.specs.declared.tree.File.{File}
+use Rattle.proto_parse.specs.Tree.{Body, MessageTree}
+use Rattle.proto_parse.specs.Tree.Body.{NoMore, LeafThen, MessageThen}
+use Rattle.proto_decl.specs.Names.{qualified, dotted}
+use Rattle.proto_decl.specs.declared.kind.DeclarationKind.{DeclarationKind}
+use Rattle.proto_decl.specs.declared.kind.DeclarationKind.TheVariants.{Message, Enum as EnumKind, Service as ServiceKind, Field, Oneof as OneofKind, Value, Method}
+use Rattle.proto_decl.specs.declared.declaration.DeclarationStep.{DeclarationStep}
+use Rattle.proto_decl.specs.declared.declaration.Outline.{Outline}
+use Rattle.proto_decl.specs.declared.surrounding.Surrounding.{Surrounding}
+
+abbrev pub name_of : (text : List ℕ) → Heading → List ℕ
+name_of text heading = part_of text heading.name
+
+abbrev pub step_to : (text : List ℕ) → DeclarationKind → Heading → DeclarationStep
+step_to text kind heading = record { kind = kind; name = name_of text heading }
+
+abbrev pub outline_at : (text : List ℕ) → Surrounding → DeclarationKind → Heading → Outline
+outline_at text surrounding kind heading = record {
+  kind = kind;
+  full_name = qualified surrounding.scope (name_of text heading);
+  path = surrounding.path ++ step_to text kind heading ∷ [];
+  heading = heading;
+}
+
+-- What surrounds what stands in a message or in a service: both are scopes.
+abbrev pub inside : (text : List ℕ) → Surrounding → DeclarationKind → Heading → Surrounding
+inside text surrounding kind heading = record {
+  scope = qualified surrounding.scope (name_of text heading);
+  path = surrounding.path ++ step_to text kind heading ∷ [];
+}
+
+-- What surrounds an enum's values: the enum's scope, and the path through the enum.
+abbrev pub beside : (text : List ℕ) → Surrounding → DeclarationKind → Heading → Surrounding
+beside text surrounding kind heading = record { scope = surrounding.scope; path = surrounding.path ++ step_to text kind heading ∷ [] }
+
+abbrev pub in_enum : (text : List ℕ) → Surrounding → Enum → List Outline
+in_enum text surrounding enum = outline_at text surrounding EnumKind enum.heading ∷ map (outline_at text (beside text surrounding EnumKind enum.heading) Value) enum.values
+
+-- The fields of a oneof stand where it stands.
+abbrev pub in_oneof : (text : List ℕ) → Surrounding → Oneof → List Outline
+in_oneof text surrounding oneof = outline_at text surrounding OneofKind oneof.heading ∷ map (λ field. outline_at text surrounding Field field.heading) oneof.fields
+
+abbrev pub in_leaf : (text : List ℕ) → Surrounding → Leaf → List Outline
+in_leaf text surrounding (leaf.Enum enum) = in_enum text surrounding enum
+in_leaf text surrounding (leaf.Oneof oneof) = in_oneof text surrounding oneof
+in_leaf text surrounding (leaf.Field field) = outline_at text surrounding Field field.heading ∷ []
+in_leaf text surrounding (leaf.MapField field) = outline_at text surrounding Field field.heading ∷ []
+
+abbrev pub in_body : (text : List ℕ) → Surrounding → Body → List Outline
+in_body text surrounding NoMore = []
+in_body text surrounding (LeafThen leaf others) = in_leaf text surrounding leaf ++ in_body text surrounding others
+in_body text surrounding (MessageThen heading inner others) =
+    outline_at text surrounding Message heading ∷ (in_body text (inside text surrounding Message heading) inner ++ in_body text surrounding others)
+
+abbrev pub in_message : (text : List ℕ) → Surrounding → MessageTree → List Outline
+in_message text surrounding message = outline_at text surrounding Message message.heading ∷ in_body text (inside text surrounding Message message.heading) message.body
+
+abbrev pub in_service : (text : List ℕ) → Surrounding → Service → List Outline
+in_service text surrounding service =
+    outline_at text surrounding ServiceKind service.heading ∷ map (λ method. outline_at text (inside text surrounding ServiceKind service.heading) Method method.heading) service.methods
+
+abbrev pub in_item : (text : List ℕ) → Surrounding → FileItem → List Outline
+in_item text surrounding (item.Message message) = in_message text surrounding message
+in_item text surrounding (item.Enum enum) = in_enum text surrounding enum
+in_item text surrounding (item.Service service) = in_service text surrounding service
+
+-- The spans of a package's components; none where a file has no package.
+abbrev pub package_spans : Option (List Span) → List Span
+package_spans None = []
+package_spans (Some spans) = spans
+
+-- The full name of a file's package.
+abbrev pub package_scope : (text : List ℕ) → File → List ℕ
+package_scope text file = dotted (map (part_of text) (package_spans file.package_name))
+
+-- What surrounds what stands in a file: its package's scope.
+abbrev pub file_surrounding : (text : List ℕ) → File → Surrounding
+file_surrounding text file = record { scope = package_scope text file; path = [] }
+
+-- All that a file declares.
+abbrev pub outlines_of : (text : List ℕ) → File → List Outline
+outlines_of text file = flat_map (in_item text (file_surrounding text file)) file.items

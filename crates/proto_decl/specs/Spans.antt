@@ -1,0 +1,83 @@
+-- What holds of the spans that a tree has.
+use Rattle.std.specs.Prelude.{ℕ, Option, Some, None, List, All}
+use Rattle.proto_lex.specs.declared.span.Span.{Span}
+use Rattle.proto_parse.specs.declared.tree.Heading.{Heading}
+use Rattle.proto_parse.specs.declared.tree.TypeName.{TypeName}
+use Rattle.proto_parse.specs.declared.tree.FieldType.{FieldType}
+use Rattle.proto_parse.specs.declared.tree.FieldType.TheVariants.{Scalar, Named}
+use Rattle.proto_parse.specs.declared.tree.Field.{Field}
+use Rattle.proto_parse.specs.declared.tree.MapField.{MapField}
+use Rattle.proto_parse.specs.declared.tree.Enum.{Enum}
+use Rattle.proto_parse.specs.declared.tree.Oneof.{Oneof}
+use Rattle.proto_parse.specs.declared.tree.Method.{Method}
+use Rattle.proto_parse.specs.declared.tree.Service.{Service}
+use Rattle.proto_parse.specs.declared.tree.Import.{Import}
+use Rattle.proto_parse.specs.declared.tree.Leaf.{Leaf}
+use Rattle.proto_parse.specs.declared.tree.Leaf.TheVariants as leaf
+use Rattle.proto_parse.specs.declared.tree.FileItem.{FileItem}
+use Rattle.proto_parse.specs.declared.tree.FileItem.TheVariants as item
+use Rattle.proto_parse.specs.declared.tree.File.{File}
+use Rattle.proto_parse.specs.Tree.{Body, MessageTree}
+use Rattle.proto_parse.specs.Tree.Body.{NoMore, LeafThen, MessageThen}
+
+module _ (P : Span → Type 0) where
+  abbrev pub OfHeading : Heading → Type 0
+  OfHeading heading = P heading.first × P heading.name × P heading.closing
+
+  abbrev pub OfSome : Option Span → Type 0
+  OfSome None = Unit {0}
+  OfSome (Some span) = P span
+
+  abbrev pub OfTypeName : TypeName → Type 0
+  OfTypeName name = OfSome name.leading_dot × All P name.components
+
+  abbrev pub OfType : FieldType → Type 0
+  OfType (Scalar word) = P word
+  OfType (Named name) = OfTypeName name
+
+  abbrev pub OfField : Field → Type 0
+  OfField field = OfHeading field.heading × OfType field.field_type
+
+  abbrev pub OfMapField : MapField → Type 0
+  OfMapField field = OfHeading field.heading × OfType field.value
+
+  abbrev pub OfEnum : Enum → Type 0
+  OfEnum enum = OfHeading enum.heading × All OfHeading enum.values
+
+  abbrev pub OfOneof : Oneof → Type 0
+  OfOneof oneof = OfHeading oneof.heading × All OfField oneof.fields
+
+  abbrev pub OfMethod : Method → Type 0
+  OfMethod method = OfHeading method.heading × OfTypeName method.input × OfTypeName method.output
+
+  abbrev pub OfService : Service → Type 0
+  OfService service = OfHeading service.heading × All OfMethod service.methods
+
+  abbrev pub OfLeaf : Leaf → Type 0
+  OfLeaf (leaf.Enum enum) = OfEnum enum
+  OfLeaf (leaf.Oneof oneof) = OfOneof oneof
+  OfLeaf (leaf.Field field) = OfField field
+  OfLeaf (leaf.MapField field) = OfMapField field
+
+  abbrev pub OfBody : Body → Type 0
+  OfBody NoMore = Unit {0}
+  OfBody (LeafThen leaf others) = OfLeaf leaf × OfBody others
+  OfBody (MessageThen heading inner others) = OfHeading heading × OfBody inner × OfBody others
+
+  abbrev pub OfMessage : MessageTree → Type 0
+  OfMessage message = OfHeading message.heading × OfBody message.body
+
+  abbrev pub OfItem : FileItem → Type 0
+  OfItem (item.Message message) = OfMessage message
+  OfItem (item.Enum enum) = OfEnum enum
+  OfItem (item.Service service) = OfService service
+
+  abbrev pub OfPackage : Option (List Span) → Type 0
+  OfPackage None = Unit {0}
+  OfPackage (Some components) = All P components
+
+  -- P holds of each span of the tree.
+  pub record OfFile (file : File) : Type 0 where
+    pub package_name : OfPackage file.package_name
+    pub imports : All (λ import. All P import.literals) file.imports
+    pub items : All OfItem file.items

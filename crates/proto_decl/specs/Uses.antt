@@ -1,0 +1,72 @@
+-- Which types a file uses, in order of place (proto3 specification, "Fields" and "Service definition").
+use Rattle.std.specs.Prelude.{ℕ, Option, Some, None, List, [], ◌∷◌, ◌++◌}
+use Rattle.std.specs.List.{flat_map}
+use Rattle.std.specs.Option.{is_some}
+use Rattle.proto_lex.specs.declared.span.Span.{Span}
+use Rattle.proto_parse.specs.declared.tree.TypeName.{TypeName}
+use Rattle.proto_parse.specs.declared.tree.FieldType.{FieldType}
+use Rattle.proto_parse.specs.declared.tree.FieldType.TheVariants.{Scalar, Named}
+use Rattle.proto_parse.specs.declared.tree.Method.{Method}
+use Rattle.proto_parse.specs.declared.tree.Service.{Service}
+use Rattle.proto_parse.specs.declared.tree.Leaf.{Leaf}
+use Rattle.proto_parse.specs.declared.tree.Leaf.TheVariants as leaf
+use Rattle.proto_parse.specs.declared.tree.FileItem.{FileItem}
+use Rattle.proto_parse.specs.declared.tree.FileItem.TheVariants as item
+use Rattle.proto_parse.specs.declared.tree.File.{File}
+use Rattle.proto_parse.specs.Tree.{Body, MessageTree}
+use Rattle.proto_parse.specs.Tree.Body.{NoMore, LeafThen, MessageThen}
+use Rattle.proto_decl.specs.Names.{qualified, components_at}
+use Rattle.proto_decl.specs.Imports.{start_of, end_of}
+use Rattle.proto_decl.specs.Outlines.{name_of, package_scope}
+use Rattle.proto_decl.specs.declared.type_use.Use.{Use}
+
+-- where a type's name starts: its leading dot, if there is one, or its first component
+abbrev pub name_start : Option Span → List Span → ℕ
+name_start None components = start_of components
+name_start (Some dot) components = dot.start
+
+-- The use of a type in the scope with this full name.
+abbrev pub use_of : (text scope : List ℕ) → TypeName → Use
+use_of text scope name = record {
+  components = components_at text name.components;
+  has_leading_dot = is_some name.leading_dot;
+  span = record { start = name_start name.leading_dot name.components; end = end_of name.components };
+  scope = scope;
+}
+
+-- A scalar type isn't a use.
+abbrev pub uses_of_type : (text scope : List ℕ) → FieldType → List Use
+uses_of_type text scope (Scalar word) = []
+uses_of_type text scope (Named name) = use_of text scope name ∷ []
+
+abbrev pub uses_in_leaf : (text scope : List ℕ) → Leaf → List Use
+uses_in_leaf text scope (leaf.Enum enum) = []
+uses_in_leaf text scope (leaf.Oneof oneof) = flat_map (λ field. uses_of_type text scope field.field_type) oneof.fields
+uses_in_leaf text scope (leaf.Field field) = uses_of_type text scope field.field_type
+uses_in_leaf text scope (leaf.MapField field) = uses_of_type text scope field.value
+
+-- In the body of a message with this full name.
+abbrev pub uses_in_body : (text scope : List ℕ) → Body → List Use
+uses_in_body text scope NoMore = []
+uses_in_body text scope (LeafThen leaf others) = uses_in_leaf text scope leaf ++ uses_in_body text scope others
+uses_in_body text scope (MessageThen heading inner others) =
+    uses_in_body text (qualified scope (name_of text heading)) inner ++ uses_in_body text scope others
+
+-- What a method takes, then what it gives, in the scope of its service.
+abbrev pub uses_of_method : (text scope : List ℕ) → Method → List Use
+uses_of_method text scope method = use_of text scope method.input ∷ (use_of text scope method.output ∷ [])
+
+abbrev pub uses_in_message : (text scope : List ℕ) → MessageTree → List Use
+uses_in_message text scope message = uses_in_body text (qualified scope (name_of text message.heading)) message.body
+
+abbrev pub uses_in_service : (text scope : List ℕ) → Service → List Use
+uses_in_service text scope service = flat_map (uses_of_method text (qualified scope (name_of text service.heading))) service.methods
+
+abbrev pub uses_in_item : (text scope : List ℕ) → FileItem → List Use
+uses_in_item text scope (item.Message message) = uses_in_message text scope message
+uses_in_item text scope (item.Enum enum) = []
+uses_in_item text scope (item.Service service) = uses_in_service text scope service
+
+-- All uses of a file.
+abbrev pub uses_of : (text : List ℕ) → File → List Use
+uses_of text file = flat_map (uses_in_item text (package_scope text file)) file.items

@@ -1,0 +1,41 @@
+//! Declarations.
+
+use crate::kind::DeclarationKind;
+use proto_lex::Span;
+use proto_parse::Heading;
+use sequences::{OwnedText, Sequence};
+
+/// A step of the way to a declaration: a declaration's kind and its simple name.
+#[derive(Debug, Drop)]
+pub struct DeclarationStep {
+    pub kind: DeclarationKind,
+    pub name: OwnedText,
+}
+
+/// A declaration of a file.
+#[derive(Debug, Drop)]
+pub struct Declaration {
+    pub kind: DeclarationKind,
+    /// The full name of its scope, a dot and its simple name. An enum's value has its enum's scope,
+    /// and a oneof's field that of the message around the oneof.
+    pub full_name: OwnedText,
+    /// The way from the package to the declaration, outermost first: the messages or the service
+    /// around it, for a value its enum, and last the declaration itself. A oneof stands in no way
+    /// but its own.
+    pub path: Sequence<DeclarationStep>,
+    /// Where its simple name stands.
+    pub name: Span,
+    /// The texts of the comments that stand directly before it, joined by `\n`.
+    pub leading: OwnedText,
+    /// The text of the comment that follows it on its line.
+    pub trailing: OwnedText,
+}
+
+/// A declaration before its comments are looked for.
+#[derive(Debug, Drop)]
+pub(crate) struct Outline {
+    pub(crate) kind: DeclarationKind,
+    pub(crate) full_name: OwnedText,
+    pub(crate) path: Sequence<DeclarationStep>,
+    pub(crate) heading: Heading,
+}

@@ -1,0 +1,30 @@
+//! Names of the text, and in scopes.
+
+ghost use Rattle.std.specs.Prelude.{◌≡◌, IfOk};
+ghost use Rattle.proto_lex.specs.Lexed.{IsPart, part_of};
+ghost use Rattle.proto_decl.specs.Names.{qualified};
+
+use proto_lex::Span;
+use sequences::OwnedText;
+use std::alloc::{AllocError, Global};
+
+/// What stands at a span of a text.
+pub(crate) fn spelling_at<'a>(text: &'a str, span: Span) -> &'a str
+    requires { IsPart text.now span }
+    ensures { result.now ≡ part_of text.now span }
+{
+    &text[span.start..span.end]
+}
+
+/// The full name of a name in the scope with this full name.
+pub(crate) fn qualified(alloc: Global, scope: &str, name: &str) -> Result<OwnedText, AllocError>
+    ensures { IfOk result (λ full. full ≡ qualified scope.now name.now) }
+{
+    if scope.is_empty() {
+        return OwnedText::copy_of(alloc, name);
+    }
+    let mut full = String::from_str(alloc, scope)?;
+    full.push_str(".")?;
+    full.push_str(name)?;
+    Ok(OwnedText::from_string(full))
+}

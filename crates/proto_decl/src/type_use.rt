@@ -1,0 +1,26 @@
+//! Names in a package statement and uses of types.
+
+use proto_lex::Span;
+use sequences::{OwnedText, Sequence};
+
+/// A component of a dotted name, and where it stands.
+#[derive(Debug, Drop)]
+pub struct Component {
+    pub name: OwnedText,
+    pub span: Span,
+}
+
+/// A use of a message or an enum: the type of a field, of a map's values, or of what a method takes
+/// or gives.
+#[derive(Debug, Drop)]
+pub struct Use {
+    /// The components of the name, in order, at least one.
+    pub components: Sequence<Component>,
+    /// Whether a dot stands before the first component.
+    pub has_leading_dot: bool,
+    /// From the first token, the leading dot included, to the last one.
+    pub span: Span,
+    /// The full name of the innermost scope: the message or the service around the use. The scopes
+    /// around it are the parts of this name that end before a dot, and the empty name.
+    pub scope: OwnedText,
+}

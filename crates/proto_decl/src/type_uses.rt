@@ -1,0 +1,220 @@
+//! Which types a file uses.
+
+ghost use Rattle.std.specs.Prelude.{◌≡◌, ◌++◌, ◌∷◌, [], All, IfOk, OnOk};
+ghost use Rattle.std.specs.List.{flat_map};
+ghost use Rattle.proto_lex.specs.Lexed.{IsPart};
+ghost use Rattle.proto_decl.specs.Names.{components_at};
+ghost use Rattle.proto_decl.specs.Spans.{OfTypeName, OfType, OfField, OfMethod, OfLeaf, OfMessage, OfService, OfItem};
+ghost use Rattle.proto_decl.specs.Uses as spec;
+
+use crate::imports::{end_of, start_of};
+use crate::names::{qualified, spelling_at};
+use crate::type_use::{Component, Use};
+use proto_lex::Span;
+use proto_parse::{
+    Field, FieldType, FileItem, Leaf, Message, MessageItem, Method, Service, TypeName,
+};
+use sequences::{OwnedText, Sequence};
+use std::alloc::{AllocError, Global};
+
+/// The components that stand at these spans.
+pub(crate) fn components_at(
+    alloc: Global,
+    text: &str,
+    spans: &[Span],
+) -> Result<Sequence<Component>, AllocError>
+    requires { All (IsPart text.now) spans.now }
+    ensures { IfOk result (λ components. components ≡ components_at text.now spans.now) }
+{
+    let mut components = Vec::new(alloc);
+    for span in spans {
+        components.push(Component {
+            name: OwnedText::copy_of(alloc, spelling_at(text, *span))?,
+            span: *span,
+        })?;
+    }
+    Ok(Sequence::from_vec(components))
+}
+
+/// Where a type's name starts.
+fn name_start(leading_dot: Option<Span>, components: &[Span]) -> usize
+    ensures { result ≡ spec.name_start leading_dot components.now }
+{
+    match leading_dot {
+        None => start_of(components),
+        Some(dot) => dot.start,
+    }
+}
+
+/// The use of a type in the scope with this full name.
+fn use_of(alloc: Global, text: &str, scope: &str, name: &TypeName) -> Result<Use, AllocError>
+    requires { OfTypeName (IsPart text.now) name.now }
+    ensures { IfOk result (λ found. found ≡ spec.use_of text.now scope.now name.now) }
+{
+    let components = name.components.as_slice();
+    Ok(Use {
+        components: components_at(alloc, text, components)?,
+        has_leading_dot: name.leading_dot.is_some(),
+        span: Span {
+            start: name_start(name.leading_dot, components),
+            end: end_of(components),
+        },
+        scope: OwnedText::copy_of(alloc, scope)?,
+    })
+}
+
+/// Appends the use of a type, where it isn't a scalar one.
+fn use_type(
+    alloc: Global,
+    text: &str,
+    scope: &str,
+    field_type: &FieldType,
+    uses: &mut Vec<Use>,
+) -> Result<(), AllocError>
+    requires { OfType (IsPart text.now) field_type.now }
+    ensures { OnOk result (uses.new.items ≡ uses.old.items ++ spec.uses_of_type text.now scope.now field_type.now) }
+{
+    match field_type {
+        FieldType::Scalar(_) => Ok(()),
+        FieldType::Named(name) => {
+            uses.push(use_of(alloc, text, scope, name)?)?;
+            Ok(())
+        }
+    }
+}
+
+/// Appends the uses of a oneof's fields.
+fn use_fields(
+    alloc: Global,
+    text: &str,
+    scope: &str,
+    fields: &[Field],
+    uses: &mut Vec<Use>,
+) -> Result<(), AllocError>
+    requires { All (OfField (IsPart text.now)) fields.now }
+    ensures { OnOk result (uses.new.items ≡ uses.old.items ++ flat_map (λ field. spec.uses_of_type text.now scope.now field.field_type) fields.now) }
+{
+    for field in fields {
+        use_type(alloc, text, scope, &field.field_type, uses)?;
+    }
+    Ok(())
+}
+
+/// Appends the uses of methods, of each what it takes, then what it gives.
+fn use_methods(
+    alloc: Global,
+    text: &str,
+    scope: &str,
+    methods: &[Method],
+    uses: &mut Vec<Use>,
+) -> Result<(), AllocError>
+    requires { All (OfMethod (IsPart text.now)) methods.now }
+    ensures { OnOk result (uses.new.items ≡ uses.old.items ++ flat_map (spec.uses_of_method text.now scope.now) methods.now) }
+{
+    for method in methods {
+        uses.push(use_of(alloc, text, scope, &method.input)?)?;
+        uses.push(use_of(alloc, text, scope, &method.output)?)?;
+    }
+    Ok(())
+}
+
+/// Appends the uses of what stands in a message, other than a message.
+fn use_leaf(
+    alloc: Global,
+    text: &str,
+    scope: &str,
+    leaf: &Leaf,
+    uses: &mut Vec<Use>,
+) -> Result<(), AllocError>
+    requires { OfLeaf (IsPart text.now) leaf.now }
+    ensures { OnOk result (uses.new.items ≡ uses.old.items ++ spec.uses_in_leaf text.now scope.now leaf.now) }
+{
+    match leaf {
+        Leaf::Enum(_) => Ok(()),
+        Leaf::Oneof(declared) => use_fields(alloc, text, scope, declared.fields.as_slice(), uses),
+        Leaf::Field(field) => use_type(alloc, text, scope, &field.field_type, uses),
+        Leaf::MapField(field) => use_type(alloc, text, scope, &field.value, uses),
+    }
+}
+
+/// Appends the uses in a message that stands in the scope with this full name.
+fn use_message(
+    alloc: Global,
+    text: &str,
+    scope: &str,
+    message: &Message,
+    uses: &mut Vec<Use>,
+) -> Result<(), AllocError>
+    requires { OfMessage (IsPart text.now) message.now }
+    ensures { OnOk result (uses.new.items ≡ uses.old.items ++ spec.uses_in_message text.now scope.now message.now) }
+{
+    let full_name = qualified(alloc, scope, spelling_at(text, message.heading.name))?;
+    let inner = full_name.as_str();
+    for item in &message.items {
+        match item {
+            MessageItem::Message(nested) => {
+                use_message(alloc, text, inner, nested, uses)?;
+            }
+            MessageItem::Leaf(leaf) => {
+                use_leaf(alloc, text, inner, leaf, uses)?;
+            }
+        }
+    }
+    Ok(())
+}
+
+/// Appends the uses of a service's methods.
+fn use_service(
+    alloc: Global,
+    text: &str,
+    scope: &str,
+    service: &Service,
+    uses: &mut Vec<Use>,
+) -> Result<(), AllocError>
+    requires { OfService (IsPart text.now) service.now }
+    ensures { OnOk result (uses.new.items ≡ uses.old.items ++ spec.uses_in_service text.now scope.now service.now) }
+{
+    let full_name = qualified(alloc, scope, spelling_at(text, service.heading.name))?;
+    use_methods(
+        alloc,
+        text,
+        full_name.as_str(),
+        service.methods.as_slice(),
+        uses,
+    )
+}
+
+/// Appends the uses of what stands in a file.
+fn use_item(
+    alloc: Global,
+    text: &str,
+    scope: &str,
+    item: &FileItem,
+    uses: &mut Vec<Use>,
+) -> Result<(), AllocError>
+    requires { OfItem (IsPart text.now) item.now }
+    ensures { OnOk result (uses.new.items ≡ uses.old.items ++ spec.uses_in_item text.now scope.now item.now) }
+{
+    match item {
+        FileItem::Message(message) => use_message(alloc, text, scope, message, uses),
+        FileItem::Enum(_) => Ok(()),
+        FileItem::Service(service) => use_service(alloc, text, scope, service, uses),
+    }
+}
+
+/// The uses of a file's items, in the scope of the file's package.
+pub(crate) fn uses_of(
+    alloc: Global,
+    text: &str,
+    scope: &str,
+    items: &[FileItem],
+) -> Result<Sequence<Use>, AllocError>
+    requires { All (OfItem (IsPart text.now)) items.now }
+    ensures { IfOk result (λ uses. uses ≡ flat_map (spec.uses_in_item text.now scope.now) items.now) }
+{
+    let mut uses = Vec::new(alloc);
+    for item in items {
+        use_item(alloc, text, scope, item, &mut uses)?;
+    }
+    Ok(Sequence::from_vec(uses))
+}

@@ -1,0 +1,83 @@
+//! What a callback sees of a declaration.
+
+ghost use Rattle.std.specs.Prelude.{◌≡◌};
+
+use crate::kind::DeclarationKind;
+use std::marker::Model;
+
+/// What is said of a declaration: its kind, its names and its comment texts, all borrowed.
+///
+/// Contracts see the kind and the bytes of the texts.
+#[derive(Drop)]
+pub struct DeclView<'a> {
+    kind: DeclarationKind,
+    name: &'a str,
+    full_name: &'a str,
+    leading: &'a str,
+    trailing: &'a str,
+}
+
+impl<'a> Model for DeclView<'a> {
+    ghost use Rattle.proto_decl.specs.Seen.{Seen};
+
+    ghost Value = { Seen };
+
+    ghost view = { λ v. record { kind = v.kind; name = v.name.now; full_name = v.full_name.now; leading = v.leading.now; trailing = v.trailing.now } };
+}
+
+impl<'a> DeclView<'a> {
+    /// The view of a declaration of this kind, with this simple name, this full name, and these
+    /// texts before and behind it.
+    pub fn new(
+        kind: DeclarationKind,
+        name: &'a str,
+        full_name: &'a str,
+        leading: &'a str,
+        trailing: &'a str,
+    ) -> DeclView<'a>
+        ensures { result ≡ record { kind = kind; name = name.now; full_name = full_name.now; leading = leading.now; trailing = trailing.now } }
+    {
+        DeclView {
+            kind,
+            name,
+            full_name,
+            leading,
+            trailing,
+        }
+    }
+
+    /// What is declared.
+    pub fn kind(&self) -> DeclarationKind
+        ensures { result ≡ self.now.kind }
+    {
+        self.kind
+    }
+
+    /// The simple name: the last component of the full name.
+    pub fn name(&self) -> &'a str
+        ensures { result.now ≡ self.now.name }
+    {
+        self.name
+    }
+
+    /// The full name: that of the scope, a dot and the simple name, the package's components first.
+    pub fn full_name(&self) -> &'a str
+        ensures { result.now ≡ self.now.full_name }
+    {
+        self.full_name
+    }
+
+    /// The text of the comments that stand directly before the declaration; empty where none do.
+    pub fn leading(&self) -> &'a str
+        ensures { result.now ≡ self.now.leading }
+    {
+        self.leading
+    }
+
+    /// The text of the comment that follows the declaration on its line; empty where none does.
+    pub fn trailing(&self) -> &'a str
+        ensures { result.now ≡ self.now.trailing }
+    {
+        self.trailing
+    }
+}

@@ -225,6 +225,10 @@ led-ok : {P : Type 0} (d : Descriptor) (r : Read (List Descriptor)) (ds : List D
 led-ok d (Ok others) ds e p = p others refl (same_ok _ refl e)
 led-ok d (Err left) ds e p = absurd cc
 
+pub led-err : {P : Type 0} (d : Descriptor) (r : Read (List Descriptor)) (left : ℕ) → led d r ≡ Err left → (r ≡ Err left → P) → P
+led-err d (Ok others) left e p = absurd cc
+led-err d (Err l) left e p = p (cc)
+
 within-found : (n : ℕ) (text : List ℕ) (ds : List Descriptor) → descriptors_within n text ≡ Ok ds → SpellsDescriptors text ds
 unfolding descriptors_within
 within-found zero text ds e = absurd cc

@@ -5,6 +5,10 @@ pub mod UndoubledLemmas
 pub mod NameLemmas
 pub mod DescriptorLemmas
 pub mod SymbolLemmas
+pub mod LocalLemmas
+pub mod StopLemmas
+pub mod BeginLemmas
+pub mod LongestLemmas
 pub mod SpellingLemmas
 pub mod PackageLemmas
 pub mod EntityLemmas

@@ -8,6 +8,12 @@ pub bind_ok : {A B : Type 0} (r : Read A) (f : A → Read B) (y : B) → (r >>= 
 bind_ok (Ok x) f y e = (x, refl, e)
 bind_ok (Err d) f y e = cc
 
+-- where a chain fails, its first step does or what follows does
+pub bind_err : {A B P : Type 0} (r : Read A) (f : A → Read B) (left : ℕ) → (r >>= f) ≡ Err left
+    → (r ≡ Err left → P) → ((x : A) → r ≡ Ok x → f x ≡ Err left → P) → P
+bind_err (Ok x) f left e p q = q x refl e
+bind_err (Err l) f left e p q = let same : l ≡ left = cc in p (ap (λ n. Err n) same)
+
 pub bind_of_ok : {A B : Type 0} {r : Read A} (f : A → Read B) {x : A} → r ≡ Ok x → (r >>= f) ≡ f x
 bind_of_ok f {x} e = ap (λ r. r >>= f) e
 

@@ -54,7 +54,7 @@ pub record IsSpacedRead (text : List ℕ) (y : List ℕ × List ℕ) : Type 0 wh
   pub some : y.0 ≢ []
   pub no_space_first : (rest : List ℕ) → y.0 ≢ 32 ∷ rest
 
-not-space : (text rest : List ℕ) → after (codes " ") text ≡ None → text ≡ 32 ∷ rest → ⊥
+pub not-space : (text rest : List ℕ) → after (codes " ") text ≡ None → text ≡ 32 ∷ rest → ⊥
 not-space text rest e f = let g : after (codes " ") (32 ∷ rest) ≡ None = subst (λ l. after (codes " ") l ≡ None) f e in cc
 
 pub spaced-found : (text : List ℕ) (y : List ℕ × List ℕ) → spaced_at text ≡ Ok y → IsSpacedRead text y
@@ -88,7 +88,7 @@ pub record IsPartRead (text : List ℕ) (y : List ℕ × List ℕ) : Type 0 wher
   pub alone : starts (λ b. eqb b 32) y.1 ≡ false
   pub spells : SpellsPart word y.0
 
-spells-some : (p : List ℕ) → p ≢ [] → IsPart p → SpellsPart (doubled 32 p) p
+pub spells-some : (p : List ℕ) → p ≢ [] → IsPart p → SpellsPart (doubled 32 p) p
 spells-some [] some is = absurd (some refl)
 spells-some (b ∷ others) some is = part is
 
@@ -178,7 +178,7 @@ descriptors-no-space text (more {word = w} {words = ws} p q) = descriptor-no-spa
 regroup : (s m n v ds : List ℕ) → s ++ codes " " ++ m ++ codes " " ++ n ++ codes " " ++ v ++ codes " " ++ ds ≡ s ++ (32 ∷ (m ++ (32 ∷ (n ++ (32 ∷ (v ++ (32 ∷ ds)))))))
 regroup s m n v ds = simp append_assoc
 
-local-there : (text rest : List ℕ) → after (codes "local") text ≡ None → text ≡ codes "local" ++ rest → ⊥
+pub local-there : (text rest : List ℕ) → after (codes "local") text ≡ None → text ≡ codes "local" ++ rest → ⊥
 local-there text rest none e = let some = after-front (codes "local") rest in let none' : after (codes "local") (codes "local" ++ rest) ≡ None = subst (λ l. after (codes "local") l ≡ None) e none in cc
 
 global-found : (text : List ℕ) (s : SymbolParts) → after (codes "local") text ≡ None → global_at text ≡ Ok s → SpellsSymbol text s

@@ -30,6 +30,10 @@ onto-ok : {P : Type 0} (b : ℕ) (r : Front (List ℕ)) (y : List ℕ × List �
 onto-ok b (Ok x) y e p = p x refl (same_ok _ refl e)
 onto-ok b (Err left) y e p = absurd cc
 
+pub onto-err : {P : Type 0} (b : ℕ) (r : Front (List ℕ)) (left : ℕ) → onto b r ≡ Err left → (r ≡ Err left → P) → P
+onto-err b (Ok x) left e p = absurd cc
+onto-err b (Err l) left e p = p (cc)
+
 onto-last : (word : List ℕ) (b : ℕ) (r : Front (List ℕ)) → ontos (word ++ b ∷ []) r ≡ ontos word (onto b r)
 onto-last word b (Ok x) = ap (λ w. Ok (w, x.1)) (append_assoc word (b ∷ []) x.0)
 onto-last word b (Err left) = refl
@@ -134,3 +138,23 @@ module _ (m : ℕ) where
             ap (λ l. undoubled_at m false (l ++ (m ∷ rest))) (other m x word f)
             ∙ rw (f, undoubled-exact word rest s) refl
       ] refl
+
+  -- ---- where no mark ends it, nothing is left, and all of it is doubled
+  unended : (flag : Bool) (text : List ℕ) (left : ℕ) → undoubled_at m flag text ≡ Err left → (left ≡ 0) × ((word : List ℕ) × (pending flag text ≡ doubled m word))
+  unfolding undoubled_at
+  unended false [] left e = (cc, ([], refl))
+  unended true [] left e = absurd cc
+  unended false (b ∷ text) left e =
+      tested (eqb b m) e
+      (λ t q. let more = unended true text left q in (more.0, (more.1.0, ap (λ c. c ∷ text) (eqb-true b m t) ∙ more.1.1)))
+      (λ f q. onto-err b (undoubled_at m false text) left q (λ r.
+      let more = unended false text left r in (more.0, (b ∷ more.1.0, ap (λ l. b ∷ l) more.1.1 ∙ sym (other m b more.1.0 f)))))
+  unended true (b ∷ text) left e =
+      tested (eqb b m) e
+      (λ t q. onto-err m (undoubled_at m false text) left q (λ r.
+      let more = unended false text left r in
+      (more.0, (m ∷ more.1.0, ap (λ c. m ∷ c ∷ text) (eqb-true b m t) ∙ ap (λ l. m ∷ m ∷ l) more.1.1 ∙ sym (mark m m more.1.0 (eqb-same m))))))
+      (λ f q. absurd cc)
+
+  pub undoubled-open : (text : List ℕ) (left : ℕ) → undoubled_at m false text ≡ Err left → (left ≡ 0) × ((word : List ℕ) × (text ≡ doubled m word))
+  undoubled-open = unended false

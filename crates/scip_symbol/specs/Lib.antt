@@ -9,6 +9,8 @@ pub mod Path
 pub mod Package
 pub mod Entities
 pub mod OneEntity
+-- where a text that spells none stops
+pub mod LongestFront
 -- what the reader's functions give
 pub mod Reading
 pub mod Gives

@@ -13,6 +13,7 @@ use std::alloc::{AllocError, Global};
 /// The scheme of the symbols of a proto3 tree.
 pub const SCHEME: &str = "scip-protobuf";
 
+/// What a declaration's name is the name of. Takes no memory.
 fn suffix_of(alloc: Global, kind: DeclarationKind) -> Suffix
     ensures { result ≡ suffix_of kind }
 {
@@ -24,11 +25,12 @@ fn suffix_of(alloc: Global, kind: DeclarationKind) -> Suffix
         DeclarationKind::Value => Suffix::Term,
         DeclarationKind::Oneof => Suffix::Meta,
         DeclarationKind::Method => Suffix::Method {
-            disambiguator: OwnedText::from_string(String::new(alloc)),
+            disambiguator: OwnedText::new(alloc),
         },
     }
 }
 
+/// Appends a namespace's descriptor.
 fn push_namespace(
     alloc: Global,
     descriptors: &mut Vec<Descriptor>,
@@ -45,6 +47,7 @@ fn push_namespace(
     Ok(())
 }
 
+/// Appends a declaration's own descriptor.
 fn push_step(
     alloc: Global,
     descriptors: &mut Vec<Descriptor>,

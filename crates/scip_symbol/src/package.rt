@@ -8,11 +8,13 @@ ghost use Rattle.scip_symbol.specs.Package.{IsPackage, ArePartsBelow, IsFirstBad
 use crate::reader::after;
 use std::marker::Model;
 
-/// Why three texts name no package: the least of them that begins with a space or is `.`, from 0,
-/// and the texts as they were.
+/// Why three texts name no package: the first of them that begins with a space or is `.`, and the
+/// texts as they were.
 #[derive(Debug, Drop)]
 pub struct BadPart {
+    /// 0 for the manager, 1 for the name, 2 for the version.
     pub part: usize,
+    /// The manager, the name and the version that were given.
     pub parts: [String; 3],
 }
 
@@ -35,6 +37,7 @@ impl Model for PackageId {
     ghost invariant = { λ p. IsPackage (package_of (map string_bytes p.parts)) };
 }
 
+/// Whether a text is a manager, a name or a version.
 fn is_part(part: &str) -> bool
     ensures { IsTrue result ↔ IsPart part.now }
 {

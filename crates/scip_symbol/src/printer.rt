@@ -11,7 +11,7 @@ use crate::symbol::{Descriptor, GlobalSymbol, Suffix, Symbol, SymbolParts};
 use std::alloc::{AllocError, Global};
 
 /// Whether `byte` may stand in a simple identifier (`scip.proto`, the comment of `Symbol`).
-pub fn is_identifier_character(byte: u8) -> bool
+pub(crate) fn is_identifier_character(byte: u8) -> bool
     ensures { result ≡ is_identifier_character byte }
 {
     byte.is_ascii_alphanumeric() || b"_+-$".contains(&byte)
@@ -23,6 +23,7 @@ fn are_identifier_characters(bytes: &[u8]) -> bool
     bytes.iter().all(|byte| is_identifier_character(*byte))
 }
 
+/// Whether a name needs no backticks.
 fn is_simple_identifier(name: &str) -> bool
     ensures { result ≡ is_simple_identifier name.now }
 {
@@ -57,6 +58,7 @@ fn push_name(out: &mut String, name: &str) -> Result<(), AllocError>
     }
 }
 
+/// What stands before a descriptor's name.
 fn front_text(suffix: &Suffix) -> &'static str
     ensures { result.now ≡ front_text suffix.now }
 {
@@ -67,6 +69,7 @@ fn front_text(suffix: &Suffix) -> &'static str
     }
 }
 
+/// Appends what stands behind a descriptor's name.
 fn push_suffix(out: &mut String, suffix: &Suffix) -> Result<(), AllocError>
     ensures { OnOk result (string_bytes out.new ≡ string_bytes out.old ++ suffix_text suffix.now) }
 {

@@ -1,12 +1,13 @@
 //! Symbols out of text.
 
-ghost use Rattle.std.specs.Prelude.{◌≡◌, ◌<◌, ◌++◌, ◌∷◌, [], true, false, length, IfOk, MatchOption, MatchResult};
+ghost use Rattle.std.specs.Prelude.{◌≡◌, ◌<◌, ◌++◌, ◌∷◌, [], true, false, length, IfOk, IfErr, MatchOption, MatchResult};
 ghost use Rattle.std.specs.String.{string_bytes};
 ghost use Rattle.std.specs.Prelude.{take, drop};
 ghost use Rattle.scip_symbol.specs.Names.{is_identifier_character, space, backtick};
 ghost use Rattle.scip_symbol.specs.Gives.{Gives};
 ghost use Rattle.scip_symbol.specs.Reading.{after, expect_at, undoubled_at, run_len, run_at, some_at, simple_at, name_at, disambiguator_at, suffix_at, enclosed_at, descriptor_at, descriptors_at, spaced_at, part_at, global_at, local_at, symbol_at};
 ghost use Rattle.scip_symbol.specs.SpellsSymbol.{SpellsSymbol};
+ghost use Rattle.scip_symbol.specs.LongestFront.{IsFaultOf};
 ghost use Rattle.scip_symbol.specs.declared.symbol.SymbolParts.{SymbolParts};
 ghost use Rattle.scip_symbol.specs.declared.fault.SymbolFault.TheVariants as fault;
 
@@ -23,6 +24,7 @@ pub(crate) fn after<'a>(text: &'a str, front: &str) -> Option<&'a str>
     text.strip_prefix(front)
 }
 
+/// The text behind a front that has to be there.
 #[tactic(auto, unfolding(crate::specs::Reading::expect_at))]
 fn expect<'a>(text: &'a str, front: &str) -> Result<&'a str, Stop>
     ensures { Gives (λ rest. rest.now) result (expect_at front.now text.now) }
@@ -76,6 +78,7 @@ fn split_run(text: &str) -> (&str, &str)
     text.split_at(len)
 }
 
+/// A simple identifier, and the text behind it, as each of the readers below gives what it reads.
 #[tactic(auto, unfolding(crate::specs::Reading::simple_at))]
 fn read_simple<'a>(alloc: Global, text: &'a str) -> Result<(OwnedText, &'a str), Stop>
     ensures { Gives (λ x. (x.0, x.1.now)) result (simple_at text.now) }
@@ -87,6 +90,7 @@ fn read_simple<'a>(alloc: Global, text: &'a str) -> Result<(OwnedText, &'a str),
     Ok((OwnedText::copy_of(alloc, run)?, rest))
 }
 
+/// A name, with or without backticks.
 #[tactic(auto, unfolding(crate::specs::Reading::name_at))]
 fn read_name<'a>(alloc: Global, text: &'a str) -> Result<(OwnedText, &'a str), Stop>
     ensures { Gives (λ x. (x.0, x.1.now)) result (name_at text.now) }
@@ -114,6 +118,7 @@ fn read_disambiguator<'a>(alloc: Global, text: &'a str) -> Result<(OwnedText, &'
     Ok((OwnedText::copy_of(alloc, run)?, rest))
 }
 
+/// What stands behind a name that no bracket encloses.
 #[tactic(auto, unfolding(crate::specs::Reading::suffix_at))]
 fn read_suffix<'a>(alloc: Global, text: &'a str) -> Result<(Suffix, &'a str), Stop>
     ensures { Gives (λ x. (x.0, x.1.now)) result (suffix_at text.now) }
@@ -202,7 +207,7 @@ fn read_part<'a>(alloc: Global, text: &'a str) -> Result<(OwnedText, &'a str), S
 {
     let (word, rest) = read_spaced(alloc, text)?;
     if word.as_str() == "." {
-        return Ok((OwnedText::from_string(String::new(alloc)), rest));
+        return Ok((OwnedText::new(alloc), rest));
     }
     Ok((word, rest))
 }
@@ -258,6 +263,7 @@ pub fn read(alloc: Global, text: &str) -> Result<Symbol, SymbolFault>
     ensures found { IfOk result (λ symbol. SpellsSymbol text.now symbol) }
     ensures only { (symbol : SymbolParts) → SpellsSymbol text.now symbol
         → MatchResult result (λ read. read ≡ symbol) (λ fault. fault ≡ SymbolFault.Memory) }
+    ensures fault { IfErr result (λ fault. IsFaultOf text.now fault) }
 {
     match read_parts(alloc, text) {
         Ok(parts) => Ok(Symbol::from_parts(parts)),

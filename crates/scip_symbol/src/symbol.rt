@@ -20,7 +20,10 @@ pub enum Suffix {
     /// `name!`.
     Macro,
     /// `name(disambiguator).`, where the disambiguator is a simple identifier, or empty for none.
-    Method { disambiguator: OwnedText },
+    Method {
+        /// Tells apart methods of one name.
+        disambiguator: OwnedText,
+    },
     /// `[name]`.
     TypeParameter,
     /// `(name)`.
@@ -30,7 +33,9 @@ pub enum Suffix {
 /// One step on the way from a package to an entity of it (`scip.proto`, `Descriptor`).
 #[derive(Debug, Drop)]
 pub struct Descriptor {
+    /// Without backticks, and not empty in a symbol.
     pub name: OwnedText,
+    /// What the name is the name of.
     pub suffix: Suffix,
 }
 
@@ -54,6 +59,7 @@ pub struct GlobalSymbol {
 pub enum SymbolParts {
     /// An entity of one document alone, by a simple identifier.
     Local(OwnedText),
+    /// An entity that other documents may name.
     Global(GlobalSymbol),
 }
 

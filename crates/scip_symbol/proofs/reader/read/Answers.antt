@@ -4,6 +4,8 @@ use Rattle.scip_symbol.specs.Gives.{Stops}
 use Rattle.scip_symbol.specs.SpellsSymbol.{SpellsSymbol}
 use Rattle.scip_symbol.proofs.ReadLemmas.{same_ok}
 use Rattle.scip_symbol.proofs.SymbolLemmas.{symbol-found, symbol-exact, unspelled}
+use Rattle.scip_symbol.specs.LongestFront.{IsLongestFront}
+use Rattle.scip_symbol.proofs.LongestLemmas.{longest-front}
 use Rattle.scip_symbol.proofs.SpellingLemmas.{spelled-is}
 use Rattle.scip_symbol.proofs.reader.read.Goals as goal
 
@@ -21,3 +23,8 @@ returns-in-Ok-clause-only c =
 pub returns-in-Err-Left-clause-only : goal.returns-in-Err-Left-clause-only
 returns-in-Err-Left-clause-only c = λ symbol spells. unspelled c.args.text.now c.in-Err-Left.left symbol
     (subst (λ stop. Stops stop (symbol_at c.args.text.now)) c.in-Err-Left.field-0-is c.in-Err-Left.ensures) spells
+
+pub returns-in-Err-Left-clause-fault : goal.returns-in-Err-Left-clause-fault
+returns-in-Err-Left-clause-fault c =
+    let stopped = subst (λ stop. Stops stop (symbol_at c.args.text.now)) c.in-Err-Left.field-0-is c.in-Err-Left.ensures in
+    subst (IsLongestFront c.args.text.now) (sym c.saturating_sub.ensures) (longest-front c.args.text.now c.in-Err-Left.left stopped)

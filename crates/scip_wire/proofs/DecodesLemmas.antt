@@ -14,7 +14,7 @@ use Rattle.scip_model.specs.declared.records.Info.{Info}
 use Rattle.scip_wire.specs.declared.wire_fault.WireFault.{WireFault}
 use Rattle.scip_wire.specs.declared.wire_fault.WireFault.TheVariants.{Memory}
 use Rattle.scip_wire.specs.declared.read.occurrence.OccurrenceParts.{OccurrenceParts}
-use Rattle.scip_wire.specs.Fields.{Payload, Varint, Fixed64, Delimited, Fixed32}
+use Rattle.scip_wire.specs.Fields.{Payload, Varint, Fixed64, Delimited, Fixed32, max_varint_len}
 use Rattle.scip_wire.specs.Decodes.{low_32_bits, ArePacked, GivesNumbers, one, packed, AreRangeNumbers, on_one_line, over_lines, HoldsOccurrence, GivesOccurrence, occurrence, without_range, IsInfo, IsToolInfo, IsMetadata, IsDocument, Decodes}
 use Rattle.scip_wire.specs.Gives.{Gives}
 use Rattle.scip_wire.specs.Reading.{◌>>=◌, fold_in, fold_at, varint_at, add_more, info_step, no_info, info_at, tool_info_step, no_tool_info, tool_info_at, metadata_step, no_metadata, metadata_at, packed_step, packed_at, numbers_in, fits, checked_range, range_at, occurrence_step, no_parts, parts_at, occurrence_of, occurrence_at, occurrence_in, document_step, no_document, document_at, index_step, no_index, index_at}
@@ -86,25 +86,25 @@ metadata_exact bytes m d =
 
 -- ---- the numbers of a range
 
-pub varint_shortens : (bytes : List ℕ) (x : ℕ × List ℕ) → varint_at 10 bytes ≡ Some x → length x.1 < length bytes
-varint_shortens bytes x e = varint_falls (varint_found 10 bytes x e)
+pub varint_shortens : (bytes : List ℕ) (x : ℕ × List ℕ) → varint_at max_varint_len bytes ≡ Some x → length x.1 < length bytes
+varint_shortens bytes x e = varint_falls (varint_found max_varint_len bytes x e)
 
-packed_in_found : (bound : ℕ) (bytes s t : List ℕ) → fold_in (varint_at 10) packed_step bound bytes s ≡ Some t → (ns : List ℕ) × (ArePacked bytes ns) × (t ≡ s ++ ns)
+packed_in_found : (bound : ℕ) (bytes s t : List ℕ) → fold_in (varint_at max_varint_len) packed_step bound bytes s ≡ Some t → (ns : List ℕ) × (ArePacked bytes ns) × (t ≡ s ++ ns)
 unfolding fold_in packed_step
 packed_in_found zero [] s t e = ([], ArePacked.none, sym (same_Some s t e) ∙ sym (append-nil s))
 packed_in_found (suc bound) [] s t e = ([], ArePacked.none, sym (same_Some s t e) ∙ sym (append-nil s))
 packed_in_found zero (byte ∷ bytes) s t e = absurd (cc)
 packed_in_found (suc bound) (byte ∷ bytes) s t e =
-    let x = bind_some (varint_at 10 (byte ∷ bytes)) _ t e in
+    let x = bind_some (varint_at max_varint_len (byte ∷ bytes)) _ t e in
     let h = packed_in_found bound x.0.1 (s ++ low_32_bits x.0.0 ∷ []) t x.2 in
-    (low_32_bits x.0.0 ∷ h.0, ArePacked.next (varint_found 10 (byte ∷ bytes) x.0 x.1) h.1, h.2 ∙ append_assoc s (low_32_bits x.0.0 ∷ []) h.0)
+    (low_32_bits x.0.0 ∷ h.0, ArePacked.next (varint_found max_varint_len (byte ∷ bytes) x.0 x.1) h.1, h.2 ∙ append_assoc s (low_32_bits x.0.0 ∷ []) h.0)
 
-packed_exact_on : {bytes ns : List ℕ} → ArePacked bytes ns → (s : List ℕ) → fold_at (varint_at 10) packed_step bytes s ≡ Some (s ++ ns)
+packed_exact_on : {bytes ns : List ℕ} → ArePacked bytes ns → (s : List ℕ) → fold_at (varint_at max_varint_len) packed_step bytes s ≡ Some (s ++ ns)
 unfolding packed_step
-packed_exact_on ArePacked.none s = fold_done (varint_at 10) packed_step s ∙ ap Some (sym (append-nil s))
+packed_exact_on ArePacked.none s = fold_done (varint_at max_varint_len) packed_step s ∙ ap Some (sym (append-nil s))
 packed_exact_on (ArePacked.next {bytes = []} v vs) s = absurd (omega (arith, varint_falls v))
 packed_exact_on (ArePacked.next {bytes = byte ∷ bytes} {rest = rest} {value = value} {numbers = ns} v vs) s =
-    sym (fold_goes_on (varint_at 10) packed_step varint_shortens byte bytes s (s ++ low_32_bits value ∷ []) (value, rest) (varint_exact v) refl)
+    sym (fold_goes_on (varint_at max_varint_len) packed_step varint_shortens byte bytes s (s ++ low_32_bits value ∷ []) (value, rest) (varint_exact v) refl)
     ∙ (packed_exact_on vs (s ++ low_32_bits value ∷ []) ∙ ap Some (append_assoc s (low_32_bits value ∷ []) ns))
 
 packed_found : (bytes ns : List ℕ) → packed_at bytes ≡ Some ns → ArePacked bytes ns
@@ -283,21 +283,21 @@ checked_of None r h = split (fits r) (λ t. absurd (h (checked_found r r (cond-t
 checked_of (Some x) r h = ap Some h.1 ∙ sym (checked_exact r h.0)
 
 -- packed numbers that are added to others
-packed_in_after : (bound : ℕ) (bytes s t : List ℕ) → fold_in (varint_at 10) packed_step bound bytes (s ++ t) ≡ (fold_in (varint_at 10) packed_step bound bytes t >>= add_more s)
+packed_in_after : (bound : ℕ) (bytes s t : List ℕ) → fold_in (varint_at max_varint_len) packed_step bound bytes (s ++ t) ≡ (fold_in (varint_at max_varint_len) packed_step bound bytes t >>= add_more s)
 unfolding fold_in packed_step
 packed_in_after zero [] s t = refl
 packed_in_after zero (byte ∷ bytes) s t = refl
 packed_in_after (suc bound) [] s t = refl
 packed_in_after (suc bound) (byte ∷ bytes) s t =
-    bind_same (varint_at 10 (byte ∷ bytes)) _ _ (λ x _.
-    ap (fold_in (varint_at 10) packed_step bound x.1) (append_assoc s t (low_32_bits x.0 ∷ []))
+    bind_same (varint_at max_varint_len (byte ∷ bytes)) _ _ (λ x _.
+    ap (fold_in (varint_at max_varint_len) packed_step bound x.1) (append_assoc s t (low_32_bits x.0 ∷ []))
     ∙ packed_in_after bound x.1 s (t ++ low_32_bits x.0 ∷ []))
-    ∙ sym (bind_assoc (varint_at 10 (byte ∷ bytes)) _ (add_more s))
+    ∙ sym (bind_assoc (varint_at max_varint_len (byte ∷ bytes)) _ (add_more s))
 
-pub fold_of_packed : (bytes numbers : List ℕ) → fold_at (varint_at 10) packed_step bytes numbers ≡ (packed_at bytes >>= add_more numbers)
+pub fold_of_packed : (bytes numbers : List ℕ) → fold_at (varint_at max_varint_len) packed_step bytes numbers ≡ (packed_at bytes >>= add_more numbers)
 unfolding packed_at fold_at
 fold_of_packed bytes numbers =
-    ap (fold_in (varint_at 10) packed_step (length bytes) bytes) (sym (append-nil numbers)) ∙ packed_in_after (length bytes) bytes numbers []
+    ap (fold_in (varint_at max_varint_len) packed_step (length bytes) bytes) (sym (append-nil numbers)) ∙ packed_in_after (length bytes) bytes numbers []
 
 -- ---- what a reader of the index answers
 

@@ -5,7 +5,7 @@ use Rattle.std.specs.Prelude.{nat_eq, nat_lt, nat_le}
 use Rattle.std.proofs.lemmas.Bool.{lt-ltb, ltb-true, le-ltb, ltb-false, eqb-true, le-leb, leb-true}
 use Rattle.std.proofs.lemmas.List.{take-append-drop, length-take}
 use Rattle.std.proofs.Math.Seq.{take-append_seam, drop-append_seam}
-use Rattle.scip_wire.specs.Fields.{Payload, Varint, Fixed64, Delimited, Fixed32, Field, IsVarint, last, more, IsPayload, varint, fixed64, delimited, fixed32, IsField, field}
+use Rattle.scip_wire.specs.Fields.{Payload, Varint, Fixed64, Delimited, Fixed32, Field, IsVarint, last, more, IsPayload, varint, fixed64, delimited, fixed32, IsField, field, max_varint_len}
 use Rattle.scip_wire.specs.Reading.{varint_at, piece_at, payload_at, field_at}
 use Rattle.scip_wire.proofs.OptionLemmas.{bind_some, chosen, guard_some, guard_none}
 
@@ -56,8 +56,8 @@ payload_found type bytes x e =
     let P : Payload × List ℕ → Type 0 = λ y. IsPayload type bytes y.0 y.1 in
     chosen (nat_eq type 0) _ _ _ e
     (λ is rest.
-    let v = bind_some (varint_at 10 bytes) _ x rest in
-    subst P (same_Some _ x v.2) (subst (λ t. IsPayload t bytes (Varint v.0.0) v.0.1) (sym (eqb-true type 0 is)) (varint (varint_found 10 bytes v.0 v.1))))
+    let v = bind_some (varint_at max_varint_len bytes) _ x rest in
+    subst P (same_Some _ x v.2) (subst (λ t. IsPayload t bytes (Varint v.0.0) v.0.1) (sym (eqb-true type 0 is)) (varint (varint_found max_varint_len bytes v.0 v.1))))
     (λ _ e1. chosen (nat_eq type 1) _ _ _ e1
     (λ is rest.
     let p = bind_some (piece_at 8 bytes) _ x rest in
@@ -65,13 +65,13 @@ payload_found type bytes x e =
     subst P (same_Some _ x p.2) (subst (λ t. IsPayload t bytes (Fixed64 p.0.0) p.0.1) (sym (eqb-true type 1 is)) (fixed64 h.0 h.1)))
     (λ _ e2. chosen (nat_eq type 2) _ _ _ e2
     (λ is rest.
-    let v = bind_some (varint_at 10 bytes) _ x rest in
+    let v = bind_some (varint_at max_varint_len bytes) _ x rest in
     let p = bind_some (piece_at v.0.0 v.0.1) _ x v.2 in
     let h = piece_found v.0.0 v.0.1 p.0 p.1 in
-    let size = varint_found 10 bytes v.0 v.1 in
-    let size_of_inside = subst (λ n. IsVarint 10 bytes n v.0.1) (sym h.1) size in
+    let size = varint_found max_varint_len bytes v.0 v.1 in
+    let size_of_inside = subst (λ n. IsVarint max_varint_len bytes n v.0.1) (sym h.1) size in
     subst P (same_Some _ x p.2) (subst (λ t. IsPayload t bytes (Delimited p.0.0) p.0.1) (sym (eqb-true type 2 is))
-    (delimited (subst (λ l. IsVarint 10 bytes (length p.0.0) l) h.0 size_of_inside))))
+    (delimited (subst (λ l. IsVarint max_varint_len bytes (length p.0.0) l) h.0 size_of_inside))))
     (λ _ e3.
     let g = guard_some (nat_eq type 5) _ x e3 in
     let p = bind_some (piece_at 4 bytes) _ x g.1 in
@@ -109,14 +109,14 @@ payload_type (fixed32 e l) = omega arith
 pub field_found : (bytes : List ℕ) (x : Field × List ℕ) → field_at bytes ≡ Some x → IsField bytes x.0 x.1
 unfolding field_at
 field_found bytes x e =
-    let tag = bind_some (varint_at 10 bytes) _ x e in
+    let tag = bind_some (varint_at max_varint_len bytes) _ x e in
     let below = guard_some (nat_lt tag.0.0 (2 ^ 32)) _ x tag.2 in
     let above = guard_none (nat_lt tag.0.0 8) _ x below.1 in
     let p = bind_some (payload_at (tag.0.0 % 8) tag.0.1) _ x above.1 in
     let small : tag.0.0 < 2 ^ 32 = ltb-true tag.0.0 (2 ^ 32) below.0 in
     let large : 8 ≤ tag.0.0 = ltb-false tag.0.0 8 above.0 in
     let parts : tag.0.0 ≡ 8 * (tag.0.0 / 8) + tag.0.0 % 8 = omega arith in
-    let tag_is = subst (λ n. IsVarint 10 bytes n tag.0.1) parts (varint_found 10 bytes tag.0 tag.1) in
+    let tag_is = subst (λ n. IsVarint max_varint_len bytes n tag.0.1) parts (varint_found max_varint_len bytes tag.0 tag.1) in
     let P : Field × List ℕ → Type 0 = λ y. IsField bytes y.0 y.1 in
     subst P (same_Some _ x p.2) (field tag_is (omega arith) (omega arith) (payload_found (tag.0.0 % 8) tag.0.1 p.0 p.1))
 

@@ -1,8 +1,8 @@
 -- Spelled fields are the fields of their bytes.
-use Rattle.std.proofs.Common.{◌≡◌, ℕ, zero, suc, ◌+◌, ◌-◌, ◌*◌, ◌/◌, ◌%◌, ◌^◌, ◌<◌, List, [], ◌∷◌, ◌++◌, length, sym, ap, ◌∙◌, subst, arith, pow-suc, append_assoc, length-append}
+use Rattle.std.proofs.Common.{◌≡◌, ℕ, zero, suc, ◌+◌, ◌-◌, ◌*◌, ◌/◌, ◌%◌, ◌^◌, ◌<◌, ◌≤◌, List, [], ◌∷◌, ◌++◌, length, sym, ap, ◌∙◌, subst, arith, pow-suc, append_assoc, length-append}
 use Rattle.std.proofs.lemmas.Bool.{cases_lt}
 use Rattle.std.proofs.Common.{inl, inr}
-use Rattle.scip_wire.specs.Fields.{Payload, Varint, Fixed64, Delimited, Fixed32, Field, IsVarint, last, more, varint as varint_payload, delimited, IsField, field, HasFields, none, next}
+use Rattle.scip_wire.specs.Fields.{Payload, Varint, Fixed64, Delimited, Fixed32, Field, IsVarint, last, more, varint as varint_payload, delimited, IsField, field, HasFields, none, next, max_varint_len, max_field_number}
 use Rattle.scip_wire.specs.Spelling.{varint, varint_of_groups, bytes_of, field_bytes, record_bytes}
 use Rattle.scip_wire.specs.Saturated.{fields_len}
 use Rattle.scip_wire.proofs.SpelledVarintLemmas.{group_last, group_more}
@@ -25,7 +25,7 @@ groups_are (suc further) n rest fits small =
           subst (λ bytes. IsVarint (suc (suc further)) (bytes ++ rest) n rest) (sym (group_more further n h)) at_value
     ]
 
-pub varint_is : (n : ℕ) (rest : List ℕ) → n < 2 ^ 64 → IsVarint 10 (varint n ++ rest) n rest
+pub varint_is : (n : ℕ) (rest : List ℕ) → n < 2 ^ 64 → IsVarint max_varint_len (varint n ++ rest) n rest
 varint_is n rest fits = groups_are 9 n rest (omega arith) fits
 
 -- what a payload must be for its record to be read back as it stands: a varint of 64 bits, or bytes behind a length
@@ -37,7 +37,7 @@ IsSpelled (Fixed32 bytes) = ⊥
 
 pub record IsKnown (f : Field) : Type 0 where
   pub above : 0 < f.number
-  pub below : f.number < 2 ^ 29
+  pub below : f.number ≤ max_field_number
   pub payload : IsSpelled f.payload
 
 abbrev pub AreKnown : List Field → Type 0
@@ -49,13 +49,13 @@ AreKnown-append [] gs p q = q
 AreKnown-append (f ∷ fs) gs p q = (p.0, AreKnown-append fs gs p.1 q)
 
 -- a field's bytes, and what follows, begin with the field
-field_is : (k : ℕ) (p : Payload) (rest : List ℕ) → 0 < k → k < 2 ^ 29 → IsSpelled p → length (record_bytes k p) < 2 ^ 64
+field_is : (k : ℕ) (p : Payload) (rest : List ℕ) → 0 < k → k ≤ max_field_number → IsSpelled p → length (record_bytes k p) < 2 ^ 64
     → IsField (record_bytes k p ++ rest) (record { number = k; payload = p }) rest
 field_is k (Varint value) rest above below fits short =
     let f : Field = record { number = k; payload = Varint value } in
     let after = varint value ++ rest in
-    let tag : IsVarint 10 (varint (8 * k) ++ after) (8 * k + 0) after =
-    subst (λ n. IsVarint 10 (varint (8 * k) ++ after) n after) (omega arith) (varint_is (8 * k) after (omega arith)) in
+    let tag : IsVarint max_varint_len (varint (8 * k) ++ after) (8 * k + 0) after =
+    subst (λ n. IsVarint max_varint_len (varint (8 * k) ++ after) n after) (omega arith) (varint_is (8 * k) after (omega arith)) in
     let whole : IsField (varint (8 * k) ++ after) f rest = field tag above below (varint_payload (varint_is value rest fits)) in
     subst (λ a. IsField a f rest) (sym (append_assoc (varint (8 * k)) (varint value) rest)) whole
 field_is k (Fixed64 bytes) rest above below fits short = absurd fits

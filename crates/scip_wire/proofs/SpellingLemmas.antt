@@ -12,7 +12,7 @@ use Rattle.scip_model.specs.declared.records.ToolInfo.{ToolInfo}
 use Rattle.scip_model.specs.declared.records.Document.{Document}
 use Rattle.scip_model.specs.declared.records.Occurrence.{Occurrence}
 use Rattle.scip_model.specs.declared.records.Info.{Info}
-use Rattle.scip_wire.specs.Fields.{Payload, Delimited, Field}
+use Rattle.scip_wire.specs.Fields.{Payload, Delimited, Field, max_field_number}
 use Rattle.scip_wire.specs.Decodes.{payloads, Joined, none, next, absent, only, GivesMessage, message, OneMessage, IsInfo, IsToolInfo, IsMetadata, IsDocument, Decodes, low_32_bits, ArePacked, none as no_number, next as next_number, GivesNumbers, packed, AreRangeNumbers, on_one_line, over_lines, HoldsOccurrence, GivesOccurrence, occurrence}
 use Rattle.scip_wire.specs.Spelling.{varint, field_bytes, bytes_of, bytes_field, text_fields, int_fields, number_fields, in_64_bits, repeated_text_fields, repeated_message_fields, optional_message_fields, range_numbers, occurrence_fields, info_fields, document_fields, tool_info_fields, metadata_fields, index_fields, spelling_of, max_index_len}
 use Rattle.scip_wire.specs.Saturated.{fields_len}
@@ -24,26 +24,26 @@ use Rattle.scip_wire.proofs.SpelledPayloadLemmas.{payloads-append, other_text, o
 
 -- ---- the fields of a message are known
 
-text_known : (k : ℕ) (t : List ℕ) → 0 < k → k < 2 ^ 29 → AreKnown (text_fields k t)
+text_known : (k : ℕ) (t : List ℕ) → 0 < k → k ≤ max_field_number → AreKnown (text_fields k t)
 text_known k [] above below = tt
 text_known k (b ∷ bs) above below = (record { above = above; below = below; payload = tt }, tt)
 
-texts_known : (k : ℕ) (ts : List (List ℕ)) → 0 < k → k < 2 ^ 29 → AreKnown (repeated_text_fields k ts)
+texts_known : (k : ℕ) (ts : List (List ℕ)) → 0 < k → k ≤ max_field_number → AreKnown (repeated_text_fields k ts)
 texts_known k [] above below = tt
 texts_known k (t ∷ ts) above below = (record { above = above; below = below; payload = tt }, texts_known k ts above below)
 
-number_known : (k v : ℕ) → v < 2 ^ 64 → 0 < k → k < 2 ^ 29 → AreKnown (number_fields k v)
+number_known : (k v : ℕ) → v < 2 ^ 64 → 0 < k → k ≤ max_field_number → AreKnown (number_fields k v)
 number_known k zero fits above below = tt
 number_known k (suc v) fits above below = (record { above = above; below = below; payload = fits }, tt)
 
-int_known : (k : ℕ) (z : ℤ) → FitsSigned w32 z → 0 < k → k < 2 ^ 29 → AreKnown (int_fields k z)
+int_known : (k : ℕ) (z : ℤ) → FitsSigned w32 z → 0 < k → k ≤ max_field_number → AreKnown (int_fields k z)
 int_known k z fits above below = number_known k (in_64_bits z) (in_64_bits-lt z fits) above below
 
-messages_known : {A : Type 0} (fields : A → List Field) (k : ℕ) (xs : List A) → 0 < k → k < 2 ^ 29 → AreKnown (repeated_message_fields k fields xs)
+messages_known : {A : Type 0} (fields : A → List Field) (k : ℕ) (xs : List A) → 0 < k → k ≤ max_field_number → AreKnown (repeated_message_fields k fields xs)
 messages_known fields k [] above below = tt
 messages_known fields k (x ∷ xs) above below = (record { above = above; below = below; payload = tt }, messages_known fields k xs above below)
 
-message_known : {A : Type 0} (fields : A → List Field) (k : ℕ) (o : Option A) → 0 < k → k < 2 ^ 29 → AreKnown (optional_message_fields k fields o)
+message_known : {A : Type 0} (fields : A → List Field) (k : ℕ) (o : Option A) → 0 < k → k ≤ max_field_number → AreKnown (optional_message_fields k fields o)
 message_known fields k None above below = tt
 message_known fields k (Some x) above below = (record { above = above; below = below; payload = tt }, tt)
 
@@ -128,22 +128,22 @@ behind_le n front (p ∷ ps) =
 
 -- the parts, by kind
 
-abbrev text_part : (k : ℕ) → 0 < k → k < 2 ^ 29 → List ℕ → Part
+abbrev text_part : (k : ℕ) → 0 < k → k ≤ max_field_number → List ℕ → Part
 text_part k above below t = record { number = k; fields = text_fields k t; of_no_other = λ n e. other_text n k t e; known = text_known k t above below }
 
-abbrev texts_part : (k : ℕ) → 0 < k → k < 2 ^ 29 → List (List ℕ) → Part
+abbrev texts_part : (k : ℕ) → 0 < k → k ≤ max_field_number → List (List ℕ) → Part
 texts_part k above below ts = record { number = k; fields = repeated_text_fields k ts; of_no_other = λ n e. other_texts n k ts e; known = texts_known k ts above below }
 
-abbrev int_part : (k : ℕ) → 0 < k → k < 2 ^ 29 → (z : ℤ) → FitsSigned w32 z → Part
+abbrev int_part : (k : ℕ) → 0 < k → k ≤ max_field_number → (z : ℤ) → FitsSigned w32 z → Part
 int_part k above below z fits = record { number = k; fields = int_fields k z; of_no_other = λ n e. other_int n k z e; known = int_known k z fits above below }
 
-abbrev message_part : {A : Type 0} (fields : A → List Field) (k : ℕ) → 0 < k → k < 2 ^ 29 → Option A → Part
+abbrev message_part : {A : Type 0} (fields : A → List Field) (k : ℕ) → 0 < k → k ≤ max_field_number → Option A → Part
 message_part fields k above below o = record { number = k; fields = optional_message_fields k fields o; of_no_other = λ n e. other_message fields n k o e; known = message_known fields k o above below }
 
-abbrev messages_part : {A : Type 0} (fields : A → List Field) (k : ℕ) → 0 < k → k < 2 ^ 29 → List A → Part
+abbrev messages_part : {A : Type 0} (fields : A → List Field) (k : ℕ) → 0 < k → k ≤ max_field_number → List A → Part
 messages_part fields k above below xs = record { number = k; fields = repeated_message_fields k fields xs; of_no_other = λ n e. other_messages fields n k xs e; known = messages_known fields k xs above below }
 
-abbrev bytes_part : (k : ℕ) → 0 < k → k < 2 ^ 29 → List ℕ → Part
+abbrev bytes_part : (k : ℕ) → 0 < k → k ≤ max_field_number → List ℕ → Part
 bytes_part k above below bytes = record { number = k; fields = bytes_field k bytes ∷ []; of_no_other = λ n e. rw e refl; known = (record { above = above; below = below; payload = tt }, tt) }
 
 -- ---- messages inside messages

@@ -12,7 +12,7 @@ use Rattle.scip_model.specs.declared.records.ToolInfo.{ToolInfo}
 use Rattle.scip_model.specs.declared.records.Document.{Document}
 use Rattle.scip_model.specs.declared.records.Occurrence.{Occurrence}
 use Rattle.scip_model.specs.declared.records.Info.{Info}
-use Rattle.scip_wire.specs.Fields.{Payload, Varint, Delimited, Field, IsVarint, HasFields}
+use Rattle.scip_wire.specs.Fields.{Payload, Varint, Delimited, Field, IsVarint, HasFields, max_varint_len}
 
 -- ---- the values of a field
 
@@ -116,7 +116,7 @@ low_32_bits value = value % 2 ^ 32
 pub data ArePacked : List ℕ → List ℕ → Type 0 where
   none : ArePacked [] []
   next : {bytes rest : List ℕ} {value : ℕ} {numbers : List ℕ}
-      → IsVarint 10 bytes value rest → ArePacked rest numbers → ArePacked bytes (low_32_bits value ∷ numbers)
+      → IsVarint max_varint_len bytes value rest → ArePacked rest numbers → ArePacked bytes (low_32_bits value ∷ numbers)
 
 -- repeated int32s, packed or not
 pub data GivesNumbers : Payload → List ℕ → Type 0 where

@@ -10,7 +10,7 @@ use Rattle.scip_model.specs.declared.records.Document.{Document}
 use Rattle.scip_model.specs.declared.records.Occurrence.{Occurrence}
 use Rattle.scip_model.specs.declared.records.Info.{Info}
 use Rattle.scip_wire.specs.declared.read.occurrence.OccurrenceParts.{OccurrenceParts}
-use Rattle.scip_wire.specs.Fields.{Payload, Varint, Fixed64, Delimited, Fixed32, Field}
+use Rattle.scip_wire.specs.Fields.{Payload, Varint, Fixed64, Delimited, Fixed32, Field, max_varint_len}
 use Rattle.scip_wire.specs.Decodes.{last_or, low_32_bits}
 
 infixl 10 ◌>>=◌
@@ -31,14 +31,14 @@ piece_at size bytes = cond (nat_le size (length bytes)) (Some (take size bytes, 
 
 unfoldable pub payload_at : ℕ → List ℕ → Option (Payload × List ℕ)
 payload_at type bytes =
-    cond (nat_eq type 0) (varint_at 10 bytes >>= λ value. Some (Varint value.0, value.1))
+    cond (nat_eq type 0) (varint_at max_varint_len bytes >>= λ value. Some (Varint value.0, value.1))
     (cond (nat_eq type 1) (piece_at 8 bytes >>= λ piece. Some (Fixed64 piece.0, piece.1))
-    (cond (nat_eq type 2) (varint_at 10 bytes >>= λ size. piece_at size.0 size.1 >>= λ piece. Some (Delimited piece.0, piece.1))
+    (cond (nat_eq type 2) (varint_at max_varint_len bytes >>= λ size. piece_at size.0 size.1 >>= λ piece. Some (Delimited piece.0, piece.1))
     (cond (nat_eq type 5) (piece_at 4 bytes >>= λ piece. Some (Fixed32 piece.0, piece.1)) None)))
 
 unfoldable pub field_at : List ℕ → Option (Field × List ℕ)
 field_at bytes =
-    varint_at 10 bytes >>= λ tag. cond (nat_lt tag.0 (2 ^ 32))
+    varint_at max_varint_len bytes >>= λ tag. cond (nat_lt tag.0 (2 ^ 32))
     (cond (nat_lt tag.0 8) None
     (payload_at (tag.0 % 8) tag.1 >>= λ payload. Some (record { number = tag.0 / 8; payload = payload.0 }, payload.1)))
     None
@@ -165,7 +165,7 @@ unfoldable pub packed_step : List ℕ → ℕ → Option (List ℕ)
 packed_step numbers value = Some (numbers ++ low_32_bits value ∷ [])
 
 unfoldable pub packed_at : List ℕ → Option (List ℕ)
-packed_at bytes = fold_at (varint_at 10) packed_step bytes []
+packed_at bytes = fold_at (varint_at max_varint_len) packed_step bytes []
 
 abbrev pub numbers_in : Payload → Option (List ℕ)
 numbers_in (Varint value) = Some (low_32_bits value ∷ [])

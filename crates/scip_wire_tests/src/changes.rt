@@ -4,33 +4,35 @@
 use crate::decoded::{decoded, spelled};
 use crate::samples::MESSAGE;
 use crate::see::see;
-use scip_model::Index;
-use scip_wire::WireFault;
+use scip_wire::{SpellFault, WireFault};
 use std::alloc::Global;
 use std::process::Abort;
 use std::test::Fail;
 
-/// Sees that what is read is the same once it was written and read again.
-fn see_the_same(rt: &impl Abort, alloc: Global, index: &Index) -> Result<(), Fail> {
-    let first = spelled(alloc, index)?;
-    let again = decoded(alloc, &first)?;
-    let second = spelled(alloc, &again)?;
-    see(rt, first.as_slice() == second.as_slice(), "again");
-    Ok(())
-}
-
-/// Whether bytes are read; if not, they are refused by name.
-fn is_read(rt: &impl Abort, alloc: Global, bytes: &[u8]) -> Result<bool, Fail> {
+/// What bytes decode to, spelled again; none where they are refused by name.
+fn spelled_again(
+    rt: &impl Abort,
+    alloc: Global,
+    bytes: &[u8],
+) -> Option<Result<Vec<u8>, SpellFault>> {
     match decoded(alloc, bytes) {
-        Ok(index) => {
-            see_the_same(rt, alloc, &index)?;
-            Ok(true)
-        }
+        Ok(index) => Some(spelled(alloc, &index)),
         Err(fault) => {
             see(rt, fault != WireFault::Memory, "a fault of the bytes");
-            Ok(false)
+            None
         }
     }
+}
+
+/// Whether bytes are read. What is read is the same once it was written and read again.
+fn is_read(rt: &impl Abort, alloc: Global, bytes: &[u8]) -> Result<bool, SpellFault> {
+    let Some(first) = spelled_again(rt, alloc, bytes) else {
+        return Ok(false);
+    };
+    let first = first?;
+    let second = spelled_again(rt, alloc, &first);
+    see(rt, second == Some(Ok(first)), "again");
+    Ok(true)
 }
 
 /// How many of the changes of one byte at a place are read.
@@ -51,12 +53,12 @@ fn read_changes(rt: &impl Abort, alloc: Global, bytes: &mut [u8], at: usize) -> 
 
 #[test]
 fn each_change_of_one_byte(rt: HostRuntime) -> Result<(), Fail> {
-    let mut bytes = MESSAGE.as_slice().to_vec(rt.alloc())?;
+    let mut bytes = *MESSAGE;
     let mut read = 0u32;
     for at in 0..200usize {
         read = read.wrapping_add(read_changes(&rt, rt.alloc(), &mut bytes, at)?);
     }
     see(&rt, 0 < read && read < 51000, "some are read");
-    see(&rt, bytes.as_slice() == MESSAGE.as_slice(), "put back");
+    see(&rt, bytes == *MESSAGE, "put back");
     Ok(())
 }

@@ -6,6 +6,8 @@ mod changes;
 #[cfg(test)]
 mod decoded;
 #[cfg(test)]
+mod expected;
+#[cfg(test)]
 mod fields;
 #[cfg(test)]
 mod large;

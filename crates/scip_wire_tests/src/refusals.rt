@@ -3,51 +3,50 @@
 
 use crate::decoded::decoded;
 use crate::samples::{MESSAGE, UNPACKED};
-use crate::see::see;
+use crate::see::see_all;
 use scip_wire::WireFault;
 use std::alloc::Global;
-use std::process::Abort;
-use std::test::Fail;
 
 /// Bytes, and the fault that they are refused with.
 type Refusal<'a> = (&'a [u8], WireFault);
 
-/// Sees that bytes are refused with a fault.
-fn see_refused(rt: &impl Abort, alloc: Global, bytes: &[u8], want: WireFault) {
-    let refused = match decoded(alloc, bytes) {
+/// Whether bytes are refused with this fault.
+fn is_refused(alloc: Global, bytes: &[u8], want: WireFault) -> bool {
+    match decoded(alloc, bytes) {
         Ok(_) => false,
         Err(fault) => fault == want,
-    };
-    assert!(rt; refused, "{want}: {bytes:?}");
-}
-
-/// Sees that each of these is refused.
-fn see_refusals(rt: &impl Abort, alloc: Global, refusals: &[Refusal<'_>]) {
-    for (bytes, want) in refusals {
-        see_refused(rt, alloc, bytes, *want);
     }
 }
 
-/// Sees that each shorter beginning of the bytes, longer than `from`, is refused with a fault.
-fn see_cuts_refused(rt: &impl Abort, alloc: Global, bytes: &[u8], from: usize, want: WireFault) {
-    for (end, _) in bytes.iter().enumerate() {
-        if from < end {
-            see_refused(rt, alloc, &bytes[..end], want);
+/// The first row that isn't refused with its fault.
+fn first_other(alloc: Global, refusals: &[Refusal<'_>]) -> Option<usize> {
+    for (row, (bytes, want)) in refusals.iter().enumerate() {
+        if !is_refused(alloc, bytes, *want) {
+            return Some(row);
         }
     }
+    None
+}
+
+/// The first length, above `from`, of a beginning of the bytes that isn't refused with this fault.
+fn first_other_cut(alloc: Global, bytes: &[u8], from: usize, want: WireFault) -> Option<usize> {
+    for (end, _) in bytes.iter().enumerate() {
+        if from < end && !is_refused(alloc, &bytes[..end], want) {
+            return Some(end);
+        }
+    }
+    None
 }
 
 #[test]
-fn cut_bytes_are_refused(rt: HostRuntime) -> Result<(), Fail> {
-    see_cuts_refused(&rt, rt.alloc(), UNPACKED, 0, WireFault::Truncated(0));
+fn cut_bytes_are_refused(rt: HostRuntime) {
+    let first = WireFault::Truncated(0);
+    see_all(&rt, first_other_cut(rt.alloc(), UNPACKED, 0, first));
     let bytes = MESSAGE.as_slice();
     let (metadata, _) = bytes.split_at(30);
-    let first = decoded(rt.alloc(), metadata)?;
-    see(&rt, first.metadata.is_some(), "metadata");
-    see(&rt, first.documents.as_slice().is_empty(), "documents");
-    see_cuts_refused(&rt, rt.alloc(), metadata, 0, WireFault::Truncated(0));
-    see_cuts_refused(&rt, rt.alloc(), bytes, 30, WireFault::Truncated(30));
-    Ok(())
+    see_all(&rt, first_other_cut(rt.alloc(), metadata, 0, first));
+    let second = WireFault::Truncated(30);
+    see_all(&rt, first_other_cut(rt.alloc(), bytes, 30, second));
 }
 
 #[test]
@@ -68,7 +67,7 @@ fn faults_of_tags(rt: HostRuntime) {
         ),
         (b"\x12\x01\x0B\x00", WireFault::Group(2)),
     ];
-    see_refusals(&rt, rt.alloc(), &refusals);
+    see_all(&rt, first_other(rt.alloc(), &refusals));
 }
 
 #[test]
@@ -87,7 +86,7 @@ fn faults_of_messages(rt: HostRuntime) {
             WireFault::BadRange(2),
         ),
     ];
-    see_refusals(&rt, rt.alloc(), &refusals);
+    see_all(&rt, first_other(rt.alloc(), &refusals));
 }
 
 #[test]
@@ -102,7 +101,7 @@ fn lengths_that_bytes_only_claim(rt: HostRuntime) {
         (b"\x12\x05\x12\x03\x0A\x01\x80", WireFault::Truncated(4)),
         (b"\x12\x06\x12\x04\x0A\x02\x01\x80", WireFault::Truncated(4)),
     ];
-    see_refusals(&rt, rt.alloc(), &refusals);
+    see_all(&rt, first_other(rt.alloc(), &refusals));
 }
 
 #[test]
@@ -126,5 +125,5 @@ fn the_first_of_two_faults(rt: HostRuntime) {
         // A text that a later one replaces has to be UTF-8 too.
         (b"\x12\x06\x0A\x01\xFF\x0A\x01a", WireFault::Utf8(2)),
     ];
-    see_refusals(&rt, rt.alloc(), &refusals);
+    see_all(&rt, first_other(rt.alloc(), &refusals));
 }

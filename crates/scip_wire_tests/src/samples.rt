@@ -117,25 +117,20 @@ fn tool_info(
     })
 }
 
-/// An index that holds nothing.
-pub fn empty_index(alloc: Global) -> Index {
-    Index {
-        metadata: None,
-        documents: Sequence::new(alloc),
-        external_symbols: Sequence::new(alloc),
-    }
-}
-
-/// An index whose metadata and tool information hold nothing.
-pub fn empty_metadata(alloc: Global) -> Result<Index, Fail> {
-    let tool_info = tool_info(alloc, "", "", Sequence::new(alloc))?;
-    let metadata = Metadata {
-        version: 0,
+fn metadata(
+    alloc: Global,
+    version: i32,
+    tool_info: ToolInfo,
+    project_root: &str,
+    text_document_encoding: i32,
+) -> Result<Metadata, AllocError> {
+    let project_root = OwnedText::copy_of(alloc, project_root)?;
+    Ok(Metadata {
+        version,
         tool_info: Some(tool_info),
-        project_root: OwnedText::new(alloc),
-        text_document_encoding: 0,
-    };
-    Ok(with_metadata(alloc, metadata))
+        project_root,
+        text_document_encoding,
+    })
 }
 
 fn with_metadata(alloc: Global, metadata: Metadata) -> Index {
@@ -146,41 +141,50 @@ fn with_metadata(alloc: Global, metadata: Metadata) -> Index {
     }
 }
 
-fn plain_metadata(alloc: Global) -> Result<Metadata, Fail> {
-    let project_root = OwnedText::copy_of(alloc, "file:///")?;
-    let tool_info = tool_info(alloc, "protoscip", "1", Sequence::new(alloc))?;
-    Ok(Metadata {
-        version: 0,
-        tool_info: Some(tool_info),
-        project_root,
-        text_document_encoding: 1,
-    })
+fn with_documents(alloc: Global, documents: Sequence<Document>) -> Index {
+    Index {
+        metadata: None,
+        documents,
+        external_symbols: Sequence::new(alloc),
+    }
 }
 
-/// The index of `NO_DOCUMENT`.
-pub fn no_document(alloc: Global) -> Result<Index, Fail> {
-    Ok(with_metadata(alloc, plain_metadata(alloc)?))
+fn empty_metadata(alloc: Global) -> Result<Metadata, AllocError> {
+    let tool_info = tool_info(alloc, "", "", Sequence::new(alloc))?;
+    metadata(alloc, 0, tool_info, "", 0)
+}
+
+fn plain_metadata(alloc: Global) -> Result<Metadata, AllocError> {
+    let tool_info = tool_info(alloc, "protoscip", "1", Sequence::new(alloc))?;
+    metadata(alloc, 0, tool_info, "file:///", 1)
 }
 
 const FILE_SYMBOL: &str = "scip-protobuf . . . `a.proto`/";
 
 const MESSAGE_SYMBOL: &str = "scip-protobuf . . . A#";
 
-fn message_document(alloc: Global) -> Result<Document, Fail> {
+fn message_occurrences(alloc: Global) -> Result<Sequence<Occurrence>, Fail> {
     let file = occurrence(alloc, Range::new(0, 0, 0, 0), FILE_SYMBOL, 1)?;
     let name = occurrence(alloc, Range::new(1, 8, 1, 9), MESSAGE_SYMBOL, 1)?;
-    let occurrences = sequence(alloc, [file, name])?;
-    let message_info = info(alloc, MESSAGE_SYMBOL, Sequence::new(alloc), "A")?;
-    let file_info = info(alloc, FILE_SYMBOL, Sequence::new(alloc), "a.proto")?;
-    let symbols = sequence(alloc, [message_info, file_info])?;
-    Ok(document(alloc, "a.proto", occurrences, symbols, "Protobuf", 1)?)
+    Ok(sequence(alloc, [file, name])?)
 }
 
-/// The index of `MESSAGE`.
-pub fn message(alloc: Global) -> Result<Index, Fail> {
+fn message_symbols(alloc: Global) -> Result<Sequence<Info>, AllocError> {
+    let message = info(alloc, MESSAGE_SYMBOL, Sequence::new(alloc), "A")?;
+    let file = info(alloc, FILE_SYMBOL, Sequence::new(alloc), "a.proto")?;
+    sequence(alloc, [message, file])
+}
+
+fn message_documents(alloc: Global) -> Result<Sequence<Document>, Fail> {
+    let occurrences = message_occurrences(alloc)?;
+    let symbols = message_symbols(alloc)?;
+    let document = document(alloc, "a.proto", occurrences, symbols, "Protobuf", 1)?;
+    Ok(sequence(alloc, [document])?)
+}
+
+fn message(alloc: Global) -> Result<Index, Fail> {
+    let documents = message_documents(alloc)?;
     let metadata = plain_metadata(alloc)?;
-    let document = message_document(alloc)?;
-    let documents = sequence(alloc, [document])?;
     Ok(Index {
         metadata: Some(metadata),
         documents,
@@ -188,76 +192,101 @@ pub fn message(alloc: Global) -> Result<Index, Fail> {
     })
 }
 
-/// The index of `OCCURRENCE`.
-pub fn one_occurrence(alloc: Global) -> Result<Index, Fail> {
+/// The sequence of a document that has these occurrences and this path, and nothing else.
+fn document_of(
+    alloc: Global,
+    path: &str,
+    occurrences: Sequence<Occurrence>,
+) -> Result<Sequence<Document>, AllocError> {
+    let document = document(alloc, path, occurrences, Sequence::new(alloc), "", 0)?;
+    sequence(alloc, [document])
+}
+
+fn one_occurrence(alloc: Global) -> Result<Index, Fail> {
     let occurrence = occurrence(alloc, Range::new(1, 8, 1, 9), "x", 1)?;
-    let document = document(
-        alloc,
-        "",
-        sequence(alloc, [occurrence])?,
-        Sequence::new(alloc),
-        "",
-        0,
-    )?;
-    Ok(Index {
-        metadata: None,
-        documents: sequence(alloc, [document])?,
-        external_symbols: Sequence::new(alloc),
-    })
+    let occurrences = sequence(alloc, [occurrence])?;
+    let documents = document_of(alloc, "", occurrences)?;
+    Ok(with_documents(alloc, documents))
 }
 
 /// The index of one document that has nothing but a path.
-pub fn one_document(alloc: Global, path: &str) -> Result<Index, Fail> {
-    let document = document(
-        alloc,
-        path,
-        Sequence::new(alloc),
-        Sequence::new(alloc),
-        "",
-        0,
-    )?;
-    Ok(Index {
-        metadata: None,
-        documents: sequence(alloc, [document])?,
-        external_symbols: Sequence::new(alloc),
-    })
+pub fn one_document(alloc: Global, path: &str) -> Result<Index, AllocError> {
+    let documents = document_of(alloc, path, Sequence::new(alloc))?;
+    Ok(with_documents(alloc, documents))
 }
 
-fn full_metadata(alloc: Global) -> Result<Metadata, Fail> {
-    let project_root = OwnedText::copy_of(alloc, "r")?;
-    let arguments = empty_and(alloc, "-x")?;
-    let tool_info = tool_info(alloc, "n", "v", arguments)?;
-    Ok(Metadata {
-        version: -1,
-        tool_info: Some(tool_info),
-        project_root,
-        text_document_encoding: 2,
-    })
+fn full_metadata(alloc: Global) -> Result<Metadata, AllocError> {
+    let tool_info = tool_info(alloc, "n", "v", empty_and(alloc, "-x")?)?;
+    metadata(alloc, -1, tool_info, "r", 2)
 }
 
-fn full_document(alloc: Global) -> Result<Document, Fail> {
+fn full_occurrences(alloc: Global) -> Result<Sequence<Occurrence>, Fail> {
     let most = MAX_RANGE_NUMBER;
     let over_lines = occurrence(alloc, Range::new(1, 7, 2, 9), "s", i32::MIN)?;
     let on_one_line = occurrence(alloc, Range::new(most, 0, most, most), "", i32::MAX)?;
-    let occurrences = sequence(alloc, [over_lines, on_one_line])?;
-    let info = info(alloc, "", empty_and(alloc, "d")?, "D")?;
-    let symbols = sequence(alloc, [info])?;
+    Ok(sequence(alloc, [over_lines, on_one_line])?)
+}
+
+/// The sequence of one symbol's information.
+fn info_of(
+    alloc: Global,
+    documentation: Sequence<OwnedText>,
+    display_name: &str,
+) -> Result<Sequence<Info>, AllocError> {
+    let info = info(alloc, "", documentation, display_name)?;
+    sequence(alloc, [info])
+}
+
+fn full_document(alloc: Global) -> Result<Document, Fail> {
+    let occurrences = full_occurrences(alloc)?;
+    let symbols = info_of(alloc, empty_and(alloc, "d")?, "D")?;
     Ok(document(alloc, "é𝄞", occurrences, symbols, "L", 3)?)
 }
 
-/// The index of `EVERYTHING`.
-pub fn everything(alloc: Global) -> Result<Index, Fail> {
-    let metadata = full_metadata(alloc)?;
+fn full_documents(alloc: Global) -> Result<Sequence<Document>, Fail> {
     let full = full_document(alloc)?;
     let empty = document(alloc, "", Sequence::new(alloc), Sequence::new(alloc), "", 0)?;
-    let documents = sequence(alloc, [full, empty])?;
-    let info = info(alloc, "", Sequence::new(alloc), "")?;
-    let external_symbols = sequence(alloc, [info])?;
+    Ok(sequence(alloc, [full, empty])?)
+}
+
+fn everything(alloc: Global) -> Result<Index, Fail> {
+    let documents = full_documents(alloc)?;
+    let external_symbols = info_of(alloc, Sequence::new(alloc), "")?;
+    let metadata = full_metadata(alloc)?;
     Ok(Index {
         metadata: Some(metadata),
         documents,
         external_symbols,
     })
+}
+
+/// An index whose bytes are known.
+#[derive(Clone, Copy)]
+pub enum Sample {
+    /// Nothing, which has no bytes.
+    Empty,
+    /// Metadata and tool information without fields.
+    EmptyMetadata,
+    /// That of `NO_DOCUMENT`.
+    NoDocument,
+    /// That of `MESSAGE`.
+    Message,
+    /// That of `OCCURRENCE`.
+    OneOccurrence,
+    /// That of `EVERYTHING`.
+    Everything,
+}
+
+/// The index of a sample.
+pub fn index_of(alloc: Global, sample: Sample) -> Result<Index, Fail> {
+    match sample {
+        Sample::Empty => Ok(with_documents(alloc, Sequence::new(alloc))),
+        Sample::EmptyMetadata => Ok(with_metadata(alloc, empty_metadata(alloc)?)),
+        Sample::NoDocument => Ok(with_metadata(alloc, plain_metadata(alloc)?)),
+        Sample::Message => message(alloc),
+        Sample::OneOccurrence => one_occurrence(alloc),
+        Sample::Everything => everything(alloc),
+    }
 }
 
 /// Document `a` with one occurrence `[1, 8, 9]` of `x`, role 1: the range one number a record, the

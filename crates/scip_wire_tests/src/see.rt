@@ -6,3 +6,8 @@ use std::process::Abort;
 pub fn see(rt: &impl Abort, holds: bool, case: &str) {
     assert!(rt; holds, "{case}");
 }
+
+/// Sees that no row of a table went wrong; else it names the first that did, from 0.
+pub fn see_all(rt: &impl Abort, wrong: Option<usize>) {
+    assert!(rt; wrong.is_none(), "row {wrong:?}");
+}

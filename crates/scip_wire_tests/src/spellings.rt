@@ -2,10 +2,7 @@
 //! encoding and `scip.proto`.
 
 use crate::decoded::spelled;
-use crate::samples::{
-    EVERYTHING, MESSAGE, NO_DOCUMENT, OCCURRENCE, empty_index, empty_metadata, everything, message,
-    no_document, one_occurrence,
-};
+use crate::samples::{EVERYTHING, MESSAGE, NO_DOCUMENT, OCCURRENCE, Sample, index_of};
 use crate::see::see;
 use crate::writers::{AtEnd, Limits, written};
 use scip_model::Index;
@@ -13,6 +10,23 @@ use scip_wire::encoded_len;
 use std::alloc::Global;
 use std::process::Abort;
 use std::test::Fail;
+
+/// How much room an index is written into: more than any sample needs.
+const ROOM: usize = 400;
+
+/// Sees that an index is as long as these bytes, and written as them.
+fn see_written(rt: &impl Abort, alloc: Global, case: &str, index: &Index, want: &[u8]) {
+    let length = encoded_len(index).map(|length| length as usize);
+    see(rt, length == Ok(want.len()), case);
+    let limits = Limits {
+        a_call: usize::MAX,
+        at_end: AtEnd::Fails,
+    };
+    let mut room = [0u8; ROOM];
+    let (answer, count) = written(rt, alloc, index, &mut room, limits);
+    see(rt, answer == Ok(()), case);
+    see(rt, room.as_slice().get(..count) == Some(want), case);
+}
 
 /// Sees that an index is spelled and written as these bytes.
 fn see_spelled(
@@ -22,34 +36,37 @@ fn see_spelled(
     index: &Index,
     want: &[u8],
 ) -> Result<(), Fail> {
-    see(rt, encoded_len(index)? as usize == want.len(), case);
-    see(rt, spelled(alloc, index)?.as_slice() == want, case);
-    let limits = Limits {
-        a_call: usize::MAX,
-        in_all: 400,
-        at_end: AtEnd::Fails,
-    };
-    let (answer, bytes) = written(rt, alloc, index, limits)?;
-    see(rt, answer == Ok(()), case);
+    see_written(rt, alloc, case, index, want);
+    let bytes = spelled(alloc, index)?;
     see(rt, bytes.as_slice() == want, case);
     Ok(())
 }
 
+/// Sees that a sample is spelled and written as these bytes.
+fn see_sample(
+    rt: &impl Abort,
+    alloc: Global,
+    case: &str,
+    sample: Sample,
+    want: &[u8],
+) -> Result<(), Fail> {
+    let index = index_of(alloc, sample)?;
+    see_spelled(rt, alloc, case, &index, want)
+}
+
 #[test]
 fn each_sample_is_spelled(rt: HostRuntime) -> Result<(), Fail> {
-    let alloc = rt.alloc();
-    let empty = empty_metadata(alloc)?;
-    see_spelled(&rt, alloc, "empty index", &empty_index(alloc), b"")?;
-    see_spelled(&rt, alloc, "empty metadata", &empty, b"\x0A\x02\x12\x00")?;
-    see_spelled(&rt, alloc, "no document", &no_document(alloc)?, NO_DOCUMENT)?;
-    see_spelled(&rt, alloc, "one message", &message(alloc)?, MESSAGE)?;
-    see_spelled(
-        &rt,
-        alloc,
-        "one occurrence",
-        &one_occurrence(alloc)?,
-        OCCURRENCE,
-    )?;
-    // Each field, and the bounds of int32.
-    see_spelled(&rt, alloc, "everything", &everything(alloc)?, EVERYTHING)
+    let samples: [(&str, Sample, &[u8]); 6] = [
+        ("empty index", Sample::Empty, b""),
+        ("empty metadata", Sample::EmptyMetadata, b"\x0A\x02\x12\x00"),
+        ("no document", Sample::NoDocument, NO_DOCUMENT),
+        ("one message", Sample::Message, MESSAGE),
+        ("one occurrence", Sample::OneOccurrence, OCCURRENCE),
+        // Each field, and the bounds of int32.
+        ("everything", Sample::Everything, EVERYTHING),
+    ];
+    for (case, sample, want) in &samples {
+        see_sample(&rt, rt.alloc(), case, *sample, want)?;
+    }
+    Ok(())
 }

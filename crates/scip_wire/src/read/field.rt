@@ -6,7 +6,7 @@ ghost use Rattle.scip_wire.specs.Reading.{piece_at, payload_at, field_at};
 ghost use Rattle.scip_wire.specs.Views.{payload_view, field_view};
 
 use crate::read::record_fault::RecordFault;
-use crate::read::varint::{VARINT_BYTES, varint_of};
+use crate::read::varint::{MAX_VARINT_LEN, varint_of};
 use crate::wire_fault::WireFault;
 
 /// What a record holds, by its wire type (Protocol Buffers encoding, Message Structure).
@@ -43,7 +43,7 @@ fn payload_of(bytes: &[u8], wire_type: u64) -> Result<(Payload<'_>, &[u8]), Reco
 {
     match wire_type {
         0 => {
-            let (value, rest) = varint_of(bytes, VARINT_BYTES)?;
+            let (value, rest) = varint_of(bytes, MAX_VARINT_LEN)?;
             Ok((Payload::Varint(value), rest))
         }
         1 => {
@@ -51,7 +51,7 @@ fn payload_of(bytes: &[u8], wire_type: u64) -> Result<(Payload<'_>, &[u8]), Reco
             Ok((Payload::Fixed64(inside), rest))
         }
         2 => {
-            let (size, rest) = varint_of(bytes, VARINT_BYTES)?;
+            let (size, rest) = varint_of(bytes, MAX_VARINT_LEN)?;
             let (inside, rest) = piece_of(rest, size)?;
             Ok((Payload::Delimited(inside), rest))
         }
@@ -70,7 +70,7 @@ fn payload_of(bytes: &[u8], wire_type: u64) -> Result<(Payload<'_>, &[u8]), Reco
 fn field_of(bytes: &[u8]) -> Result<(Field<'_>, &[u8]), RecordFault>
     ensures { Reads (λ x. (field_view x.0, x.1.now)) result (field_at bytes.now) }
 {
-    let (tag, rest) = varint_of(bytes, VARINT_BYTES)?;
+    let (tag, rest) = varint_of(bytes, MAX_VARINT_LEN)?;
     if tag >= 1 << 32 {
         return Err(RecordFault::Varint);
     }

@@ -2,10 +2,11 @@
 
 ghost use Rattle.std.specs.Prelude.{◌≡◌};
 ghost use Rattle.scip_wire.specs.Gives.{Gives};
+ghost use Rattle.scip_wire.specs.Fields.{max_varint_len};
 ghost use Rattle.scip_wire.specs.Reading.{fold_at, varint_at, packed_step, range_at};
 
 use crate::read::text::low_bits;
-use crate::read::varint::{VARINT_BYTES, varint_of};
+use crate::read::varint::{MAX_VARINT_LEN, varint_of};
 use crate::wire_fault::WireFault;
 use scip_model::{Range, Sequence};
 
@@ -13,9 +14,9 @@ use scip_model::{Range, Sequence};
 /// it.
 #[tactic(auto)]
 fn read_varint(bytes: &[u8], start: usize) -> Result<(u64, &[u8]), WireFault>
-    ensures { Gives (λ x. (x.0, x.1.now)) result (varint_at 10 bytes.now) }
+    ensures { Gives (λ x. (x.0, x.1.now)) result (varint_at max_varint_len bytes.now) }
 {
-    match varint_of(bytes, VARINT_BYTES) {
+    match varint_of(bytes, MAX_VARINT_LEN) {
         Ok(read) => Ok(read),
         Err(fault) => Err(fault.at(start)),
     }
@@ -24,7 +25,7 @@ fn read_varint(bytes: &[u8], start: usize) -> Result<(u64, &[u8]), WireFault>
 /// Adds the numbers of a packed field, whose record is at `start` in the input (Protocol Buffers
 /// encoding, Packed Repeated Fields). After an error the numbers are of no use.
 pub fn add_packed(numbers: &mut Sequence<u32>, bytes: &[u8], start: usize) -> Result<(), WireFault>
-    ensures { Gives (λ _. numbers.new) result (fold_at (varint_at 10) packed_step bytes.now numbers.old) }
+    ensures { Gives (λ _. numbers.new) result (fold_at (varint_at max_varint_len) packed_step bytes.now numbers.old) }
 {
     let mut rest = bytes;
     'varints: while !rest.is_empty() {

@@ -7,7 +7,7 @@ ghost use Rattle.scip_wire.specs.Reading.{varint_at};
 use crate::read::record_fault::RecordFault;
 
 /// The most bytes that a varint has.
-pub const VARINT_BYTES: usize = 10;
+pub const MAX_VARINT_LEN: usize = 10;
 
 /// The varint of at most `limit` bytes that the bytes begin with, and the bytes behind it
 /// (Protocol Buffers encoding, Base 128 Varints). It may be longer than its value needs.

@@ -1,6 +1,7 @@
 //! The records of fields: of bytes, of texts and of numbers.
 
-ghost use Rattle.std.specs.Prelude.{◌≡◌, ◌++◌, ◌+◌, ◌*◌, ◌^◌, ◌<◌, List, ℕ, [], ◌∷◌, length, All, OnOk, IsUtf8};
+ghost use Rattle.std.specs.Prelude.{◌≡◌, ◌++◌, ◌≤◌, ◌+◌, ◌*◌, List, ℕ, [], ◌∷◌, length, All, OnOk, IsUtf8};
+ghost use Rattle.scip_wire.specs.Fields.{max_field_number};
 ghost use Rattle.scip_wire.specs.Spelling.{bytes_of, bytes_field, text_fields, int_fields, repeated_text_fields, in_64_bits};
 ghost use Rattle.scip_wire.specs.Saturated.{saturated, fields_len};
 
@@ -10,7 +11,7 @@ use std::alloc::AllocError;
 
 /// The length of a record of so many bytes, tag and length in front included.
 pub(super) fn record_len(number: u64, len: u64) -> u64
-    requires { number < 2 ^ 29 }
+    requires { number ≤ max_field_number }
     ensures { (bytes : List ℕ) → len ≡ saturated (length bytes) → result ≡ saturated (fields_len (bytes_field number bytes ∷ [])) }
 {
     let front = varint_len(8 * number + 2) + varint_len(len);
@@ -19,7 +20,7 @@ pub(super) fn record_len(number: u64, len: u64) -> u64
 
 /// The length of a record of this text, which may be empty.
 fn element_len(number: u64, text: &str) -> u64
-    requires { number < 2 ^ 29 }
+    requires { number ≤ max_field_number }
     ensures value { result ≡ saturated (fields_len (bytes_field number text.now ∷ [])) }
     ensures fit { IsUtf8 text.now }
 {
@@ -28,7 +29,7 @@ fn element_len(number: u64, text: &str) -> u64
 
 /// Appends a record of these bytes.
 pub(super) fn encode_record(out: &mut Vec<u8>, number: u64, bytes: &[u8]) -> Result<(), AllocError>
-    requires { number < 2 ^ 29 }
+    requires { number ≤ max_field_number }
     ensures { OnOk result (out.new.items ≡ out.old.items ++ bytes_of (bytes_field number bytes.now ∷ [])) }
 {
     encode_varint(out, 8 * number + 2)?;
@@ -39,7 +40,7 @@ pub(super) fn encode_record(out: &mut Vec<u8>, number: u64, bytes: &[u8]) -> Res
 
 /// The length of a text's record, which an empty text doesn't have.
 pub(super) fn text_len(number: u64, text: &OwnedText) -> u64
-    requires { number < 2 ^ 29 }
+    requires { number ≤ max_field_number }
     ensures value { result ≡ saturated (fields_len (text_fields number text.now)) }
     ensures fit { IsUtf8 text.now }
 {
@@ -54,7 +55,7 @@ pub(super) fn encode_text(
     number: u64,
     text: &OwnedText,
 ) -> Result<(), AllocError>
-    requires { number < 2 ^ 29 }
+    requires { number ≤ max_field_number }
     ensures { OnOk result (out.new.items ≡ out.old.items ++ bytes_of (text_fields number text.now)) }
 {
     let bytes = text.as_str().as_bytes();
@@ -66,7 +67,7 @@ pub(super) fn encode_text(
 
 /// The length of the records of a repeated text.
 pub(super) fn texts_len(number: u64, texts: &Sequence<OwnedText>) -> u64
-    requires { number < 2 ^ 29 }
+    requires { number ≤ max_field_number }
     ensures value { result ≡ saturated (fields_len (repeated_text_fields number texts.now)) }
     ensures fit { All IsUtf8 texts.now }
 {
@@ -75,7 +76,7 @@ pub(super) fn texts_len(number: u64, texts: &Sequence<OwnedText>) -> u64
 
 /// The length of the records of texts.
 fn slice_len(number: u64, texts: &[OwnedText]) -> u64
-    requires { number < 2 ^ 29 }
+    requires { number ≤ max_field_number }
     ensures value { result ≡ saturated (fields_len (repeated_text_fields number texts.now)) }
     ensures fit { All IsUtf8 texts.now }
 {
@@ -92,7 +93,7 @@ pub(super) fn encode_texts(
     number: u64,
     texts: &Sequence<OwnedText>,
 ) -> Result<(), AllocError>
-    requires { number < 2 ^ 29 }
+    requires { number ≤ max_field_number }
     ensures { OnOk result (out.new.items ≡ out.old.items ++ bytes_of (repeated_text_fields number texts.now)) }
 {
     encode_slice(out, number, texts.as_slice())
@@ -100,7 +101,7 @@ pub(super) fn encode_texts(
 
 /// Appends the records of texts.
 fn encode_slice(out: &mut Vec<u8>, number: u64, texts: &[OwnedText]) -> Result<(), AllocError>
-    requires { number < 2 ^ 29 }
+    requires { number ≤ max_field_number }
     ensures { OnOk result (out.new.items ≡ out.old.items ++ bytes_of (repeated_text_fields number texts.now)) }
 {
     'texts: for text in texts {
@@ -118,7 +119,7 @@ fn in_64_bits(value: i32) -> u64
 
 /// The length of a number's record, which 0 doesn't have.
 pub(super) fn int_len(number: u64, value: i32) -> u64
-    requires { number < 2 ^ 29 }
+    requires { number ≤ max_field_number }
     ensures { result ≡ saturated (fields_len (int_fields number value)) }
 {
     if value == 0 {
@@ -130,7 +131,7 @@ pub(super) fn int_len(number: u64, value: i32) -> u64
 
 /// Appends a number's record, which 0 doesn't have.
 pub(super) fn encode_int(out: &mut Vec<u8>, number: u64, value: i32) -> Result<(), AllocError>
-    requires { number < 2 ^ 29 }
+    requires { number ≤ max_field_number }
     ensures { OnOk result (out.new.items ≡ out.old.items ++ bytes_of (int_fields number value)) }
 {
     if value != 0 {

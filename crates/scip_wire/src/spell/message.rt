@@ -1,8 +1,8 @@
 //! Messages inside messages.
 
-ghost use Rattle.std.specs.Prelude.{◌≡◌, ◌++◌, ◌^◌, ◌<◌, List, [], ◌∷◌, All, IfSome, OnOk};
-ghost use Rattle.scip_wire.specs.Fields.{Field};
-ghost use Rattle.scip_wire.specs.Spelling.{bytes_of, bytes_field, optional_message_fields, repeated_message_fields};
+ghost use Rattle.std.specs.Prelude.{◌≡◌, ◌++◌, ◌≤◌, List, [], ◌∷◌, All, IfSome, OnOk};
+ghost use Rattle.scip_wire.specs.Fields.{Field, max_field_number};
+ghost use Rattle.scip_wire.specs.Spelling.{bytes_of, bytes_field, optional_message_fields, repeated_message_fields, max_index_len};
 ghost use Rattle.scip_wire.specs.Saturated.{saturated, fields_len};
 
 use super::fields::record_len;
@@ -25,13 +25,13 @@ pub(crate) trait Encode {
 
     /// Appends its spelling.
     fn encode(&self, out: &mut Vec<u8>) -> Result<(), AllocError>
-        requires { fields_len (fields self.now) < 2 ^ 31 }
+        requires { fields_len (fields self.now) ≤ max_index_len }
         ensures { OnOk result (out.new.items ≡ out.old.items ++ bytes_of (fields self.now)) };
 }
 
 /// The length of a message's record.
 fn message_len<M: Encode>(number: u64, message: &M) -> u64
-    requires { number < 2 ^ 29 }
+    requires { number ≤ max_field_number }
     ensures value { result ≡ saturated (fields_len (bytes_field number (bytes_of (M.fields message.now)) ∷ [])) }
     ensures fit { M.is_fit message.now }
 {
@@ -40,8 +40,8 @@ fn message_len<M: Encode>(number: u64, message: &M) -> u64
 
 /// Appends a message's record.
 fn encode_message<M: Encode>(out: &mut Vec<u8>, number: u64, message: &M) -> Result<(), AllocError>
-    requires number { number < 2 ^ 29 }
-    requires short { fields_len (M.fields message.now) < 2 ^ 31 }
+    requires number { number ≤ max_field_number }
+    requires short { fields_len (M.fields message.now) ≤ max_index_len }
     ensures { OnOk result (out.new.items ≡ out.old.items ++ bytes_of (bytes_field number (bytes_of (M.fields message.now)) ∷ [])) }
 {
     encode_varint(out, 8 * number + 2)?;
@@ -51,7 +51,7 @@ fn encode_message<M: Encode>(out: &mut Vec<u8>, number: u64, message: &M) -> Res
 
 /// The length of the record of a message that may be absent.
 pub(super) fn optional_message_len<M: Encode>(number: u64, message: &Option<M>) -> u64
-    requires { number < 2 ^ 29 }
+    requires { number ≤ max_field_number }
     ensures value { result ≡ saturated (fields_len (optional_message_fields number M.fields message.now)) }
     ensures fit { IfSome message.now M.is_fit }
 {
@@ -67,8 +67,8 @@ pub(super) fn encode_optional_message<M: Encode>(
     number: u64,
     message: &Option<M>,
 ) -> Result<(), AllocError>
-    requires number { number < 2 ^ 29 }
-    requires short { fields_len (optional_message_fields number M.fields message.now) < 2 ^ 31 }
+    requires number { number ≤ max_field_number }
+    requires short { fields_len (optional_message_fields number M.fields message.now) ≤ max_index_len }
     ensures { OnOk result (out.new.items ≡ out.old.items ++ bytes_of (optional_message_fields number M.fields message.now)) }
 {
     if let Some(message) = message {
@@ -79,7 +79,7 @@ pub(super) fn encode_optional_message<M: Encode>(
 
 /// The length of the records of a repeated message.
 pub(super) fn messages_len<M: Encode>(number: u64, messages: &Sequence<M>) -> u64
-    requires { number < 2 ^ 29 }
+    requires { number ≤ max_field_number }
     ensures value { result ≡ saturated (fields_len (repeated_message_fields number M.fields messages.now)) }
     ensures fit { All M.is_fit messages.now }
 {
@@ -88,7 +88,7 @@ pub(super) fn messages_len<M: Encode>(number: u64, messages: &Sequence<M>) -> u6
 
 /// The length of the records of messages.
 fn slice_len<M: Encode>(number: u64, messages: &[M]) -> u64
-    requires { number < 2 ^ 29 }
+    requires { number ≤ max_field_number }
     ensures value { result ≡ saturated (fields_len (repeated_message_fields number M.fields messages.now)) }
     ensures fit { All M.is_fit messages.now }
 {
@@ -105,8 +105,8 @@ pub(super) fn encode_messages<M: Encode>(
     number: u64,
     messages: &Sequence<M>,
 ) -> Result<(), AllocError>
-    requires number { number < 2 ^ 29 }
-    requires short { fields_len (repeated_message_fields number M.fields messages.now) < 2 ^ 31 }
+    requires number { number ≤ max_field_number }
+    requires short { fields_len (repeated_message_fields number M.fields messages.now) ≤ max_index_len }
     ensures { OnOk result (out.new.items ≡ out.old.items ++ bytes_of (repeated_message_fields number M.fields messages.now)) }
 {
     encode_slice(out, number, messages.as_slice())
@@ -114,8 +114,8 @@ pub(super) fn encode_messages<M: Encode>(
 
 /// Appends the records of messages.
 fn encode_slice<M: Encode>(out: &mut Vec<u8>, number: u64, messages: &[M]) -> Result<(), AllocError>
-    requires number { number < 2 ^ 29 }
-    requires short { fields_len (repeated_message_fields number M.fields messages.now) < 2 ^ 31 }
+    requires number { number ≤ max_field_number }
+    requires short { fields_len (repeated_message_fields number M.fields messages.now) ≤ max_index_len }
     ensures { OnOk result (out.new.items ≡ out.old.items ++ bytes_of (repeated_message_fields number M.fields messages.now)) }
 {
     'messages: for message in messages {

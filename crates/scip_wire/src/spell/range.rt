@@ -1,7 +1,8 @@
 //! The record of a range (`scip.proto`, `Occurrence.range`): its numbers, packed.
 
-ghost use Rattle.std.specs.Prelude.{◌≡◌, ◌++◌, ◌^◌, ◌<◌, ◌≤◌, [], ◌∷◌, flat_map, length, OnOk};
+ghost use Rattle.std.specs.Prelude.{◌≡◌, ◌++◌, ◌≤◌, [], ◌∷◌, flat_map, length, OnOk};
 ghost use Rattle.scip_model.specs.Range.{IsRange};
+ghost use Rattle.scip_wire.specs.Fields.{max_field_number};
 ghost use Rattle.scip_wire.specs.Spelling.{bytes_of, bytes_field, varint, range_numbers};
 ghost use Rattle.scip_wire.specs.Saturated.{saturated, fields_len};
 
@@ -12,7 +13,7 @@ use std::alloc::AllocError;
 
 /// The length of a range's record.
 pub(super) fn range_len(number: u64, range: &Range) -> u64
-    requires { number < 2 ^ 29 }
+    requires { number ≤ max_field_number }
     ensures value { result ≡ saturated (fields_len (bytes_field number (flat_map varint (range_numbers range.now)) ∷ [])) }
     ensures fit { IsRange range.now }
 {
@@ -21,7 +22,7 @@ pub(super) fn range_len(number: u64, range: &Range) -> u64
 
 /// Appends a range's record.
 pub(super) fn encode_range(out: &mut Vec<u8>, number: u64, range: &Range) -> Result<(), AllocError>
-    requires { number < 2 ^ 29 }
+    requires { number ≤ max_field_number }
     ensures { OnOk result (out.new.items ≡ out.old.items ++ bytes_of (bytes_field number (flat_map varint (range_numbers range.now)) ∷ [])) }
 {
     encode_varint(out, 8 * number + 2)?;

@@ -11,7 +11,7 @@ use Rattle.index_pool.specs.declared.phase.worker.Ran.{Ran}
 use Rattle.index_pool.specs.declared.phase.fault.PoolFault.{PoolFault}
 use Rattle.index_pool.specs.declared.phase.fault.PoolFault.TheVariants.{Spawn, Memory, Job}
 use Rattle.index_pool.specs.Once.{HasEachOnceBelow}
-use Rattle.index_pool.specs.Phase.{AnswersEach, MayRefuse}
+use Rattle.index_pool.specs.Phase.{AnswersEach, MayRefuse, IfEachRan}
 use Rattle.index_pool.specs.PhaseSteps.{weight, numbers_of, IsAmong, IsFilled, IsFull, HasResult}
 use Rattle.index_pool.proofs.OnceLemmas.{only_at, only_at_other, one_below}
 use Rattle.index_pool.proofs.ResultsLemmas.{once_weighs}
@@ -126,7 +126,7 @@ module _ {Out Fault : Type 0} (slots rest : List (Option (Result Out Fault))) (o
         },
       )
 
-  pub next_fault : (fault : Fault) (rest' : List (Option (Result Out Fault))) → rest ≡ Some (Err fault) ∷ rest' → MayRefuse (HasResult slots) (length slots) (Job (length outs) fault)
+  pub next_fault : (fault : Fault) (rest' : List (Option (Result Out Fault))) → rest ≡ Some (Err fault) ∷ rest' → MayRefuse (HasResult slots) (length slots) 1 (Job (length outs) fault)
   next_fault fault rest' e =
       let front = drop_front slots (length outs) (Some (Err fault)) rest' (so_far.left ∙ e) in
       (front.0, front.1, λ j below. (let o = slice_get_some outs j below in (o.0, so_far.each j o.0 o.1)))
@@ -153,14 +153,20 @@ nil_of_length (x ∷ xs) none = absurd (omega arith)
 pub none_left : {X : Type 0} (all taken left : List X) → all ≡ taken ++ left → length left ≡ 0 → all ≡ taken
 none_left all taken left e none = e ∙ (ap (λ l. taken ++ l) (nil_of_length left none) ∙ append-nil taken)
 
--- a relation that allows more allows the same answers and refusals
+-- a relation that allows more allows the same answers and refusals, for any workers the refusals of one
 pub answers_weaker : {Out Fault : Type 0} (P Q : ℕ → Result Out Fault → Type 0) (n m : ℕ) → n ≡ m → ((k : ℕ) (r : Result Out Fault) → P k r → Q k r) → (outs : List Out) → AnswersEach P n outs → AnswersEach Q m outs
 answers_weaker P Q n m same weaker outs a = (a.0 ∙ same, λ k out at. weaker k (Ok out) (a.1 k out at))
 
-pub refusal_weaker : {Out Fault : Type 0} (P Q : ℕ → Result Out Fault → Type 0) (n m : ℕ) → n ≡ m → ((k : ℕ) (r : Result Out Fault) → P k r → Q k r) → (fault : PoolFault Fault) → MayRefuse P n fault → MayRefuse Q m fault
-refusal_weaker P Q n m same weaker Spawn a = tt
-refusal_weaker P Q n m same weaker Memory a = tt
-refusal_weaker P Q n m same weaker (Job k fault) a = (subst (λ b. k < b) same a.0, weaker k (Err fault) a.1, λ j below. (let o = a.2 j below in (o.0, weaker j (Ok o.0) o.1)))
+pub refusal_weaker : {Out Fault : Type 0} (P Q : ℕ → Result Out Fault → Type 0) (n m workers : ℕ) → n ≡ m → ((k : ℕ) (r : Result Out Fault) → P k r → Q k r) → (fault : PoolFault Fault) → MayRefuse P n 1 fault → MayRefuse Q m workers fault
+refusal_weaker P Q n m workers same weaker Spawn a = absurd (omega arith)
+refusal_weaker P Q n m workers same weaker Memory a = tt
+refusal_weaker P Q n m workers same weaker (Job k fault) a = (subst (λ b. k < b) same a.0, weaker k (Err fault) a.1, λ j below. (let o = a.2 j below in (o.0, weaker j (Ok o.0) o.1)))
+
+pub each_ran : {A Fault : Type 0} (result : Result A (PoolFault Fault)) (fact : Type 0) → fact → IfEachRan result fact
+each_ran (Ok all) fact holds = holds
+each_ran (Err Spawn) fact holds = tt
+each_ran (Err Memory) fact holds = tt
+each_ran (Err (Job k fault)) fact holds = holds
 
 -- what a filled slot has is among the results
 pub filled_among : {A : Type 0} (among : ℕ → A → Type 0) (n : ℕ) (slots : List (Option A)) → IsFilled among n slots → (k : ℕ) (a : A) → HasResult slots k a → among k a

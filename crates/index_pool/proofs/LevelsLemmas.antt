@@ -1,5 +1,5 @@
 -- The recursion over the workers' threads.
-use Rattle.std.proofs.Common.{◌≡◌, ℕ, ◌+◌, true, false, List, [], ◌++◌, All, Some, option_to_list, sum_by, sym, ap, ◌∙◌, subst, arith}
+use Rattle.std.proofs.Common.{◌≡◌, ℕ, ◌+◌, ◌≤◌, true, false, List, [], ◌++◌, length, All, Some, option_to_list, sum_by, sym, ap, ◌∙◌, subst, arith}
 use Rattle.std.specs.List.Sorted.{IsPermutation}
 use Rattle.std.proofs.lemmas.List.Sorted.{sum_by-IsPermutation}
 use Rattle.std.proofs.lemmas.List.Sums.{sum_by-append, sum_by_push}
@@ -10,10 +10,13 @@ use Rattle.index_pool.specs.declared.phase.worker.Post.{Post}
 use Rattle.index_pool.specs.declared.phase.worker.Done.{Done}
 use Rattle.index_pool.specs.declared.phase.levels.Gathered.{Gathered}
 use Rattle.index_pool.specs.declared.phase.worker.Ran.{Ran}
+use Rattle.index_pool.specs.declared.phase.fault.Stop.{Stop}
+use Rattle.index_pool.specs.declared.phase.fault.Stop.TheVariants.{Spawn, Memory}
+use Rattle.std.proofs.lemmas.List.{length_push}
 use Rattle.std.specs.List.{range_with_len}
 use Rattle.index_pool.specs.Lane.{lane_numbers, lane_view}
 use Rattle.index_pool.specs.LaneEnds.{owner_view, owner_deque, thief_view, thief_deque}
-use Rattle.index_pool.specs.PhaseSteps.{AllBelow, FreshPost, FreshLane, AllGiven, weight, Worked, Gathers, Settles, RanEach}
+use Rattle.index_pool.specs.PhaseSteps.{AllBelow, FreshPost, FreshLane, AllGiven, weight, Worked, Gathers, Settles, RanEach, MayStop}
 use Rattle.index_pool.proofs.ResultsLemmas.{weight_append, each_once}
 use Rattle.index_pool.proofs.LaneEndsLemmas.{popped_given, popped_below}
 
@@ -54,6 +57,14 @@ run_ends gives n lanes post further all final view g whole answers closed = (
 
 pub alone_gathers : {A : Type 0} (gives : ℕ → A → Type 0) (post : Post) (done : Done A) → Worked gives post done → done.starved ≡ false → Gathers gives post [] (record { post = done.post; results = done.results })
 alone_gathers gives post done w fed = record { owner = w.owner; thief = w.thief; answers = w.answers; weighed = λ h. (let a = w.weighed fed h in omega arith) }
+
+-- what stops some workers may stop more
+pub may_stop_more : (n m : ℕ) → n ≤ m → (stop : Stop) → MayStop n stop → MayStop m stop
+may_stop_more n m le Spawn a = omega arith
+may_stop_more n m le Memory a = tt
+
+pub one_lane_more : (lanes rest : List (LaneOwner × LaneThief)) (last : LaneOwner × LaneThief) → lanes ≡ rest ++ option_to_list (Some last) → length lanes ≡ length rest + 1
+one_lane_more lanes rest last is = ap length is ∙ length_push rest last
 
 -- the post of the worker that is started, and the calling thread's new post
 abbrev pub their_post : Post → LaneOwner × LaneThief → Post

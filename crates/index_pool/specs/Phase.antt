@@ -11,8 +11,15 @@ AnswersEach {Out} gives n outs = (length outs ≡ n) × ((k : ℕ) (out : Out) �
 abbrev pub IsLeastFault : {Out Fault : Type 0} → (ℕ → Result Out Fault → Type 0) → ℕ → ℕ → Fault → Type 0
 IsLeastFault {Out} gives n k fault = (k < n) × gives k (Err fault) × ((j : ℕ) → j < k → (out : Out) × gives j (Ok out))
 
--- of a thread or of memory that is refused nothing is said; an input's fault is the least one
-abbrev pub MayRefuse : {Out Fault : Type 0} → (ℕ → Result Out Fault → Type 0) → ℕ → PoolFault Fault → Type 0
-MayRefuse gives n Spawn = ⊤
-MayRefuse gives n Memory = ⊤
-MayRefuse gives n (Job k fault) = IsLeastFault gives n k fault
+-- a thread is refused only where one is to be started, that is, for two workers or more; of memory that is refused nothing is said; an input's fault is the least one
+abbrev pub MayRefuse : {Out Fault : Type 0} → (ℕ → Result Out Fault → Type 0) → ℕ → ℕ → PoolFault Fault → Type 0
+MayRefuse gives n workers Spawn = 1 < workers
+MayRefuse gives n workers Memory = ⊤
+MayRefuse gives n workers (Job k fault) = IsLeastFault gives n k fault
+
+-- a fact that holds if every input was run, also where one has a fault
+abbrev pub IfEachRan : {A Fault : Type 0} → Result A (PoolFault Fault) → Type 0 → Type 0
+IfEachRan (Ok all) fact = fact
+IfEachRan (Err Spawn) fact = ⊤
+IfEachRan (Err Memory) fact = ⊤
+IfEachRan (Err (Job k cause)) fact = fact

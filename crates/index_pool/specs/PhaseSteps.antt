@@ -1,11 +1,13 @@
 -- What the parts of a phase do: what a worker ran, what a level of the recursion gathers, and how the results are put in order.
-use Rattle.std.specs.Prelude.{◌≡◌, ℕ, ◌+◌, ◌<◌, true, false, List, [], length, map, All, Contains, sum_by, Option, Some, slice_get}
+use Rattle.std.specs.Prelude.{⊤, ◌≡◌, ℕ, ◌+◌, ◌<◌, true, false, List, [], length, map, All, Contains, sum_by, Option, Some, slice_get}
 use Rattle.index_pool.specs.declared.lanes.ends.LaneOwner.{LaneOwner}
 use Rattle.index_pool.specs.declared.lanes.ends.LaneThief.{LaneThief}
 use Rattle.index_pool.specs.declared.phase.worker.Ran.{Ran}
 use Rattle.index_pool.specs.declared.phase.worker.Post.{Post}
 use Rattle.index_pool.specs.declared.phase.worker.Done.{Done}
 use Rattle.index_pool.specs.declared.phase.levels.Gathered.{Gathered}
+use Rattle.index_pool.specs.declared.phase.fault.Stop.{Stop}
+use Rattle.index_pool.specs.declared.phase.fault.Stop.TheVariants.{Spawn, Memory}
 use Rattle.index_pool.specs.Once.{HasEachOnceBelow}
 use Rattle.index_pool.specs.Lane.{lane_view}
 use Rattle.index_pool.specs.LaneEnds.{owner_view, owner_deque, thief_view, thief_deque}
@@ -62,6 +64,11 @@ pub record Settles {A : Type 0} (gives : ℕ → A → Type 0) (done : Done A) (
   pub fed : done.starved ≡ false
   pub answers : AllGiven gives done.results.items → AllGiven gives rest.results.items → AllGiven gives all.results.items
   pub weighed : (h : ℕ → ℕ) → weight h all.results.items + (sum_by h (owner_view done.post.owner).popped + sum_by h (thief_view rest.post.thief).stolen) ≡ (weight h done.results.items + weight h rest.results.items) + sum_by h (owner_view done.post.owner).given
+
+-- why nothing is gathered: a thread is refused only where one is to be started, that is, for two workers or more
+abbrev pub MayStop : ℕ → Stop → Type 0
+MayStop workers Spawn = 1 < workers
+MayStop workers Memory = ⊤
 
 -- the inputs' numbers of the results
 abbrev pub numbers_of : {A : Type 0} → List (Ran A) → List ℕ

@@ -1,11 +1,11 @@
 //! Phases: the inputs of a job, run by workers who pop and steal their numbers.
 
-ghost use Rattle.std.specs.Prelude.{◌≡◌, ℕ, ◌+◌, ◌≤◌, All, sum_by, IfOk, IfErr};
+ghost use Rattle.std.specs.Prelude.{◌≡◌, ℕ, ◌+◌, ◌≤◌, All, length, sum_by, IfOk, IfErr};
 ghost use Rattle.std.specs.List.{range_with_len};
 ghost use Rattle.index_pool.specs.Lane.{lane_numbers};
 ghost use Rattle.index_pool.specs.LaneEnds.{owner_view};
-ghost use Rattle.index_pool.specs.Phase.{AnswersEach, MayRefuse};
-ghost use Rattle.index_pool.specs.PhaseSteps.{FreshPost, FreshLane, Gathers, RanEach};
+ghost use Rattle.index_pool.specs.Phase.{AnswersEach, MayRefuse, IfEachRan};
+ghost use Rattle.index_pool.specs.PhaseSteps.{FreshPost, FreshLane, Gathers, RanEach, MayStop};
 
 mod fault;
 mod in_order;
@@ -48,13 +48,14 @@ pub fn run_phase<R: Threads + Wait, J: Job, G: Gate>(
     requires few { inputs ≤ MAX_INPUTS }
     requires known { inputs ≤ J.inputs job.now }
     ensures answers { IfOk result (λ outs. AnswersEach (J.gives job.now) inputs outs.items) }
-    ensures refused { IfErr result (MayRefuse (J.gives job.now) inputs) }
+    ensures refused { IfErr result (MayRefuse (J.gives job.now) inputs workers) }
 {
     run_phase_with_starts(rt, alloc, job, inputs, workers, gate, MAX_WORKERS)
 }
 
-/// As `run_phase`, where at most `starts` threads can be started: a further start is refused. It
-/// serves tests of such a refusal.
+/// As `run_phase`, where at most `starts` threads can be started: a further start is refused, and the
+/// answer is then `Spawn`, or `Memory` where not even the lanes could be made. It serves tests of such
+/// a refusal.
 pub fn run_phase_with_starts<R: Threads + Wait, J: Job, G: Gate>(
     rt: &R,
     alloc: Global,
@@ -67,7 +68,8 @@ pub fn run_phase_with_starts<R: Threads + Wait, J: Job, G: Gate>(
     requires few { inputs ≤ MAX_INPUTS }
     requires known { inputs ≤ J.inputs job.now }
     ensures answers { IfOk result (λ outs. AnswersEach (J.gives job.now) inputs outs.items) }
-    ensures refused { IfErr result (MayRefuse (J.gives job.now) inputs) }
+    ensures refused { IfErr result (MayRefuse (J.gives job.now) inputs workers) }
+    ensures started { IfEachRan result (workers ≤ starts + 1) }
 {
     match run_lanes(rt, alloc, job, inputs, workers, gate, starts) {
         Ok(results) => in_order(alloc, inputs, results),
@@ -88,7 +90,9 @@ fn run_lanes<R: Threads + Wait, J: Job, G: Gate>(
 ) -> Result<Vec<Ran<Result<J::Out, J::Fault>>>, Stop>
     requires few { inputs ≤ MAX_INPUTS }
     requires known { inputs ≤ J.inputs job.now }
-    ensures { IfOk result (λ v. RanEach (J.gives job.now) inputs v.items) }
+    ensures ran { IfOk result (λ v. RanEach (J.gives job.now) inputs v.items) }
+    ensures started { IfOk result (λ _. workers ≤ starts + 1) }
+    ensures stopped { IfErr result (MayStop workers) }
 {
     let (owner, thief) = lane(alloc, inputs, workers, 0)?;
     let lanes = further_lanes(alloc, inputs, workers)?;
@@ -107,6 +111,7 @@ fn further_lanes(
     workers: Workers,
 ) -> Result<Vec<(LaneOwner, LaneThief)>, AllocError>
     requires { inputs ≤ MAX_INPUTS }
+    ensures count { IfOk result (λ lanes. length lanes.items + 1 ≡ workers) }
     ensures fresh { IfOk result (λ lanes. All (FreshLane inputs) lanes.items) }
     ensures whole { IfOk result (λ lanes. (h : ℕ → ℕ) → sum_by h (lane_numbers inputs workers 0) + sum_by (λ l. sum_by h (owner_view l.0).given) lanes.items ≡ sum_by h (range_with_len 0 inputs)) }
 {
@@ -129,7 +134,9 @@ fn start_all<R: Threads + Wait, J: Job, G: Gate>(
 ) -> Result<Gathered<Result<J::Out, J::Fault>>, Stop>
     requires post { FreshPost (J.inputs job.now) post }
     requires lanes { All (FreshLane (J.inputs job.now)) lanes.items }
-    ensures { IfOk result (Gathers (J.gives job.now) post lanes.items) }
+    ensures gathers { IfOk result (Gathers (J.gives job.now) post lanes.items) }
+    ensures started { IfOk result (λ _. length lanes.items ≤ starts) }
+    ensures stopped { IfErr result (MayStop (length lanes.items + 1)) }
 {
     thread::scope(
         thread::scope_env(),
@@ -137,7 +144,9 @@ fn start_all<R: Threads + Wait, J: Job, G: Gate>(
         |scope| -> Result<Gathered<Result<J::Out, J::Fault>>, Stop>
             requires post { FreshPost (J.inputs job.now) post }
             requires lanes { All (FreshLane (J.inputs job.now)) lanes.items }
-            ensures { IfOk result (Gathers (J.gives job.entry.now) post lanes.items) }
+            ensures gathers { IfOk result (Gathers (J.gives job.entry.now) post lanes.items) }
+            ensures started { IfOk result (λ _. length lanes.items ≤ starts) }
+            ensures stopped { IfErr result (MayStop (length lanes.items + 1)) }
         { level(scope, rt, alloc, job, gate, post, lanes, starts) },
     )
 }

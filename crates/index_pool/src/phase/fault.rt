@@ -21,6 +21,11 @@ pub(crate) enum Stop {
 }
 
 impl From<AllocError> for Stop {
+    ghost use Rattle.std.specs.Prelude.{◌≡◌};
+    ghost use Rattle.index_pool.specs.declared.phase.fault.Stop.TheVariants.{Memory};
+
+    ghost from_gives = { λ _ e. e ≡ Memory };
+
     fn from(_refused: AllocError) -> Stop {
         Stop::Memory
     }

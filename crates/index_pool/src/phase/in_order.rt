@@ -10,7 +10,7 @@ use super::worker::Ran;
 use std::alloc::{AllocError, Global};
 
 // The answers in the order of their inputs, or the least faulty input. There is a result for each
-// number below `inputs`, and only one.
+// number below `inputs`, and only one. No thread is refused here, as with one worker.
 pub(crate) fn in_order<Out: Drop, Fault: Drop>(
     alloc: Global,
     inputs: usize,
@@ -18,7 +18,7 @@ pub(crate) fn in_order<Out: Drop, Fault: Drop>(
 ) -> Result<Vec<Out>, PoolFault<Fault>>
     requires { HasEachOnceBelow inputs (numbers_of results.items) }
     ensures answers { IfOk result (λ outs. AnswersEach (IsAmong results.items) inputs outs.items) }
-    ensures refused { IfErr result (MayRefuse (IsAmong results.items) inputs) }
+    ensures refused { IfErr result (MayRefuse (IsAmong results.items) inputs 1) }
 {
     let Ok(slots) = placed(alloc, inputs, results) else {
         return Err(PoolFault::Memory);
@@ -71,7 +71,7 @@ fn first_fault_or_all<Out: Drop, Fault: Drop>(
     requires room { (outs.items ≡ []) × (length slots.items ≤ vec_capacity outs) }
     requires filled { IsFull slots.items }
     ensures answers { IfOk result (λ all. AnswersEach (HasResult slots.items) (length slots.items) all.items) }
-    ensures refused { IfErr result (MayRefuse (HasResult slots.items) (length slots.items)) }
+    ensures refused { IfErr result (MayRefuse (HasResult slots.items) (length slots.items) 1) }
 {
     for slot in slots {
         match slot {

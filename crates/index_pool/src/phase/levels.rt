@@ -1,8 +1,8 @@
 //! The workers' threads, started by recursion: each level starts one, recurs for the rest, and joins it.
 
-ghost use Rattle.std.specs.Prelude.{◌≡◌, ℕ, ◌+◌, ◌<◌, false, [], All, sum_by, IfOk, IfSome, OnOk};
+ghost use Rattle.std.specs.Prelude.{◌≡◌, ℕ, ◌+◌, ◌<◌, ◌≤◌, false, [], All, length, sum_by, IfOk, IfErr, IfSome, OnOk};
 ghost use Rattle.index_pool.specs.LaneEnds.{owner_deque, owner_view, thief_deque, thief_view};
-ghost use Rattle.index_pool.specs.PhaseSteps.{AllBelow, FreshPost, FreshLane, AllGiven, weight, Worked, Gathers, Settles};
+ghost use Rattle.index_pool.specs.PhaseSteps.{AllBelow, FreshPost, FreshLane, AllGiven, weight, Worked, Gathers, Settles, MayStop};
 
 use super::fault::Stop;
 use super::worker::{Done, Post, Ran, drain, run_own, work};
@@ -75,7 +75,9 @@ pub(crate) fn level<'s, E, R: Threads, J: Job, G: Gate>(
 ) -> Result<Gathered<Result<J::Out, J::Fault>>, Stop>
     requires post { FreshPost (J.inputs job.now) post }
     requires lanes { All (FreshLane (J.inputs job.now)) lanes.items }
-    ensures { IfOk result (Gathers (J.gives job.now) post lanes.items) }
+    ensures gathers { IfOk result (Gathers (J.gives job.now) post lanes.items) }
+    ensures started { IfOk result (λ _. length lanes.items ≤ starts) }
+    ensures stopped { IfErr result (MayStop (length lanes.items + 1)) }
 {
     let Some(last) = lanes.pop() else {
         return alone(alloc, job, gate, post);
@@ -114,7 +116,8 @@ fn alone<J: Job, G: Gate>(
     post: Post,
 ) -> Result<Gathered<Result<J::Out, J::Fault>>, Stop>
     requires { FreshPost (J.inputs job.now) post }
-    ensures { IfOk result (Gathers (J.gives job.now) post []) }
+    ensures gathers { IfOk result (Gathers (J.gives job.now) post []) }
+    ensures stopped { IfErr result (MayStop 1) }
 {
     let Done {
         post,
@@ -137,7 +140,8 @@ fn settle<J: Job, G: Gate>(
 ) -> Result<Gathered<Result<J::Out, J::Fault>>, Stop>
     requires deque { thief_deque rest.post.thief ≡ owner_deque done.post.owner }
     requires below { AllBelow (J.inputs job.now) (owner_view done.post.owner).given }
-    ensures { IfOk result (Settles (J.gives job.now) done rest) }
+    ensures settles { IfOk result (Settles (J.gives job.now) done rest) }
+    ensures stopped { IfErr result (MayStop 1) }
 {
     let Done {
         post: theirs,

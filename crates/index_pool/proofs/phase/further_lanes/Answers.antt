@@ -1,5 +1,6 @@
-use Rattle.std.proofs.Common.{◌≡◌, ℕ, ◌<◌, [], sum_by, ap, ◌∙◌, arith}
+use Rattle.std.proofs.Common.{◌≡◌, ℕ, ◌<◌, [], length, sum_by, ap, ◌∙◌, arith}
 use Rattle.std.proofs.lemmas.List.Elements.{All-nil, All-same, All-push}
+use Rattle.std.proofs.lemmas.List.{length_push}
 use Rattle.std.proofs.lemmas.List.Sums.{sum_by_push}
 use Rattle.std.specs.List.{range_with_len}
 use Rattle.index_pool.specs.declared.lanes.ends.LaneOwner.{LaneOwner}
@@ -16,6 +17,7 @@ given_weight h ends = sum_by h (owner_view ends.0).given
 
 pub loop-worker-init : goal.loop-worker-init
 loop-worker-init c = record {
+  count = (let none = ap length c.new-lanes.ensures.items in omega arith);
   fresh = All-same (FreshLane c.args.inputs) _ [] c.new-lanes.ensures.items (All-nil (FreshLane c.args.inputs));
   weighed = λ h. (
       let none = ap (sum_by (given_weight h)) c.new-lanes.ensures.items in
@@ -27,6 +29,7 @@ loop-worker-preserved c =
     let more = c.in_ok-push.ensures.items in
     let new = c.in_ok-lane.ensures in
     let ends = c.in_ok-lane.field-0 in record {
+      count = (let a = ap length more in let b = length_push c.loop-worker.lanes.items ends in let d = c.loop-worker.invariant.count in omega arith);
       fresh = All-same (FreshLane c.args.inputs) _ _ more (All-push (FreshLane c.args.inputs) c.loop-worker.lanes.items ends c.loop-worker.invariant.fresh
           (fresh_owner c.args.inputs c.args.workers c.loop-worker.worker ends.0 new.owner, fresh_thief c.args.inputs c.args.workers c.loop-worker.worker ends.1 new.thief, new.deque));
       weighed = λ h. (

@@ -15,10 +15,10 @@ pub close-requires-clause-below : goal.close-requires-clause-below
 close-requires-clause-below g c = λ _ _.
     let n = g.J.Job.inputs c.args.job.now in
     let owner = fresh_owner c.args.inputs c.args.workers 0 c.in_ok-owner.owner c.in_ok-owner.ensures.owner in
-    popped_below n c.in_ok-owner.owner c.in_ok-gathered.gathered.post.owner c.in_ok-gathered.ensures.owner (below_more_inputs c.args.inputs n (owner_view c.in_ok-owner.owner).given c.requires.known owner.1)
+    popped_below n c.in_ok-owner.owner c.in_ok-gathered.gathered.post.owner c.in_ok-gathered.ensures.gathers.owner (below_more_inputs c.args.inputs n (owner_view c.in_ok-owner.owner).given c.requires.known owner.1)
 
-pub returns : goal.returns
-returns g c =
+pub returns-clause-ran : goal.returns-clause-ran
+returns-clause-ran g c =
     let post : Post = record { owner = c.in_ok-owner.owner; thief = c.in_ok-owner.thief } in
     run_ends (g.J.Job.gives c.args.job.now) c.args.inputs c.args.workers post c.in_ok-lanes.lanes.items c.in_ok-gathered.gathered c.close.new.results.items
-    c.in_ok-owner.ensures.owner c.in_ok-gathered.ensures c.in_ok-lanes.ensures.whole c.in_ok-close.ensures.answers c.in_ok-close.ensures.weighed
+    c.in_ok-owner.ensures.owner c.in_ok-gathered.ensures.gathers c.in_ok-lanes.ensures.whole c.in_ok-close.ensures.answers c.in_ok-close.ensures.weighed

@@ -19,5 +19,5 @@ pub returns-clause-refused : goal.returns-clause-refused
 returns-clause-refused g c =
     let slots = c.in-Ok.slots.items in
     let among = IsAmong c.args.results.items in
-    IfErr-weaker c.first_fault_or_all.result (MayRefuse (HasResult slots) (length slots)) (MayRefuse among c.args.inputs)
-    (refusal_weaker (HasResult slots) among (length slots) c.args.inputs c.in-Ok.ensures.0 (filled_among among c.args.inputs slots c.in-Ok.ensures)) c.first_fault_or_all.ensures.refused
+    IfErr-weaker c.first_fault_or_all.result (MayRefuse (HasResult slots) (length slots) 1) (MayRefuse among c.args.inputs 1)
+    (refusal_weaker (HasResult slots) among (length slots) c.args.inputs 1 c.in-Ok.ensures.0 (filled_among among c.args.inputs slots c.in-Ok.ensures)) c.first_fault_or_all.ensures.refused

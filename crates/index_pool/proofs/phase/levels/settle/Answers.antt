@@ -4,8 +4,8 @@ use Rattle.index_pool.proofs.ResultsLemmas.{given_append}
 use Rattle.index_pool.proofs.LevelsLemmas.{settle_weighs}
 use Rattle.index_pool.proofs.phase.levels.settle.Goals as goal
 
-pub returns : goal.returns
-returns g c =
+pub returns-clause-settles : goal.returns-clause-settles
+returns-clause-settles g c =
     let ours = c.args.done.results.items in
     let theirs = c.args.rest.results.items in
     let both = c.append.new.self.items in record {

@@ -1,8 +1,9 @@
 -- Which comments document a declaration (proto3 language guide, "Adding Comments"; the rules are the profile's).
-use Rattle.std.specs.Prelude.{ℕ, ◌≡◌, ◌+◌, ◌<◌, ◌≤◌, List, [], ◌∷◌, ◌++◌, length, map, All, Contains}
+use Rattle.std.specs.Prelude.{ℕ, ◌≡◌, ◌+◌, ◌<◌, ◌≤◌, List, [], ◌∷◌, ◌++◌, length, drop, map, All, Contains}
 use Rattle.std.specs.List.{join_with_byte}
 use Rattle.proto_lex.specs.Position.{line_of}
-use Rattle.proto_lex.specs.Lexed.{Lexed, part_of}
+use Rattle.proto_lex.specs.Comments.{IsComment}
+use Rattle.proto_lex.specs.Lexed.{Lexed, IsPart, part_of}
 use Rattle.proto_lex.specs.CommentTexts.{Touches, StandsAlone, NoneBetween, comment_text}
 use Rattle.proto_lex.specs.declared.span.Span.{Span}
 use Rattle.proto_lex.specs.declared.token.Comment.{Comment}
@@ -11,6 +12,11 @@ use Rattle.proto_lex.specs.declared.token.Token.{Token}
 -- the text of a comment, without its marks
 abbrev pub text_of : Lexed → Comment → List ℕ
 text_of lexed comment = comment_text comment.kind (part_of lexed.text comment.span)
+
+-- a comment stands in the text, and there is spelled as one of its kind
+pub record StandsIn (lexed : Lexed) (comment : Comment) : Type 0 where
+  pub part : IsPart lexed.text comment.span
+  pub spelled : IsComment comment.kind (part_of lexed.text comment.span) (drop comment.span.end lexed.text)
 
 -- the line on which a span begins, and that on which it ends
 abbrev pub first_line : Lexed → Span → ℕ

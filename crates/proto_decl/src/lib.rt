@@ -1,12 +1,15 @@
 //! What the syntax tree of a proto3 source declares and uses, and the comments that document it.
 #![tactic(auto)]
 
+mod comment_text;
+mod comments;
 mod declaration;
 mod imported;
 mod imports;
 mod kind;
 mod names;
 mod outlines;
+mod standing;
 mod surrounding;
 mod type_use;
 mod type_uses;

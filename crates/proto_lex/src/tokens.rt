@@ -54,6 +54,7 @@ impl<'a> Tokens<'a> {
         ensures value { result.now ≡ self.now.tokens }
         ensures lexed { Lexes self.now.text self.now.tokens self.now.comments }
         ensures parts { All (λ t. IsPart self.now.text t.span) self.now.tokens }
+        ensures spelled { All (λ t. Spells t.kind (part_of self.now.text t.span)) self.now.tokens }
         ensures in_order { AreInOrder 0 (map (λ t. t.span) self.now.tokens) }
     {
         &self.tokens

@@ -1,0 +1,71 @@
+-- The comment that trails a declaration: the first one behind its closing token.
+use Rattle.std.proofs.Common.{◌≡◌, ◌∙◌, sym, ap, subst, ℕ, ◌+◌, ◌-◌, ◌<◌, ◌≤◌, ◌≢◌, ◌↔◌, Bool, true, false, IsTrue, List, length, get_or, map, arith}
+use Rattle.std.specs.List.{All, Contains}
+use Rattle.std.specs.List.Sorted.{IsPartitionPoint}
+use Rattle.proto_lex.specs.declared.span.Span.{Span}
+use Rattle.proto_lex.specs.declared.token.Comment.{Comment}
+use Rattle.proto_lex.specs.Lexed.{Lexed, AreInOrder}
+use Rattle.proto_lex.specs.Position.{line_of}
+use Rattle.proto_lex.specs.CommentTexts.{NoneBetween}
+use Rattle.proto_decl.specs.Comments.{first_line, last_line, IsTrailing}
+use Rattle.proto_decl.proofs.LineLemmas.{starts_rise, IsAt, held, at_any, at_index}
+use Rattle.proto_decl.proofs.LeadingLemmas.{CommentsInOrder}
+
+module _ (lexed : Lexed) (closing : Span) (n : ℕ) (x : Comment) (ordered : CommentsInOrder lexed.comments) (at : IsAt lexed.comments n x)
+    (parted : IsPartitionPoint (λ (c : Comment). c.span.start < closing.end) (λ (c : Comment). closing.end ≤ c.span.start) lexed.comments n) where
+  behind : closing.end ≤ x.span.start
+  behind = held (λ c. closing.end ≤ c.span.start) lexed.comments n x at (parted.1 n x (omega arith) at.within)
+
+  least : (k : ℕ) (d : Comment) → k < length lexed.comments → closing.end ≤ (get_or lexed.comments k d).span.start → x.span.start ≤ (get_or lexed.comments k d).span.start
+  least k d h later =
+      let late : k < n → ⊥ = λ early. omega (arith, parted.0 k d (omega arith) early) in
+      subst (λ (c : Comment). c.span.start ≤ (get_or lexed.comments k d).span.start) (at_any lexed.comments n x d at) (starts_rise (λ (c : Comment). c.span) 0 n k d lexed.comments ordered (omega (arith, late)) h)
+
+  same_start : (comment : Comment) → IsTrailing lexed closing comment → comment.span.start ≡ x.span.start
+  same_start comment t =
+      let listed = t.listed in
+      let not_before = subst (λ (c : Comment). closing.end ≤ c.span.start → x.span.start ≤ c.span.start) listed.2 (least listed.0 comment listed.1) in
+      let not_behind = held (λ c. closing.end ≤ c.span.start → comment.span.start ≤ c.span.start) lexed.comments n x at (t.first n x at.within) in
+      omega (arith, not_before t.behind, not_behind behind)
+
+  on_another_line : first_line lexed x.span ≢ last_line lexed closing → (comment : Comment) → IsTrailing lexed closing comment → ⊥
+  on_another_line other comment t = other (ap (line_of lexed.text) (sym (same_start comment t)) ∙ t.on_line)
+
+  some_between : (NoneBetween lexed.tokens closing.end x.span.start → ⊥) → (comment : Comment) → IsTrailing lexed closing comment → ⊥
+  some_between some comment t = some (subst (λ start. NoneBetween lexed.tokens closing.end start) (same_start comment t) t.none_between)
+
+  is_trailing : first_line lexed x.span ≡ last_line lexed closing → NoneBetween lexed.tokens closing.end x.span.start → IsTrailing lexed closing x
+  is_trailing on_line none = record {
+    listed = (n, at.within, sym at.is);
+    behind = behind;
+    first = λ k d h later. least k d h later;
+    on_line = on_line;
+    none_between = none;
+  }
+
+-- what the tests of the code say: of the comment that the search found, in the comments and texts that the calls gave
+module _ (lexed : Lexed) (closing : Span) (n a b : ℕ) (d : Comment) (comments : List Comment) (text other : List ℕ) (same : comments ≡ lexed.comments) (same_text : text ≡ lexed.text) (same_other : other ≡ lexed.text)
+    (ordered : CommentsInOrder lexed.comments) (within : n < length lexed.comments)
+    (parted : IsPartitionPoint (λ (c : Comment). c.span.start < closing.end) (λ (c : Comment). closing.end ≤ c.span.start) lexed.comments n)
+    (starts_on : a ≡ line_of text (get_or comments n d).span.start) (closes_on : b ≡ line_of other closing.end) where
+  here : IsAt lexed.comments n (get_or lexed.comments n d)
+  here = at_index lexed.comments n d within
+
+  starts : a ≡ first_line lexed (get_or lexed.comments n d).span
+  starts = rw (same, same_text) at starts_on
+
+  closes : b ≡ last_line lexed closing
+  closes = rw same_other at closes_on
+
+  pub refuted_by_line : (a ≡ b → ⊥) → (comment : Comment) → IsTrailing lexed closing comment → ⊥
+  refuted_by_line differ = on_another_line lexed closing n (get_or lexed.comments n d) ordered here parted (λ e. differ (starts ∙ (e ∙ sym closes)))
+
+  pub refuted_by_token : (r : Bool) → r ≡ false → IsTrue r ↔ NoneBetween lexed.tokens closing.end (get_or comments n d).span.start → (comment : Comment) → IsTrailing lexed closing comment → ⊥
+  refuted_by_token r is says =
+      let says' = rw same at says in
+      some_between lexed closing n (get_or lexed.comments n d) ordered here parted (λ none. let true_too = says'.1 none in absurd (cc))
+
+  pub confirmed : a ≡ b → (r : Bool) → r ≡ true → IsTrue r ↔ NoneBetween lexed.tokens closing.end (get_or comments n d).span.start → IsTrailing lexed closing (get_or comments n d)
+  confirmed on_line r is says =
+      let says' = rw same at says in
+      rw same (is_trailing lexed closing n (get_or lexed.comments n d) ordered here parted (sym starts ∙ (on_line ∙ closes)) (says'.0 is))

@@ -1,0 +1,14 @@
+use Rattle.std.proofs.Common.{◌≤◌}
+use Rattle.proto_decl.proofs.LeadingLemmas.{IsRun, IsNextLine}
+use Rattle.proto_decl.proofs.comments.leading_comments.Given as goal
+
+-- the comments so far may lead, and begin on the next line
+abbrev pub invariant-loop-start : goal.invariant-loop-start
+invariant-loop-start l = record {
+  within : l.start ≤ l.end;
+  run : IsRun l.lexed l.line l.start l.end;
+  next : IsNextLine l.lexed l.line l.start l.end l.next_line;
+}
+
+abbrev pub decreases-loop-start : goal.decreases-loop-start
+decreases-loop-start l = l.start

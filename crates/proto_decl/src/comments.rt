@@ -1,0 +1,134 @@
+//! Which comments document a declaration.
+
+ghost use Rattle.std.specs.Prelude.{◌≡◌, ◌+◌, ◌≤◌, ◌↔◌, ◌∷◌, map, All, IsTrue, IfOk, IfSome, MatchOption};
+ghost use Rattle.std.specs.List.{join_with_byte};
+ghost use Rattle.proto_lex.specs.Position.{line_of};
+ghost use Rattle.proto_lex.specs.Lexed.{AreApart};
+ghost use Rattle.proto_lex.specs.CommentTexts.{StandsAlone};
+ghost use Rattle.proto_lex.specs.declared.token.Comment.{Comment};
+ghost use Rattle.proto_decl.specs.Comments as spec;
+
+use crate::comment_text::text_of;
+use crate::standing::{
+    comments_above, comments_begun, is_first_on_line, is_none_between, stands_alone,
+};
+use proto_lex::{Comment, Span, Tokens};
+use sequences::OwnedText;
+use std::alloc::{AllocError, Global};
+
+/// Whether the comment at this span can lead what begins on a line: it stands alone, and ends on
+/// the line before, or further on.
+fn leads(lexed: &Tokens<'_>, comment: Span, next_line: usize) -> bool
+    requires some { comment.start ≤ comment.end }
+    requires apart { All (λ t. AreApart t.span comment) lexed.now.tokens }
+    ensures { IsTrue result
+        ↔ (next_line ≤ line_of lexed.now.text comment.end + 1) × StandsAlone lexed.now.text lexed.now.tokens comment }
+{
+    if lexed.text().line(comment.end) < next_line.saturating_sub(1) {
+        return false;
+    }
+    stands_alone(lexed, comment)
+}
+
+/// The longest list of comments that lead what begins on a line.
+fn leading_comments<'a>(lexed: &'a Tokens<'_>, line: usize) -> &'a [Comment]
+    ensures longest { spec.AreLongestLeading lexed.now line result.now }
+    ensures stand { All (spec.StandsIn lexed.now) result.now }
+{
+    let comments = lexed.comments();
+    let end = comments_above(lexed, line);
+    let mut start = end;
+    let mut next_line = line;
+    while start > 0 {
+        let comment = comments[start - 1].span;
+        if !leads(lexed, comment, next_line) {
+            return &comments[start..end];
+        }
+        next_line = lexed.text().line(comment.start);
+        start -= 1;
+    }
+    &comments[..end]
+}
+
+/// The texts of a comment and of others behind it, a line each.
+fn joined_texts(
+    alloc: Global,
+    lexed: &Tokens<'_>,
+    first: Comment,
+    others: &[Comment],
+) -> Result<OwnedText, AllocError>
+    requires first { spec.StandsIn lexed.now first }
+    requires others { All (spec.StandsIn lexed.now) others.now }
+    ensures { IfOk result (λ text. text ≡ join_with_byte 10 (map (spec.text_of lexed.now) (first ∷ others.now))) }
+{
+    let mut joined = String::from_str(alloc, text_of(lexed, first))?;
+    for comment in others {
+        joined.push_str("\n")?;
+        joined.push_str(text_of(lexed, *comment))?;
+    }
+    Ok(OwnedText::from_string(joined))
+}
+
+/// The texts of comments, a line each.
+fn texts_of(
+    alloc: Global,
+    lexed: &Tokens<'_>,
+    comments: &[Comment],
+) -> Result<OwnedText, AllocError>
+    requires { All (spec.StandsIn lexed.now) comments.now }
+    ensures { IfOk result (λ text. text ≡ join_with_byte 10 (map (spec.text_of lexed.now) comments.now)) }
+{
+    match comments {
+        [] => Ok(OwnedText::new(alloc)),
+        [first, others @ ..] => joined_texts(alloc, lexed, *first, others),
+    }
+}
+
+/// The leading text of a declaration with this first token.
+pub(crate) fn leading_text(
+    alloc: Global,
+    lexed: &Tokens<'_>,
+    first: Span,
+) -> Result<OwnedText, AllocError>
+    ensures { IfOk result (λ text. spec.IsLeadingText lexed.now first text) }
+{
+    if !is_first_on_line(lexed, first) {
+        return Ok(OwnedText::new(alloc));
+    }
+    let line = lexed.text().line(first.start);
+    texts_of(alloc, lexed, leading_comments(lexed, line))
+}
+
+/// The comment that trails a declaration with this closing token.
+fn trailing_comment(lexed: &Tokens<'_>, closing: Span) -> Option<Comment>
+    ensures found { MatchOption result ((comment : Comment) → spec.IsTrailing lexed.now closing comment → ⊥) (spec.IsTrailing lexed.now closing) }
+    ensures stands { IfSome result (spec.StandsIn lexed.now) }
+{
+    let comments = lexed.comments();
+    let begun = comments_begun(lexed, closing.end);
+    if begun == comments.len() {
+        return None;
+    }
+    let comment = comments[begun];
+    if lexed.text().line(comment.span.start) != lexed.text().line(closing.end) {
+        return None;
+    }
+    if !is_none_between(lexed, closing.end, comment.span.start) {
+        return None;
+    }
+    Some(comment)
+}
+
+/// The trailing text of a declaration with this closing token.
+pub(crate) fn trailing_text(
+    alloc: Global,
+    lexed: &Tokens<'_>,
+    closing: Span,
+) -> Result<OwnedText, AllocError>
+    ensures { IfOk result (λ text. spec.IsTrailingText lexed.now closing text) }
+{
+    match trailing_comment(lexed, closing) {
+        Some(comment) => OwnedText::copy_of(alloc, text_of(lexed, comment)),
+        None => Ok(OwnedText::new(alloc)),
+    }
+}

@@ -1,7 +1,7 @@
 -- What is known of a file from its tokens and its tree.
 use Rattle.std.specs.Prelude.{ℕ, ◌≡◌, List}
 use Rattle.proto_lex.specs.Lexed.{Lexed}
-use Rattle.proto_parse.specs.declared.tree.File.{File}
+use Rattle.proto_grammar.specs.declared.tree.File.{File}
 use Rattle.proto_decl.specs.Names.{components_at}
 use Rattle.proto_decl.specs.Imports.{imports_of}
 use Rattle.proto_decl.specs.Outlines.{package_spans}

@@ -3,7 +3,7 @@ use Rattle.std.specs.Prelude.{ℕ, List, [], ◌∷◌, map}
 use Rattle.std.specs.List.{flat_map}
 use Rattle.proto_lex.specs.declared.span.Span.{Span}
 use Rattle.proto_lex.specs.Lexed.{part_of}
-use Rattle.proto_parse.specs.declared.tree.Import.{Import}
+use Rattle.proto_grammar.specs.declared.tree.Import.{Import}
 use Rattle.proto_parse.specs.Grammar.Files.{between_quotes}
 use Rattle.proto_decl.specs.declared.imported.Imported.{Imported}
 

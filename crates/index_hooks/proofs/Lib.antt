@@ -1,0 +1,6 @@
+-- hooks that are asked one after the other
+mod AskedLemmas
+-- a set of kinds that grows
+mod KindLemmas
+-- names under one another
+mod NameLemmas

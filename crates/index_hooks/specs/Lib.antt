@@ -1,0 +1,10 @@
+-- what comes of adding a filter or a rule
+pub mod Adding
+-- which kinds a set has
+pub mod HasKind
+-- full names under one another
+pub mod IsUnder
+-- kinds of declarations, numbered
+pub mod KindNumber
+-- which choices promises allow
+pub mod MayChoose

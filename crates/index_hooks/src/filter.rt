@@ -1,0 +1,47 @@
+//! A filter.
+
+ghost use Rattle.std.specs.Prelude.{◌≡◌, Bool};
+ghost use Rattle.proto_decl.specs.Seen.{Seen};
+
+use crate::callback::FilterCallback;
+use crate::hook::FilterHook;
+use crate::promise::FilterPromise;
+use proto_decl::DeclView;
+use std::marker::Model;
+
+/// A callback that says of each declaration whether it is kept, beside a promise that allows each of
+/// its answers. Contracts see the promise alone.
+#[derive(Drop)]
+pub struct Filter<P: FilterPromise, C: FilterCallback> {
+    promise: P,
+    callback: C,
+}
+
+impl<P: FilterPromise, C: FilterCallback> Model for Filter<P, C> {
+    ghost use Rattle.std.specs.Prelude.{Bool};
+    ghost use Rattle.proto_decl.specs.Seen.{Seen};
+
+    ghost Value = { P };
+
+    ghost view = { λ f. f.promise };
+
+    ghost invariant = { λ f. (seen : Seen) (keep : Bool) → C.gives f.callback seen keep → P.may f.promise seen keep };
+}
+
+impl<P: FilterPromise, C: FilterCallback> Filter<P, C> {
+    /// The filter that asks this callback. The promise has to allow each answer that it may give.
+    pub fn new(promise: P, callback: C) -> Filter<P, C>
+        requires { (seen : Seen) (keep : Bool) → C.gives callback seen keep → P.may promise seen keep }
+        ensures { result ≡ promise }
+    {
+        Filter { promise, callback }
+    }
+}
+
+impl<P: FilterPromise, C: FilterCallback> FilterHook for Filter<P, C> {
+    ghost may = { λ f seen keep. P.may f seen keep };
+
+    fn ask(&self, view: &DeclView<'_>) -> bool {
+        self.callback.call(view)
+    }
+}

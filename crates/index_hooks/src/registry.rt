@@ -1,0 +1,160 @@
+//! The registry.
+
+ghost use Rattle.std.specs.Prelude.{◌≤◌, length};
+ghost use Rattle.index_hooks.specs.Adding.{most_hooks, Adds};
+ghost use Rattle.index_hooks.specs.MayChoose.{MayKeep, MayDocument};
+
+use crate::choice::{Choice, DocChoice};
+use crate::hook::{BoxedFilter, BoxedRule, DocHook, FilterHook};
+use proto_decl::DeclView;
+use sequences::Sequence;
+use std::alloc::Global;
+use thiserror::Error;
+
+/// The most filters, and the most documentation rules, of a registry.
+pub const MAX_HOOKS: usize = 16;
+
+/// Why a registry doesn't take a filter or a rule.
+#[derive(Clone, Copy, Debug, PartialEq, Eq, Error)]
+pub enum HookFault {
+    /// It has `MAX_HOOKS` of the kind already.
+    #[error("Full")]
+    Full,
+    /// Memory ran out.
+    #[error("Memory")]
+    Memory,
+}
+
+/// Filters and documentation rules, at most `MAX_HOOKS` of each.
+#[derive(Drop)]
+pub struct Registry {
+    filters: Sequence<BoxedFilter>,
+    rules: Sequence<BoxedRule>,
+    ghost few_filters: { length filters ≤ most_hooks },
+    ghost few_rules: { length rules ≤ most_hooks },
+}
+
+/// What chooses for a declaration.
+pub trait Chooses {
+    ghost use Rattle.proto_decl.specs.Seen.{Seen};
+    ghost use Rattle.index_hooks.specs.declared.choice.Choice.{Choice};
+
+    // The choices that may come.
+    ghost allows: { Self → Seen → Choice → Type 0 };
+
+    /// The choice for a declaration.
+    fn choose(&self, view: &DeclView<'_>) -> Choice
+        ensures { allows self.now view.now result };
+}
+
+/// Adds a filter or a rule to those of its kind.
+fn add<H>(hooks: &mut Sequence<H>, hook: H) -> Result<(), (H, HookFault)>
+    requires { length hooks.old ≤ most_hooks }
+    ensures { Adds hooks.old hook hooks.new result }
+{
+    if hooks.as_slice().len() == MAX_HOOKS {
+        return Err((hook, HookFault::Full));
+    }
+    match hooks.push(hook) {
+        Ok(()) => Ok(()),
+        Err(refused) => Err((refused.value, HookFault::Memory)),
+    }
+}
+
+impl Registry {
+    ghost use Rattle.std.specs.Prelude.{◌≡◌, []};
+    ghost use Rattle.proto_decl.specs.Seen.{Seen};
+    ghost use Rattle.index_hooks.specs.declared.choice.Choice.{Choice};
+    ghost use Rattle.index_hooks.specs.Adding.{Adds};
+    ghost use Rattle.index_hooks.specs.MayChoose.{IsDefaultChoice};
+
+    /// A registry without filters and rules: it keeps every declaration, with its leading text. It
+    /// keeps the allocator, and takes no memory yet.
+    pub fn new(alloc: Global) -> Registry
+        ensures filters { result.filters ≡ [] }
+        ensures rules { result.rules ≡ [] }
+        ensures chooses { (seen : Seen) (choice : Choice) → ⟦<Registry as Chooses>⟧.allows result seen choice → IsDefaultChoice choice }
+    {
+        Registry {
+            filters: Sequence::new(alloc),
+            rules: Sequence::new(alloc),
+        }
+    }
+
+    /// Adds a filter behind those that it has.
+    ///
+    /// `Full`: it has `MAX_HOOKS` filters. Then `Memory`. The registry stays as it was, and the
+    /// filter comes back.
+    pub fn add_filter(&mut self, filter: BoxedFilter) -> Result<(), (BoxedFilter, HookFault)>
+        ensures filters { Adds self.old.filters filter self.new.filters result }
+        ensures rules { self.new.rules ≡ self.old.rules }
+    {
+        add(&mut self.filters, filter)
+    }
+
+    /// Adds a documentation rule behind those that it has.
+    ///
+    /// `Full`: it has `MAX_HOOKS` rules. Then `Memory`. The registry stays as it was, and the rule
+    /// comes back.
+    pub fn add_doc(&mut self, rule: BoxedRule) -> Result<(), (BoxedRule, HookFault)>
+        ensures rules { Adds self.old.rules rule self.new.rules result }
+        ensures filters { self.new.filters ≡ self.old.filters }
+    {
+        add(&mut self.rules, rule)
+    }
+}
+
+/// Asks one filter.
+fn ask_filter(filter: &BoxedFilter, view: &DeclView<'_>) -> bool
+    ensures { (FilterHook-box filter.now).may filter.now.value view.now result }
+{
+    filter.ask(view)
+}
+
+/// Asks one rule.
+fn ask_rule(rule: &BoxedRule, view: &DeclView<'_>) -> DocChoice
+    ensures { (DocHook-box rule.now).may rule.now.value view.now result }
+{
+    rule.ask(view)
+}
+
+/// Whether all filters answer `true`. The first `false` ends the asking.
+fn keeps(filters: &[BoxedFilter], view: &DeclView<'_>) -> bool
+    ensures { MayKeep (λ f keep. (FilterHook-box f).may f.value view.now keep) filters.now result }
+{
+    for filter in filters {
+        if !ask_filter(filter, view) {
+            return false;
+        }
+    }
+    true
+}
+
+/// The first answer that isn't `Pass`, and `Leading` where all rules pass.
+fn documents(rules: &[BoxedRule], view: &DeclView<'_>) -> DocChoice
+    ensures { MayDocument (λ r answer. (DocHook-box r).may r.value view.now answer) rules.now result }
+{
+    for rule in rules {
+        match ask_rule(rule, view) {
+            DocChoice::Pass => {}
+            answer => return answer,
+        }
+    }
+    DocChoice::Leading
+}
+
+impl Chooses for Registry {
+    ghost use Rattle.index_hooks.specs.MayChoose.{MayChoose};
+
+    // The promises' choices.
+    ghost allows = { λ registry seen choice. MayChoose (λ f keep. (FilterHook-box f).may f.value seen keep) (λ r answer. (DocHook-box r).may r.value seen answer) registry.filters registry.rules choice };
+
+    /// Asks the filters in the order in which they were added, up to the first that answers `false`,
+    /// and then the rules, up to the first that doesn't pass, also for what isn't kept.
+    fn choose(&self, view: &DeclView<'_>) -> Choice {
+        Choice {
+            keep: keeps(self.filters.as_slice(), view),
+            doc: documents(self.rules.as_slice(), view),
+        }
+    }
+}

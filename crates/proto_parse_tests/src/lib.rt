@@ -8,8 +8,12 @@ mod calls;
 #[cfg(test)]
 mod custom;
 #[cfg(test)]
+mod laws;
+#[cfg(test)]
 mod refused;
 #[cfg(test)]
 mod rich;
 #[cfg(test)]
 mod trees;
+#[cfg(test)]
+mod words;

@@ -19,6 +19,8 @@ fn texts_that_are_not_proto3(rt: HostRuntime) {
         ("\"syntax\" = \"proto3\";", 0),
         (" ; syntax = \"proto3\";", 1),
         ("message A {}", 0),
+        ("/**/ proto3", 5),
+        ("// a\nsyntax = /* b */ 'proto2';", 22),
     ] {
         assert_eq!(rt;
             parsed_source(rt.alloc(), source, CustomOptions::Refuse).err(),
@@ -64,6 +66,44 @@ fn refusals_by_name(rt: HostRuntime) {
         ("package a;\npackage", SyntaxFault::TwoPackages(30)),
         ("import \"a\\x2e\";", SyntaxFault::ImportEscape(26)),
         ("import \"a\" 'b\\\\' 3", SyntaxFault::ImportEscape(30)),
+        ("option(x)=1;", SyntaxFault::CustomOption(25)),
+        ("option a={", SyntaxFault::Aggregate(28)),
+        ("package a;package b;", SyntaxFault::TwoPackages(29)),
+        ("import'\\n';", SyntaxFault::ImportEscape(25)),
+    ];
+    assert_eq!(rt;
+        first_other_fault(rt.alloc(), &cases, CustomOptions::Refuse),
+        None
+    );
+}
+
+#[test]
+fn refusals_behind_comments(rt: HostRuntime) {
+    let cases = [
+        ("option /* a */ (x) = 1;", SyntaxFault::CustomOption(34)),
+        ("option a. /* b */ (c) = 1;", SyntaxFault::CustomOption(37)),
+        ("option a = // b\n{};", SyntaxFault::Aggregate(35)),
+        ("/* a */ extend B {}", SyntaxFault::Extend(27)),
+        ("message A { /* b */ extend B {} }", SyntaxFault::Extend(39)),
+        (
+            "package a; /* b */ package c;",
+            SyntaxFault::TwoPackages(38),
+        ),
+        ("import 'a' /* b */ 'c\\n';", SyntaxFault::ImportEscape(38)),
+        (
+            "import public /* a */ \"\\n\";",
+            SyntaxFault::ImportEscape(41),
+        ),
+        ("import weak '\\\\';", SyntaxFault::ImportEscape(31)),
+        ("option a = - /* b */ {};", SyntaxFault::Grammar(40)),
+        ("option a = + // b\n+1;", SyntaxFault::Grammar(37)),
+        ("package a. /* b */ 5;", SyntaxFault::Grammar(38)),
+        (
+            "service S { /* a */ extend B {} }",
+            SyntaxFault::Grammar(39),
+        ),
+        ("/* a */ }", SyntaxFault::Grammar(27)),
+        ("package a // b", SyntaxFault::Grammar(33)),
     ];
     assert_eq!(rt;
         first_other_fault(rt.alloc(), &cases, CustomOptions::Refuse),
@@ -141,6 +181,8 @@ fn tokens_that_cannot_stand_there(rt: HostRuntime) {
         ("enum E { extend A {} }", SyntaxFault::Grammar(35)),
         ("}", SyntaxFault::Grammar(19)),
         ("extensions 1;", SyntaxFault::Grammar(19)),
+        ("service S { extend B {} }", SyntaxFault::Grammar(31)),
+        ("option a = < b: 1 >;", SyntaxFault::Grammar(30)),
         ("option", SyntaxFault::Grammar(25)),
     ];
     assert_eq!(rt;
@@ -182,6 +224,11 @@ fn sixty_four_messages_inside_one_another(rt: HostRuntime) -> Result<(), Fail> {
     assert_eq!(rt;
         parsed_source(rt.alloc(), cut_off.as_str(), CustomOptions::Refuse).err(),
         fault
+    );
+    let behind_a_comment = nested(rt.alloc(), 64, "/* */ message")?;
+    assert_eq!(rt;
+        parsed_source(rt.alloc(), behind_a_comment.as_str(), CustomOptions::Refuse).err(),
+        Some(NoTree::Syntax(SyntaxFault::TooDeep(665)))
     );
     Ok(())
 }

@@ -23,6 +23,7 @@ fn numbers_named<'a>(documents: &[Document], by_path: &'a [usize], path: &str) -
 }
 
 /// The number of the first document with a path.
+#[tactic(auto, using(crate::proofs::RunLemmas::find_first))]
 pub(crate) fn number_named(documents: &[Document], by_path: &[usize], path: &str) -> Option<usize>
     requires { IsByPath documents.now by_path.now }
     ensures { result ≡ find (λ number. is_eq (slice_cmp nat_cmp (path_listed documents.now number) path.now)) (numbers (length documents.now)) }

@@ -78,13 +78,21 @@ fn push_places(
     Ok(())
 }
 
-fn by_symbol(alloc: Global, documents: &[Document]) -> Result<Sequence<Place>, AllocError>
-    ensures { IfOk result (λ table. IsBySymbol documents.now table) }
+/// The places of all occurrences.
+fn occurrence_places(alloc: Global, documents: &[Document]) -> Result<Vec<Place>, AllocError>
+    ensures { IfOk result (λ places. places.items ≡ places_from 0 documents.now) }
 {
     let mut places = Vec::new(alloc);
     for (number, document) in documents.iter().enumerate() {
         push_places(&mut places, number, document)?;
     }
+    Ok(places)
+}
+
+fn by_symbol(alloc: Global, documents: &[Document]) -> Result<Sequence<Place>, AllocError>
+    ensures { IfOk result (λ table. IsBySymbol documents.now table) }
+{
+    let mut places = occurrence_places(alloc, documents)?;
     places.sort_by(|a, b| compare_symbols(documents, *a, *b))?;
     Ok(Sequence::from_vec(places))
 }

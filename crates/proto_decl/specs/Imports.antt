@@ -4,7 +4,7 @@ use Rattle.std.specs.List.{flat_map}
 use Rattle.proto_lex.specs.declared.span.Span.{Span}
 use Rattle.proto_lex.specs.Lexed.{part_of}
 use Rattle.proto_grammar.specs.declared.tree.Import.{Import}
-use Rattle.proto_parse.specs.Grammar.Files.{between_quotes}
+use Rattle.proto_grammar.specs.Terminal.{between_quotes}
 use Rattle.proto_decl.specs.declared.imported.Imported.{Imported}
 
 -- Where the first of the spans starts, and where the last one ends.

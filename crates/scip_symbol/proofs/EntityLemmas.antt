@@ -8,9 +8,9 @@ use Rattle.scip_symbol.specs.Path.{IsGoodPath}
 use Rattle.scip_symbol.specs.Parts.{IsScheme, IsPart, IsSuffix, IsDescriptor, IsGlobal}
 use Rattle.scip_symbol.specs.Package.{Package, IsPackage}
 use Rattle.scip_symbol.specs.Entities.{Entity, OfFile, OfPackage, OfDeclaration, suffix_of, namespace_of, step_descriptor, descriptors_of, scheme_text, IsIdentifier, IsEntity}
-use Rattle.scip_symbol.specs.declared.declaration.DeclarationKind.{DeclarationKind}
-use Rattle.scip_symbol.specs.declared.declaration.DeclarationKind.TheVariants.{Message, Enum, Service, Field, Oneof, Value, Method}
-use Rattle.scip_symbol.specs.declared.declaration.DeclarationStep.{DeclarationStep}
+use Rattle.proto_decl.specs.declared.kind.DeclarationKind.{DeclarationKind}
+use Rattle.proto_decl.specs.declared.kind.DeclarationKind.TheVariants.{Message, Enum, Service, Field, Oneof, Value, Method}
+use Rattle.proto_decl.specs.declared.declaration.DeclarationStep.{DeclarationStep}
 use Rattle.scip_symbol.specs.declared.symbol.Descriptor.{Descriptor}
 
 -- ---- an entity's descriptors are a symbol's

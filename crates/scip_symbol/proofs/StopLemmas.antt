@@ -1,11 +1,11 @@
 -- Where the reader stops before the end, it stops whatever follows the byte at which it does.
-use Rattle.std.proofs.Common.{◌≡◌, ◌≢◌, ℕ, zero, suc, ◌<◌, ◌+◌, Bool, true, false, eqb, None, Ok, Err, List, [], ◌∷◌, ◌++◌, codes, length, refl, ap, sym, ◌∙◌, subst, arith, append_assoc}
+use Rattle.std.proofs.Common.{◌≡◌, ◌≢◌, ℕ, zero, suc, ◌<◌, ◌+◌, true, false, eqb, None, Ok, Err, List, [], ◌∷◌, ◌++◌, codes, length, refl, ap, sym, ◌∙◌, subst, arith, append_assoc}
 use Rattle.std.specs.List.{list_all}
 use Rattle.std.proofs.lemmas.Bool.{eqb-true}
 use Rattle.proto_lex.specs.Bytes.{starts}
 use Rattle.scip_symbol.specs.Names.{is_identifier_character, doubled}
 use Rattle.scip_symbol.specs.SpellsSymbol.{descriptor}
-use Rattle.scip_symbol.specs.Reading.{Read, Front, ◌>>=◌, choose, after, expect_at, onto, undoubled_at, run_at, some_at, simple_at, name_at, closed_at, disambiguator_at, suffix_at, enclosed_at, descriptor_at, led, last_or_led, descriptors_at, spaced_at, part_of, part_at, global_at, local_of, local_at, symbol_at}
+use Rattle.scip_symbol.specs.Reading.{Read, ◌>>=◌, after, expect_at, undoubled_at, run_at, some_at, simple_at, name_at, closed_at, disambiguator_at, suffix_at, enclosed_at, descriptor_at, led, last_or_led, descriptors_at, spaced_at, part_of, part_at, global_at, local_of, local_at, symbol_at}
 use Rattle.scip_symbol.specs.declared.symbol.Suffix.{Suffix}
 use Rattle.scip_symbol.specs.declared.symbol.Suffix.TheVariants as suffix
 use Rattle.scip_symbol.specs.declared.symbol.Descriptor.{Descriptor}

@@ -5,9 +5,10 @@ use Rattle.proto_lex.specs.declared.token.TokenKind.TheVariants.{Identifier}
 use Rattle.scip_symbol.specs.SpellsSymbol.{descriptor}
 use Rattle.scip_symbol.specs.Package.{Package}
 use Rattle.scip_symbol.specs.Path.{IsGoodPath}
-use Rattle.scip_symbol.specs.declared.declaration.DeclarationKind.{DeclarationKind}
-use Rattle.scip_symbol.specs.declared.declaration.DeclarationKind.TheVariants.{Message, Enum, Service, Field, Oneof, Value, Method}
-use Rattle.scip_symbol.specs.declared.declaration.DeclarationStep.{DeclarationStep}
+use Rattle.proto_decl.specs.declared.kind.DeclarationKind.{DeclarationKind}
+use Rattle.proto_decl.specs.declared.kind.DeclarationKind.TheVariants.{Message, Enum, Service, Field, Oneof, Value, Method}
+use Rattle.proto_decl.specs.declared.declaration.DeclarationStep.{DeclarationStep}
+use Rattle.proto_decl.specs.declared.type_use.Component.{Component}
 use Rattle.scip_symbol.specs.declared.symbol.Suffix.{Suffix}
 use Rattle.scip_symbol.specs.declared.symbol.Suffix.TheVariants as suffix
 use Rattle.scip_symbol.specs.declared.symbol.Descriptor.{Descriptor}
@@ -32,6 +33,10 @@ suffix_of Method = suffix.Method []
 
 abbrev pub namespace_of : List ℕ → Descriptor
 namespace_of name = descriptor name suffix.Namespace
+
+-- the components of a package's name, without their places
+abbrev pub component_names : List Component → List (List ℕ)
+component_names = map (λ c. c.name)
 
 abbrev pub step_descriptor : DeclarationStep → Descriptor
 step_descriptor step = descriptor step.name (suffix_of step.kind)

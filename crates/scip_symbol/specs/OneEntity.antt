@@ -1,8 +1,8 @@
 -- Facts of a tree in which no two declarations have one full name: there a symbol names one entity.
 use Rattle.std.specs.Prelude.{◌≡◌, ◌≢◌, ℕ, List, [], ◌∷◌, ◌++◌, Contains}
-use Rattle.scip_symbol.specs.declared.declaration.DeclarationKind.{DeclarationKind}
-use Rattle.scip_symbol.specs.declared.declaration.DeclarationKind.TheVariants.{Message, Enum, Service, Field, Oneof, Value, Method}
-use Rattle.scip_symbol.specs.declared.declaration.DeclarationStep.{DeclarationStep}
+use Rattle.proto_decl.specs.declared.kind.DeclarationKind.{DeclarationKind}
+use Rattle.proto_decl.specs.declared.kind.DeclarationKind.TheVariants.{Message, Enum, Service, Field, Oneof, Value, Method}
+use Rattle.proto_decl.specs.declared.declaration.DeclarationStep.{DeclarationStep}
 use Rattle.scip_symbol.specs.Entities.{Entity, OfFile, OfPackage, OfDeclaration}
 
 -- a declaration by the components of its package and the way to it

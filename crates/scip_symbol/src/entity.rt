@@ -2,11 +2,11 @@
 
 ghost use Rattle.std.specs.Prelude.{◌≡◌, ◌≢◌, ◌++◌, ◌∷◌, [], map, All, OnOk, IfOk};
 ghost use Rattle.scip_symbol.specs.Parts.{IsDescriptor};
-ghost use Rattle.scip_symbol.specs.Entities.{Entity, OfFile, OfPackage, OfDeclaration, suffix_of, namespace_of, step_descriptor, global_in, symbol_in, IsEntity};
+ghost use Rattle.scip_symbol.specs.Entities.{OfFile, OfPackage, OfDeclaration, suffix_of, namespace_of, component_names, step_descriptor, global_in, symbol_in, IsEntity};
 
-use crate::declaration::{DeclarationKind, DeclarationStep};
 use crate::package::PackageId;
 use crate::symbol::{Descriptor, GlobalSymbol, Suffix, Symbol, SymbolParts};
+use proto_decl::{Component, DeclarationKind, DeclarationStep};
 use sequences::{OwnedText, Sequence};
 use std::alloc::{AllocError, Global};
 
@@ -67,12 +67,12 @@ fn push_step(
 fn push_namespaces(
     alloc: Global,
     descriptors: &mut Vec<Descriptor>,
-    components: &[OwnedText],
+    components: &[Component],
 ) -> Result<(), AllocError>
-    ensures { OnOk result (descriptors.new.items ≡ descriptors.old.items ++ map namespace_of components.now) }
+    ensures { OnOk result (descriptors.new.items ≡ descriptors.old.items ++ map namespace_of (component_names components.now)) }
 {
     for component in components {
-        push_namespace(alloc, descriptors, component.as_str())?;
+        push_namespace(alloc, descriptors, component.name.as_str())?;
     }
     Ok(())
 }
@@ -127,26 +127,26 @@ pub fn file_symbol(alloc: Global, id: &PackageId, path: &str) -> Result<Symbol, 
 pub fn package_symbol(
     alloc: Global,
     id: &PackageId,
-    components: &[OwnedText],
+    components: &[Component],
 ) -> Result<Symbol, AllocError>
-    requires { IsEntity (OfPackage components.now) }
-    ensures { IfOk result (λ symbol. symbol ≡ symbol_in id.now (OfPackage components.now)) }
+    requires { IsEntity (OfPackage (component_names components.now)) }
+    ensures { IfOk result (λ symbol. symbol ≡ symbol_in id.now (OfPackage (component_names components.now))) }
 {
     let mut descriptors = Vec::new(alloc);
     push_namespaces(alloc, &mut descriptors, components)?;
     symbol_with(alloc, id, descriptors)
 }
 
-/// The symbol of a declaration, of the components of its file's package and of the way to it: a
-/// namespace for each component, and what each step's kind has.
+/// The symbol of a declaration, of the components of its file's package and of the way from the
+/// package to it: a namespace for each component, and what each step's kind has.
 pub fn symbol_of(
     alloc: Global,
     id: &PackageId,
-    components: &[OwnedText],
+    components: &[Component],
     way: &[DeclarationStep],
 ) -> Result<Symbol, AllocError>
-    requires { IsEntity (OfDeclaration components.now way.now) }
-    ensures { IfOk result (λ symbol. symbol ≡ symbol_in id.now (OfDeclaration components.now way.now)) }
+    requires { IsEntity (OfDeclaration (component_names components.now) way.now) }
+    ensures { IfOk result (λ symbol. symbol ≡ symbol_in id.now (OfDeclaration (component_names components.now) way.now)) }
 {
     let mut descriptors = Vec::new(alloc);
     push_namespaces(alloc, &mut descriptors, components)?;

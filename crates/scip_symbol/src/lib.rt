@@ -1,7 +1,6 @@
 //! Symbols: their grammar (the comment of `scip.proto`'s `Symbol`), printed and read.
 #![tactic(auto)]
 
-mod declaration;
 mod entity;
 mod fault;
 mod laws;
@@ -10,7 +9,6 @@ mod printer;
 mod reader;
 mod symbol;
 
-pub use declaration::{DeclarationKind, DeclarationStep};
 pub use entity::{SCHEME, file_symbol, package_symbol, symbol_of};
 pub use fault::SymbolFault;
 pub use laws::{symbols_have_spellings, symbols_name_one_entity, text_spells_one_symbol};

@@ -3,7 +3,7 @@
 ghost use Rattle.std.specs.Prelude.{◌≡◌, ◌++◌, ◌<◌, ◌∷◌, [], OnOk, IfOk};
 ghost use Rattle.std.specs.List.{list_all};
 ghost use Rattle.std.specs.String.{string_bytes};
-ghost use Rattle.scip_symbol.specs.Names.{is_identifier_character, is_simple_identifier, doubled, space, backtick};
+ghost use Rattle.scip_symbol.specs.Names.{is_identifier_character, is_simple_identifier, doubled, space};
 ghost use Rattle.scip_symbol.specs.SymbolText.{part_text, name_text, front_text, suffix_text, descriptor_text, descriptors_text, global_text, symbol_text};
 ghost use Rattle.scip_symbol.specs.SpellsSymbol.{SpellsSymbol};
 

@@ -1,11 +1,10 @@
 //! Symbols out of text.
 
-ghost use Rattle.std.specs.Prelude.{◌≡◌, ◌<◌, ◌++◌, ◌∷◌, [], true, false, length, IfOk, IfErr, MatchOption, MatchResult};
-ghost use Rattle.std.specs.String.{string_bytes};
+ghost use Rattle.std.specs.Prelude.{◌≡◌, ◌<◌, false, length, IfOk, IfErr, MatchOption, MatchResult};
 ghost use Rattle.std.specs.Prelude.{take, drop};
-ghost use Rattle.scip_symbol.specs.Names.{is_identifier_character, space, backtick};
+ghost use Rattle.scip_symbol.specs.Names.{is_identifier_character, space};
 ghost use Rattle.scip_symbol.specs.Gives.{Gives};
-ghost use Rattle.scip_symbol.specs.Reading.{after, expect_at, undoubled_at, run_len, run_at, some_at, simple_at, name_at, disambiguator_at, suffix_at, enclosed_at, descriptor_at, descriptors_at, spaced_at, part_at, global_at, local_at, symbol_at};
+ghost use Rattle.scip_symbol.specs.Reading.{after, expect_at, undoubled_at, run_len, simple_at, name_at, disambiguator_at, suffix_at, enclosed_at, descriptor_at, descriptors_at, spaced_at, part_at, global_at, local_at, symbol_at};
 ghost use Rattle.scip_symbol.specs.SpellsSymbol.{SpellsSymbol};
 ghost use Rattle.scip_symbol.specs.LongestFront.{IsFaultOf};
 ghost use Rattle.scip_symbol.specs.declared.symbol.SymbolParts.{SymbolParts};

@@ -8,8 +8,8 @@ use Rattle.std.proofs.lemmas.Bool.Decides.{nat_tests}
 use Rattle.proto_lex.specs.Lexes.{identifier}
 use Rattle.scip_symbol.specs.Path.{IsComponent}
 use Rattle.scip_symbol.specs.Entities.{IsIdentifier, OfFile, OfPackage, OfDeclaration, IsEntity}
-use Rattle.scip_symbol.specs.declared.declaration.DeclarationKind.{DeclarationKind}
-use Rattle.scip_symbol.specs.declared.declaration.DeclarationStep.{DeclarationStep}
+use Rattle.proto_decl.specs.declared.kind.DeclarationKind.{DeclarationKind}
+use Rattle.proto_decl.specs.declared.declaration.DeclarationStep.{DeclarationStep}
 
 at_least : (x : ℕ) → nat_le 32 x ≡ true → 32 ≤ x
 at_least x h = grind (arith, nat_tests)

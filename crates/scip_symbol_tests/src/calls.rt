@@ -1,12 +1,11 @@
 //! The calls that may want for memory, and how a test tells what it saw.
 
-ghost use Rattle.scip_symbol.specs.Entities.{OfFile, OfPackage, OfDeclaration, IsEntity};
+ghost use Rattle.scip_symbol.specs.Entities.{OfFile, OfPackage, OfDeclaration, component_names, IsEntity};
 
+use proto_decl::{Component, DeclarationStep};
 use scip_symbol::{
-    DeclarationStep, PackageId, Symbol, SymbolFault, file_symbol, package_symbol, print, read,
-    symbol_of,
+    PackageId, Symbol, SymbolFault, file_symbol, package_symbol, print, read, symbol_of,
 };
-use sequences::OwnedText;
 use std::alloc::{AllocError, Global};
 use std::process::Abort;
 
@@ -49,9 +48,9 @@ pub(crate) fn file_again(alloc: Global, id: &PackageId, path: &str) -> Result<Sy
 pub(crate) fn package_again(
     alloc: Global,
     id: &PackageId,
-    components: &[OwnedText],
+    components: &[Component],
 ) -> Result<Symbol, AllocError>
-    requires { IsEntity (OfPackage components.now) }
+    requires { IsEntity (OfPackage (component_names components.now)) }
 {
     match package_symbol(alloc, id, components) {
         Err(_) => package_symbol(alloc, id, components),
@@ -62,10 +61,10 @@ pub(crate) fn package_again(
 pub(crate) fn declaration_again(
     alloc: Global,
     id: &PackageId,
-    components: &[OwnedText],
+    components: &[Component],
     way: &[DeclarationStep],
 ) -> Result<Symbol, AllocError>
-    requires { IsEntity (OfDeclaration components.now way.now) }
+    requires { IsEntity (OfDeclaration (component_names components.now) way.now) }
 {
     match symbol_of(alloc, id, components, way) {
         Err(_) => symbol_of(alloc, id, components, way),

@@ -1,9 +1,12 @@
 //! The symbols of a file, a package and declarations, and the parts of a package.
 
+ghost use Rattle.std.specs.Prelude.{◌≡◌, IfOk};
 ghost use Rattle.scip_symbol.specs.Entities.{OfFile, IsEntity};
 
 use crate::calls::{declaration_again, file_again, package_again, print_again, see};
-use scip_symbol::{DeclarationKind, DeclarationStep, PackageId, Symbol, SymbolParts};
+use proto_decl::{Component, DeclarationKind, DeclarationStep};
+use proto_lex::Span;
+use scip_symbol::{PackageId, Symbol, SymbolParts};
 use sequences::OwnedText;
 use std::alloc::{AllocError, Global};
 use std::test::Fail;
@@ -107,10 +110,19 @@ fn symbols_of_files(rt: HostRuntime) -> Result<(), Fail> {
     Ok(())
 }
 
+/// A component of a package's name, wherever it stands.
+fn component(alloc: Global, name: &str) -> Result<Component, AllocError>
+    ensures { IfOk result (λ component. component.name ≡ name.now) }
+{
+    let name = OwnedText::copy_of(alloc, name)?;
+    let span = Span { start: 0, end: 0 };
+    Ok(Component { name, span })
+}
+
 /// The text of the symbol of a package of two components.
 fn package_text(alloc: Global, id: &PackageId) -> Result<String, AllocError> {
-    let a = OwnedText::copy_of(alloc, "a")?;
-    let b = OwnedText::copy_of(alloc, "b")?;
+    let a = component(alloc, "a")?;
+    let b = component(alloc, "b")?;
     let symbol = package_again(alloc, id, &[a, b])?;
     print_again(alloc, &symbol)
 }
@@ -134,7 +146,7 @@ fn declared(
     outer: DeclarationKind,
     kind: DeclarationKind,
 ) -> Result<String, AllocError> {
-    let p = OwnedText::copy_of(alloc, "p")?;
+    let p = component(alloc, "p")?;
     let a = OwnedText::copy_of(alloc, "A")?;
     let b = OwnedText::copy_of(alloc, "b")?;
     let way = [

@@ -1,0 +1,154 @@
+//! What a registry asks, in which order and how often.
+
+use crate::shared::{Counting, message, see};
+use index_hooks::{
+    AnyAnswer, Choice, Chooses, DocChoice, DocRule, Filter, FilterCallback, Registry,
+};
+use proto_decl::DeclView;
+use std::alloc::{AllocError, Global};
+use std::sync::Arc;
+use std::sync::atomic::{AtomicU64, Ordering};
+use std::test::Fail;
+use std::thread::join;
+
+type Calls = Arc<AtomicU64>;
+
+/// Three counts of calls.
+fn three(alloc: Global) -> Result<[Calls; 3], AllocError> {
+    Ok([
+        Arc::new(alloc, AtomicU64::new(0))?,
+        Arc::new(alloc, AtomicU64::new(0))?,
+        Arc::new(alloc, AtomicU64::new(0))?,
+    ])
+}
+
+fn counts(calls: &[Calls; 3]) -> [u64; 3] {
+    [
+        calls[0].load(Ordering::SeqCst),
+        calls[1].load(Ordering::SeqCst),
+        calls[2].load(Ordering::SeqCst),
+    ]
+}
+
+#[test]
+fn the_first_false_ends_the_asking(rt: HostRuntime) -> Result<(), Fail> {
+    let alloc = rt.alloc();
+    let calls = three(alloc)?;
+    let mut registry = Registry::new(alloc);
+    for (at, answer) in [true, false, true].iter().enumerate() {
+        let calls = Arc::try_clone(&calls[at])?;
+        let callback = Counting {
+            answer: *answer,
+            calls,
+        };
+        let filter = Box::new(alloc, Filter::new(AnyAnswer, callback))?;
+        if let Err((filter, _)) = registry.add_filter(filter) {
+            see(&rt, registry.add_filter(filter).is_ok(), "added again");
+        }
+    }
+    for _ in 0..4 {
+        see(&rt, !registry.choose(&message()).keep, "not kept");
+    }
+    see(
+        &rt,
+        counts(&calls) == [4, 4, 0],
+        "once for each choice that comes to it",
+    );
+    Ok(())
+}
+
+#[test]
+fn the_first_answer_of_a_rule_counts_also_for_what_is_dropped(rt: HostRuntime) -> Result<(), Fail> {
+    let alloc = rt.alloc();
+    let calls = three(alloc)?;
+    let mut registry = Registry::new(alloc);
+    let callback = Counting {
+        answer: false,
+        calls: Arc::new(alloc, AtomicU64::new(0))?,
+    };
+    let filter = Box::new(alloc, Filter::new(AnyAnswer, callback))?;
+    if let Err((filter, _)) = registry.add_filter(filter) {
+        see(&rt, registry.add_filter(filter).is_ok(), "added again");
+    }
+    let answers = [DocChoice::Pass, DocChoice::Trailing, DocChoice::Both];
+    for (at, answer) in answers.iter().enumerate() {
+        let calls = Arc::try_clone(&calls[at])?;
+        let callback = Counting {
+            answer: *answer,
+            calls,
+        };
+        let rule = Box::new(alloc, DocRule::new(AnyAnswer, callback))?;
+        if let Err((rule, _)) = registry.add_doc(rule) {
+            see(&rt, registry.add_doc(rule).is_ok(), "added again");
+        }
+    }
+    let choice = Choice {
+        keep: false,
+        doc: DocChoice::Trailing,
+    };
+    for _ in 0..4 {
+        see(
+            &rt,
+            registry.choose(&message()) == choice,
+            "the second rule's",
+        );
+    }
+    see(
+        &rt,
+        counts(&calls) == [4, 4, 0],
+        "once for each choice that comes to it",
+    );
+    Ok(())
+}
+
+/// Answers true and false in turn.
+#[derive(Drop)]
+struct Alternating {
+    calls: AtomicU64,
+}
+
+impl FilterCallback for Alternating {
+    fn call(&self, _view: &DeclView<'_>) -> bool {
+        self.calls.fetch_add(1, Ordering::SeqCst) % 2 == 0
+    }
+}
+
+#[test]
+fn a_filter_may_alternate(rt: HostRuntime) -> Result<(), Fail> {
+    let alloc = rt.alloc();
+    let mut registry = Registry::new(alloc);
+    let callback = Alternating {
+        calls: AtomicU64::new(0),
+    };
+    let filter = Box::new(alloc, Filter::new(AnyAnswer, callback))?;
+    if let Err((filter, _)) = registry.add_filter(filter) {
+        see(&rt, registry.add_filter(filter).is_ok(), "added again");
+    }
+    for keep in [true, false, true, false] {
+        see(&rt, registry.choose(&message()).keep == keep, "in turn");
+    }
+    Ok(())
+}
+
+#[test]
+fn threads_share_a_registry(rt: HostRuntime) -> Result<(), Fail> {
+    let alloc = rt.alloc();
+    let calls = Arc::new(alloc, AtomicU64::new(0))?;
+    let mut registry = Registry::new(alloc);
+    let callback = Counting {
+        answer: false,
+        calls: Arc::try_clone(&calls)?,
+    };
+    let filter = Box::new(alloc, Filter::new(AnyAnswer, callback))?;
+    if let Err((filter, _)) = registry.add_filter(filter) {
+        see(&rt, registry.add_filter(filter).is_ok(), "added again");
+    }
+    let (one, other) = join(
+        &rt,
+        || registry.choose(&message()).keep,
+        || registry.choose(&message()).keep,
+    );
+    see(&rt, !one && !other, "both asked");
+    see(&rt, calls.load(Ordering::SeqCst) == 2, "once each");
+    Ok(())
+}

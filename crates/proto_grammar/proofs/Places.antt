@@ -1,6 +1,7 @@
 -- The tokens from a place on.
-use Rattle.std.proofs.Common.{◌≡◌, ℕ, zero, suc, ◌+◌, List, [], ◌∷◌, map, drop, slice_get, option_map, Some, length, get_or, ◌<◌, IfSome, refl, sym, ◌∙◌, ap, add-one}
+use Rattle.std.proofs.Common.{◌≡◌, ℕ, zero, suc, ◌+◌, List, [], ◌∷◌, map, drop, slice_get, option_map, Option, None, Some, length, get_or, ◌<◌, IfSome, refl, sym, ◌∙◌, ap, add-one}
 use Rattle.std.proofs.lemmas.Option.{slice_get-map, slice_get-get_or}
+use Rattle.std.specs.Option.{option_map_or}
 use Rattle.proto_lex.specs.declared.token.Token.{Token}
 use Rattle.proto_lex.specs.Lexed.{part_of}
 use Rattle.proto_grammar.specs.Lexeme.{Lexeme, lexeme_of, lexemes_of}
@@ -37,3 +38,13 @@ pub first-lexemes_of : (text : List ℕ) (tokens : List Token) (place : ℕ) (t 
 first-lexemes_of text tokens place t spelling here spelled =
     let same : spelling ≡ part_of text t.span = rw here at spelled in
     rw same (first-drop (lexeme_of text) tokens place ∙ rw here refl)
+
+-- the offset of the token at the place
+offset-of : (text : List ℕ) (o : Option Token) (n otherwise : ℕ) → n ≡ option_map_or (λ (t : Token). t.span.start) o otherwise
+    → IfSome (option_map (lexeme_of text) o) (λ t. n ≡ t.span.start)
+offset-of text None n otherwise e = tt
+offset-of text (Some t) n otherwise e = e
+
+pub first-offset : (text : List ℕ) (tokens : List Token) (place n : ℕ) → n ≡ option_map_or (λ (t : Token). t.span.start) (slice_get tokens place) (length text)
+    → IfSome (first (drop place (lexemes_of text tokens))) (λ t. n ≡ t.span.start)
+first-offset text tokens place n e = rw (first-drop (lexeme_of text) tokens place) (offset-of text (slice_get tokens place) n (length text) e)

@@ -1,7 +1,8 @@
 //! The parser's place among the tokens, and single tokens.
 
-ghost use Rattle.std.specs.Prelude.{◌≡◌, ◌==◌, length, option_map};
+ghost use Rattle.std.specs.Prelude.{◌≡◌, ◌==◌, length, option_map, slice_get, IfSome};
 ghost use Rattle.std.specs.List.{list_any};
+ghost use Rattle.std.specs.Option.{option_map_or};
 ghost use Rattle.proto_grammar.specs.Gives.{Gives};
 ghost use Rattle.proto_grammar.specs.declared.tree.CustomOptions.TheVariants.{Skip};
 ghost use Rattle.proto_grammar.specs.Terminal.{first, others, first_is, of_kind, is_word, is_scalar, is_key, is_sign, is_numeral, is_number, is_plain_literal, between_quotes, begins_scalar, is_end};
@@ -125,6 +126,16 @@ fn has_backslash(text: &[u8]) -> bool
     text.contains(&b'\\')
 }
 
+/// The offset of the token at a place, or the text's length.
+fn offset_at(tokens: &Tokens<'_>, place: usize) -> usize
+    ensures { result ≡ option_map_or (λ t. t.span.start) (slice_get tokens.now.tokens place) (length tokens.now.text) }
+{
+    match tokens.tokens().get(place) {
+        Some(token) => token.span.start,
+        None => tokens.text().len(),
+    }
+}
+
 /// A place among the tokens of a text. Contracts see the tokens behind it, with their spellings.
 #[derive(Drop)]
 pub struct Parser<'t> {
@@ -191,11 +202,10 @@ impl<'t> Parser<'t> {
     }
 
     /// The offset of the next token, or the text's length.
-    pub fn offset(&self) -> usize {
-        match self.peek() {
-            Some(lexeme) => lexeme.span.start,
-            None => self.tokens.text().len(),
-        }
+    pub fn offset(&self) -> usize
+        ensures { IfSome (first self.now) (λ t. result ≡ t.span.start) }
+    {
+        offset_at(self.tokens, self.next)
     }
 
     /// Whether no token is left.

@@ -99,15 +99,17 @@ pub fn first_other_fault(
     None
 }
 
-/// The spans of a source's tokens.
-pub fn spans_of(alloc: Global, source: &str) -> Result<Vec<Span>, LexFault> {
-    let text = text_of(alloc, source.as_bytes())?;
-    let tokens = tokens_of(alloc, &text)?;
+/// The spans of a source's tokens, none where it has no tokens.
+pub fn spans_of(alloc: Global, source: &str) -> Result<Vec<Span>, AllocError> {
     let mut spans = Vec::new(alloc);
+    let Ok(text) = text_of(alloc, source.as_bytes()) else {
+        return Ok(spans);
+    };
+    let Ok(tokens) = tokens_of(alloc, &text) else {
+        return Ok(spans);
+    };
     for token in tokens.tokens() {
-        if spans.push(token.span).is_err() {
-            return Err(LexFault::Memory);
-        }
+        spans.push(token.span)?;
     }
     Ok(spans)
 }

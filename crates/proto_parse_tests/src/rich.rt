@@ -69,7 +69,7 @@ fn first_early(
     source: &str,
     custom: CustomOptions,
     others: &[&str],
-) -> Result<Option<Span>, Fail> {
+) -> Result<Option<Span>, AllocError> {
     let spans = spans_of(alloc, source)?;
     for span in spans.as_slice() {
         for other in others {
@@ -83,7 +83,11 @@ fn first_early(
 }
 
 /// The first token of the source up to which the text fails before its end.
-fn first_late(alloc: Global, source: &str, custom: CustomOptions) -> Result<Option<Span>, Fail> {
+fn first_late(
+    alloc: Global,
+    source: &str,
+    custom: CustomOptions,
+) -> Result<Option<Span>, AllocError> {
     let spans = spans_of(alloc, source)?;
     for span in spans.as_slice() {
         let cut = source.get(..span.end).unwrap_or("");

@@ -1,5 +1,5 @@
 -- What the steps of a dump give one another.
-use Rattle.std.specs.Prelude.{◌≡◌, ◌≢◌, ◌<◌, ◌≤◌, List, length, All}
+use Rattle.std.specs.Prelude.{◌≡◌, ◌≢◌, ℕ, ◌<◌, ◌≤◌, List, length, All}
 use Rattle.proto_lex.specs.Lexed.{Lexed, IsPart}
 use Rattle.scip_model.specs.declared.records.Index.{Index}
 use Rattle.scip_wire.specs.Spelling.{spelling_of, max_index_len}
@@ -10,6 +10,7 @@ use Rattle.protoscip.specs.declared.declarations.Declaration.{Declaration}
 use Rattle.protoscip.specs.Syntax.Tree.{MessageTree}
 use Rattle.protoscip.specs.Syntax.Derives.{Derives}
 use Rattle.protoscip.specs.Declarations.{declarations_of}
+use Rattle.protoscip.specs.DumpText.{dump_text}
 
 -- the declarations of the tokens' tree
 pub record Declares (lexed : Lexed) (declarations : List Declaration) : Type 0 where
@@ -34,3 +35,7 @@ abbrev pub IsStoreRefusal : Index → Fault → Type 0
 IsStoreRefusal index Memory = Unit {0}
 IsStoreRefusal index TooLarge = max_index_len < length (spelling_of index)
 IsStoreRefusal index other = ⊥
+
+-- the listing of an index that isn't too large
+abbrev pub IsListingOf : Index → List ℕ → Type 0
+IsListingOf index listing = (length (spelling_of index) ≤ max_index_len) × (listing ≡ dump_text index)

@@ -3,6 +3,7 @@
 ghost use Rattle.std.specs.Prelude.{◌≡◌, ◌++◌, ◌∷◌, [], List, map, IfOk, OnOk, All, IsCharBoundary, IsPermutation};
 ghost use Rattle.std.specs.List.Sorted.{IsSorted};
 ghost use Rattle.proto_lex.specs.Lexed.{IsPart};
+ghost use Rattle.scip_model.specs.declared.records.Document.{Document};
 ghost use Rattle.protoscip.specs.Document.{range_over, file_occurrence, declaration_symbol, declaration_occurrence, occurrences_of, occurrence_cmp, file_info, declaration_info, infos_of, info_cmp, IsOrdered, IsDocumentOf, metadata, IsIndexOf};
 
 use crate::declarations::Declaration;
@@ -73,6 +74,24 @@ fn compare_occurrences(a: &Occurrence, b: &Occurrence) -> Ordering
     start.then(end.then(a.symbol.as_str().cmp(b.symbol.as_str())))
 }
 
+/// The occurrences of a file: its own, and that of each declaration.
+fn unsorted_occurrences(
+    alloc: Global,
+    path: &str,
+    text: &Text<'_>,
+    declarations: &[Declaration],
+) -> Result<Vec<Occurrence>, AllocError>
+    requires { All (λ d. IsPart text.now d.name) declarations.now }
+    ensures { IfOk result (λ occurrences. occurrences.items ≡ occurrences_of path.now text.now declarations.now) }
+{
+    let mut occurrences = Vec::new(alloc);
+    occurrences.push(file_occurrence(alloc, path)?)?;
+    for declaration in declarations {
+        occurrences.push(declaration_occurrence(alloc, text, declaration)?)?;
+    }
+    Ok(occurrences)
+}
+
 /// The occurrences of a file, by start, end and symbol.
 fn occurrences(
     alloc: Global,
@@ -83,11 +102,7 @@ fn occurrences(
     requires { All (λ d. IsPart text.now d.name) declarations.now }
     ensures { IfOk result (IsOrdered occurrence_cmp (occurrences_of path.now text.now declarations.now)) }
 {
-    let mut occurrences = Vec::new(alloc);
-    occurrences.push(file_occurrence(alloc, path)?)?;
-    for declaration in declarations {
-        occurrences.push(declaration_occurrence(alloc, text, declaration)?)?;
-    }
+    let mut occurrences = unsorted_occurrences(alloc, path, text, declarations)?;
     occurrences.sort_by(|a, b| compare_occurrences(a, b))?;
     Ok(Sequence::from_vec(occurrences))
 }
@@ -170,6 +185,22 @@ fn metadata(alloc: Global) -> Result<Metadata, AllocError>
     })
 }
 
+/// The document of a source, alone in its list.
+fn documents(
+    alloc: Global,
+    path: &str,
+    text: &Text<'_>,
+    declarations: &[Declaration],
+) -> Result<Sequence<Document>, AllocError>
+    requires { All (λ d. IsPart text.now d.name) declarations.now }
+    ensures { IfOk result (λ documents. (only : Document) × (documents ≡ only ∷ []) × IsDocumentOf path.now text.now declarations.now only) }
+{
+    let document = document(alloc, path, text, declarations)?;
+    let mut documents = Sequence::new(alloc);
+    documents.push(document)?;
+    Ok(documents)
+}
+
 /// The index of one source, with all of its declarations.
 pub fn index_of(
     alloc: Global,
@@ -180,12 +211,11 @@ pub fn index_of(
     requires { All (λ d. IsPart text.now d.name) declarations.now }
     ensures { IfOk result (IsIndexOf path.now text.now declarations.now) }
 {
+    let documents = documents(alloc, path, text, declarations)?;
     let metadata = metadata(alloc)?;
-    let mut documents = Vec::new(alloc);
-    documents.push(document(alloc, path, text, declarations)?)?;
     Ok(Index {
         metadata: Some(metadata),
-        documents: Sequence::from_vec(documents),
+        documents,
         external_symbols: Sequence::from_vec(Vec::new(alloc)),
     })
 }

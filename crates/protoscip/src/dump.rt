@@ -4,7 +4,7 @@ ghost use Rattle.std.specs.Prelude.{◌≡◌, ℕ, List, Some, MatchResult};
 ghost use Rattle.scip_model.specs.WholeReads.{IsReadBriefly};
 ghost use Rattle.std.specs.String.{string_bytes};
 ghost use Rattle.protoscip.specs.Dump.{IsRefusal, IsListing, Dumps, LeavesReader, LeavesWriter};
-ghost use Rattle.protoscip.specs.DumpSteps.{IsStored, IsStoreRefusal};
+ghost use Rattle.protoscip.specs.DumpSteps.{IsListingOf, IsStored, IsStoreRefusal};
 
 use crate::fault::Fault;
 use crate::index::index_of_source;
@@ -31,14 +31,22 @@ fn read_back(alloc: Global, index: &Index) -> Result<Index, Fault>
     }
 }
 
+/// The listing of an index, by its bytes.
+fn listing_of_index(alloc: Global, index: &Index) -> Result<String, Fault>
+    ensures { MatchResult result (λ listing. IsListingOf index.now (string_bytes listing)) (IsStoreRefusal index.now) }
+{
+    let read = read_back(alloc, index)?;
+    let listing = dump_text(alloc, &read)?;
+    Ok(listing)
+}
+
 /// The listing of a source.
+#[tactic(auto, using(crate::proofs::DumpLemmas::listed))]
 fn listing_of(alloc: Global, bytes: &[u8]) -> Result<String, Fault>
     ensures { MatchResult result (λ listing. IsListing bytes.now (string_bytes listing)) (IsRefusal bytes.now) }
 {
     let index = index_of_source(alloc, SOURCE_PATH, bytes)?;
-    let read = read_back(alloc, &index)?;
-    let listing = dump_text(alloc, &read)?;
-    Ok(listing)
+    listing_of_index(alloc, &index)
 }
 
 /// Reads a source to its end, and writes a line for each occurrence of its index.

@@ -2,8 +2,8 @@
 //! asks for no more memory than it needs.
 
 use crate::decoded::spelled;
-use crate::expected::{Expected, InDocument, see_decoded};
-use crate::samples::one_document;
+use crate::fields::decodes_to;
+use crate::sample::{SampleDocument, SampleIndex, index_of};
 use crate::see::see;
 use scip_model::{Index, Std};
 use scip_wire::{WriteFault, encoded_len, write_index};
@@ -61,26 +61,48 @@ fn written(alloc: Global, index: &Index) -> (Result<(), WriteFault>, Counting) {
 /// Sees that a writer gets an index at once.
 fn see_one_write(rt: &impl Abort, alloc: Global, index: &Index) {
     let (answer, writer) = written(alloc, index);
+    let length = encoded_len(index).map(|length| length as usize);
+    see(rt, length == Ok(INDEX), "length");
     see(rt, answer == Ok(()), "written");
     see(rt, writer.calls == 1, "one write");
     see(rt, writer.bytes == INDEX, "all bytes");
 }
 
-/// Sees that an index of one document with this path is written at once, and read.
-fn see_large(rt: &impl Abort, alloc: Global, index: &Index, path: &str) -> Result<(), Fail> {
-    see(rt, encoded_len(index)? as usize == INDEX, "length");
-    see_one_write(rt, alloc, index);
+/// Sees that an index is written at once, as the bytes that it is spelled as.
+fn see_large(rt: &impl Abort, alloc: Global, sample: &SampleIndex<'_>) -> Result<(), Fail> {
+    let index = index_of(alloc, sample)?;
+    see_one_write(rt, alloc, &index);
+    see_spelled(rt, alloc, &index, sample)
+}
+
+/// Sees that an index is spelled without more memory than it needs, and read.
+fn see_spelled(
+    rt: &impl Abort,
+    alloc: Global,
+    index: &Index,
+    sample: &SampleIndex<'_>,
+) -> Result<(), Fail> {
     let bytes = spelled(alloc, index)?;
     see(rt, bytes.len() == INDEX, "spelled");
     see(rt, bytes.capacity() < 2 * INDEX, "memory");
-    let want = Expected::Document(InDocument::Path(path));
-    see_decoded(rt, alloc, &bytes, want)?;
+    see(rt, decodes_to(alloc, &bytes, sample), "read");
     Ok(())
 }
 
 #[test]
 fn a_long_text_is_written_at_once_and_read(rt: HostRuntime) -> Result<(), Fail> {
     let text = text_of(rt.alloc(), TEXT)?;
-    let index = one_document(rt.alloc(), text.as_str())?;
-    see_large(&rt, rt.alloc(), &index, text.as_str())
+    let document = SampleDocument {
+        relative_path: text.as_str(),
+        occurrences: &[],
+        symbols: &[],
+        language: "",
+        position_encoding: 0,
+    };
+    let sample = SampleIndex {
+        metadata: None,
+        documents: &[document],
+        external_symbols: &[],
+    };
+    see_large(&rt, rt.alloc(), &sample)
 }

@@ -6,13 +6,13 @@ mod changes;
 #[cfg(test)]
 mod decoded;
 #[cfg(test)]
-mod expected;
-#[cfg(test)]
 mod fields;
 #[cfg(test)]
 mod large;
 #[cfg(test)]
 mod refusals;
+#[cfg(test)]
+mod sample;
 #[cfg(test)]
 mod samples;
 #[cfg(test)]

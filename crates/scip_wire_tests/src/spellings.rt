@@ -2,7 +2,11 @@
 //! encoding and `scip.proto`.
 
 use crate::decoded::spelled;
-use crate::samples::{EVERYTHING, MESSAGE, NO_DOCUMENT, OCCURRENCE, Sample, index_of};
+use crate::sample::{SampleIndex, index_of};
+use crate::samples::{
+    EMPTY_INDEX, EMPTY_TOOL_INDEX, EVERYTHING, EVERYTHING_INDEX, MESSAGE, MESSAGE_INDEX,
+    NO_DOCUMENT, NO_DOCUMENT_INDEX, OCCURRENCE, OCCURRENCE_INDEX,
+};
 use crate::see::see;
 use crate::writers::{AtEnd, Limits, written};
 use scip_model::Index;
@@ -28,45 +32,42 @@ fn see_written(rt: &impl Abort, alloc: Global, case: &str, index: &Index, want: 
     see(rt, room.as_slice().get(..count) == Some(want), case);
 }
 
-/// Sees that an index is spelled and written as these bytes.
-fn see_spelled(
-    rt: &impl Abort,
-    alloc: Global,
-    case: &str,
-    index: &Index,
-    want: &[u8],
-) -> Result<(), Fail> {
-    see_written(rt, alloc, case, index, want);
-    let bytes = spelled(alloc, index)?;
-    see(rt, bytes.as_slice() == want, case);
-    Ok(())
-}
-
 /// Sees that a sample is spelled and written as these bytes.
 fn see_sample(
     rt: &impl Abort,
     alloc: Global,
     case: &str,
-    sample: Sample,
+    sample: &SampleIndex<'_>,
     want: &[u8],
 ) -> Result<(), Fail> {
     let index = index_of(alloc, sample)?;
-    see_spelled(rt, alloc, case, &index, want)
+    see_written(rt, alloc, case, &index, want);
+    see(rt, is_spelled(alloc, &index, want), case);
+    Ok(())
 }
+
+/// Whether an index is spelled as these bytes.
+fn is_spelled(alloc: Global, index: &Index, want: &[u8]) -> bool {
+    match spelled(alloc, index) {
+        Ok(bytes) => bytes.as_slice() == want,
+        Err(_) => false,
+    }
+}
+
+const SAMPLES: [(&str, SampleIndex<'static>, &[u8]); 6] = [
+    ("empty index", EMPTY_INDEX, b""),
+    ("empty tool", EMPTY_TOOL_INDEX, b"\x0A\x02\x12\x00"),
+    ("no document", NO_DOCUMENT_INDEX, NO_DOCUMENT),
+    ("one message", MESSAGE_INDEX, MESSAGE),
+    ("one occurrence", OCCURRENCE_INDEX, OCCURRENCE),
+    // Each field, and the bounds of int32.
+    ("everything", EVERYTHING_INDEX, EVERYTHING),
+];
 
 #[test]
 fn each_sample_is_spelled(rt: HostRuntime) -> Result<(), Fail> {
-    let samples: [(&str, Sample, &[u8]); 6] = [
-        ("empty index", Sample::Empty, b""),
-        ("empty metadata", Sample::EmptyMetadata, b"\x0A\x02\x12\x00"),
-        ("no document", Sample::NoDocument, NO_DOCUMENT),
-        ("one message", Sample::Message, MESSAGE),
-        ("one occurrence", Sample::OneOccurrence, OCCURRENCE),
-        // Each field, and the bounds of int32.
-        ("everything", Sample::Everything, EVERYTHING),
-    ];
-    for (case, sample, want) in &samples {
-        see_sample(&rt, rt.alloc(), case, *sample, want)?;
+    for (case, sample, want) in &SAMPLES {
+        see_sample(&rt, rt.alloc(), case, sample, want)?;
     }
     Ok(())
 }

@@ -1,6 +1,7 @@
 //! Writers that take little or fail.
 
-use crate::samples::{MESSAGE, NO_DOCUMENT, Sample, index_of};
+use crate::sample::{SampleIndex, index_of};
+use crate::samples::{MESSAGE, MESSAGE_INDEX, NO_DOCUMENT, NO_DOCUMENT_INDEX};
 use crate::see::see;
 use scip_model::{Index, Std};
 use scip_wire::{WriteFault, write_index};
@@ -110,7 +111,7 @@ fn see_cut_off(rt: &impl Abort, alloc: Global, index: &Index, bytes: &[u8], limi
 fn see_sample(
     rt: &impl Abort,
     alloc: Global,
-    sample: Sample,
+    sample: &SampleIndex<'_>,
     bytes: &[u8],
     a_call: usize,
 ) -> Result<(), Fail> {
@@ -128,12 +129,12 @@ fn see_sample(
 #[test]
 fn writers_that_take_little_or_fail(rt: HostRuntime) -> Result<(), Fail> {
     for a_call in &[1, 7, 100] {
-        see_sample(&rt, rt.alloc(), Sample::NoDocument, NO_DOCUMENT, *a_call)?;
+        see_sample(&rt, rt.alloc(), &NO_DOCUMENT_INDEX, NO_DOCUMENT, *a_call)?;
     }
     Ok(())
 }
 
 #[test]
 fn writers_that_take_all_and_stop_at_each_byte(rt: HostRuntime) -> Result<(), Fail> {
-    see_sample(&rt, rt.alloc(), Sample::Message, MESSAGE, usize::MAX)
+    see_sample(&rt, rt.alloc(), &MESSAGE_INDEX, MESSAGE, usize::MAX)
 }

@@ -36,6 +36,8 @@ refusal-elim P memory lex syntax duplicate large bytes (fault.Syntax e) is = syn
 refusal-elim P memory lex syntax duplicate large bytes (fault.Duplicate first second) is = duplicate first second
 refusal-elim P memory lex syntax duplicate large bytes fault.TooLarge is = large
 refusal-elim P memory lex syntax duplicate large bytes (fault.Write count) is = absurd is
+refusal-elim P memory lex syntax duplicate large bytes fault.Unreadable is = absurd is
+refusal-elim P memory lex syntax duplicate large bytes (fault.Wire e) is = absurd is
 
 -- what a dump says where the bytes are refused
 pub refused-dumps : (bytes due : List ℕ) (e : Fault) → IsRefusal bytes e → Dumps bytes due (Err e)

@@ -10,7 +10,8 @@ pub mod SymbolLemmas
 pub mod DocumentLemmas
 pub mod IndexLemmas
 -- Its dump, and why there is none
-pub mod RefusalLemmas
+pub mod QueryLemmas
+mod RefusalLemmas
 pub mod DumpLemmas
 -- The laws
 pub mod OneSymbol

@@ -64,3 +64,5 @@ module _ (bytes : List ℕ)
       let large = refused.2 in
       absurd (omega (arith, small, large))
   listed-unless-memory listing (fault.Write count) is refused = absurd refused
+  listed-unless-memory listing fault.Unreadable is refused = absurd refused
+  listed-unless-memory listing (fault.Wire e) is refused = absurd refused

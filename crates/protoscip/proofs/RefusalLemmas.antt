@@ -48,6 +48,8 @@ refused-tree bytes lexable lexed (fault.Syntax e) text tokens is = (is.0, record
 refused-tree bytes lexable lexed (fault.Duplicate first second) text tokens is = absurd is
 refused-tree bytes lexable lexed fault.TooLarge text tokens is = absurd is
 refused-tree bytes lexable lexed (fault.Write count) text tokens is = absurd is
+refused-tree bytes lexable lexed fault.Unreadable text tokens is = absurd is
+refused-tree bytes lexable lexed (fault.Wire e) text tokens is = absurd is
 
 -- what is kept of bytes is all of them, where that isn't too long
 pub all-kept : (bytes : List ℕ) → length (kept_bytes bytes) ≤ max_text_length → kept_bytes bytes ≡ bytes
@@ -82,3 +84,5 @@ refusal-of-all bytes (fault.Syntax e) is = (is.0, whole IsUnparsed bytes is.1.le
 refusal-of-all bytes (fault.Duplicate first second) is = whole (λ b. HasClash b first second) bytes is.source.lexable.text.short is
 refusal-of-all bytes fault.TooLarge is = whole (λ b. IsRefusal b fault.TooLarge) bytes is.1.source.lexable.text.short is
 refusal-of-all bytes (fault.Write count) is = is
+refusal-of-all bytes fault.Unreadable is = is
+refusal-of-all bytes (fault.Wire e) is = is

@@ -14,7 +14,7 @@ use Rattle.scip_wire.specs.Spelling.{spelling_of, max_index_len}
 use Rattle.protoscip.specs.declared.fault.Fault.{Fault}
 use Rattle.protoscip.specs.declared.syntax.fault.SyntaxFault.{SyntaxFault}
 use Rattle.protoscip.specs.declared.syntax.fault.SyntaxFault.TheVariants.{Memory as SyntaxMemory}
-use Rattle.protoscip.specs.declared.fault.Fault.TheVariants.{Memory, Read, Lex, Syntax, Duplicate, TooLarge, Write}
+use Rattle.protoscip.specs.declared.fault.Fault.TheVariants.{Memory, Read, Lex, Syntax, Duplicate, TooLarge, Write, Unreadable, Wire}
 use Rattle.protoscip.specs.Syntax.Tree.{MessageTree}
 use Rattle.protoscip.specs.Syntax.Derives.{Derives}
 use Rattle.protoscip.specs.Declarations.{declarations_of}
@@ -72,7 +72,7 @@ abbrev pub IsSyntaxRefusal : List ℕ → SyntaxFault → Type 0
 IsSyntaxRefusal bytes fault = (fault ≢ SyntaxMemory) × IsUnparsed bytes
 
 -- why bytes have no listing: the first of these, in this order, that is so; or memory ran out.
--- (Read and Write are no faults of the bytes.)
+-- (Read and Write are no faults of the bytes, and no index is read from a file.)
 abbrev pub IsRefusal : List ℕ → Fault → Type 0
 IsRefusal bytes Memory = Unit {0}
 IsRefusal bytes Read = ⊥
@@ -81,6 +81,8 @@ IsRefusal bytes (Syntax fault) = IsSyntaxRefusal bytes fault
 IsRefusal bytes (Duplicate first second) = HasClash bytes first second
 IsRefusal bytes TooLarge = (index : Index) × IsIndexOfSource source_path bytes index × (max_index_len < length (spelling_of index))
 IsRefusal bytes (Write count) = ⊥
+IsRefusal bytes Unreadable = ⊥
+IsRefusal bytes (Wire fault) = ⊥
 
 -- the listing of a source: that of its index, where that isn't too large
 abbrev pub IsListing : List ℕ → List ℕ → Type 0

@@ -14,6 +14,8 @@ pub mod Output
 pub mod Dump
 pub mod DumpSteps
 pub mod DumpLaws
+-- What is answered of an index
+pub mod Query
 -- What is said of a fault
 pub mod Faults
 pub mod Messages

@@ -1,12 +1,13 @@
 //! The command line.
-ghost use Rattle.std.specs.Prelude.{◌≡◌, ◌≢◌, IfOk, IfErr, IsErr, map, string_bytes};
+ghost use Rattle.std.specs.Prelude.{◌≡◌, ◌≢◌, IfOk, IfErr, IsErr, false, map, string_bytes};
 ghost use Rattle.std.specs.IoError.{error_kind};
 ghost use Rattle.std.specs.declared.io.ErrorKind.TheVariants.{OutOfMemory as Memory};
-ghost use Rattle.clap.specs.Words.{app_of, fault_of, kind_of};
-ghost use Rattle.protoscip.specs.CommandLine.{Asks, IsRefused, Prints, command_line};
+ghost use Rattle.clap.specs.Words.{app_of, fault_of, kind_of, subcommand_rows_of};
+ghost use Rattle.clap.specs.declared.builder.command.Command.TheViews.{out-Command as fields_of};
+ghost use Rattle.protoscip.specs.CommandLine.{Asks, IsRefused, Names, Prints, command_line, query_line};
 
 use clap::error::ErrorKind;
-use clap::{Command, Error};
+use clap::{Arg, ArgMatches, Command, Error};
 use std::alloc::{AllocError, Global};
 use std::io;
 
@@ -15,10 +16,30 @@ use std::io;
 pub enum Request {
     /// The program `dump`.
     Dump,
+    /// The program `query`, about the index that the file with this path holds.
+    Query(String),
     /// A text for standard output: help or the version.
     Print(String),
     /// A text for standard error: what is wrong with the command line.
     Refuse(String),
+}
+
+/// The name of `query`, and of the argument that it wants.
+const QUERY: &str = "query";
+
+const INDEX: &str = "INDEX";
+
+/// The command line of `query`.
+fn query_program<'a>(alloc: Global) -> Result<Command<'a>, AllocError>
+    ensures line { IfOk result (λ c. (app_of c).top ≡ query_line) }
+    ensures local { IfOk result (λ c. (fields_of c).has_globals ≡ false) }
+{
+    let index = Arg::new(alloc, INDEX)
+        .help("The file of a SCIP index")
+        .required(true);
+    Command::new(alloc, QUERY)
+        .about("Answers commands about an index, from standard input")
+        .arg(index)
 }
 
 /// The command line's programs and options.
@@ -32,6 +53,7 @@ fn program<'a>(alloc: Global) -> Result<Command<'a>, AllocError>
         .version("1")
         .about("Indexes proto3 sources and writes SCIP")
         .subcommand_required(true)
+        .subcommand(query_program(alloc)?)?
         .subcommand(dump)
 }
 
@@ -42,8 +64,21 @@ pub fn request_of(alloc: Global, words: &Vec<String>) -> Result<Request, AllocEr
     ensures { IfOk result (Asks (map string_bytes words.now.items)) }
 {
     match program(alloc)?.try_get_matches_from(words.as_slice()) {
-        Ok(_) => Ok(Request::Dump),
+        Ok(matches) => named(alloc, &matches),
         Err(error) => answer(alloc, &error),
+    }
+}
+
+/// The program that a command line names, with what it is given.
+fn named(alloc: Global, matches: &ArgMatches<'_>) -> Result<Request, AllocError>
+    ensures { IfOk result (Names (subcommand_rows_of matches.now)) }
+{
+    match matches.subcommand_matches(QUERY) {
+        Some(given) => {
+            let index = given.get_str(INDEX).unwrap_or("");
+            Ok(Request::Query(String::from_str(alloc, index)?))
+        }
+        None => Ok(Request::Dump),
     }
 }
 

@@ -1,11 +1,13 @@
 //! Why the program stops short of its answer.
 ghost use Rattle.std.specs.Prelude.{◌≡◌, IfOk, string_bytes};
-ghost use Rattle.protoscip.specs.Faults.{fault_line, line_of, lex_name, lex_offset, refusal_of_lex, refusal_of_source, refusal_of_spelling, refusal_of_syntax, status_of, syntax_name, syntax_offset};
+ghost use Rattle.protoscip.specs.Faults.{fault_line, line_of, lex_name, lex_offset, refusal_of_answer, refusal_of_file, refusal_of_lex, refusal_of_source, refusal_of_spelling, refusal_of_syntax, refusal_of_wire, status_of, syntax_name, syntax_offset, wire_name, wire_offset};
 
+use crate::files::FileFault;
 use crate::source::SourceFault;
 use crate::syntax::SyntaxFault;
 use proto_lex::{LexFault, MAX_TEXT_LENGTH, Span};
-use scip_wire::SpellFault;
+use scip_query::AnswerFault;
+use scip_wire::{SpellFault, WireFault};
 use std::alloc::{AllocError, AllocFailed, Global};
 use thiserror::Error;
 
@@ -38,6 +40,12 @@ pub enum Fault {
     /// A write failed after this many bytes.
     #[error("Write({0})")]
     Write(u64),
+    /// The file of an index can't be read.
+    #[error("Unreadable")]
+    Unreadable,
+    /// The bytes of a file decode to no index.
+    #[error("{0}")]
+    Wire(WireFault),
 }
 
 impl From<AllocError> for Fault {
@@ -104,8 +112,42 @@ impl From<SpellFault> for Fault {
     }
 }
 
+impl From<FileFault> for Fault {
+    ghost from_gives = { λ fault e. e ≡ refusal_of_file fault };
+
+    fn from(fault: FileFault) -> Fault {
+        match fault {
+            FileFault::Unreadable => Fault::Unreadable,
+            FileFault::Memory => Fault::Memory,
+        }
+    }
+}
+
+impl From<WireFault> for Fault {
+    ghost from_gives = { λ fault e. e ≡ refusal_of_wire fault };
+
+    fn from(fault: WireFault) -> Fault {
+        match fault {
+            WireFault::Memory => Fault::Memory,
+            _ => Fault::Wire(fault),
+        }
+    }
+}
+
+impl From<AnswerFault> for Fault {
+    ghost from_gives = { λ fault e. e ≡ refusal_of_answer fault };
+
+    fn from(fault: AnswerFault) -> Fault {
+        match fault {
+            AnswerFault::Read => Fault::Read,
+            AnswerFault::Write(count) => Fault::Write(count),
+            AnswerFault::Memory => Fault::Memory,
+        }
+    }
+}
+
 impl Fault {
-    /// The line, without its end, that says this of the source with this path.
+    /// The line, without its end, that says this of the source or index with this path.
     pub fn line(&self, alloc: Global, path: &str) -> Result<String, AllocError>
         ensures { IfOk result (λ line. string_bytes line ≡ fault_line path.now self.now) }
     {
@@ -122,6 +164,8 @@ impl Fault {
             }
             Fault::TooLarge => format!(in alloc; "protoscip: TooLarge"),
             Fault::Write(_) => format!(in alloc; "protoscip: Write"),
+            Fault::Unreadable => format!(in alloc; "protoscip: {path}: Unreadable"),
+            Fault::Wire(fault) => line_at(alloc, path, offset_of_wire(fault), name_of_wire(fault)),
         }
     }
 
@@ -130,9 +174,13 @@ impl Fault {
         ensures { result ≡ status_of self.now }
     {
         match self {
-            Fault::Memory | Fault::Lex(LexFault::Memory) | Fault::Syntax(SyntaxFault::Memory) => 4,
-            Fault::Read | Fault::TooLarge | Fault::Write(_) => 3,
+            Fault::Memory
+            | Fault::Lex(LexFault::Memory)
+            | Fault::Syntax(SyntaxFault::Memory)
+            | Fault::Wire(WireFault::Memory) => 4,
+            Fault::Read | Fault::TooLarge | Fault::Write(_) | Fault::Unreadable => 3,
             Fault::Lex(_) | Fault::Syntax(_) | Fault::Duplicate { .. } => 1,
+            Fault::Wire(_) => 5,
         }
     }
 }
@@ -205,5 +253,39 @@ fn name_of_syntax(fault: &SyntaxFault) -> &'static str
         SyntaxFault::TooDeep(_) => "TooDeep",
         SyntaxFault::Grammar(_) => "Grammar",
         SyntaxFault::Memory => "Memory",
+    }
+}
+
+/// The offset that a fault of an index's bytes names.
+fn offset_of_wire(fault: &WireFault) -> Option<usize>
+    ensures { result ≡ wire_offset fault.now }
+{
+    match *fault {
+        WireFault::Truncated(offset)
+        | WireFault::Varint(offset)
+        | WireFault::FieldZero(offset)
+        | WireFault::Group(offset)
+        | WireFault::WireType(offset)
+        | WireFault::Repeated(offset)
+        | WireFault::Utf8(offset)
+        | WireFault::BadRange(offset) => Some(offset),
+        WireFault::Memory => None,
+    }
+}
+
+/// The name of a fault of an index's bytes.
+fn name_of_wire(fault: &WireFault) -> &'static str
+    ensures { result.now ≡ wire_name fault.now }
+{
+    match fault {
+        WireFault::Truncated(_) => "Truncated",
+        WireFault::Varint(_) => "Varint",
+        WireFault::FieldZero(_) => "FieldZero",
+        WireFault::Group(_) => "Group",
+        WireFault::WireType(_) => "WireType",
+        WireFault::Repeated(_) => "Repeated",
+        WireFault::Utf8(_) => "Utf8",
+        WireFault::BadRange(_) => "BadRange",
+        WireFault::Memory => "Memory",
     }
 }

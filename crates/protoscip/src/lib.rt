@@ -1,4 +1,5 @@
-//! From a proto3 source to its listing: what the program `protoscip` does, over readers and writers.
+//! From a proto3 source to its listing, and from an index to answers: what the program `protoscip` does, over readers,
+//! writers and files.
 #![tactic(auto)]
 
 // The program.
@@ -9,6 +10,10 @@ pub mod run;
 pub mod dump;
 mod output;
 pub mod source;
+
+// Queries: an index is read from a file, and answers commands.
+pub mod files;
+pub mod query;
 
 // The index of a source.
 pub mod declarations;

@@ -2,17 +2,27 @@
 #![tactic(auto)]
 
 use protoscip::command::request_of_process;
+use protoscip::files::SystemFiles;
 use protoscip::run::run;
 use scip_model::Std;
 use std::process::ExitCode;
 
-/// Does what the command line asks for, over the process's streams, and ends with its status.
+/// Does what the command line asks for, over the process's streams and the system's files, and ends with its
+/// status.
 fn main(rt: HostRuntime) -> ExitCode {
     let words = std::env::args(&rt).and_then(|words| Ok(words.collect(rt.alloc())?));
     let asked = request_of_process(rt.alloc(), words);
+    let files = SystemFiles::new(&rt);
     let mut input = Std::new(rt.stdin());
     let mut out = Std::new(rt.stdout());
     let mut messages = Std::new(rt.stderr());
-    let status = run(rt.alloc(), &asked, &mut input, &mut out, &mut messages);
+    let status = run(
+        rt.alloc(),
+        &asked,
+        &files,
+        &mut input,
+        &mut out,
+        &mut messages,
+    );
     ExitCode::from(status)
 }

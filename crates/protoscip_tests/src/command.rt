@@ -12,8 +12,9 @@ const HELP: &str = "Indexes proto3 sources and writes SCIP
 Usage: protoscip <COMMAND>
 
 Commands:
-  dump  Indexes one source from standard input and prints its occurrences
-  help  Print this message or the help of the given subcommand(s)
+  query  Answers commands about an index, from standard input
+  dump   Indexes one source from standard input and prints its occurrences
+  help   Print this message or the help of the given subcommand(s)
 
 Options:
   -h, --help     Print help
@@ -23,6 +24,17 @@ Options:
 const HELP_OF_DUMP: &str = "Indexes one source from standard input and prints its occurrences
 
 Usage: protoscip dump
+
+Options:
+  -h, --help  Print help
+";
+
+const HELP_OF_QUERY: &str = "Answers commands about an index, from standard input
+
+Usage: protoscip query <INDEX>
+
+Arguments:
+  <INDEX>  The file of a SCIP index
 
 Options:
   -h, --help  Print help
@@ -73,6 +85,9 @@ fn help_and_version_are_printed(rt: HostRuntime) -> Result<(), Fail> {
         ("dump --help", HELP_OF_DUMP),
         ("dump -h", HELP_OF_DUMP),
         ("help dump", HELP_OF_DUMP),
+        ("query --help", HELP_OF_QUERY),
+        ("query a.scip -h", HELP_OF_QUERY),
+        ("help query", HELP_OF_QUERY),
         ("--version", "protoscip 1\n"),
         ("-V", "protoscip 1\n"),
     ] {
@@ -95,6 +110,13 @@ fn other_words_are_refused(rt: HostRuntime) -> Result<(), Fail> {
         ("dump --nope", "error: "),
         ("dump dump", "error: "),
         ("dump help", "error: "),
+        (
+            "query",
+            "error: the following required arguments were not provided",
+        ),
+        ("query a b", "error: "),
+        ("query -a", "error: "),
+        ("query --index a", "error: "),
     ] {
         let words = words_of(rt.alloc(), arguments)?;
         let request = asked(rt.alloc(), &words)?;
@@ -143,6 +165,28 @@ fn system_words(
 fn dump_is_asked_for_by_its_name_alone(rt: HostRuntime) -> Result<(), Fail> {
     let request = asked_by_system(rt.alloc(), "dump", None)?;
     see(&rt, matches!(request, Request::Dump), "dump");
+    Ok(())
+}
+
+/// Whether a request is to answer commands about the index with this path.
+fn queries(request: &Request, path: &str) -> bool {
+    match request {
+        Request::Query(index) => index.as_str() == path,
+        _ => false,
+    }
+}
+
+#[test]
+fn query_is_asked_for_with_its_index(rt: HostRuntime) -> Result<(), Fail> {
+    for (arguments, path) in [
+        ("query a.scip", "a.scip"),
+        ("query dump", "dump"),
+        ("query -", "-"),
+        ("query -- -a", "-a"),
+    ] {
+        let request = asked_by_system(rt.alloc(), arguments, None)?;
+        see(&rt, queries(&request, path), arguments);
+    }
     Ok(())
 }
 

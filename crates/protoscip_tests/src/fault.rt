@@ -4,6 +4,7 @@ use crate::see::see;
 use proto_lex::{LexFault, Span};
 use protoscip::fault::Fault;
 use protoscip::syntax::SyntaxFault;
+use scip_wire::WireFault;
 use std::alloc::{AllocError, Global};
 use std::test::Fail;
 
@@ -21,7 +22,7 @@ const LATER: Fault = Fault::Duplicate {
 };
 
 /// Faults, each with its line for a source `a.proto`, and its status.
-const LINES: [(Fault, &str, u8); 17] = [
+const LINES: [(Fault, &str, u8); 27] = [
     (
         Fault::Lex(LexFault::TooLong),
         "protoscip: a.proto@67108864: TooLong",
@@ -76,6 +77,48 @@ const LINES: [(Fault, &str, u8); 17] = [
     (Fault::Read, "protoscip: Read", 3),
     (Fault::TooLarge, "protoscip: TooLarge", 3),
     (Fault::Write(12), "protoscip: Write", 3),
+    (Fault::Unreadable, "protoscip: a.proto: Unreadable", 3),
+    (
+        Fault::Wire(WireFault::Truncated(30)),
+        "protoscip: a.proto@30: Truncated",
+        5,
+    ),
+    (
+        Fault::Wire(WireFault::Varint(1)),
+        "protoscip: a.proto@1: Varint",
+        5,
+    ),
+    (
+        Fault::Wire(WireFault::FieldZero(2)),
+        "protoscip: a.proto@2: FieldZero",
+        5,
+    ),
+    (
+        Fault::Wire(WireFault::Group(3)),
+        "protoscip: a.proto@3: Group",
+        5,
+    ),
+    (
+        Fault::Wire(WireFault::WireType(4)),
+        "protoscip: a.proto@4: WireType",
+        5,
+    ),
+    (
+        Fault::Wire(WireFault::Repeated(5)),
+        "protoscip: a.proto@5: Repeated",
+        5,
+    ),
+    (
+        Fault::Wire(WireFault::Utf8(6)),
+        "protoscip: a.proto@6: Utf8",
+        5,
+    ),
+    (
+        Fault::Wire(WireFault::BadRange(7)),
+        "protoscip: a.proto@7: BadRange",
+        5,
+    ),
+    (Fault::Wire(WireFault::Memory), "protoscip: Memory", 4),
     (Fault::Memory, "protoscip: Memory", 4),
     (Fault::Lex(LexFault::Memory), "protoscip: Memory", 4),
     (Fault::Syntax(SyntaxFault::Memory), "protoscip: Memory", 4),
@@ -96,9 +139,14 @@ fn want_of_memory_is_one_refusal(rt: HostRuntime) {
     for (made, fault) in [
         (Fault::from(LexFault::Memory), Fault::Memory),
         (Fault::from(SyntaxFault::Memory), Fault::Memory),
+        (Fault::from(WireFault::Memory), Fault::Memory),
         (
             Fault::from(LexFault::BadByte(1)),
             Fault::Lex(LexFault::BadByte(1)),
+        ),
+        (
+            Fault::from(WireFault::Group(1)),
+            Fault::Wire(WireFault::Group(1)),
         ),
         (
             Fault::from(SyntaxFault::Grammar(1)),

@@ -26,7 +26,7 @@ fn reported_once(
         before,
         failures_left,
     });
-    let status = report(alloc, fault, &mut messages);
+    let status = report(alloc, "input.proto", fault, &mut messages);
     Ok((status, messages.into_inner().bytes))
 }
 

@@ -4,6 +4,7 @@
 //! written.
 
 use crate::see::see;
+use crate::streams::TwoFiles;
 use protoscip::command::Request;
 use protoscip::fault::Fault;
 use protoscip::run::run;
@@ -16,6 +17,7 @@ use std::test::Fail;
 #[derive(Clone, Copy)]
 enum Wanted {
     Dump,
+    Query(&'static str),
     Print,
     Refuse,
     Unknown,
@@ -26,14 +28,15 @@ fn asked(alloc: Global, wanted: Wanted) -> Result<Result<Request, AllocError>, F
     let text = String::from_str(alloc, "some text\n")?;
     Ok(match wanted {
         Wanted::Dump => Ok(Request::Dump),
+        Wanted::Query(index) => Ok(Request::Query(String::from_str(alloc, index)?)),
         Wanted::Print => Ok(Request::Print(text)),
         Wanted::Refuse => Ok(Request::Refuse(text)),
         Wanted::Unknown => Err(AllocError),
     })
 }
 
-/// Runs once on this source, with this room for the output, and gives the exit status and what
-/// standard error was told.
+/// Runs once on this input, with this room for the output, and gives the exit status and what standard
+/// error was told.
 fn ran_once(
     rt: &impl Abort,
     alloc: Global,
@@ -45,7 +48,7 @@ fn ran_once(
     let mut out = Std::new(room);
     let mut told = [0u8; 64];
     let mut messages = Std::new(told.as_mut_slice());
-    let status = run(alloc, asked, &mut input, &mut out, &mut messages);
+    let status = run(alloc, asked, &TwoFiles, &mut input, &mut out, &mut messages);
     let left = messages.into_inner().len();
     assert!(rt; left <= 64);
     let told = std::str::from_utf8(&told[..64 - left])?;
@@ -73,7 +76,7 @@ fn ran(
 #[test]
 fn each_request_with_its_streams(rt: HostRuntime) -> Result<(), Fail> {
     let listing = "0 0 0 0 1 scip-protobuf . . . `input.proto`/\n= 1\n";
-    for (wanted, source, output, status, told) in [
+    for (wanted, input, output, status, told) in [
         (Wanted::Print, "", "some text\n\0\0", 0, ""),
         (Wanted::Print, "", "some", 3, "protoscip: Write\n"),
         (Wanted::Refuse, "", "\0\0", 2, "some text\n"),
@@ -85,13 +88,41 @@ fn each_request_with_its_streams(rt: HostRuntime) -> Result<(), Fail> {
             1,
             "protoscip: input.proto@1: BadByte\n",
         ),
+        (
+            Wanted::Query("a.scip"),
+            "ref 1 8 a\nsym b",
+            "1 8 1 9 1 a\n= 1\n? no document\n\0",
+            0,
+            "",
+        ),
+        (
+            Wanted::Query("a.scip"),
+            "ref 1 8 a\n",
+            "1 8 1",
+            3,
+            "protoscip: Write\n",
+        ),
+        (
+            Wanted::Query("none.scip"),
+            "sym a\n",
+            "\0\0",
+            3,
+            "protoscip: none.scip: Unreadable\n",
+        ),
+        (
+            Wanted::Query("cut.scip"),
+            "sym a\n",
+            "\0\0",
+            5,
+            "protoscip: cut.scip@0: Truncated\n",
+        ),
         (Wanted::Unknown, "", "\0\0", 4, "protoscip: Memory\n"),
     ] {
         let asked = asked(rt.alloc(), wanted)?;
         let mut room = [0u8; 49];
         let length = output.len().min(49);
         let room = &mut room[..length];
-        let (ended, said) = ran(&rt, rt.alloc(), &asked, source.as_bytes(), room)?;
+        let (ended, said) = ran(&rt, rt.alloc(), &asked, input.as_bytes(), room)?;
         see(&rt, ended == status, output);
         see(&rt, &*room == output.as_bytes(), output);
         see(&rt, said.as_str() == told, told);

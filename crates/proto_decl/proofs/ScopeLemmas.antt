@@ -68,7 +68,7 @@ fronts-at (byte ∷ name) (suc k) within dot none =
     rw (fronts-at name k (omega (arith, within)) dot (λ i lo h. none (suc i) (omega (arith, lo)) (omega (arith, h))), map-append (λ (front : List ℕ). byte ∷ front) (fronts_before_dots (take k name)) (take k name ∷ []))
     (put_behind (byte == 46) (map (λ (front : List ℕ). byte ∷ front) (fronts_before_dots (take k name))) (byte ∷ take k name))
 
-pub scopes_of-at : (name : List ℕ) (k : ℕ) → k < length name → get_or name k 0 ≡ 46 → ((i : ℕ) → k < i → i < length name → get_or name i 0 ≢ 46)
+scopes_of-at : (name : List ℕ) (k : ℕ) → k < length name → get_or name k 0 ≡ 46 → ((i : ℕ) → k < i → i < length name → get_or name i 0 ≢ 46)
     → scopes_of name ≡ name ∷ scopes_of (take k name)
 scopes_of-at [] k within dot none = absurd (omega (arith, within))
 scopes_of-at (byte ∷ name) zero within dot none =
@@ -77,7 +77,7 @@ scopes_of-at (byte ∷ name) (suc k) within dot none =
     ap (λ (outer : List (List ℕ)). (byte ∷ name) ∷ (outer ++ [] ∷ []))
     (more_fronts byte name (take k name) (take k name) (fronts-at name k (omega (arith, within)) dot (λ i lo h. none (suc i) (omega (arith, lo)) (omega (arith, h)))))
 
-pub scopes_of-no_dot : (name : List ℕ) → 0 < length name → ((i : ℕ) → i < length name → get_or name i 0 ≢ 46) → scopes_of name ≡ name ∷ scopes_of []
+scopes_of-no_dot : (name : List ℕ) → 0 < length name → ((i : ℕ) → i < length name → get_or name i 0 ≢ 46) → scopes_of name ≡ name ∷ scopes_of []
 scopes_of-no_dot [] some none = absurd (omega (arith, some))
 scopes_of-no_dot (byte ∷ name) some none =
     ap (λ (fronts : List (List ℕ)). (byte ∷ name) ∷ (reverse (map (λ (front : List ℕ). byte ∷ front) fronts) ++ [] ∷ [])) (no_fronts-at name (λ i h. none (suc i) (omega (arith, h))))
@@ -90,6 +90,7 @@ around_dot name outer k is found =
     let front : outer ≡ take k name = is ∙ ap (λ n. take n name) whole in
     rw front (scopes_of-at name k found.0 found.1 found.2)
 
-pub not_empty : (name : List ℕ) (empty : Bool) → empty ≡ (length name == 0) → empty ≡ false → 0 < length name
-not_empty [] empty e f = never (sym f ∙ e)
-not_empty (byte ∷ name) empty e f = omega arith
+-- of a name without a dot
+pub around_none : (name : List ℕ) → (length name == 0) ≡ false → ((i : ℕ) → i < length name → get_or name i 0 ≢ 46) → scopes_of name ≡ name ∷ ([] ∷ [])
+around_none [] some none = never (sym some)
+around_none (byte ∷ name) some none = scopes_of-no_dot (byte ∷ name) (omega arith) none

@@ -1,6 +1,6 @@
 //! Which comments document a declaration.
 
-ghost use Rattle.std.specs.Prelude.{◌≡◌, ◌+◌, ◌≤◌, ◌↔◌, ◌∷◌, map, All, IsTrue, IfOk, IfSome, MatchOption};
+ghost use Rattle.std.specs.Prelude.{◌≡◌, ◌+◌, ◌≤◌, ◌↔◌, ◌∷◌, ◌++◌, map, string_bytes, All, IsTrue, IfOk, OnOk, IfSome, MatchOption};
 ghost use Rattle.std.specs.List.{join_with_byte};
 ghost use Rattle.proto_lex.specs.Position.{line_of};
 ghost use Rattle.proto_lex.specs.Lexed.{AreApart};
@@ -50,6 +50,15 @@ fn leading_comments<'a>(lexed: &'a Tokens<'_>, line: usize) -> &'a [Comment]
     &comments[..end]
 }
 
+/// Appends a text on a line of its own.
+fn push_line(joined: &mut String, text: &str) -> Result<(), AllocError>
+    ensures { OnOk result (string_bytes joined.new ≡ string_bytes joined.old ++ 10 ∷ text.now) }
+{
+    joined.push_str("\n")?;
+    joined.push_str(text)?;
+    Ok(())
+}
+
 /// The texts of a comment and of others behind it, a line each.
 fn joined_texts(
     alloc: Global,
@@ -63,8 +72,7 @@ fn joined_texts(
 {
     let mut joined = String::from_str(alloc, text_of(lexed, first))?;
     for comment in others {
-        joined.push_str("\n")?;
-        joined.push_str(text_of(lexed, *comment))?;
+        push_line(&mut joined, text_of(lexed, *comment))?;
     }
     Ok(OwnedText::from_string(joined))
 }

@@ -1,12 +1,21 @@
 //! Scopes, by their full names.
 
-ghost use Rattle.std.specs.Prelude.{◌≡◌, ◌<◌, ◌∷◌, [], length, IfSome, MatchOption};
+ghost use Rattle.std.specs.Prelude.{◌≡◌, ◌≢◌, ◌<◌, ◌∷◌, [], ℕ, length, get_or, IfSome, MatchOption, IsCharBoundary};
 ghost use Rattle.proto_decl.specs.Names.{scopes_of};
+
+/// Where the last dot of a name stands.
+fn last_dot(name: &str) -> Option<usize>
+    ensures last { MatchOption result ((i : ℕ) → i < length name.now → get_or name.now i 0 ≢ 46) (λ dot. (dot < length name.now) × (get_or name.now dot 0 ≡ 46) × ((i : ℕ) → dot < i → i < length name.now → get_or name.now i 0 ≢ 46)) }
+    ensures whole { IfSome result (IsCharBoundary name.now) }
+{
+    name.rfind('.')
+}
 
 /// The full name of the scope around the one with this full name: what stands before its last dot,
 /// or the empty name, which is the root's. None stands around the root.
 ///
 /// So the scopes of a use are its `scope`, and from each one the next. Takes no memory.
+#[tactic(auto, using(crate::proofs::ScopeLemmas::around_dot, crate::proofs::ScopeLemmas::around_none))]
 pub fn scope_around(scope: &str) -> Option<&str>
     ensures around { MatchOption result (scope.now ≡ []) (λ outer. scopes_of scope.now ≡ scope.now ∷ scopes_of outer.now) }
     ensures shorter { IfSome result (λ outer. length outer.now < length scope.now) }
@@ -14,7 +23,7 @@ pub fn scope_around(scope: &str) -> Option<&str>
     if scope.is_empty() {
         return None;
     }
-    match scope.rfind('.') {
+    match last_dot(scope) {
         Some(dot) => Some(&scope[..dot]),
         None => Some(""),
     }

@@ -1,4 +1,4 @@
-use Rattle.std.proofs.Common.{◌∙◌, ◌++◌, ◌∷◌, [], ap, refl, ℕ, List, string_bytes}
+use Rattle.std.proofs.Common.{◌∙◌, ◌++◌, ◌∷◌, [], ap, refl, sym, ℕ, List, string_bytes, append_assoc}
 use Rattle.proto_lex.specs.declared.token.Comment.{Comment}
 use Rattle.proto_lex.specs.declared.token.CommentKind.TheVariants.{Line}
 use Rattle.proto_decl.specs.Comments.{text_of}
@@ -9,5 +9,6 @@ pub loop-comment-preserved : goal.loop-comment-preserved
 loop-comment-preserved c =
     let default : Comment = record { kind = Line; span = record { start = 0; end = 0 } } in
     let old = string_bytes c.loop-comment.joined in
-    joined_more 10 (text_of c.args.lexed.now) c.args.first _ c.args.others.now c.loop-comment.comment-index default old (string_bytes c.push_str-in-loop-comment.new.self) c.loop-comment-test.true refl c.loop-comment.invariant
-    (c.in_ok-push_str-2.ensures.bytes ∙ (ap (λ (t : List ℕ). t ++ c.text_of-in-loop-comment.result.now) c.in_ok-push_str.ensures.bytes ∙ ap (λ (t : List ℕ). (old ++ 10 ∷ []) ++ t) c.text_of-in-loop-comment.ensures))
+    let text = c.text_of-in-loop-comment.result.now in
+    let pushed = c.in_ok-push_line.ensures ∙ (sym (append_assoc old (10 ∷ []) text) ∙ ap (λ (t : List ℕ). (old ++ 10 ∷ []) ++ t) c.text_of-in-loop-comment.ensures) in
+    joined_more 10 (text_of c.args.lexed.now) c.args.first _ c.args.others.now c.loop-comment.comment-index default old (string_bytes c.push_line.new.joined) c.loop-comment-test.true refl c.loop-comment.invariant pushed

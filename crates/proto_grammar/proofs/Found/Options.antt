@@ -24,7 +24,8 @@ use Rattle.proto_grammar.specs.Grammar.Options.IsOptions.{none, some}
 use Rattle.proto_grammar.specs.Reading.Steps.{token_that, passing, until_at}
 use Rattle.proto_grammar.specs.Reading.Names.{pass_name_at, pass_type_name_at}
 use Rattle.proto_grammar.specs.Reading.Options.{extension_at, part_at, dot_part_at, dot_parts_at, option_name_at, literal_at, literals_at, strings_at, depth_behind, closed_at, aggregate_at, signed_at, constant_at, setting_at, comma_setting_at, comma_settings_at, option_at, bracketed_at, options_at}
-use Rattle.proto_grammar.proofs.OptionSteps.{bind_some, same_some, guard_some, chosen}
+use Rattle.std.proofs.lemmas.Option.{same_Some}
+use Rattle.proto_grammar.proofs.OptionSteps.{bind_some, guard_some, chosen}
 use Rattle.proto_grammar.proofs.TokenLemmas.{token_found}
 use Rattle.proto_grammar.proofs.UntilLemmas.{until_at-found, passing-found}
 use Rattle.proto_grammar.proofs.Found.Names.{pass_name_found, pass_type_name_found}

@@ -31,7 +31,7 @@ use Rattle.proto_parse.specs.Grammar.Files.IsStatement.{empty as statements-empt
 use Rattle.proto_parse.specs.Grammar.Files.IsFile.{file}
 use Rattle.proto_grammar.specs.Reading.Steps.{Read, adding, until_at}
 use Rattle.proto_parse.specs.Reading.Files.{stripped_at, spelled_at, syntax_at, import_kind_at, path_literal_at, path_literals_at, import_at, package_at, only_package_at, statement_by, statement_at, statements_at, file_at}
-use Rattle.proto_grammar.proofs.OptionSteps.{same_some}
+use Rattle.std.proofs.lemmas.Option.{same_Some}
 use Rattle.proto_grammar.proofs.TokenLemmas.{token_exact, one_next, one_others, next_other_word}
 use Rattle.proto_grammar.proofs.UntilLemmas.{until_at-exact, until_at-step, adding-exact}
 use Rattle.proto_parse.proofs.StepsFall.{path_literals_fall, stripped_falls, statements_fall}
@@ -117,7 +117,7 @@ pub same_tree : {custom : CustomOptions} {a : List Lexeme} (tree other : File) �
 same_tree tree other d e =
     let x = file_exact d in
     let y = file_exact e in
-    ap (λ (z : File × List Lexeme). z.0) (same_some (tree, x.0) (other, y.0) (sym x.1 ∙ y.1))
+    ap (λ (z : File × List Lexeme). z.0) (same_Some (tree, x.0) (other, y.0) (sym x.1 ∙ y.1))
 
 -- where a tree derives, a fault is want of memory
 pub only_memory : {custom : CustomOptions} {a : List Lexeme} {tree : File} → (fault : SyntaxFault) → Fails custom fault (file_at custom a) → IsFile custom a tree → fault ≡ Memory
@@ -136,5 +136,5 @@ pub file_of_exact : (custom : CustomOptions) (tokens rest : List Lexeme) (result
     → (tree : File) → IsFile custom tokens tree → MatchResult result (λ f. f ≡ tree) (λ fault. fault ≡ Memory)
 file_of_exact custom tokens rest (Ok f) e tree d =
     let read = file_exact d in
-    ap (λ (z : File × List Lexeme). z.0) (same_some (f, rest) (tree, read.0) (sym e ∙ read.1))
+    ap (λ (z : File × List Lexeme). z.0) (same_Some (f, rest) (tree, read.0) (sym e ∙ read.1))
 file_of_exact custom tokens rest (Err fault) e tree d = only_memory fault e d

@@ -1,21 +1,20 @@
 -- What is read is in the grammar: fields and reserved statements.
-use Rattle.std.proofs.Common.{◌≡◌, Bool, true, false, ◌&&◌, cond, Option, Some, None, List, [], ◌∷◌, refl, sym, ◌∙◌, ap, subst, codes}
+use Rattle.std.proofs.Common.{◌≡◌, Bool, true, false, Option, Some, None, List, [], ◌∷◌, refl, subst, codes}
 use Rattle.proto_lex.specs.declared.span.Span.{Span}
 use Rattle.proto_lex.specs.declared.token.TokenKind.TheVariants.{Identifier, Integer, StringLiteral, Semicolon, Equals, Less, Greater, Comma, Dot, Minus}
 use Rattle.proto_grammar.specs.declared.tree.CustomOptions.{CustomOptions}
 use Rattle.proto_grammar.specs.declared.tree.Heading.{Heading}
 use Rattle.proto_grammar.specs.declared.tree.Label.{Label}
-use Rattle.proto_grammar.specs.declared.tree.Label.TheVariants.{Repeated, Optional}
 use Rattle.proto_grammar.specs.declared.tree.FieldType.{FieldType}
 use Rattle.proto_grammar.specs.declared.tree.FieldType.TheVariants.{Scalar, Named}
 use Rattle.proto_grammar.specs.declared.tree.TypeName.{TypeName}
 use Rattle.proto_grammar.specs.declared.tree.Field.{Field}
 use Rattle.proto_grammar.specs.declared.tree.MapField.{MapField}
 use Rattle.proto_grammar.specs.Lexeme.{Lexeme}
-use Rattle.proto_grammar.specs.Terminal.{is_kind, others, first_is, of_kind, is_word, is_key, is_scalar, not_next, begins_scalar}
-use Rattle.proto_grammar.specs.Grammar.Steps.{One, Until, Passes, Adds}
+use Rattle.proto_grammar.specs.Terminal.{is_kind, first_is, of_kind, is_word, is_key, is_scalar, not_next, begins_scalar}
+use Rattle.proto_grammar.specs.Grammar.Steps.{One, Passes}
 use Rattle.proto_grammar.specs.Grammar.Steps.One.{one}
-use Rattle.proto_grammar.specs.Grammar.Names.{IsType, IsTypeName, IsName}
+use Rattle.proto_grammar.specs.Grammar.Names.{IsType, IsTypeName}
 use Rattle.proto_grammar.specs.Grammar.Names.IsType.{scalar, named}
 use Rattle.proto_grammar.specs.Grammar.Names.IsTypeName.{rooted, plain as a_plain}
 use Rattle.proto_grammar.specs.Grammar.Names.IsName.{name}
@@ -36,11 +35,11 @@ use Rattle.proto_grammar.specs.Grammar.Reserved.IsCommaItem.{comma_item}
 use Rattle.proto_grammar.specs.Grammar.Reserved.IsReserved.{reserved}
 use Rattle.proto_grammar.specs.Reading.Steps.{token_that, span_at, passing, until_at}
 use Rattle.proto_grammar.specs.Reading.Names.{type_at, pass_type_name_at}
-use Rattle.proto_grammar.specs.Reading.Options.{options_at, strings_at}
+use Rattle.proto_grammar.specs.Reading.Options.{options_at}
 use Rattle.proto_grammar.specs.Reading.Fields.{numbered_at, typed_at, label_at, field_at, oneof_field_at, pass_field_at, map_field_at}
 use Rattle.proto_grammar.specs.Reading.Reserved.{plain_integer_at, integer_at, range_end_at, range_at, reserved_item_at, comma_item_at, comma_items_at, reserved_at}
 use Rattle.std.proofs.lemmas.Option.{same_Some}
-use Rattle.proto_grammar.proofs.OptionSteps.{bind_some, guard_some, chosen, both_true}
+use Rattle.proto_grammar.proofs.OptionSteps.{bind_some, chosen, both_true}
 use Rattle.proto_grammar.proofs.TokenLemmas.{token_found, next_found, other_kind}
 use Rattle.proto_grammar.proofs.UntilLemmas.{until_at-found, passing-found}
 use Rattle.proto_grammar.proofs.Found.Names.{type_found, pass_type_name_found}

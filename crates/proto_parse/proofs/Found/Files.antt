@@ -1,5 +1,5 @@
 -- What is read is in the grammar: files.
-use Rattle.std.proofs.Common.{◌≡◌, ℕ, zero, suc, ◌==◌, Bool, true, false, cond, Option, Some, None, List, [], ◌∷◌, ◌++◌, length, drop, refl, sym, ◌∙◌, ap, subst, codes, nat_eq, arith}
+use Rattle.std.proofs.Common.{◌≡◌, ℕ, ◌==◌, true, false, Option, Some, None, List, [], ◌∷◌, ◌++◌, length, drop, refl, sym, ◌∙◌, subst, codes, nat_eq, arith}
 use Rattle.std.specs.Prelude.{is_some, Result, Ok, Err, IfOk, IfErr}
 use Rattle.proto_grammar.specs.declared.fault.SyntaxFault.{SyntaxFault}
 use Rattle.proto_grammar.specs.declared.fault.SyntaxFault.TheVariants.{NotProto3, CustomOption, Aggregate, Extend, TwoPackages, ImportEscape, TooDeep, Grammar, Memory}
@@ -19,10 +19,10 @@ use Rattle.proto_grammar.specs.declared.tree.File.{File}
 use Rattle.proto_parse.specs.declared.statement.FileStatement.{FileStatement}
 use Rattle.proto_parse.specs.declared.statement.FileStatement.TheVariants as choice
 use Rattle.proto_grammar.specs.Lexeme.{Lexeme}
-use Rattle.proto_grammar.specs.Terminal.{first, others, first_is, of_kind, is_word, is_plain_literal, not_next, is_end, between_quotes}
+use Rattle.proto_grammar.specs.Terminal.{first, first_is, of_kind, is_word, is_plain_literal, not_next, is_end, between_quotes}
 use Rattle.proto_parse.specs.Choice.{file_statement_of}
 use Rattle.proto_parse.specs.Limits.{max_message_depth}
-use Rattle.proto_grammar.specs.Grammar.Steps.{One, Until, Adds}
+use Rattle.proto_grammar.specs.Grammar.Steps.{Until, Adds}
 use Rattle.proto_grammar.specs.Grammar.Steps.Until.{done, more}
 use Rattle.proto_parse.specs.Grammar.Files.{empty_file, SpellsJoined, IsSyntax, IsImportKind, IsPathLiteral, IsImport, IsPackage, IsStatement, IsFile}
 use Rattle.proto_parse.specs.Grammar.Files.SpellsJoined.{none, some}

@@ -1,5 +1,5 @@
 -- What is read is in the grammar: enums, oneofs, messages and services.
-use Rattle.std.proofs.Common.{◌≡◌, ℕ, zero, suc, Bool, true, false, cond, Option, Some, None, List, [], ◌∷◌, refl, sym, ◌∙◌, ap, subst, codes}
+use Rattle.std.proofs.Common.{◌≡◌, ℕ, zero, suc, true, false, Option, Some, List, [], refl, subst, codes}
 use Rattle.proto_lex.specs.declared.span.Span.{Span}
 use Rattle.proto_lex.specs.declared.token.TokenKind.TheVariants.{Identifier, Semicolon, Equals, OpenBrace, CloseBrace, OpenParenthesis, CloseParenthesis}
 use Rattle.proto_grammar.specs.declared.tree.CustomOptions.{CustomOptions}
@@ -15,11 +15,10 @@ use Rattle.proto_grammar.specs.declared.tree.MessageItem.{MessageItem}
 use Rattle.proto_parse.specs.declared.statement.MessageStatement.{MessageStatement}
 use Rattle.proto_parse.specs.declared.statement.MessageStatement.TheVariants as choice
 use Rattle.proto_grammar.specs.Lexeme.{Lexeme}
-use Rattle.proto_grammar.specs.Terminal.{others, first_is, of_kind, is_word, closes, begins_scalar}
+use Rattle.proto_grammar.specs.Terminal.{first_is, of_kind, is_word, closes}
 use Rattle.proto_parse.specs.Choice.{message_statement_of}
 use Rattle.proto_grammar.specs.Tree.{MessageTree}
-use Rattle.proto_grammar.specs.Grammar.Steps.{One, Until, Passes, Adds}
-use Rattle.proto_grammar.specs.Grammar.Names.{IsTypeName}
+use Rattle.proto_grammar.specs.Grammar.Steps.{Passes, Adds}
 use Rattle.proto_grammar.specs.Grammar.Options.{IsOption}
 use Rattle.proto_grammar.specs.Grammar.Options.IsOption.{option as an_option}
 use Rattle.proto_parse.specs.Grammar.Messages.{IsHeading, IsValue, IsEnumItem, IsEnum, IsOneofItem, IsOneof, IsExtendItem, IsExtend, IsMessageItem, IsMessageOf, IsMessage}
@@ -44,12 +43,12 @@ use Rattle.proto_parse.specs.Grammar.Services.IsService.{service}
 use Rattle.proto_grammar.specs.Reading.Steps.{token_that, adding, passing, until_at}
 use Rattle.proto_grammar.specs.Reading.Names.{named_type_at, pass_type_name_at}
 use Rattle.proto_grammar.specs.Reading.Options.{option_at, options_at}
-use Rattle.proto_grammar.specs.Reading.Fields.{field_at, oneof_field_at, map_field_at, pass_field_at}
+use Rattle.proto_grammar.specs.Reading.Fields.{field_at, oneof_field_at, map_field_at}
 use Rattle.proto_grammar.specs.Reading.Reserved.{integer_at, reserved_at}
 use Rattle.proto_parse.specs.Reading.Messages.{heading_at, value_at, enum_item_at, enum_items_at, enum_at, oneof_item_at, oneof_items_at, oneof_at, extend_item_at, extend_items_at, extend_at, message_item_by, message_item_at, message_of_at, message_at}
 use Rattle.proto_parse.specs.Reading.Services.{stream_at, method_type_at, method_item_at, method_items_at, method_body_at, method_end_at, method_at, service_item_at, service_items_at, service_at}
 use Rattle.std.proofs.lemmas.Option.{same_Some}
-use Rattle.proto_grammar.proofs.OptionSteps.{bind_some, guard_some, chosen}
+use Rattle.proto_grammar.proofs.OptionSteps.{bind_some, chosen}
 use Rattle.proto_grammar.proofs.TokenLemmas.{token_found, next_found, one_next}
 use Rattle.proto_grammar.proofs.UntilLemmas.{until_at-found, adding-found, passing-found}
 use Rattle.proto_grammar.proofs.Found.Names.{named_type_found, pass_type_name_found}

@@ -1,10 +1,10 @@
 -- Aggregates, token by token.
-use Rattle.std.proofs.Common.{◌≡◌, ℕ, zero, suc, ◌+◌, ◌-◌, ◌==◌, ◌<◌, ◌≤◌, Bool, true, false, cond, Option, Some, None, List, [], ◌∷◌, length, refl, sym, ◌∙◌, ap, arith}
+use Rattle.std.proofs.Common.{◌≡◌, ℕ, ◌+◌, ◌-◌, ◌==◌, ◌<◌, ◌≤◌, Bool, true, false, cond, Some, None, List, [], ◌∷◌, length, refl, ◌∙◌, ap, arith}
 use Rattle.std.proofs.lemmas.Bool.Decides.{nat_tests}
 use Rattle.proto_lex.specs.declared.token.TokenKind.TheVariants.{OpenBrace, CloseBrace}
 use Rattle.proto_grammar.specs.Lexeme.{Lexeme}
 use Rattle.proto_grammar.specs.Terminal.{of_kind}
-use Rattle.proto_grammar.proofs.OptionSteps.{same_some}
+use Rattle.std.proofs.lemmas.Option.{same_Some}
 use Rattle.proto_grammar.specs.Reading.Options.{depth_behind, deeper_at, closed_at}
 
 not_zero : (depth : ℕ) → 0 < depth → (depth == 0) ≡ false
@@ -16,7 +16,7 @@ unfolding deeper_at closed_at
 closed_goes_on depth [] next rest h e = cc
 closed_goes_on depth (t ∷ tokens) next rest h e =
     let step : closed_at depth (t ∷ tokens) ≡ closed_at (depth_behind t depth) tokens = rw (not_zero depth h) refl in
-    step ∙ ap (λ (x : ℕ × List Lexeme). closed_at x.0 x.1) (same_some (depth_behind t depth, tokens) (next, rest) e)
+    step ∙ ap (λ (x : ℕ × List Lexeme). closed_at x.0 x.1) (same_Some (depth_behind t depth, tokens) (next, rest) e)
 
 -- none where one has to stand
 pub closed_stops : (depth : ℕ) (tokens : List Lexeme) → 0 < depth → deeper_at depth tokens ≡ None → closed_at depth tokens ≡ None
@@ -42,7 +42,7 @@ pub deeper_bounded : (depth : ℕ) (tokens : List Lexeme) (next : ℕ) (rest : L
 unfolding deeper_at
 deeper_bounded depth [] next rest left e h = absurd (let none : None ≡ Some (next, rest) = e in cc)
 deeper_bounded depth (t ∷ tokens) next rest left e h =
-    let here = same_some (depth_behind t depth, tokens) (next, rest) e in
+    let here = same_Some (depth_behind t depth, tokens) (next, rest) e in
     let n : depth_behind t depth ≡ next = ap (λ (x : ℕ × List Lexeme). x.0) here in
     let r : tokens ≡ rest = ap (λ (x : ℕ × List Lexeme). x.1) here in
     rw (← n, ← r) (omega (arith, depth_behind_le t depth))
@@ -51,5 +51,5 @@ pub deeper_shorter : (depth : ℕ) (tokens : List Lexeme) (next : ℕ) (rest : L
 unfolding deeper_at
 deeper_shorter depth [] next rest e = absurd (let none : None ≡ Some (next, rest) = e in cc)
 deeper_shorter depth (t ∷ tokens) next rest e =
-    let r : tokens ≡ rest = ap (λ (x : ℕ × List Lexeme). x.1) (same_some (depth_behind t depth, tokens) (next, rest) e) in
+    let r : tokens ≡ rest = ap (λ (x : ℕ × List Lexeme). x.1) (same_Some (depth_behind t depth, tokens) (next, rest) e) in
     rw (← r) (omega arith)

@@ -6,9 +6,6 @@ pub bind_some : {A B : Type 0} (o : Option A) (f : A → Option B) (y : B) → o
 bind_some None f y e = cc
 bind_some (Some x) f y e = (x, refl, e)
 
-pub same_some : {A : Type 0} (x y : A) → Some x ≡ Some y → x ≡ y
-same_some x y e = cc
-
 -- a guarded value: its guard holds
 pub guard_some : {A : Type 0} (b : Bool) (o : Option A) (y : A) → cond b o None ≡ Some y → (b ≡ true) × (o ≡ Some y)
 guard_some true o y e = (refl, e)

@@ -5,7 +5,8 @@ use Rattle.proto_grammar.specs.Reading.Steps.{adding, passing}
 use Rattle.proto_grammar.specs.Reading.Names.{dot_name_at, pass_dot_name_at}
 use Rattle.proto_grammar.specs.Reading.Options.{dot_part_at, literal_at, comma_setting_at}
 use Rattle.proto_grammar.specs.Reading.Reserved.{comma_item_at}
-use Rattle.proto_grammar.proofs.OptionSteps.{bind_some, same_some}
+use Rattle.std.proofs.lemmas.Option.{same_Some}
+use Rattle.proto_grammar.proofs.OptionSteps.{bind_some}
 use Rattle.proto_grammar.proofs.UntilLemmas.{Falls, adding-falls}
 use Rattle.proto_grammar.proofs.Found.Names.{dot_name_found}
 use Rattle.proto_grammar.proofs.Found.Options.{dot_part_found, literal_found, comma_setting_found}
@@ -19,7 +20,7 @@ pub pass_dot_names_fall : Falls (passing pass_dot_name_at)
 unfolding pass_dot_name_at
 pass_dot_names_fall s tokens x e =
     let t = bind_some (dot_name_at tokens) _ x e in
-    let left : t.0.1 ≡ x.1 = ap (λ y. y.1) (same_some _ x t.2) in
+    let left : t.0.1 ≡ x.1 = ap (λ y. y.1) (same_Some _ x t.2) in
     rw (← left) (dot_name_shorter tokens t.0.1 t.0.0 (dot_name_found tokens t.0 t.1))
 
 pub dot_parts_fall : (custom : CustomOptions) → Falls (passing (dot_part_at custom))

@@ -1,5 +1,5 @@
 -- Single tokens: what is read of them, and what tests of them exclude.
-use Rattle.std.proofs.Common.{◌≡◌, ℕ, ◌<◌, ◌==◌, Bool, true, false, ◌||◌, not, Option, Some, List, [], ◌∷◌, length, refl, sym, ◌∙◌, ap, subst, arith, bytes_eq, codes}
+use Rattle.std.proofs.Common.{◌≡◌, ℕ, ◌<◌, ◌==◌, Bool, true, false, not, Some, List, [], ◌∷◌, length, refl, sym, subst, arith, bytes_eq}
 use Rattle.std.proofs.lemmas.Bool.{eqb-true}
 use Rattle.std.proofs.lemmas.Slice.Eq.{bytes_eq-Decides}
 use Rattle.proto_lex.specs.declared.span.Span.{Span}
@@ -9,15 +9,16 @@ use Rattle.proto_grammar.specs.Lexeme.{Lexeme}
 use Rattle.proto_grammar.specs.Terminal.{number_of, is_kind, of_kind, is_word, others, first_is, not_next}
 use Rattle.proto_grammar.specs.Grammar.Steps.{One}
 use Rattle.proto_grammar.specs.Grammar.Steps.One.{one}
-use Rattle.proto_grammar.specs.Reading.Steps.{token_that, span_at}
-use Rattle.proto_grammar.proofs.OptionSteps.{bind_some, guard_some, same_some, both_true}
+use Rattle.proto_grammar.specs.Reading.Steps.{token_that}
+use Rattle.std.proofs.lemmas.Option.{same_Some}
+use Rattle.proto_grammar.proofs.OptionSteps.{guard_some, both_true}
 
 pub token_found : {test : Lexeme → Bool} (tokens : List Lexeme) (x : Span × List Lexeme) → token_that test tokens ≡ Some x → One test tokens x.0 x.1
 unfolding token_that
 token_found [] x e = cc
 token_found {test} (t ∷ rest) x e =
     let g = guard_some (test t) _ x e in
-    subst (λ (y : Span × List Lexeme). One test (t ∷ rest) y.0 y.1) (same_some _ x g.1) (one g.0)
+    subst (λ (y : Span × List Lexeme). One test (t ∷ rest) y.0 y.1) (same_Some _ x g.1) (one g.0)
 
 pub token_exact : {test : Lexeme → Bool} {a b : List Lexeme} {span : Span} → One test a span b → token_that test a ≡ Some (span, b)
 unfolding token_that

@@ -1,5 +1,5 @@
 -- Steps up to where they end: what a loop over them keeps, and what they are in the grammar.
-use Rattle.std.proofs.Common.{◌≡◌, ℕ, zero, suc, ◌<◌, ◌≤◌, Bool, true, false, cond, Option, Some, None, option_to_list, List, [], ◌∷◌, ◌++◌, length, refl, sym, ◌∙◌, ap, subst, arith}
+use Rattle.std.proofs.Common.{◌≡◌, ℕ, zero, suc, ◌<◌, ◌≤◌, Bool, true, false, cond, Option, Some, None, option_to_list, List, ◌++◌, length, refl, sym, ◌∙◌, ap, subst, arith}
 use Rattle.proto_grammar.specs.declared.tree.CustomOptions.{CustomOptions}
 use Rattle.proto_grammar.specs.declared.fault.SyntaxFault.{SyntaxFault}
 use Rattle.proto_grammar.specs.declared.fault.SyntaxFault.TheVariants.{NotProto3, CustomOption, Aggregate, Extend, TwoPackages, ImportEscape, TooDeep, Grammar, Memory}
@@ -10,7 +10,8 @@ use Rattle.proto_grammar.specs.Grammar.Steps.Until.{done, more}
 use Rattle.proto_grammar.specs.Grammar.Steps.Adds.{adds}
 use Rattle.proto_grammar.specs.Grammar.Steps.Passes.{passes}
 use Rattle.proto_grammar.specs.Reading.Steps.{◌>>=◌, Read, until_by, until_at, adding, passing, passed}
-use Rattle.proto_grammar.proofs.OptionSteps.{bind_some, guard_some, chosen, same_some}
+use Rattle.std.proofs.lemmas.Option.{same_Some}
+use Rattle.proto_grammar.proofs.OptionSteps.{bind_some, guard_some, chosen}
 
 -- a fault of a part is one of the whole
 pub Fails-of : {Y Z : Type 0} (custom : CustomOptions) (fault : SyntaxFault) (part : Option Y) (whole : Option Z) → (part ≡ None → whole ≡ None) → Fails custom fault part → Fails custom fault whole
@@ -93,10 +94,10 @@ module _ {S : Type 0} (ends : List Lexeme → Bool) (step : S → Read S) (Step 
   until_by-found : (n : ℕ) (s : S) (tokens : List Lexeme) (x : S × List Lexeme) → until_by ends step n s tokens ≡ Some x → Until ends Step s tokens x.0 x.1
   until_by-found zero s tokens x e =
       let g = guard_some (ends tokens) _ x e in
-      subst (λ (y : S × List Lexeme). Until ends Step s tokens y.0 y.1) (same_some _ x g.1) (done g.0)
+      subst (λ (y : S × List Lexeme). Until ends Step s tokens y.0 y.1) (same_Some _ x g.1) (done g.0)
   until_by-found (suc n) s tokens x e =
       chosen (ends tokens) _ _ (Some x) e
-      (λ at_end read. subst (λ (y : S × List Lexeme). Until ends Step s tokens y.0 y.1) (same_some _ x read) (done at_end))
+      (λ at_end read. subst (λ (y : S × List Lexeme). Until ends Step s tokens y.0 y.1) (same_Some _ x read) (done at_end))
       (λ further read.
       let t = bind_some (step s tokens) _ x read in
       more further (found s tokens t.0 t.1) (until_by-found n t.0.0 t.0.1 x t.2))
@@ -119,7 +120,7 @@ pub adding-found : {A : Type 0} (item : Read (Option A)) (Item : List Lexeme →
     → (items : List A) (tokens : List Lexeme) (x : List A × List Lexeme) → adding item items tokens ≡ Some x → Adds Item items tokens x.0 x.1
 adding-found {A} item Item found items tokens x e =
     let t = bind_some (item tokens) _ x e in
-    subst (λ (y : List A × List Lexeme). Adds Item items tokens y.0 y.1) (same_some _ x t.2) (adds (found tokens t.0 t.1))
+    subst (λ (y : List A × List Lexeme). Adds Item items tokens y.0 y.1) (same_Some _ x t.2) (adds (found tokens t.0 t.1))
 
 pub adding-exact : {A : Type 0} (item : Read (Option A)) (Item : List Lexeme → Option A → List Lexeme → Type 0)
     → ((a b : List Lexeme) (x : Option A) → Item a x b → item a ≡ Some (x, b))
@@ -146,7 +147,7 @@ adding-none item items tokens e = rw e refl
 pub adding-falls : {A : Type 0} (item : Read (Option A)) → ((tokens : List Lexeme) (x : Option A × List Lexeme) → item tokens ≡ Some x → length x.1 < length tokens) → Falls (adding item)
 adding-falls item falls items tokens x e =
     let t = bind_some (item tokens) _ x e in
-    let left : t.0.1 ≡ x.1 = ap (λ y. y.1) (same_some _ x t.2) in
+    let left : t.0.1 ≡ x.1 = ap (λ y. y.1) (same_Some _ x t.2) in
     rw (← left) (falls tokens t.0 t.1)
 
 -- what a chain of steps leaves is no more than there was
@@ -172,14 +173,14 @@ module _ {A : Type 0} (ends : List Lexeme → Bool) (item : Read (Option A)) (It
       → (all : List A) × Until ends (Adds Item) items tokens all x.1
   passed_by-found zero s items tokens x e =
       let g = guard_some (ends tokens) _ x e in
-      (items, subst (λ (y : Unit {0} × List Lexeme). Until ends (Adds Item) items tokens items y.1) (same_some _ x g.1) (done g.0))
+      (items, subst (λ (y : Unit {0} × List Lexeme). Until ends (Adds Item) items tokens items y.1) (same_Some _ x g.1) (done g.0))
   passed_by-found (suc n) s items tokens x e =
       chosen (ends tokens) _ _ (Some x) e
-      (λ at_end read. (items, subst (λ (y : Unit {0} × List Lexeme). Until ends (Adds Item) items tokens items y.1) (same_some _ x read) (done at_end)))
+      (λ at_end read. (items, subst (λ (y : Unit {0} × List Lexeme). Until ends (Adds Item) items tokens items y.1) (same_Some _ x read) (done at_end)))
       (λ further read.
       let t = bind_some (passed item tokens) _ x read in
       let i = bind_some (item tokens) _ t.0 t.1 in
-      let left : i.0.1 ≡ t.0.1 = ap (λ y. y.1) (same_some _ t.0 i.2) in
+      let left : i.0.1 ≡ t.0.1 = ap (λ y. y.1) (same_Some _ t.0 i.2) in
       let behind = passed_by-found n t.0.0 (items ++ option_to_list i.0.0) t.0.1 x t.2 in
       let first : Adds Item items tokens (items ++ option_to_list i.0.0) t.0.1 = rw (← left) (adds (found tokens i.0 i.1)) in
       (behind.0, more further first behind.1))

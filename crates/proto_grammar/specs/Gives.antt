@@ -1,5 +1,5 @@
 -- What a step of the parser gives, beside what can be read from the tokens.
-use Rattle.std.specs.Prelude.{◌≡◌, Bool, true, false, Option, Some, None, Result, Ok, Err}
+use Rattle.std.specs.Prelude.{◌≡◌, Option, Some, None, Result, Ok, Err}
 use Rattle.proto_grammar.specs.declared.tree.CustomOptions.{CustomOptions}
 use Rattle.proto_grammar.specs.declared.tree.CustomOptions.TheVariants.{Refuse}
 use Rattle.proto_grammar.specs.declared.fault.SyntaxFault.{SyntaxFault}

@@ -8,7 +8,8 @@ use Rattle.proto_grammar.specs.Reading.Steps.{adding, passing}
 use Rattle.proto_parse.specs.Reading.Messages.{enum_item_at, oneof_item_at, extend_item_at, message_item_at, message_at}
 use Rattle.proto_parse.specs.Reading.Services.{method_item_at, service_item_at}
 use Rattle.proto_parse.specs.Reading.Files.{stripped_at, path_literal_at, statement_at}
-use Rattle.proto_grammar.proofs.OptionSteps.{same_some, guard_some}
+use Rattle.std.proofs.lemmas.Option.{same_Some}
+use Rattle.proto_grammar.proofs.OptionSteps.{guard_some}
 use Rattle.proto_grammar.proofs.UntilLemmas.{Falls, adding-falls}
 use Rattle.proto_parse.proofs.Found.Messages.{enum_item_found, oneof_item_found, extend_item_found, message_item_found, message_found, method_item_found, service_item_found}
 use Rattle.proto_parse.proofs.Found.Files.{path_literal_found, statement_found}
@@ -44,7 +45,7 @@ unfolding stripped_at
 stripped_falls text [] x e = cc
 stripped_falls text (t ∷ tokens) x e =
     let g = guard_some (starts_with nat_eq text (between_quotes t.spelling)) _ x e in
-    let left : tokens ≡ x.1 = ap (λ y. y.1) (same_some _ x g.1) in
+    let left : tokens ≡ x.1 = ap (λ y. y.1) (same_Some _ x g.1) in
     rw (← left) (omega arith)
 
 pub statements_fall : (custom : CustomOptions) → Falls (statement_at custom)

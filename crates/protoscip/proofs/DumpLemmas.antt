@@ -15,16 +15,16 @@ use Rattle.scip_model.specs.WholeReads.{IsReadFault, IsReadThrough}
 use Rattle.protoscip.specs.Output.{Writes}
 
 -- the listing of a source's index is that of the source, and why there is none is why the source has none
-pub listed : {A : Type 0} (view : A → List ℕ) (bytes : List ℕ) (index : Index) (r : Result A Fault) → IsIndexOfSource source_path bytes index
+pub listing_of_source : {A : Type 0} (view : A → List ℕ) (bytes : List ℕ) (index : Index) (r : Result A Fault) → IsIndexOfSource source_path bytes index
     → MatchResult r (λ x. IsListingOf index (view x)) (IsStoreRefusal index) → MatchResult r (λ x. IsListing bytes (view x)) (IsRefusal bytes)
-listed view bytes index (Ok x) of_source is = (index, of_source, is.0, is.1)
-listed view bytes index (Err fault.Memory) of_source is = is
-listed view bytes index (Err fault.Read) of_source is = is
-listed view bytes index (Err (fault.Lex e)) of_source is = absurd is
-listed view bytes index (Err (fault.Syntax e)) of_source is = absurd is
-listed view bytes index (Err (fault.Duplicate first second)) of_source is = absurd is
-listed view bytes index (Err fault.TooLarge) of_source is = (index, of_source, is)
-listed view bytes index (Err (fault.Write count)) of_source is = is
+listing_of_source view bytes index (Ok x) of_source is = (index, of_source, is.0, is.1)
+listing_of_source view bytes index (Err fault.Memory) of_source is = is
+listing_of_source view bytes index (Err fault.Read) of_source is = is
+listing_of_source view bytes index (Err (fault.Lex e)) of_source is = absurd is
+listing_of_source view bytes index (Err (fault.Syntax e)) of_source is = absurd is
+listing_of_source view bytes index (Err (fault.Duplicate first second)) of_source is = absurd is
+listing_of_source view bytes index (Err fault.TooLarge) of_source is = (index, of_source, is)
+listing_of_source view bytes index (Err (fault.Write count)) of_source is = is
 
 -- a fault that refuses bytes is none of reading or writing
 pub refusal-elim : (P : Fault → Type 0) → P fault.Memory → ((e : LexFault) → P (fault.Lex e)) → ((e : SyntaxFault) → P (fault.Syntax e))

@@ -41,7 +41,7 @@ fn listing_of_index(alloc: Global, index: &Index) -> Result<String, Fault>
 }
 
 /// The listing of a source.
-#[tactic(auto, using(crate::proofs::DumpLemmas::listed))]
+#[tactic(auto, using(crate::proofs::DumpLemmas::listing_of_source))]
 fn listing_of(alloc: Global, bytes: &[u8]) -> Result<String, Fault>
     ensures { MatchResult result (λ listing. IsListing bytes.now (string_bytes listing)) (IsRefusal bytes.now) }
 {

@@ -1,15 +1,15 @@
 -- What is in the grammar is read: fields and reserved statements.
-use Rattle.std.proofs.Common.{◌≡◌, ℕ, Bool, true, false, Option, Some, None, List, [], ◌∷◌, refl, codes}
+use Rattle.std.proofs.Common.{◌≡◌, ℕ, Bool, true, false, Option, Some, List, refl, codes}
 use Rattle.proto_lex.specs.declared.span.Span.{Span}
-use Rattle.proto_lex.specs.declared.token.TokenKind.TheVariants.{Identifier, Integer, StringLiteral, Semicolon, Equals, Less, Greater, Comma, Minus}
+use Rattle.proto_lex.specs.declared.token.TokenKind.TheVariants.{Integer, Comma, Minus}
 use Rattle.proto_grammar.specs.declared.tree.CustomOptions.{CustomOptions}
 use Rattle.proto_grammar.specs.declared.tree.Heading.{Heading}
 use Rattle.proto_grammar.specs.declared.tree.Label.{Label}
 use Rattle.proto_grammar.specs.declared.tree.Field.{Field}
 use Rattle.proto_grammar.specs.declared.tree.MapField.{MapField}
 use Rattle.proto_grammar.specs.Lexeme.{Lexeme}
-use Rattle.proto_grammar.specs.Terminal.{first_is, of_kind, is_word, not_next}
-use Rattle.proto_grammar.specs.Grammar.Steps.{One, Until, Passes}
+use Rattle.proto_grammar.specs.Terminal.{first_is, is_word, not_next}
+use Rattle.proto_grammar.specs.Grammar.Steps.{Passes}
 use Rattle.proto_grammar.specs.Grammar.Fields.{IsNumbered, IsTyped, IsLabel, IsField, IsOneofField, IsMapField}
 use Rattle.proto_grammar.specs.Grammar.Fields.IsNumbered.{numbered}
 use Rattle.proto_grammar.specs.Grammar.Fields.IsTyped.{typed}

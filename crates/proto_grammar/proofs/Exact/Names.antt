@@ -1,12 +1,12 @@
 -- What is in the grammar is read: names and types.
-use Rattle.std.proofs.Common.{◌≡◌, Bool, true, false, Option, Some, None, List, [], ◌∷◌, refl}
+use Rattle.std.proofs.Common.{◌≡◌, true, false, Option, Some, None, List, [], ◌∷◌, refl}
 use Rattle.proto_lex.specs.declared.span.Span.{Span}
 use Rattle.proto_lex.specs.declared.token.TokenKind.TheVariants.{Identifier, Dot}
 use Rattle.proto_grammar.specs.declared.tree.TypeName.{TypeName}
 use Rattle.proto_grammar.specs.declared.tree.FieldType.{FieldType}
 use Rattle.proto_grammar.specs.Lexeme.{Lexeme}
 use Rattle.proto_grammar.specs.Terminal.{is_kind, first_is, of_kind, is_scalar, not_next, begins_scalar}
-use Rattle.proto_grammar.specs.Grammar.Steps.{One, Until, Adds}
+use Rattle.proto_grammar.specs.Grammar.Steps.{One, Adds}
 use Rattle.proto_grammar.specs.Grammar.Steps.One.{one}
 use Rattle.proto_grammar.specs.Grammar.Steps.Until.{done}
 use Rattle.proto_grammar.specs.Grammar.Names.{IsDotName, IsName, IsTypeName, IsType}
@@ -18,7 +18,7 @@ use Rattle.proto_grammar.specs.Reading.Steps.{adding}
 use Rattle.proto_grammar.specs.Reading.Names.{dot_name_at, dot_names_at, name_at, pass_dot_name_at, pass_dot_names_at, pass_name_at, leading_dot_at, type_name_at, pass_type_name_at, named_type_at, type_at}
 use Rattle.proto_grammar.proofs.OptionSteps.{both_true}
 use Rattle.proto_grammar.proofs.TokenLemmas.{token_exact, one_next, next_other_kind}
-use Rattle.proto_grammar.proofs.UntilLemmas.{until_at-exact, adding-exact, passed-exact, Falls}
+use Rattle.proto_grammar.proofs.UntilLemmas.{until_at-exact, adding-exact, passed-exact}
 use Rattle.proto_grammar.proofs.StepsFall.{dot_names_fall, pass_dot_names_fall}
 
 dot_name_exact : (a b : List Lexeme) (x : Option Span) → IsDotName a x b → dot_name_at a ≡ Some (x, b)

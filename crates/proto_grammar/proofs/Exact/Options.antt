@@ -1,14 +1,13 @@
 -- What is in the grammar is read: options.
-use Rattle.std.proofs.Common.{◌≡◌, ℕ, zero, suc, ◌+◌, ◌-◌, ◌==◌, Bool, true, false, ◌||◌, Option, Some, None, List, [], ◌∷◌, refl, arith, codes}
+use Rattle.std.proofs.Common.{◌≡◌, ℕ, suc, ◌+◌, ◌-◌, ◌==◌, true, false, ◌||◌, Some, List, [], ◌∷◌, refl, arith}
 use Rattle.std.proofs.lemmas.Bool.Decides.{nat_tests}
 use Rattle.proto_lex.specs.declared.span.Span.{Span}
 use Rattle.proto_lex.specs.declared.token.TokenKind.{TokenKind}
-use Rattle.proto_lex.specs.declared.token.TokenKind.TheVariants.{Identifier, Integer, Float, StringLiteral, Semicolon, Equals, OpenBrace, CloseBrace, OpenBracket, CloseBracket, OpenParenthesis, CloseParenthesis, Comma, Dot, Plus, Minus}
+use Rattle.proto_lex.specs.declared.token.TokenKind.TheVariants.{Identifier, Integer, Float, StringLiteral, OpenBrace, CloseBrace, OpenParenthesis, Comma, Dot, Plus, Minus}
 use Rattle.proto_grammar.specs.declared.tree.CustomOptions.{CustomOptions}
-use Rattle.proto_grammar.specs.declared.tree.CustomOptions.TheVariants.{Refuse, Skip}
 use Rattle.proto_grammar.specs.Lexeme.{Lexeme}
-use Rattle.proto_grammar.specs.Terminal.{is_kind, first_is, of_kind, is_word, is_sign, is_numeral, is_number, not_next}
-use Rattle.proto_grammar.specs.Grammar.Steps.{One, Until, Passes}
+use Rattle.proto_grammar.specs.Terminal.{is_kind, first_is, of_kind, is_sign, is_numeral, not_next}
+use Rattle.proto_grammar.specs.Grammar.Steps.{One, Passes}
 use Rattle.proto_grammar.specs.Grammar.Steps.One.{one}
 use Rattle.proto_grammar.specs.Grammar.Options.{IsOptionPart, IsDotPart, IsOptionName, IsLiteral, IsStrings, IsClosed, IsConstant, IsSetting, IsCommaSetting, IsOption, IsOptions}
 use Rattle.proto_grammar.specs.Grammar.Options.IsOptionPart.{plain, extension}
@@ -23,9 +22,9 @@ use Rattle.proto_grammar.specs.Grammar.Options.IsCommaSetting.{comma_setting}
 use Rattle.proto_grammar.specs.Grammar.Options.IsOption.{option}
 use Rattle.proto_grammar.specs.Grammar.Options.IsOptions.{none, some}
 use Rattle.proto_grammar.specs.Reading.Steps.{passing}
-use Rattle.proto_grammar.specs.Reading.Options.{extension_at, part_at, dot_part_at, dot_parts_at, option_name_at, literal_at, literals_at, strings_at, depth_behind, closed_at, aggregate_at, signed_at, constant_at, setting_at, comma_setting_at, comma_settings_at, option_at, bracketed_at, options_at}
+use Rattle.proto_grammar.specs.Reading.Options.{extension_at, part_at, dot_part_at, dot_parts_at, option_name_at, literal_at, literals_at, strings_at, closed_at, aggregate_at, signed_at, constant_at, setting_at, comma_setting_at, comma_settings_at, option_at, bracketed_at, options_at}
 use Rattle.proto_grammar.proofs.OptionSteps.{either_true}
-use Rattle.proto_grammar.proofs.TokenLemmas.{token_exact, one_next, one_others, other_kind, next_other_kind}
+use Rattle.proto_grammar.proofs.TokenLemmas.{token_exact, one_next, other_kind, next_other_kind}
 use Rattle.proto_grammar.proofs.UntilLemmas.{until_at-exact, passing-exact}
 use Rattle.proto_grammar.proofs.StepsFall.{dot_parts_fall, literals_fall, comma_settings_fall}
 use Rattle.proto_grammar.proofs.Exact.Names.{pass_name_exact, pass_type_name_exact, name_next}

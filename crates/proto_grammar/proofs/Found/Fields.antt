@@ -1,21 +1,20 @@
 -- What is read is in the grammar: fields and reserved statements.
-use Rattle.std.proofs.Common.{◌≡◌, Bool, true, false, ◌&&◌, cond, Option, Some, None, List, [], ◌∷◌, refl, sym, ◌∙◌, ap, subst, codes}
+use Rattle.std.proofs.Common.{◌≡◌, Bool, true, false, Option, Some, None, List, [], ◌∷◌, refl, subst, codes}
 use Rattle.proto_lex.specs.declared.span.Span.{Span}
 use Rattle.proto_lex.specs.declared.token.TokenKind.TheVariants.{Identifier, Integer, StringLiteral, Semicolon, Equals, Less, Greater, Comma, Dot, Minus}
 use Rattle.proto_grammar.specs.declared.tree.CustomOptions.{CustomOptions}
 use Rattle.proto_grammar.specs.declared.tree.Heading.{Heading}
 use Rattle.proto_grammar.specs.declared.tree.Label.{Label}
-use Rattle.proto_grammar.specs.declared.tree.Label.TheVariants.{Repeated, Optional}
 use Rattle.proto_grammar.specs.declared.tree.FieldType.{FieldType}
 use Rattle.proto_grammar.specs.declared.tree.FieldType.TheVariants.{Scalar, Named}
 use Rattle.proto_grammar.specs.declared.tree.TypeName.{TypeName}
 use Rattle.proto_grammar.specs.declared.tree.Field.{Field}
 use Rattle.proto_grammar.specs.declared.tree.MapField.{MapField}
 use Rattle.proto_grammar.specs.Lexeme.{Lexeme}
-use Rattle.proto_grammar.specs.Terminal.{is_kind, others, first_is, of_kind, is_word, is_key, is_scalar, not_next, begins_scalar}
-use Rattle.proto_grammar.specs.Grammar.Steps.{One, Until, Passes, Adds}
+use Rattle.proto_grammar.specs.Terminal.{is_kind, first_is, of_kind, is_word, is_key, is_scalar, not_next, begins_scalar}
+use Rattle.proto_grammar.specs.Grammar.Steps.{One, Passes}
 use Rattle.proto_grammar.specs.Grammar.Steps.One.{one}
-use Rattle.proto_grammar.specs.Grammar.Names.{IsType, IsTypeName, IsName}
+use Rattle.proto_grammar.specs.Grammar.Names.{IsType, IsTypeName}
 use Rattle.proto_grammar.specs.Grammar.Names.IsType.{scalar, named}
 use Rattle.proto_grammar.specs.Grammar.Names.IsTypeName.{rooted, plain as a_plain}
 use Rattle.proto_grammar.specs.Grammar.Names.IsName.{name}
@@ -36,10 +35,11 @@ use Rattle.proto_grammar.specs.Grammar.Reserved.IsCommaItem.{comma_item}
 use Rattle.proto_grammar.specs.Grammar.Reserved.IsReserved.{reserved}
 use Rattle.proto_grammar.specs.Reading.Steps.{token_that, span_at, passing, until_at}
 use Rattle.proto_grammar.specs.Reading.Names.{type_at, pass_type_name_at}
-use Rattle.proto_grammar.specs.Reading.Options.{options_at, strings_at}
+use Rattle.proto_grammar.specs.Reading.Options.{options_at}
 use Rattle.proto_grammar.specs.Reading.Fields.{numbered_at, typed_at, label_at, field_at, oneof_field_at, pass_field_at, map_field_at}
 use Rattle.proto_grammar.specs.Reading.Reserved.{plain_integer_at, integer_at, range_end_at, range_at, reserved_item_at, comma_item_at, comma_items_at, reserved_at}
-use Rattle.proto_grammar.proofs.OptionSteps.{bind_some, same_some, guard_some, chosen, both_true}
+use Rattle.std.proofs.lemmas.Option.{same_Some}
+use Rattle.proto_grammar.proofs.OptionSteps.{bind_some, chosen, both_true}
 use Rattle.proto_grammar.proofs.TokenLemmas.{token_found, next_found, other_kind}
 use Rattle.proto_grammar.proofs.UntilLemmas.{until_at-found, passing-found}
 use Rattle.proto_grammar.proofs.Found.Names.{type_found, pass_type_name_found}
@@ -53,7 +53,7 @@ numbered_found custom first tokens x e =
     let i = bind_some (token_that (of_kind Integer) q.0.1) _ x q.2 in
     let o = bind_some (options_at custom i.0.1) _ x i.2 in
     let s = bind_some (token_that (of_kind Semicolon) o.0.1) _ x o.2 in
-    subst (λ (y : Heading × List Lexeme). IsNumbered custom first tokens y.0 y.1) (same_some _ x s.2)
+    subst (λ (y : Heading × List Lexeme). IsNumbered custom first tokens y.0 y.1) (same_Some _ x s.2)
     (numbered (token_found _ _ n.1) (token_found _ _ q.1) (token_found _ _ i.1) (options_found custom _ _ o.1) (token_found _ _ s.1))
 
 pub typed_found : (custom : CustomOptions) (first : Span) (label : Option Label) (tokens : List Lexeme) (x : Field × List Lexeme)
@@ -62,16 +62,16 @@ unfolding typed_at
 typed_found custom first label tokens x e =
     let t = bind_some (type_at tokens) _ x e in
     let n = bind_some (numbered_at custom first t.0.1) _ x t.2 in
-    subst (λ (y : Field × List Lexeme). IsTyped custom first label tokens y.0 y.1) (same_some _ x n.2) (typed (type_found _ _ t.1) (numbered_found custom first _ _ n.1))
+    subst (λ (y : Field × List Lexeme). IsTyped custom first label tokens y.0 y.1) (same_Some _ x n.2) (typed (type_found _ _ t.1) (numbered_found custom first _ _ n.1))
 
 pub label_found : (tokens : List Lexeme) (x : Option Label × List Lexeme) → label_at tokens ≡ Some x → IsLabel tokens x.0 x.1
 unfolding label_at
 label_found tokens x e =
     chosen (first_is (is_word (codes "repeated")) tokens) _ _ (Some x) e
-    (λ is read. subst (λ (y : Option Label × List Lexeme). IsLabel tokens y.0 y.1) (same_some _ x read) (repeated (next_found tokens is).1))
+    (λ is read. subst (λ (y : Option Label × List Lexeme). IsLabel tokens y.0 y.1) (same_Some _ x read) (repeated (next_found tokens is).1))
     (λ no_repeated read. chosen (first_is (is_word (codes "optional")) tokens) _ _ (Some x) read
-    (λ is read. subst (λ (y : Option Label × List Lexeme). IsLabel tokens y.0 y.1) (same_some _ x read) (optional (next_found tokens is).1))
-    (λ no_optional read. subst (λ (y : Option Label × List Lexeme). IsLabel tokens y.0 y.1) (same_some _ x read) (no_label no_repeated no_optional)))
+    (λ is read. subst (λ (y : Option Label × List Lexeme). IsLabel tokens y.0 y.1) (same_Some _ x read) (optional (next_found tokens is).1))
+    (λ no_optional read. subst (λ (y : Option Label × List Lexeme). IsLabel tokens y.0 y.1) (same_Some _ x read) (no_label no_repeated no_optional)))
 
 pub field_found : (custom : CustomOptions) (tokens : List Lexeme) (x : Field × List Lexeme) → field_at custom tokens ≡ Some x → IsField custom tokens x.0 x.1
 unfolding field_at span_at
@@ -124,7 +124,7 @@ map_field_found custom tokens x e =
     let v = bind_some (type_at c.0.1) _ x c.2 in
     let g = bind_some (token_that (of_kind Greater) v.0.1) _ x v.2 in
     let h = bind_some (numbered_at custom f.0.0 g.0.1) _ x g.2 in
-    subst (λ (y : MapField × List Lexeme). IsMapField custom tokens y.0 y.1) (same_some _ x h.2)
+    subst (λ (y : MapField × List Lexeme). IsMapField custom tokens y.0 y.1) (same_Some _ x h.2)
     (map_field (token_found _ _ f.1) (token_found _ _ l.1) (token_found _ _ k.1) (token_found _ _ c.1) (type_found _ _ v.1) (token_found _ _ g.1) (numbered_found custom f.0.0 _ _ h.1))
 
 plain_integer_found : (tokens : List Lexeme) (x : Unit {0} × List Lexeme) → plain_integer_at tokens ≡ Some x → (span : Span) × One (of_kind Integer) tokens span x.1

@@ -1,13 +1,12 @@
 -- What is read is in the grammar: names and types.
-use Rattle.std.proofs.Common.{◌≡◌, Bool, true, false, Option, Some, None, List, [], ◌∷◌, refl, sym, ap, subst}
+use Rattle.std.proofs.Common.{◌≡◌, false, Option, Some, List, [], ◌∷◌, sym, subst}
 use Rattle.proto_lex.specs.declared.span.Span.{Span}
 use Rattle.proto_lex.specs.declared.token.TokenKind.TheVariants.{Identifier, Dot}
 use Rattle.proto_grammar.specs.declared.tree.TypeName.{TypeName}
 use Rattle.proto_grammar.specs.declared.tree.FieldType.{FieldType}
-use Rattle.proto_grammar.specs.declared.tree.FieldType.TheVariants.{Scalar, Named}
 use Rattle.proto_grammar.specs.Lexeme.{Lexeme}
 use Rattle.proto_grammar.specs.Terminal.{first_is, of_kind, is_scalar, not_next, begins_scalar}
-use Rattle.proto_grammar.specs.Grammar.Steps.{One, Until, Adds}
+use Rattle.proto_grammar.specs.Grammar.Steps.{Adds}
 use Rattle.proto_grammar.specs.Grammar.Names.{IsDotName, IsName, IsTypeName, IsType}
 use Rattle.proto_grammar.specs.Grammar.Names.IsDotName.{dot_name}
 use Rattle.proto_grammar.specs.Grammar.Names.IsName.{name}
@@ -15,7 +14,8 @@ use Rattle.proto_grammar.specs.Grammar.Names.IsTypeName.{rooted, plain}
 use Rattle.proto_grammar.specs.Grammar.Names.IsType.{scalar, named}
 use Rattle.proto_grammar.specs.Reading.Steps.{token_that, adding}
 use Rattle.proto_grammar.specs.Reading.Names.{dot_name_at, dot_names_at, name_at, pass_dot_name_at, pass_dot_names_at, pass_name_at, leading_dot_at, type_name_at, pass_type_name_at, named_type_at, type_at}
-use Rattle.proto_grammar.proofs.OptionSteps.{bind_some, same_some, kept_some, chosen}
+use Rattle.std.proofs.lemmas.Option.{same_Some}
+use Rattle.proto_grammar.proofs.OptionSteps.{bind_some, kept_some, chosen}
 use Rattle.proto_grammar.proofs.TokenLemmas.{token_found}
 use Rattle.proto_grammar.proofs.UntilLemmas.{until_at-found, adding-found, passed-found}
 
@@ -24,7 +24,7 @@ unfolding dot_name_at
 dot_name_found tokens x e =
     let d = bind_some (token_that (of_kind Dot) tokens) _ x e in
     let n = bind_some (token_that (of_kind Identifier) d.0.1) _ x d.2 in
-    subst (λ (y : Option Span × List Lexeme). IsDotName tokens y.0 y.1) (same_some _ x n.2) (dot_name (token_found _ _ d.1) (token_found _ _ n.1))
+    subst (λ (y : Option Span × List Lexeme). IsDotName tokens y.0 y.1) (same_Some _ x n.2) (dot_name (token_found _ _ d.1) (token_found _ _ n.1))
 
 pub name_found : (tokens : List Lexeme) (x : List Span × List Lexeme) → name_at tokens ≡ Some x → IsName tokens x.0 x.1
 unfolding name_at dot_names_at
@@ -47,12 +47,12 @@ leading_dot_found tokens x e components after behind =
     chosen (first_is (of_kind Dot) tokens) _ _ (Some x) e
     (λ _ read.
     let d = bind_some (token_that (of_kind Dot) tokens) _ x read in
-    let here = same_some _ x d.2 in
+    let here = same_Some _ x d.2 in
     let behind' = subst (λ (y : Option Span × List Lexeme). IsName y.1 components after) (sym here) behind in
     subst (λ (y : Option Span × List Lexeme). IsTypeName tokens (record { leading_dot = y.0; components = components }) after) here
     (rooted (token_found _ _ d.1) behind'))
     (λ _ read.
-    let here = same_some _ x read in
+    let here = same_Some _ x read in
     let behind' = subst (λ (y : Option Span × List Lexeme). IsName y.1 components after) (sym here) behind in
     subst (λ (y : Option Span × List Lexeme). IsTypeName tokens (record { leading_dot = y.0; components = components }) after) here
     (plain behind'))
@@ -62,7 +62,7 @@ unfolding type_name_at
 type_name_found tokens x e =
     let d = bind_some (leading_dot_at tokens) _ x e in
     let n = bind_some (name_at d.0.1) _ x d.2 in
-    subst (λ (y : TypeName × List Lexeme). IsTypeName tokens y.0 y.1) (same_some _ x n.2) (leading_dot_found tokens d.0 d.1 n.0.0 n.0.1 (name_found _ _ n.1))
+    subst (λ (y : TypeName × List Lexeme). IsTypeName tokens y.0 y.1) (same_Some _ x n.2) (leading_dot_found tokens d.0 d.1 n.0.0 n.0.1 (name_found _ _ n.1))
 
 pub pass_type_name_found : (tokens : List Lexeme) (x : Unit {0} × List Lexeme) → pass_type_name_at tokens ≡ Some x → (type : TypeName) × IsTypeName tokens type x.1
 unfolding pass_type_name_at
@@ -83,7 +83,7 @@ type_found tokens x e =
     chosen (begins_scalar tokens) _ _ (Some x) e
     (λ is read.
     let w = bind_some (token_that is_scalar tokens) _ x read in
-    subst (λ (y : FieldType × List Lexeme). IsType tokens y.0 y.1) (same_some _ x w.2) (scalar is (token_found _ _ w.1)))
+    subst (λ (y : FieldType × List Lexeme). IsType tokens y.0 y.1) (same_Some _ x w.2) (scalar is (token_found _ _ w.1)))
     (λ not read.
     let n = bind_some (type_name_at tokens) _ x read in
-    subst (λ (y : FieldType × List Lexeme). IsType tokens y.0 y.1) (same_some _ x n.2) (named not (type_name_found _ _ n.1)))
+    subst (λ (y : FieldType × List Lexeme). IsType tokens y.0 y.1) (same_Some _ x n.2) (named not (type_name_found _ _ n.1)))

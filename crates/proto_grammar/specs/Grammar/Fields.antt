@@ -1,5 +1,5 @@
 -- Fields (proto3 specification, "Normal field", "Oneof and oneof field" and "Map field").
-use Rattle.std.specs.Prelude.{◌≡◌, Bool, true, false, Option, Some, None, List, [], ◌∷◌, codes}
+use Rattle.std.specs.Prelude.{◌≡◌, false, Option, Some, None, List, ◌∷◌, codes}
 use Rattle.proto_lex.specs.declared.span.Span.{Span}
 use Rattle.proto_lex.specs.declared.token.TokenKind.TheVariants.{Identifier, Integer, Semicolon, Equals, Less, Greater, Comma}
 use Rattle.proto_grammar.specs.declared.tree.CustomOptions.{CustomOptions}

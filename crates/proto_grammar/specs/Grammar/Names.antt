@@ -1,5 +1,5 @@
 -- Names and types (proto3 specification, "Identifiers" and "Fields").
-use Rattle.std.specs.Prelude.{◌≡◌, Bool, true, false, Option, Some, None, List, [], ◌∷◌}
+use Rattle.std.specs.Prelude.{◌≡◌, true, false, Option, Some, None, List, [], ◌∷◌}
 use Rattle.proto_lex.specs.declared.span.Span.{Span}
 use Rattle.proto_lex.specs.declared.token.TokenKind.TheVariants.{Identifier, Dot}
 use Rattle.proto_grammar.specs.declared.tree.TypeName.{TypeName}

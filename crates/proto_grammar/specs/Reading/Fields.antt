@@ -1,5 +1,5 @@
 -- Fields.
-use Rattle.std.specs.Prelude.{Bool, cond, Option, Some, None, List, codes}
+use Rattle.std.specs.Prelude.{cond, Option, Some, None, codes}
 use Rattle.proto_lex.specs.declared.span.Span.{Span}
 use Rattle.proto_lex.specs.declared.token.TokenKind.TheVariants.{Identifier, Integer, Semicolon, Equals, Less, Greater, Comma}
 use Rattle.proto_grammar.specs.declared.tree.CustomOptions.{CustomOptions}
@@ -8,7 +8,6 @@ use Rattle.proto_grammar.specs.declared.tree.Label.{Label}
 use Rattle.proto_grammar.specs.declared.tree.Label.TheVariants.{Repeated, Optional}
 use Rattle.proto_grammar.specs.declared.tree.Field.{Field}
 use Rattle.proto_grammar.specs.declared.tree.MapField.{MapField}
-use Rattle.proto_grammar.specs.Lexeme.{Lexeme}
 use Rattle.proto_grammar.specs.Terminal.{others, first_is, of_kind, is_word, is_key}
 use Rattle.proto_grammar.specs.Reading.Steps.{◌>>=◌, Read, token_that, span_at}
 use Rattle.proto_grammar.specs.Reading.Names.{type_at, pass_type_name_at}

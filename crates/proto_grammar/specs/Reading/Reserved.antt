@@ -1,7 +1,6 @@
 -- Reserved statements.
-use Rattle.std.specs.Prelude.{Bool, cond, ◌&&◌, Option, Some, None, List, codes}
+use Rattle.std.specs.Prelude.{Bool, cond, ◌&&◌, Some, codes}
 use Rattle.proto_lex.specs.declared.token.TokenKind.TheVariants.{Integer, StringLiteral, Semicolon, Comma, Minus}
-use Rattle.proto_grammar.specs.Lexeme.{Lexeme}
 use Rattle.proto_grammar.specs.Terminal.{others, first_is, of_kind, is_word, not_next}
 use Rattle.proto_grammar.specs.Reading.Steps.{◌>>=◌, Read, token_that, until_at, passing}
 use Rattle.proto_grammar.specs.Reading.Options.{strings_at}

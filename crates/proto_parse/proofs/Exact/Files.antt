@@ -1,12 +1,12 @@
 -- What is in the grammar is read: files.
-use Rattle.std.proofs.Common.{◌≡◌, ℕ, zero, suc, ◌==◌, Bool, true, false, cond, Option, Some, None, List, [], ◌∷◌, ◌++◌, length, drop, refl, sym, ◌∙◌, ap, subst, codes, nat_eq}
-use Rattle.std.specs.Prelude.{is_some, Result, Ok, Err, MatchResult}
+use Rattle.std.proofs.Common.{◌≡◌, ℕ, true, false, Option, Some, List, [], ◌∷◌, ◌++◌, length, drop, refl, sym, ◌∙◌, ap, subst, codes, nat_eq}
+use Rattle.std.specs.Prelude.{Result, Ok, Err, MatchResult}
 use Rattle.std.specs.List.{starts_with}
 use Rattle.std.proofs.lemmas.Slice.Eq.{starts_is}
 use Rattle.std.proofs.Math.Seq.{drop-append_seam}
 use Rattle.std.proofs.lemmas.Bool.Decides.{Decides-eqb}
 use Rattle.proto_lex.specs.declared.span.Span.{Span}
-use Rattle.proto_lex.specs.declared.token.TokenKind.TheVariants.{StringLiteral, Semicolon, Equals}
+use Rattle.proto_lex.specs.declared.token.TokenKind.TheVariants.{StringLiteral}
 use Rattle.proto_grammar.specs.declared.tree.CustomOptions.{CustomOptions}
 use Rattle.proto_grammar.specs.declared.tree.Import.{Import}
 use Rattle.proto_grammar.specs.declared.tree.ImportKind.{ImportKind}
@@ -17,10 +17,10 @@ use Rattle.proto_parse.specs.declared.statement.FileStatement.{FileStatement}
 use Rattle.proto_grammar.specs.Lexeme.{Lexeme}
 use Rattle.proto_parse.specs.Limits.{max_message_depth}
 use Rattle.proto_grammar.specs.Gives.{Fails, Gives}
-use Rattle.proto_grammar.specs.Terminal.{first_is, of_kind, is_word, not_next, is_end, between_quotes}
+use Rattle.proto_grammar.specs.Terminal.{not_next, is_end, between_quotes}
 use Rattle.proto_parse.specs.Choice.{file_statement_of}
-use Rattle.proto_grammar.specs.Grammar.Steps.{One, Until, Adds}
-use Rattle.proto_parse.specs.Grammar.Files.{empty_file, SpellsJoined, IsSyntax, IsImportKind, IsPathLiteral, IsImport, IsPackage, IsStatement, IsFile}
+use Rattle.proto_grammar.specs.Grammar.Steps.{Adds}
+use Rattle.proto_parse.specs.Grammar.Files.{SpellsJoined, IsSyntax, IsImportKind, IsPathLiteral, IsImport, IsPackage, IsStatement, IsFile}
 use Rattle.proto_parse.specs.Grammar.Files.SpellsJoined.{none, some}
 use Rattle.proto_parse.specs.Grammar.Files.IsSyntax.{syntax}
 use Rattle.proto_parse.specs.Grammar.Files.IsImportKind.{weak, public, neither}
@@ -29,9 +29,9 @@ use Rattle.proto_parse.specs.Grammar.Files.IsImport.{import}
 use Rattle.proto_parse.specs.Grammar.Files.IsPackage.{package_statement}
 use Rattle.proto_parse.specs.Grammar.Files.IsStatement.{empty as statements-empty, import as statements-import, package_statement as statements-package_statement, option as statements-option, message as statements-message, enum as statements-enum, service as statements-service, extend as statements-extend}
 use Rattle.proto_parse.specs.Grammar.Files.IsFile.{file}
-use Rattle.proto_grammar.specs.Reading.Steps.{Read, adding, until_at}
+use Rattle.proto_grammar.specs.Reading.Steps.{adding, until_at}
 use Rattle.proto_parse.specs.Reading.Files.{stripped_at, spelled_at, syntax_at, import_kind_at, path_literal_at, path_literals_at, import_at, package_at, only_package_at, statement_by, statement_at, statements_at, file_at}
-use Rattle.proto_grammar.proofs.OptionSteps.{same_some}
+use Rattle.std.proofs.lemmas.Option.{same_Some}
 use Rattle.proto_grammar.proofs.TokenLemmas.{token_exact, one_next, one_others, next_other_word}
 use Rattle.proto_grammar.proofs.UntilLemmas.{until_at-exact, until_at-step, adding-exact}
 use Rattle.proto_parse.proofs.StepsFall.{path_literals_fall, stripped_falls, statements_fall}
@@ -117,7 +117,7 @@ pub same_tree : {custom : CustomOptions} {a : List Lexeme} (tree other : File) �
 same_tree tree other d e =
     let x = file_exact d in
     let y = file_exact e in
-    ap (λ (z : File × List Lexeme). z.0) (same_some (tree, x.0) (other, y.0) (sym x.1 ∙ y.1))
+    ap (λ (z : File × List Lexeme). z.0) (same_Some (tree, x.0) (other, y.0) (sym x.1 ∙ y.1))
 
 -- where a tree derives, a fault is want of memory
 pub only_memory : {custom : CustomOptions} {a : List Lexeme} {tree : File} → (fault : SyntaxFault) → Fails custom fault (file_at custom a) → IsFile custom a tree → fault ≡ Memory
@@ -136,5 +136,5 @@ pub file_of_exact : (custom : CustomOptions) (tokens rest : List Lexeme) (result
     → (tree : File) → IsFile custom tokens tree → MatchResult result (λ f. f ≡ tree) (λ fault. fault ≡ Memory)
 file_of_exact custom tokens rest (Ok f) e tree d =
     let read = file_exact d in
-    ap (λ (z : File × List Lexeme). z.0) (same_some (f, rest) (tree, read.0) (sym e ∙ read.1))
+    ap (λ (z : File × List Lexeme). z.0) (same_Some (f, rest) (tree, read.0) (sym e ∙ read.1))
 file_of_exact custom tokens rest (Err fault) e tree d = only_memory fault e d

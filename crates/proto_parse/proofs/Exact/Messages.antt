@@ -1,9 +1,8 @@
 -- What is in the grammar is read: enums, oneofs, messages and services.
-use Rattle.std.proofs.Common.{◌≡◌, ℕ, zero, suc, Bool, true, false, Option, Some, None, List, [], ◌∷◌, refl, sym, subst, codes}
+use Rattle.std.proofs.Common.{◌≡◌, ℕ, zero, suc, true, false, Option, Some, List, refl, sym, subst, codes}
 use Rattle.proto_lex.specs.declared.span.Span.{Span}
-use Rattle.proto_lex.specs.declared.token.TokenKind.TheVariants.{Identifier, Semicolon, Equals, OpenBrace, CloseBrace, OpenParenthesis, CloseParenthesis}
+use Rattle.proto_lex.specs.declared.token.TokenKind.TheVariants.{Identifier, Semicolon, OpenBrace}
 use Rattle.proto_grammar.specs.declared.tree.CustomOptions.{CustomOptions}
-use Rattle.proto_grammar.specs.declared.tree.CustomOptions.TheVariants.{Refuse, Skip}
 use Rattle.proto_grammar.specs.declared.tree.Heading.{Heading}
 use Rattle.proto_grammar.specs.declared.tree.TypeName.{TypeName}
 use Rattle.proto_grammar.specs.declared.tree.Field.{Field}
@@ -14,10 +13,10 @@ use Rattle.proto_grammar.specs.declared.tree.Service.{Service}
 use Rattle.proto_grammar.specs.declared.tree.MessageItem.{MessageItem}
 use Rattle.proto_parse.specs.declared.statement.MessageStatement.{MessageStatement}
 use Rattle.proto_grammar.specs.Lexeme.{Lexeme}
-use Rattle.proto_grammar.specs.Terminal.{others, first_is, of_kind, is_word, closes, begins_scalar}
+use Rattle.proto_grammar.specs.Terminal.{first_is, of_kind, is_word, closes}
 use Rattle.proto_parse.specs.Choice.{message_statement_of}
 use Rattle.proto_grammar.specs.Tree.{MessageTree}
-use Rattle.proto_grammar.specs.Grammar.Steps.{One, Until, Passes, Adds}
+use Rattle.proto_grammar.specs.Grammar.Steps.{Passes, Adds}
 use Rattle.proto_parse.specs.Grammar.Messages.{IsHeading, IsValue, IsEnumItem, IsEnum, IsOneofItem, IsOneof, IsExtendItem, IsExtend, IsMessageItem, IsMessageOf, IsMessage}
 use Rattle.proto_parse.specs.Grammar.Messages.IsHeading.{heading}
 use Rattle.proto_parse.specs.Grammar.Messages.IsValue.{value}
@@ -40,7 +39,7 @@ use Rattle.proto_parse.specs.Grammar.Services.IsService.{service}
 use Rattle.proto_grammar.specs.Reading.Steps.{Read, adding, passing}
 use Rattle.proto_parse.specs.Reading.Messages.{heading_at, value_at, enum_item_at, enum_items_at, enum_at, oneof_item_at, oneof_items_at, oneof_at, extend_item_at, extend_items_at, extend_at, message_item_by, message_item_at, message_of_at, message_at}
 use Rattle.proto_parse.specs.Reading.Services.{stream_at, method_type_at, method_item_at, method_items_at, method_body_at, method_end_at, method_at, service_item_at, service_items_at, service_at}
-use Rattle.proto_grammar.proofs.TokenLemmas.{token_exact, one_next, one_others, next_other_kind, next_no_word, next_word_kind, next_other_word}
+use Rattle.proto_grammar.proofs.TokenLemmas.{token_exact, one_next, one_others, next_other_kind, next_word_kind, next_other_word}
 use Rattle.proto_grammar.proofs.UntilLemmas.{until_at-exact, adding-exact, passing-exact, Falls}
 use Rattle.proto_parse.proofs.StepsFall.{enum_items_fall, oneof_items_fall, extend_items_fall, message_items_fall, method_items_fall, service_items_fall}
 use Rattle.proto_grammar.proofs.Exact.Names.{named_type_exact, pass_type_name_exact}

@@ -1,5 +1,5 @@
 -- What is read is in the grammar: files.
-use Rattle.std.proofs.Common.{◌≡◌, ℕ, zero, suc, ◌==◌, Bool, true, false, cond, Option, Some, None, List, [], ◌∷◌, ◌++◌, length, drop, refl, sym, ◌∙◌, ap, subst, codes, nat_eq, arith}
+use Rattle.std.proofs.Common.{◌≡◌, ℕ, ◌==◌, true, false, Option, Some, None, List, [], ◌∷◌, ◌++◌, length, drop, refl, sym, ◌∙◌, subst, codes, nat_eq, arith}
 use Rattle.std.specs.Prelude.{is_some, Result, Ok, Err, IfOk, IfErr}
 use Rattle.proto_grammar.specs.declared.fault.SyntaxFault.{SyntaxFault}
 use Rattle.proto_grammar.specs.declared.fault.SyntaxFault.TheVariants.{NotProto3, CustomOption, Aggregate, Extend, TwoPackages, ImportEscape, TooDeep, Grammar, Memory}
@@ -19,10 +19,10 @@ use Rattle.proto_grammar.specs.declared.tree.File.{File}
 use Rattle.proto_parse.specs.declared.statement.FileStatement.{FileStatement}
 use Rattle.proto_parse.specs.declared.statement.FileStatement.TheVariants as choice
 use Rattle.proto_grammar.specs.Lexeme.{Lexeme}
-use Rattle.proto_grammar.specs.Terminal.{first, others, first_is, of_kind, is_word, is_plain_literal, not_next, is_end, between_quotes}
+use Rattle.proto_grammar.specs.Terminal.{first, first_is, of_kind, is_word, is_plain_literal, not_next, is_end, between_quotes}
 use Rattle.proto_parse.specs.Choice.{file_statement_of}
 use Rattle.proto_parse.specs.Limits.{max_message_depth}
-use Rattle.proto_grammar.specs.Grammar.Steps.{One, Until, Adds}
+use Rattle.proto_grammar.specs.Grammar.Steps.{Until, Adds}
 use Rattle.proto_grammar.specs.Grammar.Steps.Until.{done, more}
 use Rattle.proto_parse.specs.Grammar.Files.{empty_file, SpellsJoined, IsSyntax, IsImportKind, IsPathLiteral, IsImport, IsPackage, IsStatement, IsFile}
 use Rattle.proto_parse.specs.Grammar.Files.SpellsJoined.{none, some}
@@ -39,7 +39,8 @@ use Rattle.proto_grammar.specs.Reading.Options.{option_at}
 use Rattle.proto_parse.specs.Reading.Messages.{enum_at, extend_at, message_at}
 use Rattle.proto_parse.specs.Reading.Services.{service_at}
 use Rattle.proto_parse.specs.Reading.Files.{stripped_at, spelled_at, syntax_at, import_kind_at, path_literal_at, path_literals_at, import_at, package_at, only_package_at, statement_by, statement_at, statements_at, file_at}
-use Rattle.proto_grammar.proofs.OptionSteps.{bind_some, same_some, guard_some, kept_some, chosen}
+use Rattle.std.proofs.lemmas.Option.{same_Some}
+use Rattle.proto_grammar.proofs.OptionSteps.{bind_some, guard_some, kept_some, chosen}
 use Rattle.proto_grammar.proofs.TokenLemmas.{token_found, next_found, next_of}
 use Rattle.proto_grammar.proofs.UntilLemmas.{until_at-found, adding-found}
 use Rattle.proto_grammar.proofs.Found.Names.{name_found}
@@ -58,7 +59,7 @@ literal_of text (t ∷ tokens) left rest after further stripped behind =
     let content = between_quotes t.spelling in
     let g = guard_some (starts_with nat_eq text content) _ (left, rest) stripped in
     let whole : text ≡ content ++ drop (length content) text = (starts_is (λ a b. Decides-eqb a b) text content (starts_with nat_eq text content) refl).0 g.0 in
-    let here = same_some (drop (length content) text, tokens) (left, rest) g.1 in
+    let here = same_Some (drop (length content) text, tokens) (left, rest) g.1 in
     let behind' : SpellsJoined tokens (drop (length content) text) after =
     subst (λ (y : List ℕ × List Lexeme). SpellsJoined y.1 y.0 after) (sym here) behind in
     rw whole (some (next_of StringLiteral (t ∷ tokens) further) behind')
@@ -93,16 +94,16 @@ import_kind_found : (tokens : List Lexeme) (x : ImportKind × List Lexeme) → i
 unfolding import_kind_at
 import_kind_found tokens x e =
     chosen (first_is (is_word (codes "weak")) tokens) _ _ (Some x) e
-    (λ is read. subst (λ (y : ImportKind × List Lexeme). IsImportKind tokens y.0 y.1) (same_some _ x read) (weak (next_found tokens is).1))
+    (λ is read. subst (λ (y : ImportKind × List Lexeme). IsImportKind tokens y.0 y.1) (same_Some _ x read) (weak (next_found tokens is).1))
     (λ no_weak read. chosen (first_is (is_word (codes "public")) tokens) _ _ (Some x) read
-    (λ is read. subst (λ (y : ImportKind × List Lexeme). IsImportKind tokens y.0 y.1) (same_some _ x read) (public (next_found tokens is).1))
-    (λ no_public read. subst (λ (y : ImportKind × List Lexeme). IsImportKind tokens y.0 y.1) (same_some _ x read) (neither no_weak no_public)))
+    (λ is read. subst (λ (y : ImportKind × List Lexeme). IsImportKind tokens y.0 y.1) (same_Some _ x read) (public (next_found tokens is).1))
+    (λ no_public read. subst (λ (y : ImportKind × List Lexeme). IsImportKind tokens y.0 y.1) (same_Some _ x read) (neither no_weak no_public)))
 
 pub path_literal_found : (tokens : List Lexeme) (x : Option Span × List Lexeme) → path_literal_at tokens ≡ Some x → IsPathLiteral tokens x.0 x.1
 unfolding path_literal_at
 path_literal_found tokens x e =
     let l = bind_some (token_that is_plain_literal tokens) _ x e in
-    subst (λ (y : Option Span × List Lexeme). IsPathLiteral tokens y.0 y.1) (same_some _ x l.2) (path_literal (token_found _ _ l.1))
+    subst (λ (y : Option Span × List Lexeme). IsPathLiteral tokens y.0 y.1) (same_Some _ x l.2) (path_literal (token_found _ _ l.1))
 
 pub import_found : (tokens : List Lexeme) (x : Import × List Lexeme) → import_at tokens ≡ Some x → IsImport tokens x.0 x.1
 unfolding import_at path_literals_at
@@ -112,7 +113,7 @@ import_found tokens x e =
     let l = bind_some (token_that is_plain_literal i.0.1) _ x i.2 in
     let m = bind_some (until_at (not_next StringLiteral) (adding path_literal_at) (l.0.0 ∷ []) l.0.1) _ x l.2 in
     let s = bind_some (token_that (of_kind Semicolon) m.0.1) _ x m.2 in
-    subst (λ (y : Import × List Lexeme). IsImport tokens y.0 y.1) (same_some _ x s.2)
+    subst (λ (y : Import × List Lexeme). IsImport tokens y.0 y.1) (same_Some _ x s.2)
     (import (token_found _ _ k.1) (import_kind_found _ _ i.1) (token_found _ _ l.1)
     (until_at-found (not_next StringLiteral) (adding path_literal_at) (Adds IsPathLiteral) (adding-found path_literal_at IsPathLiteral path_literal_found) (l.0.0 ∷ []) l.0.1 m.0 m.1)
     (token_found _ _ s.1))
@@ -123,7 +124,7 @@ package_found tokens x e =
     let k = bind_some (token_that (is_word (codes "package")) tokens) _ x e in
     let n = bind_some (name_at k.0.1) _ x k.2 in
     let s = bind_some (token_that (of_kind Semicolon) n.0.1) _ x n.2 in
-    subst (λ (y : List Span × List Lexeme). IsPackage tokens y.0 y.1) (same_some _ x s.2) (package_statement (token_found _ _ k.1) (name_found _ _ n.1) (token_found _ _ s.1))
+    subst (λ (y : List Span × List Lexeme). IsPackage tokens y.0 y.1) (same_Some _ x s.2) (package_statement (token_found _ _ k.1) (name_found _ _ n.1) (token_found _ _ s.1))
 
 -- nothing where there is none
 no_some : {A : Type 0} (o : Option A) → is_some o ≡ false → o ≡ None
@@ -135,29 +136,29 @@ statement_by_found : (custom : CustomOptions) (f : File) (tokens : List Lexeme) 
 unfolding only_package_at
 statement_by_found custom f tokens x choice.Empty is e =
     let m = bind_some (token_that (of_kind Semicolon) tokens) _ x e in
-    subst (λ (y : File × List Lexeme). IsStatement custom f tokens y.0 y.1) (same_some _ x m.2) (statements-empty is (token_found _ _ m.1))
+    subst (λ (y : File × List Lexeme). IsStatement custom f tokens y.0 y.1) (same_Some _ x m.2) (statements-empty is (token_found _ _ m.1))
 statement_by_found custom f tokens x choice.Import is e =
     let m = bind_some (import_at tokens) _ x e in
-    subst (λ (y : File × List Lexeme). IsStatement custom f tokens y.0 y.1) (same_some _ x m.2) (statements-import is (import_found _ _ m.1))
+    subst (λ (y : File × List Lexeme). IsStatement custom f tokens y.0 y.1) (same_Some _ x m.2) (statements-import is (import_found _ _ m.1))
 statement_by_found custom f tokens x choice.Package is e =
     let k = kept_some (is_some f.package_name) _ x e in
     let m = bind_some (package_at tokens) _ x k.1 in
-    subst (λ (y : File × List Lexeme). IsStatement custom f tokens y.0 y.1) (same_some _ x m.2) (statements-package_statement is (no_some f.package_name k.0) (package_found _ _ m.1))
+    subst (λ (y : File × List Lexeme). IsStatement custom f tokens y.0 y.1) (same_Some _ x m.2) (statements-package_statement is (no_some f.package_name k.0) (package_found _ _ m.1))
 statement_by_found custom f tokens x choice.Option is e =
     let m = bind_some (option_at custom tokens) _ x e in
-    subst (λ (y : File × List Lexeme). IsStatement custom f tokens y.0 y.1) (same_some _ x m.2) (statements-option is (option_found custom _ _ m.1))
+    subst (λ (y : File × List Lexeme). IsStatement custom f tokens y.0 y.1) (same_Some _ x m.2) (statements-option is (option_found custom _ _ m.1))
 statement_by_found custom f tokens x choice.Message is e =
     let m = bind_some (message_at custom max_message_depth tokens) _ x e in
-    subst (λ (y : File × List Lexeme). IsStatement custom f tokens y.0 y.1) (same_some _ x m.2) (statements-message m.0.0 is (message_found custom max_message_depth _ _ m.1))
+    subst (λ (y : File × List Lexeme). IsStatement custom f tokens y.0 y.1) (same_Some _ x m.2) (statements-message m.0.0 is (message_found custom max_message_depth _ _ m.1))
 statement_by_found custom f tokens x choice.Enum is e =
     let m = bind_some (enum_at custom tokens) _ x e in
-    subst (λ (y : File × List Lexeme). IsStatement custom f tokens y.0 y.1) (same_some _ x m.2) (statements-enum is (enum_found custom _ _ m.1))
+    subst (λ (y : File × List Lexeme). IsStatement custom f tokens y.0 y.1) (same_Some _ x m.2) (statements-enum is (enum_found custom _ _ m.1))
 statement_by_found custom f tokens x choice.Service is e =
     let m = bind_some (service_at custom tokens) _ x e in
-    subst (λ (y : File × List Lexeme). IsStatement custom f tokens y.0 y.1) (same_some _ x m.2) (statements-service is (service_found custom _ _ m.1))
+    subst (λ (y : File × List Lexeme). IsStatement custom f tokens y.0 y.1) (same_Some _ x m.2) (statements-service is (service_found custom _ _ m.1))
 statement_by_found custom f tokens x choice.Extend is e =
     let m = bind_some (extend_at custom tokens) _ x e in
-    subst (λ (y : File × List Lexeme). IsStatement custom f tokens y.0 y.1) (same_some _ x m.2) (statements-extend is (extend_found custom _ _ m.1))
+    subst (λ (y : File × List Lexeme). IsStatement custom f tokens y.0 y.1) (same_Some _ x m.2) (statements-extend is (extend_found custom _ _ m.1))
 statement_by_found custom f tokens x choice.Other is e = cc
 
 pub statement_found : (custom : CustomOptions) (f : File) (tokens : List Lexeme) (x : File × List Lexeme) → statement_at custom f tokens ≡ Some x → IsStatement custom f tokens x.0 x.1

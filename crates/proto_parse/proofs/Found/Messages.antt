@@ -1,5 +1,5 @@
 -- What is read is in the grammar: enums, oneofs, messages and services.
-use Rattle.std.proofs.Common.{◌≡◌, ℕ, zero, suc, Bool, true, false, cond, Option, Some, None, List, [], ◌∷◌, refl, sym, ◌∙◌, ap, subst, codes}
+use Rattle.std.proofs.Common.{◌≡◌, ℕ, zero, suc, true, false, Option, Some, List, [], refl, subst, codes}
 use Rattle.proto_lex.specs.declared.span.Span.{Span}
 use Rattle.proto_lex.specs.declared.token.TokenKind.TheVariants.{Identifier, Semicolon, Equals, OpenBrace, CloseBrace, OpenParenthesis, CloseParenthesis}
 use Rattle.proto_grammar.specs.declared.tree.CustomOptions.{CustomOptions}
@@ -15,11 +15,10 @@ use Rattle.proto_grammar.specs.declared.tree.MessageItem.{MessageItem}
 use Rattle.proto_parse.specs.declared.statement.MessageStatement.{MessageStatement}
 use Rattle.proto_parse.specs.declared.statement.MessageStatement.TheVariants as choice
 use Rattle.proto_grammar.specs.Lexeme.{Lexeme}
-use Rattle.proto_grammar.specs.Terminal.{others, first_is, of_kind, is_word, closes, begins_scalar}
+use Rattle.proto_grammar.specs.Terminal.{first_is, of_kind, is_word, closes}
 use Rattle.proto_parse.specs.Choice.{message_statement_of}
 use Rattle.proto_grammar.specs.Tree.{MessageTree}
-use Rattle.proto_grammar.specs.Grammar.Steps.{One, Until, Passes, Adds}
-use Rattle.proto_grammar.specs.Grammar.Names.{IsTypeName}
+use Rattle.proto_grammar.specs.Grammar.Steps.{Passes, Adds}
 use Rattle.proto_grammar.specs.Grammar.Options.{IsOption}
 use Rattle.proto_grammar.specs.Grammar.Options.IsOption.{option as an_option}
 use Rattle.proto_parse.specs.Grammar.Messages.{IsHeading, IsValue, IsEnumItem, IsEnum, IsOneofItem, IsOneof, IsExtendItem, IsExtend, IsMessageItem, IsMessageOf, IsMessage}
@@ -44,11 +43,12 @@ use Rattle.proto_parse.specs.Grammar.Services.IsService.{service}
 use Rattle.proto_grammar.specs.Reading.Steps.{token_that, adding, passing, until_at}
 use Rattle.proto_grammar.specs.Reading.Names.{named_type_at, pass_type_name_at}
 use Rattle.proto_grammar.specs.Reading.Options.{option_at, options_at}
-use Rattle.proto_grammar.specs.Reading.Fields.{field_at, oneof_field_at, map_field_at, pass_field_at}
+use Rattle.proto_grammar.specs.Reading.Fields.{field_at, oneof_field_at, map_field_at}
 use Rattle.proto_grammar.specs.Reading.Reserved.{integer_at, reserved_at}
 use Rattle.proto_parse.specs.Reading.Messages.{heading_at, value_at, enum_item_at, enum_items_at, enum_at, oneof_item_at, oneof_items_at, oneof_at, extend_item_at, extend_items_at, extend_at, message_item_by, message_item_at, message_of_at, message_at}
 use Rattle.proto_parse.specs.Reading.Services.{stream_at, method_type_at, method_item_at, method_items_at, method_body_at, method_end_at, method_at, service_item_at, service_items_at, service_at}
-use Rattle.proto_grammar.proofs.OptionSteps.{bind_some, same_some, guard_some, chosen}
+use Rattle.std.proofs.lemmas.Option.{same_Some}
+use Rattle.proto_grammar.proofs.OptionSteps.{bind_some, chosen}
 use Rattle.proto_grammar.proofs.TokenLemmas.{token_found, next_found, one_next}
 use Rattle.proto_grammar.proofs.UntilLemmas.{until_at-found, adding-found, passing-found}
 use Rattle.proto_grammar.proofs.Found.Names.{named_type_found, pass_type_name_found}
@@ -61,7 +61,7 @@ heading_found word tokens x e =
     let k = bind_some (token_that (is_word word) tokens) _ x e in
     let n = bind_some (token_that (of_kind Identifier) k.0.1) _ x k.2 in
     let o = bind_some (token_that (of_kind OpenBrace) n.0.1) _ x n.2 in
-    subst (λ (y : Heading × List Lexeme). IsHeading word tokens y.0 y.1) (same_some _ x o.2) (heading (token_found _ _ k.1) (token_found _ _ n.1) (token_found _ _ o.1))
+    subst (λ (y : Heading × List Lexeme). IsHeading word tokens y.0 y.1) (same_Some _ x o.2) (heading (token_found _ _ k.1) (token_found _ _ n.1) (token_found _ _ o.1))
 
 value_found : (custom : CustomOptions) (tokens : List Lexeme) (x : Heading × List Lexeme) → value_at custom tokens ≡ Some x → IsValue custom tokens x.0 x.1
 unfolding value_at
@@ -71,25 +71,25 @@ value_found custom tokens x e =
     let i = bind_some (integer_at true q.0.1) _ x q.2 in
     let o = bind_some (options_at custom i.0.1) _ x i.2 in
     let s = bind_some (token_that (of_kind Semicolon) o.0.1) _ x o.2 in
-    subst (λ (y : Heading × List Lexeme). IsValue custom tokens y.0 y.1) (same_some _ x s.2)
+    subst (λ (y : Heading × List Lexeme). IsValue custom tokens y.0 y.1) (same_Some _ x s.2)
     (value (token_found _ _ n.1) (token_found _ _ q.1) (integer_found true _ _ i.1) (options_found custom _ _ o.1) (token_found _ _ s.1))
 
 pub enum_item_found : (custom : CustomOptions) (tokens : List Lexeme) (x : Option Heading × List Lexeme) → enum_item_at custom tokens ≡ Some x → IsEnumItem custom tokens x.0 x.1
 unfolding enum_item_at
 enum_item_found custom tokens x e =
     chosen (first_is (of_kind Semicolon) tokens) _ _ (Some x) e
-    (λ is read. subst (λ (y : Option Heading × List Lexeme). IsEnumItem custom tokens y.0 y.1) (same_some _ x read) (enums-empty (next_found tokens is).1))
+    (λ is read. subst (λ (y : Option Heading × List Lexeme). IsEnumItem custom tokens y.0 y.1) (same_Some _ x read) (enums-empty (next_found tokens is).1))
     (λ no_semicolon read. chosen (first_is (is_word (codes "option")) tokens) _ _ (Some x) read
     (λ is read.
     let o = bind_some (option_at custom tokens) _ x read in
-    subst (λ (y : Option Heading × List Lexeme). IsEnumItem custom tokens y.0 y.1) (same_some _ x o.2) (enums-option is (option_found custom _ _ o.1)))
+    subst (λ (y : Option Heading × List Lexeme). IsEnumItem custom tokens y.0 y.1) (same_Some _ x o.2) (enums-option is (option_found custom _ _ o.1)))
     (λ no_option read. chosen (first_is (is_word (codes "reserved")) tokens) _ _ (Some x) read
     (λ is read.
     let r = bind_some (reserved_at true tokens) _ x read in
-    subst (λ (y : Option Heading × List Lexeme). IsEnumItem custom tokens y.0 y.1) (same_some _ x r.2) (enums-reserved is (reserved_found true _ _ r.1)))
+    subst (λ (y : Option Heading × List Lexeme). IsEnumItem custom tokens y.0 y.1) (same_Some _ x r.2) (enums-reserved is (reserved_found true _ _ r.1)))
     (λ no_reserved read.
     let v = bind_some (value_at custom tokens) _ x read in
-    subst (λ (y : Option Heading × List Lexeme). IsEnumItem custom tokens y.0 y.1) (same_some _ x v.2)
+    subst (λ (y : Option Heading × List Lexeme). IsEnumItem custom tokens y.0 y.1) (same_Some _ x v.2)
     (enums-value no_semicolon no_option no_reserved (value_found custom _ _ v.1)))))
 
 pub enum_found : (custom : CustomOptions) (tokens : List Lexeme) (x : Enum × List Lexeme) → enum_at custom tokens ≡ Some x → IsEnum custom tokens x.0 x.1
@@ -98,7 +98,7 @@ enum_found custom tokens x e =
     let h = bind_some (heading_at (codes "enum") tokens) _ x e in
     let i = bind_some (until_at closes (adding (enum_item_at custom)) [] h.0.1) _ x h.2 in
     let c = bind_some (token_that (of_kind CloseBrace) i.0.1) _ x i.2 in
-    subst (λ (y : Enum × List Lexeme). IsEnum custom tokens y.0 y.1) (same_some _ x c.2)
+    subst (λ (y : Enum × List Lexeme). IsEnum custom tokens y.0 y.1) (same_Some _ x c.2)
     (enum (heading_found (codes "enum") _ _ h.1)
     (until_at-found closes (adding (enum_item_at custom)) (Adds (IsEnumItem custom)) (adding-found (enum_item_at custom) (IsEnumItem custom) (enum_item_found custom)) [] h.0.1 i.0 i.1)
     (token_found _ _ c.1))
@@ -107,14 +107,14 @@ pub oneof_item_found : (custom : CustomOptions) (tokens : List Lexeme) (x : Opti
 unfolding oneof_item_at
 oneof_item_found custom tokens x e =
     chosen (first_is (of_kind Semicolon) tokens) _ _ (Some x) e
-    (λ is read. subst (λ (y : Option Field × List Lexeme). IsOneofItem custom tokens y.0 y.1) (same_some _ x read) (oneofs-empty (next_found tokens is).1))
+    (λ is read. subst (λ (y : Option Field × List Lexeme). IsOneofItem custom tokens y.0 y.1) (same_Some _ x read) (oneofs-empty (next_found tokens is).1))
     (λ no_semicolon read. chosen (first_is (is_word (codes "option")) tokens) _ _ (Some x) read
     (λ is read.
     let o = bind_some (option_at custom tokens) _ x read in
-    subst (λ (y : Option Field × List Lexeme). IsOneofItem custom tokens y.0 y.1) (same_some _ x o.2) (oneofs-option is (option_found custom _ _ o.1)))
+    subst (λ (y : Option Field × List Lexeme). IsOneofItem custom tokens y.0 y.1) (same_Some _ x o.2) (oneofs-option is (option_found custom _ _ o.1)))
     (λ no_option read.
     let f = bind_some (oneof_field_at custom tokens) _ x read in
-    subst (λ (y : Option Field × List Lexeme). IsOneofItem custom tokens y.0 y.1) (same_some _ x f.2)
+    subst (λ (y : Option Field × List Lexeme). IsOneofItem custom tokens y.0 y.1) (same_Some _ x f.2)
     (oneofs-field no_semicolon no_option (oneof_field_found custom _ _ f.1))))
 
 pub oneof_found : (custom : CustomOptions) (tokens : List Lexeme) (x : Oneof × List Lexeme) → oneof_at custom tokens ≡ Some x → IsOneof custom tokens x.0 x.1
@@ -123,7 +123,7 @@ oneof_found custom tokens x e =
     let h = bind_some (heading_at (codes "oneof") tokens) _ x e in
     let i = bind_some (until_at closes (adding (oneof_item_at custom)) [] h.0.1) _ x h.2 in
     let c = bind_some (token_that (of_kind CloseBrace) i.0.1) _ x i.2 in
-    subst (λ (y : Oneof × List Lexeme). IsOneof custom tokens y.0 y.1) (same_some _ x c.2)
+    subst (λ (y : Oneof × List Lexeme). IsOneof custom tokens y.0 y.1) (same_Some _ x c.2)
     (oneof (heading_found (codes "oneof") _ _ h.1)
     (until_at-found closes (adding (oneof_item_at custom)) (Adds (IsOneofItem custom)) (adding-found (oneof_item_at custom) (IsOneofItem custom) (oneof_item_found custom)) [] h.0.1 i.0 i.1)
     (token_found _ _ c.1))
@@ -158,32 +158,32 @@ item_by_found : (custom : CustomOptions) (inner : List Lexeme → Option (Messag
     → message_item_by statement custom inner tokens ≡ Some x → IsMessageItem custom Inner tokens x.0 x.1
 item_by_found custom inner Inner finds tokens x choice.Empty is e =
     let m = bind_some (token_that (of_kind Semicolon) tokens) _ x e in
-    subst (λ (y : Option MessageItem × List Lexeme). IsMessageItem custom Inner tokens y.0 y.1) (same_some _ x m.2) (items-empty is (token_found _ _ m.1))
+    subst (λ (y : Option MessageItem × List Lexeme). IsMessageItem custom Inner tokens y.0 y.1) (same_Some _ x m.2) (items-empty is (token_found _ _ m.1))
 item_by_found custom inner Inner finds tokens x choice.Message is e =
     let m = bind_some (inner tokens) _ x e in
-    subst (λ (y : Option MessageItem × List Lexeme). IsMessageItem custom Inner tokens y.0 y.1) (same_some _ x m.2) (items-message is (finds _ _ m.1))
+    subst (λ (y : Option MessageItem × List Lexeme). IsMessageItem custom Inner tokens y.0 y.1) (same_Some _ x m.2) (items-message is (finds _ _ m.1))
 item_by_found custom inner Inner finds tokens x choice.Enum is e =
     let m = bind_some (enum_at custom tokens) _ x e in
-    subst (λ (y : Option MessageItem × List Lexeme). IsMessageItem custom Inner tokens y.0 y.1) (same_some _ x m.2) (items-enum is (enum_found custom _ _ m.1))
+    subst (λ (y : Option MessageItem × List Lexeme). IsMessageItem custom Inner tokens y.0 y.1) (same_Some _ x m.2) (items-enum is (enum_found custom _ _ m.1))
 item_by_found custom inner Inner finds tokens x choice.Option is e =
     let m = bind_some (option_at custom tokens) _ x e in
-    subst (λ (y : Option MessageItem × List Lexeme). IsMessageItem custom Inner tokens y.0 y.1) (same_some _ x m.2) (items-option is (option_found custom _ _ m.1))
+    subst (λ (y : Option MessageItem × List Lexeme). IsMessageItem custom Inner tokens y.0 y.1) (same_Some _ x m.2) (items-option is (option_found custom _ _ m.1))
 item_by_found custom inner Inner finds tokens x choice.Oneof is e =
     let m = bind_some (oneof_at custom tokens) _ x e in
-    subst (λ (y : Option MessageItem × List Lexeme). IsMessageItem custom Inner tokens y.0 y.1) (same_some _ x m.2) (items-oneof is (oneof_found custom _ _ m.1))
+    subst (λ (y : Option MessageItem × List Lexeme). IsMessageItem custom Inner tokens y.0 y.1) (same_Some _ x m.2) (items-oneof is (oneof_found custom _ _ m.1))
 item_by_found custom inner Inner finds tokens x choice.Map is e =
     let m = bind_some (map_field_at custom tokens) _ x e in
-    subst (λ (y : Option MessageItem × List Lexeme). IsMessageItem custom Inner tokens y.0 y.1) (same_some _ x m.2) (items-map_field is (map_field_found custom _ _ m.1))
+    subst (λ (y : Option MessageItem × List Lexeme). IsMessageItem custom Inner tokens y.0 y.1) (same_Some _ x m.2) (items-map_field is (map_field_found custom _ _ m.1))
 item_by_found custom inner Inner finds tokens x choice.Reserved is e =
     let m = bind_some (reserved_at false tokens) _ x e in
-    subst (λ (y : Option MessageItem × List Lexeme). IsMessageItem custom Inner tokens y.0 y.1) (same_some _ x m.2) (items-reserved is (reserved_found false _ _ m.1))
+    subst (λ (y : Option MessageItem × List Lexeme). IsMessageItem custom Inner tokens y.0 y.1) (same_Some _ x m.2) (items-reserved is (reserved_found false _ _ m.1))
 item_by_found custom inner Inner finds tokens x choice.Extend is e =
     let m = bind_some (extend_at custom tokens) _ x e in
-    subst (λ (y : Option MessageItem × List Lexeme). IsMessageItem custom Inner tokens y.0 y.1) (same_some _ x m.2) (items-extend is (extend_found custom _ _ m.1))
+    subst (λ (y : Option MessageItem × List Lexeme). IsMessageItem custom Inner tokens y.0 y.1) (same_Some _ x m.2) (items-extend is (extend_found custom _ _ m.1))
 item_by_found custom inner Inner finds tokens x choice.Extensions is e = cc
 item_by_found custom inner Inner finds tokens x choice.Field is e =
     let m = bind_some (field_at custom tokens) _ x e in
-    subst (λ (y : Option MessageItem × List Lexeme). IsMessageItem custom Inner tokens y.0 y.1) (same_some _ x m.2) (items-field is (field_found custom _ _ m.1))
+    subst (λ (y : Option MessageItem × List Lexeme). IsMessageItem custom Inner tokens y.0 y.1) (same_Some _ x m.2) (items-field is (field_found custom _ _ m.1))
 
 pub message_item_found : (custom : CustomOptions) (inner : List Lexeme → Option (MessageTree × List Lexeme)) (Inner : List Lexeme → MessageTree → List Lexeme → Type 0) → FindsMessages inner Inner
     → (tokens : List Lexeme) (x : Option MessageItem × List Lexeme) → message_item_at custom inner tokens ≡ Some x → IsMessageItem custom Inner tokens x.0 x.1
@@ -197,7 +197,7 @@ message_of_found custom inner Inner finds tokens x e =
     let h = bind_some (heading_at (codes "message") tokens) _ x e in
     let i = bind_some (until_at closes (adding (message_item_at custom inner)) [] h.0.1) _ x h.2 in
     let c = bind_some (token_that (of_kind CloseBrace) i.0.1) _ x i.2 in
-    subst (λ (y : MessageTree × List Lexeme). IsMessageOf custom Inner tokens y.0 y.1) (same_some _ x c.2)
+    subst (λ (y : MessageTree × List Lexeme). IsMessageOf custom Inner tokens y.0 y.1) (same_Some _ x c.2)
     (messages-message (heading_found (codes "message") _ _ h.1)
     (until_at-found closes (adding (message_item_at custom inner)) (Adds (IsMessageItem custom Inner))
     (adding-found (message_item_at custom inner) (IsMessageItem custom Inner) (message_item_found custom inner Inner finds)) [] h.0.1 i.0 i.1)
@@ -223,7 +223,7 @@ method_type_found tokens x e =
     let n = bind_some (named_type_at s.0.1) _ x s.2 in
     let c = bind_some (token_that (of_kind CloseParenthesis) n.0.1) _ x n.2 in
     let name = named_type_found _ _ n.1 in
-    subst (λ (y : TypeName × List Lexeme). IsMethodType tokens y.0 y.1) (same_some _ x c.2)
+    subst (λ (y : TypeName × List Lexeme). IsMethodType tokens y.0 y.1) (same_Some _ x c.2)
     (method_type (token_found _ _ o.1) (stream_found _ _ s.1) name.0 name.1 (token_found _ _ c.1))
 
 option_begins : {custom : CustomOptions} {a b : List Lexeme} → IsOption custom a b → first_is (is_word (codes "option")) a ≡ true
@@ -245,7 +245,7 @@ method_end_found custom tokens x e =
     let o = bind_some (token_that (of_kind OpenBrace) tokens) _ x read in
     let i = bind_some (until_at closes (passing (method_item_at custom)) tt o.0.1) _ x o.2 in
     let c = bind_some (token_that (of_kind CloseBrace) i.0.1) _ x i.2 in
-    subst (λ (y : Span × List Lexeme). IsMethodEnd custom tokens y.0 y.1) (same_some _ x c.2)
+    subst (λ (y : Span × List Lexeme). IsMethodEnd custom tokens y.0 y.1) (same_Some _ x c.2)
     (body (token_found _ _ o.1)
     (until_at-found closes (passing (method_item_at custom)) (Passes (IsMethodItem custom)) (passing-found (method_item_at custom) (IsMethodItem custom) (method_item_found custom)) tt o.0.1 i.0 i.1)
     (token_found _ _ c.1)))
@@ -259,7 +259,7 @@ method_found custom tokens x e =
     let r = bind_some (token_that (is_word (codes "returns")) i.0.1) _ x i.2 in
     let o = bind_some (method_type_at r.0.1) _ x r.2 in
     let c = bind_some (method_end_at custom o.0.1) _ x o.2 in
-    subst (λ (y : Method × List Lexeme). IsMethod custom tokens y.0 y.1) (same_some _ x c.2)
+    subst (λ (y : Method × List Lexeme). IsMethod custom tokens y.0 y.1) (same_Some _ x c.2)
     (method (token_found _ _ f.1) (token_found _ _ n.1) (method_type_found _ _ i.1) (token_found _ _ r.1) (method_type_found _ _ o.1) (method_end_found custom _ _ c.1))
 
 method_begins : {custom : CustomOptions} {a b : List Lexeme} {found : Method} → IsMethod custom a found b → first_is (is_word (codes "rpc")) a ≡ true
@@ -269,14 +269,14 @@ pub service_item_found : (custom : CustomOptions) (tokens : List Lexeme) (x : Op
 unfolding service_item_at
 service_item_found custom tokens x e =
     chosen (first_is (of_kind Semicolon) tokens) _ _ (Some x) e
-    (λ is read. subst (λ (y : Option Method × List Lexeme). IsServiceItem custom tokens y.0 y.1) (same_some _ x read) (services-empty (next_found tokens is).1))
+    (λ is read. subst (λ (y : Option Method × List Lexeme). IsServiceItem custom tokens y.0 y.1) (same_Some _ x read) (services-empty (next_found tokens is).1))
     (λ no_semicolon read. chosen (first_is (is_word (codes "option")) tokens) _ _ (Some x) read
     (λ is read.
     let o = bind_some (option_at custom tokens) _ x read in
-    subst (λ (y : Option Method × List Lexeme). IsServiceItem custom tokens y.0 y.1) (same_some _ x o.2) (services-option is (option_found custom _ _ o.1)))
+    subst (λ (y : Option Method × List Lexeme). IsServiceItem custom tokens y.0 y.1) (same_Some _ x o.2) (services-option is (option_found custom _ _ o.1)))
     (λ no_option read.
     let m = bind_some (method_at custom tokens) _ x read in
-    subst (λ (y : Option Method × List Lexeme). IsServiceItem custom tokens y.0 y.1) (same_some _ x m.2)
+    subst (λ (y : Option Method × List Lexeme). IsServiceItem custom tokens y.0 y.1) (same_Some _ x m.2)
     (services-method (method_begins (method_found custom _ _ m.1)) (method_found custom _ _ m.1))))
 
 pub service_found : (custom : CustomOptions) (tokens : List Lexeme) (x : Service × List Lexeme) → service_at custom tokens ≡ Some x → IsService custom tokens x.0 x.1
@@ -285,7 +285,7 @@ service_found custom tokens x e =
     let h = bind_some (heading_at (codes "service") tokens) _ x e in
     let i = bind_some (until_at closes (adding (service_item_at custom)) [] h.0.1) _ x h.2 in
     let c = bind_some (token_that (of_kind CloseBrace) i.0.1) _ x i.2 in
-    subst (λ (y : Service × List Lexeme). IsService custom tokens y.0 y.1) (same_some _ x c.2)
+    subst (λ (y : Service × List Lexeme). IsService custom tokens y.0 y.1) (same_Some _ x c.2)
     (service (heading_found (codes "service") _ _ h.1)
     (until_at-found closes (adding (service_item_at custom)) (Adds (IsServiceItem custom)) (adding-found (service_item_at custom) (IsServiceItem custom) (service_item_found custom)) [] h.0.1 i.0 i.1)
     (token_found _ _ c.1))

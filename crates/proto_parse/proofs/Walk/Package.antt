@@ -1,5 +1,5 @@
 -- Where the package statement stands among the items of a file.
-use Rattle.std.proofs.Common.{◌≡◌, Option, Some, None, List, [], ◌∷◌, ◌++◌, refl, sym, ◌∙◌, ap, append_assoc}
+use Rattle.std.proofs.Common.{◌≡◌, Option, Some, None, List, [], ◌++◌, refl, sym, ◌∙◌, ap, append_assoc}
 use Rattle.proto_lex.specs.declared.span.Span.{Span}
 use Rattle.proto_grammar.specs.declared.tree.CustomOptions.{CustomOptions}
 use Rattle.proto_grammar.specs.declared.tree.FileItem.{FileItem}
@@ -8,7 +8,7 @@ use Rattle.proto_grammar.specs.Lexeme.{Lexeme}
 use Rattle.proto_grammar.specs.Terminal.{is_end}
 use Rattle.proto_grammar.specs.Grammar.Steps.{Until}
 use Rattle.proto_grammar.specs.Grammar.Steps.Until.{done, more}
-use Rattle.proto_grammar.proofs.OptionSteps.{same_some}
+use Rattle.std.proofs.lemmas.Option.{same_Some}
 use Rattle.proto_parse.specs.Grammar.Files.{empty_file, IsStatement, IsFile}
 use Rattle.proto_parse.specs.Grammar.Files.IsStatement.{empty, import, package_statement, option, message, enum, service, extend}
 use Rattle.proto_parse.specs.Grammar.Files.IsFile.{file}
@@ -60,7 +60,7 @@ places : (custom : CustomOptions) (f g : File) (a c : List Lexeme) (components :
 places custom f g a c components (done e) none_yet set = absurd (let both : None ≡ Some components = sym none_yet ∙ set in cc)
 places custom f g a c components (more {b = b} further (package_statement {components = x} is none p) rest) none_yet set =
     let later = until_puts (λ (y : File). y.items) item_then (statement_items custom) (record f { package_name = Some x }) g b c rest [] no_marks in
-    let same : x ≡ components = same_some x components (sym (statements_keep custom (record f { package_name = Some x }) g b c x rest refl) ∙ set) in
+    let same : x ≡ components = same_Some x components (sym (statements_keep custom (record f { package_name = Some x }) g b c x rest refl) ∙ set) in
     (later.0, later.1, ([], (later.0, (refl, rw (← same) (package_marks p later.2)))))
 places custom f g a c components (more {t = t} {b = b} further (empty is s) rest) none_yet set =
     one_before components f t g a b (statement_items custom f t a b (empty is s)) (places custom t g b c components rest none_yet set)

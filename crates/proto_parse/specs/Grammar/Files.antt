@@ -1,5 +1,5 @@
 -- Files (proto3 specification, "Proto file", "Syntax", "Import statement" and "Package").
-use Rattle.std.specs.Prelude.{◌≡◌, ℕ, Bool, true, false, Option, Some, None, List, [], ◌∷◌, ◌++◌, codes}
+use Rattle.std.specs.Prelude.{◌≡◌, ℕ, true, false, Option, Some, None, List, [], ◌∷◌, ◌++◌, codes}
 use Rattle.proto_lex.specs.declared.span.Span.{Span}
 use Rattle.proto_lex.specs.declared.token.TokenKind.TheVariants.{StringLiteral, Semicolon, Equals}
 use Rattle.proto_grammar.specs.declared.tree.CustomOptions.{CustomOptions}
@@ -8,7 +8,6 @@ use Rattle.proto_grammar.specs.declared.tree.ImportKind.{ImportKind}
 use Rattle.proto_grammar.specs.declared.tree.ImportKind.TheVariants.{Plain, Weak, Public}
 use Rattle.proto_grammar.specs.declared.tree.Enum.{Enum}
 use Rattle.proto_grammar.specs.declared.tree.Service.{Service}
-use Rattle.proto_grammar.specs.declared.tree.FileItem.{FileItem}
 use Rattle.proto_grammar.specs.declared.tree.FileItem.TheVariants as item
 use Rattle.proto_grammar.specs.declared.tree.File.{File}
 use Rattle.proto_parse.specs.declared.statement.FileStatement.TheVariants as chosen

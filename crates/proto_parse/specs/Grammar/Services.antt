@@ -1,5 +1,5 @@
 -- Services (proto3 specification, "Service definition").
-use Rattle.std.specs.Prelude.{◌≡◌, Bool, true, false, Option, Some, None, List, [], codes}
+use Rattle.std.specs.Prelude.{◌≡◌, true, false, Option, Some, None, List, [], codes}
 use Rattle.proto_lex.specs.declared.span.Span.{Span}
 use Rattle.proto_lex.specs.declared.token.TokenKind.TheVariants.{Identifier, Semicolon, OpenBrace, CloseBrace, OpenParenthesis, CloseParenthesis}
 use Rattle.proto_grammar.specs.declared.tree.CustomOptions.{CustomOptions}

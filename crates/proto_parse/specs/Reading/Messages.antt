@@ -1,5 +1,5 @@
 -- Enums, oneofs and messages.
-use Rattle.std.specs.Prelude.{ℕ, zero, suc, Bool, true, false, cond, Option, Some, None, List, [], codes}
+use Rattle.std.specs.Prelude.{ℕ, zero, suc, true, false, cond, Option, Some, None, List, [], codes}
 use Rattle.proto_lex.specs.declared.token.TokenKind.TheVariants.{Identifier, Semicolon, Equals, OpenBrace, CloseBrace}
 use Rattle.proto_grammar.specs.declared.tree.CustomOptions.{CustomOptions}
 use Rattle.proto_grammar.specs.declared.tree.CustomOptions.TheVariants.{Refuse, Skip}
@@ -12,7 +12,6 @@ use Rattle.proto_grammar.specs.declared.tree.MessageItem.{MessageItem}
 use Rattle.proto_grammar.specs.declared.tree.MessageItem.TheVariants.{Message, Leaf}
 use Rattle.proto_parse.specs.declared.statement.MessageStatement.{MessageStatement}
 use Rattle.proto_parse.specs.declared.statement.MessageStatement.TheVariants as chosen
-use Rattle.proto_grammar.specs.Lexeme.{Lexeme}
 use Rattle.proto_grammar.specs.Terminal.{others, first_is, of_kind, is_word, closes}
 use Rattle.proto_parse.specs.Choice.{message_statement_of}
 use Rattle.proto_grammar.specs.Tree.{MessageTree}

@@ -1,12 +1,11 @@
 -- Services.
-use Rattle.std.specs.Prelude.{Bool, cond, Option, Some, None, List, [], codes}
+use Rattle.std.specs.Prelude.{cond, Option, Some, None, List, [], codes}
 use Rattle.proto_lex.specs.declared.span.Span.{Span}
 use Rattle.proto_lex.specs.declared.token.TokenKind.TheVariants.{Identifier, Semicolon, OpenBrace, CloseBrace, OpenParenthesis, CloseParenthesis}
 use Rattle.proto_grammar.specs.declared.tree.CustomOptions.{CustomOptions}
 use Rattle.proto_grammar.specs.declared.tree.TypeName.{TypeName}
 use Rattle.proto_grammar.specs.declared.tree.Method.{Method}
 use Rattle.proto_grammar.specs.declared.tree.Service.{Service}
-use Rattle.proto_grammar.specs.Lexeme.{Lexeme}
 use Rattle.proto_grammar.specs.Terminal.{others, first_is, of_kind, is_word, closes}
 use Rattle.proto_grammar.specs.Reading.Steps.{◌>>=◌, Read, token_that, until_at, adding, passing}
 use Rattle.proto_grammar.specs.Reading.Names.{named_type_at}

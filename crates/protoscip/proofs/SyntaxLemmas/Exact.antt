@@ -29,7 +29,7 @@ use Rattle.protoscip.specs.Syntax.Derives.AreStatements.{at_end as no_statements
 use Rattle.protoscip.specs.Syntax.Derives.IsFile.{file as a_file}
 use Rattle.protoscip.specs.Syntax.Reading.{others, first_is, of_kind, is_word, token_that, joined_text, after_text, proto3_at, syntax_at, label_at, type_at, field_at, many, all_until, item_at, closes, message_with, message_at, statement_at, ends, file_at}
 use Rattle.protoscip.proofs.SyntaxLemmas.Tests.{is_kind-same, is_word-same, not_next-first_is, not_next_word-first_is, scalar-other}
-use Rattle.protoscip.proofs.SyntaxLemmas.Steps.{same_some}
+use Rattle.std.proofs.lemmas.Option.{same_Some}
 use Rattle.protoscip.proofs.SyntaxLemmas.Stops.{no_text, no_text_after}
 use Rattle.protoscip.proofs.SyntaxLemmas.Shorter.{message_at-shorter, field_at-shorter}
 
@@ -187,7 +187,7 @@ file_read (a_file {b = b} s rest) = rw (syntax_read s, statements_read rest (len
 -- tokens derive at most one tree
 pub same_tree : {a : List Lexeme} {tree other : List MessageTree} → IsFile a tree → IsFile a other → tree ≡ other
 same_tree {tree = tree} {other = other} d e =
-    ap (λ (x : List MessageTree × List Lexeme). x.0) (same_some (tree, []) (other, []) (sym (file_read d) ∙ file_read e))
+    ap (λ (x : List MessageTree × List Lexeme). x.0) (same_Some (tree, []) (other, []) (sym (file_read d) ∙ file_read e))
 
 -- where a tree derives, a fault is want of memory
 pub only_memory : {a : List Lexeme} {tree : List MessageTree} → (fault : SyntaxFault) → Fails fault (file_at a) → IsFile a tree → fault ≡ Memory

@@ -24,7 +24,8 @@ use Rattle.protoscip.specs.Syntax.Derives.IsBody.{at_close, semicolon as a_semic
 use Rattle.protoscip.specs.Syntax.Derives.AreStatements.{at_end as no_statements, semicolon as file_semicolon, message as file_message}
 use Rattle.protoscip.specs.Syntax.Derives.IsFile.{file as a_file}
 use Rattle.protoscip.specs.Syntax.Reading.{others, first_is, of_kind, is_word, is_scalar, token_that, joined_text, after_text, proto3_at, syntax_at, label_at, type_at, field_at, many, all_until, item_at, closes, message_with, message_at, statement_at, ends, file_at}
-use Rattle.protoscip.proofs.SyntaxLemmas.Steps.{bind_some, same_some, guard_some, kept_some, chosen, either_true}
+use Rattle.std.proofs.lemmas.Option.{same_Some}
+use Rattle.protoscip.proofs.SyntaxLemmas.Steps.{bind_some, guard_some, kept_some, chosen, either_true}
 use Rattle.std.proofs.lemmas.Bool.{and_parts, or_parts}
 use Rattle.protoscip.proofs.SyntaxLemmas.Tests.{same_kind, same_word, not_next, not_next_word}
 use Rattle.protoscip.proofs.SyntaxLemmas.Stops.{no_text, no_text_after}
@@ -34,7 +35,7 @@ unfolding token_that
 token_found kind [] x e = cc
 token_found kind (t ∷ rest) x e =
     let g = guard_some (is_kind kind t.kind) _ x e in
-    subst (λ (y : Span × List Lexeme). IsTerminal kind (t ∷ rest) y.0 y.1) (same_some _ x g.1) (token (same_kind kind t.kind g.0))
+    subst (λ (y : Span × List Lexeme). IsTerminal kind (t ∷ rest) y.0 y.1) (same_Some _ x g.1) (token (same_kind kind t.kind g.0))
 
 word_found : (spelling : List ℕ) (tokens : List Lexeme) (x : Span × List Lexeme) → token_that (is_word spelling) tokens ≡ Some x → IsWord spelling tokens x.0 x.1
 unfolding token_that
@@ -42,7 +43,7 @@ word_found spelling [] x e = cc
 word_found spelling (t ∷ rest) x e =
     let g = guard_some (is_word spelling t) _ x e in
     let same = same_word spelling t g.0 in
-    subst (λ (y : Span × List Lexeme). IsWord spelling (t ∷ rest) y.0 y.1) (same_some _ x g.1) (word same.0 same.1)
+    subst (λ (y : Span × List Lexeme). IsWord spelling (t ∷ rest) y.0 y.1) (same_Some _ x g.1) (word same.0 same.1)
 
 -- a token of which a test is known
 taken : (test : Lexeme → Bool) (kind : TokenKind) (tokens : List Lexeme) (x : Span × List Lexeme) → first_is test tokens ≡ true → token_that (of_kind kind) tokens ≡ Some x
@@ -69,7 +70,7 @@ label_found tokens x e =
     chosen (first_is (is_word (codes "repeated")) tokens || first_is (is_word (codes "optional")) tokens) _ _ (Some x) e
     (λ either found.
     let t = bind_some (token_that (of_kind Identifier) tokens) _ x found in
-    let here = same_some _ x t.2 in
+    let here = same_Some _ x t.2 in
     either_true (first_is (is_word (codes "repeated")) tokens) (first_is (is_word (codes "optional")) tokens) either
     (λ is. subst (λ (y : Option Span × List Lexeme). IsLabel tokens y.0 y.1) here
     (repeated (word_found _ tokens t.0 (taken (is_word (codes "repeated")) Identifier tokens t.0 is t.1))))
@@ -77,7 +78,7 @@ label_found tokens x e =
     (optional (word_found _ tokens t.0 (taken (is_word (codes "optional")) Identifier tokens t.0 is t.1)))))
     (λ neither found.
     let not = or_parts (first_is (is_word (codes "repeated")) tokens) (first_is (is_word (codes "optional")) tokens) neither in
-    subst (λ (y : Option Span × List Lexeme). IsLabel tokens y.0 y.1) (same_some _ x found)
+    subst (λ (y : Option Span × List Lexeme). IsLabel tokens y.0 y.1) (same_Some _ x found)
     (no_label (not_next_word _ tokens not.0) (not_next_word _ tokens not.1)))
 
 type_found : (tokens : List Lexeme) (x : Span × List Lexeme) → type_at tokens ≡ Some x → IsType tokens x.0 x.1
@@ -88,8 +89,8 @@ type_found (t ∷ rest) x e =
     let g = guard_some (is_scalar t) _ s.0 s.1 in
     let both = and_parts (is_kind Identifier t.kind) (is_scalar_word t.spelling) g.0 in
     let k = kept_some (first_is (of_kind Dot) s.0.1) _ x s.2 in
-    let here : ◌≡◌ {A = Span × List Lexeme} (t.span, rest) x = same_some _ s.0 g.1 ∙ same_some s.0 x k.1 in
-    let no_dot : first_is (of_kind Dot) rest ≡ false = rw (← ap (λ (y : Span × List Lexeme). y.1) (same_some _ s.0 g.1)) at k.0 in
+    let here : ◌≡◌ {A = Span × List Lexeme} (t.span, rest) x = same_Some _ s.0 g.1 ∙ same_Some s.0 x k.1 in
+    let no_dot : first_is (of_kind Dot) rest ≡ false = rw (← ap (λ (y : Span × List Lexeme). y.1) (same_Some _ s.0 g.1)) at k.0 in
     subst (λ (y : Span × List Lexeme). IsType (t ∷ rest) y.0 y.1) here
     (a_scalar (same_kind Identifier t.kind both.0) both.1 (not_next Dot rest no_dot))
 
@@ -102,7 +103,7 @@ field_found tokens x e =
     let q = bind_some (token_that (of_kind Equals) n.0.1) _ x n.2 in
     let i = bind_some (token_that (of_kind Integer) q.0.1) _ x q.2 in
     let s = bind_some (token_that (of_kind Semicolon) i.0.1) _ x i.2 in
-    subst (λ (y : Field × List Lexeme). IsField tokens y.0 y.1) (same_some _ x s.2)
+    subst (λ (y : Field × List Lexeme). IsField tokens y.0 y.1) (same_Some _ x s.2)
     (a_field (label_found _ _ l.1) (type_found _ _ t.1) (token_found _ _ _ n.1) (token_found _ _ _ q.1) (token_found _ _ _ i.1) (token_found _ _ _ s.1))
 
 closes_found : (levels : ℕ) (tokens : List Lexeme) → closes tokens ≡ true → IsBody levels tokens NoMore tokens
@@ -123,20 +124,20 @@ unfolding item_at
 item_found levels inner tokens x e others' after rest =
     chosen (first_is (of_kind Semicolon) tokens) _ _ (Some x) e
     (λ test found.
-    let here = same_some _ x found in
+    let here = same_Some _ x found in
     let rest' = subst (λ (y : Option MessageItem × List Lexeme). IsBody levels y.1 (body_of others') after) (sym here) rest in
     subst (λ (y : Option MessageItem × List Lexeme). IsBody levels tokens (body_of (option_to_list y.0 ++ others')) after) here
     (a_semicolon (semicolon_found tokens test).1 rest'))
     (λ _ found. chosen (first_is (is_word (codes "message")) tokens) _ _ (Some x) found
     (λ _ found'.
     let m = bind_some (message_at levels tokens) _ x found' in
-    let here = same_some _ x m.2 in
+    let here = same_Some _ x m.2 in
     let rest' = subst (λ (y : Option MessageItem × List Lexeme). IsBody levels y.1 (body_of others') after) (sym here) rest in
     subst (λ (y : Option MessageItem × List Lexeme). IsBody levels tokens (body_of (option_to_list y.0 ++ others')) after) here
     (nested (inner tokens m.0 m.1) rest'))
     (λ _ found'.
     let f = bind_some (field_at tokens) _ x found' in
-    let here = same_some _ x f.2 in
+    let here = same_Some _ x f.2 in
     let rest' = subst (λ (y : Option MessageItem × List Lexeme). IsBody levels y.1 (body_of others') after) (sym here) rest in
     subst (λ (y : Option MessageItem × List Lexeme). IsBody levels tokens (body_of (option_to_list y.0 ++ others')) after) here
     (plain (field_found tokens f.0 f.1) rest')))
@@ -145,15 +146,15 @@ items_found : (levels : ℕ) → FindsMessages levels → (n : ℕ) (tokens : Li
     → many closes (item_at (message_at levels)) n tokens ≡ Some x → IsBody levels tokens (body_of x.0) x.1
 items_found levels inner zero tokens x e =
     let g = guard_some (closes tokens) _ x e in
-    subst (λ (y : List MessageItem × List Lexeme). IsBody levels tokens (body_of y.0) y.1) (same_some _ x g.1) (closes_found levels tokens g.0)
+    subst (λ (y : List MessageItem × List Lexeme). IsBody levels tokens (body_of y.0) y.1) (same_Some _ x g.1) (closes_found levels tokens g.0)
 items_found levels inner (suc n) tokens x e =
     chosen (closes tokens) _ _ (Some x) e
     (λ test found.
-    subst (λ (y : List MessageItem × List Lexeme). IsBody levels tokens (body_of y.0) y.1) (same_some _ x found) (closes_found levels tokens test))
+    subst (λ (y : List MessageItem × List Lexeme). IsBody levels tokens (body_of y.0) y.1) (same_Some _ x found) (closes_found levels tokens test))
     (λ _ found.
     let t = bind_some (item_at (message_at levels) tokens) _ x found in
     let r = bind_some (many closes (item_at (message_at levels)) n t.0.1) _ x t.2 in
-    subst (λ (y : List MessageItem × List Lexeme). IsBody levels tokens (body_of y.0) y.1) (same_some _ x r.2)
+    subst (λ (y : List MessageItem × List Lexeme). IsBody levels tokens (body_of y.0) y.1) (same_Some _ x r.2)
     (item_found levels inner tokens t.0 t.1 r.0.0 r.0.1 (items_found levels inner n t.0.1 r.0 r.1)))
 
 message_found : (levels : ℕ) → FindsMessages levels
@@ -165,7 +166,7 @@ message_found (suc levels) tokens x e =
     let o = bind_some (token_that (of_kind OpenBrace) n.0.1) _ x n.2 in
     let b = bind_some (many closes (item_at (message_at levels)) (length o.0.1) o.0.1) _ x o.2 in
     let c = bind_some (token_that (of_kind CloseBrace) b.0.1) _ x b.2 in
-    subst (λ (y : MessageTree × List Lexeme). IsMessage (suc levels) tokens y.0 y.1) (same_some _ x c.2)
+    subst (λ (y : MessageTree × List Lexeme). IsMessage (suc levels) tokens y.0 y.1) (same_Some _ x c.2)
     (a_message (word_found _ _ _ k.1) (token_found _ _ _ n.1) (token_found _ _ _ o.1)
     (items_found levels (message_found levels) (length o.0.1) o.0.1 b.0 b.1) (token_found _ _ _ c.1))
 
@@ -179,13 +180,13 @@ unfolding statement_at
 statement_found tokens x e messages rest =
     chosen (first_is (of_kind Semicolon) tokens) _ _ (Some x) e
     (λ test found.
-    let here = same_some _ x found in
+    let here = same_Some _ x found in
     let rest' = subst (λ (y : Option MessageTree × List Lexeme). AreStatements y.1 messages) (sym here) rest in
     subst (λ (y : Option MessageTree × List Lexeme). AreStatements tokens (option_to_list y.0 ++ messages)) here
     (file_semicolon (semicolon_found tokens test).1 rest'))
     (λ _ found.
     let m = bind_some (message_at max_nesting tokens) _ x found in
-    let here = same_some _ x m.2 in
+    let here = same_Some _ x m.2 in
     let rest' = subst (λ (y : Option MessageTree × List Lexeme). AreStatements y.1 messages) (sym here) rest in
     subst (λ (y : Option MessageTree × List Lexeme). AreStatements tokens (option_to_list y.0 ++ messages)) here
     (file_message (message_found max_nesting tokens m.0 m.1) rest'))
@@ -193,14 +194,14 @@ statement_found tokens x e messages rest =
 statements_found : (n : ℕ) (tokens : List Lexeme) (x : List MessageTree × List Lexeme) → many ends statement_at n tokens ≡ Some x → AreStatements tokens x.0
 statements_found zero tokens x e =
     let g = guard_some (ends tokens) _ x e in
-    subst (λ (y : List MessageTree × List Lexeme). AreStatements tokens y.0) (same_some _ x g.1) (ends_found tokens g.0)
+    subst (λ (y : List MessageTree × List Lexeme). AreStatements tokens y.0) (same_Some _ x g.1) (ends_found tokens g.0)
 statements_found (suc n) tokens x e =
     chosen (ends tokens) _ _ (Some x) e
-    (λ test found. subst (λ (y : List MessageTree × List Lexeme). AreStatements tokens y.0) (same_some _ x found) (ends_found tokens test))
+    (λ test found. subst (λ (y : List MessageTree × List Lexeme). AreStatements tokens y.0) (same_Some _ x found) (ends_found tokens test))
     (λ _ found.
     let t = bind_some (statement_at tokens) _ x found in
     let r = bind_some (many ends statement_at n t.0.1) _ x t.2 in
-    subst (λ (y : List MessageTree × List Lexeme). AreStatements tokens y.0) (same_some _ x r.2)
+    subst (λ (y : List MessageTree × List Lexeme). AreStatements tokens y.0) (same_Some _ x r.2)
     (statement_found tokens t.0 t.1 r.0.0 (statements_found n t.0.1 r.0 r.1)))
 
 -- literals that spell `proto3` are there
@@ -219,9 +220,9 @@ syntax_found tokens x e =
     let p = bind_some (cond (bytes_eq (joined_text q.0.1) (codes "proto3")) (Some (tt, after_text q.0.1)) None) _ x q.2 in
     let s = bind_some (token_that (of_kind Semicolon) p.0.1) _ x p.2 in
     let g = guard_some (bytes_eq (joined_text q.0.1) (codes "proto3")) _ p.0 p.1 in
-    let left = ap (λ (y : Unit {0} × List Lexeme). y.1) (same_some _ p.0 g.1) in
+    let left = ap (λ (y : Unit {0} × List Lexeme). y.1) (same_Some _ p.0 g.1) in
     let text' = subst (IsLiterals q.0.1 (joined_text q.0.1)) left (text_found q.0.1 (proto3_literal q.0.1 g.0)) in
-    subst (λ (y : Unit {0} × List Lexeme). IsSyntax tokens y.1) (same_some _ x s.2)
+    subst (λ (y : Unit {0} × List Lexeme). IsSyntax tokens y.1) (same_Some _ x s.2)
     (a_syntax (word_found _ _ _ k.1) (token_found _ _ _ q.1) text' ((bytes_eq-Decides (joined_text q.0.1) (codes "proto3")).0 g.0) (token_found _ _ _ s.1))
 
 pub file_found : (tokens : List Lexeme) (x : List MessageTree × List Lexeme) → file_at tokens ≡ Some x → IsFile tokens x.0

@@ -1,4 +1,3 @@
-use Rattle.proto_parse.specs.Derives.{Derives}
 use Rattle.proto_parse.proofs.Found.Files.{file_of_found, file_of_skipped}
 use Rattle.proto_parse.proofs.Exact.Files.{file_of_exact}
 use Rattle.proto_parse.proofs.parsing.parse_with.Goals as goal

@@ -1,4 +1,4 @@
-use Rattle.std.proofs.Common.{◌≡◌, ◌∙◌, ap, length, ◌≤◌}
+use Rattle.std.proofs.Common.{◌∙◌, ap, length, ◌≤◌}
 use Rattle.std.proofs.lemmas.List.{take_all}
 use Rattle.protoscip.specs.Document.{occurrences_of}
 use Rattle.protoscip.proofs.document.unsorted_occurrences.Goals as goal

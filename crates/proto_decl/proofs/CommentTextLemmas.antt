@@ -1,5 +1,5 @@
 -- The marks of comments, and texts of several.
-use Rattle.std.proofs.Common.{◌≡◌, ◌∙◌, sym, ap, refl, ℕ, zero, suc, ◌+◌, ◌-◌, ◌<◌, ◌≤◌, List, [], ◌∷◌, ◌++◌, length, get_or, take, map, arith, append_assoc, IsUtf8, IsCharBoundary}
+use Rattle.std.proofs.Common.{◌≡◌, ◌∙◌, sym, ap, refl, ℕ, suc, ◌+◌, ◌-◌, ◌<◌, ◌≤◌, List, [], ◌∷◌, ◌++◌, length, get_or, take, map, arith, append_assoc, IsUtf8, IsCharBoundary}
 use Rattle.std.specs.List.{join_with_byte}
 use Rattle.std.proofs.lemmas.List.{take_more, map-append}
 use Rattle.std.proofs.lemmas.Str.{IsCharBoundary-before_ascii, IsCharBoundary-after_ascii}
@@ -7,7 +7,7 @@ use Rattle.proto_lex.specs.Comments.{IsComment, EndsBlock}
 use Rattle.proto_lex.specs.Comments.IsComment.{line, block}
 use Rattle.proto_lex.specs.Comments.EndsBlock.{close, inside}
 use Rattle.proto_lex.specs.declared.token.CommentKind.{CommentKind}
-use Rattle.proto_lex.specs.declared.token.CommentKind.TheVariants.{Line, Block}
+use Rattle.proto_lex.specs.declared.token.CommentKind.TheVariants.{Block}
 
 -- a comment may be cut behind its first mark
 pub behind_mark : {k : CommentKind} {spelling rest : List ℕ} → IsComment k spelling rest → IsUtf8 spelling → IsCharBoundary spelling 2

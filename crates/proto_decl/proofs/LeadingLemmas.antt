@@ -1,14 +1,13 @@
 -- The comments that lead a declaration, by their places in the list of comments.
 use Rattle.std.proofs.Common.{◌≡◌, ◌∙◌, sym, ap, refl, subst, ℕ, zero, suc, ◌+◌, ◌-◌, ◌<◌, ◌≤◌, ◌⊎◌, ◌↔◌, inl, inr, Bool, true, false, IsTrue, List, [], ◌∷◌, ◌++◌, length, get_or, take, drop, map, arith, length-append}
-use Rattle.std.specs.List.{All}
 use Rattle.std.specs.List.Sorted.{IsPartitionPoint}
 use Rattle.std.proofs.lemmas.List.{get_or_append_left, get_or-append-add, get_or-take, get_or-drop, take-append-drop, drop-drop, length-take-le, length-drop, get_or_default}
+use Rattle.std.proofs.Math.Seq.{drop-append_seam, take-append_seam}
 use Rattle.proto_lex.specs.declared.span.Span.{Span}
 use Rattle.proto_lex.specs.declared.token.Comment.{Comment}
-use Rattle.proto_lex.specs.declared.token.Token.{Token}
 use Rattle.proto_lex.specs.Lexed.{Lexed, AreInOrder}
 use Rattle.proto_lex.specs.Position.{line_of}
-use Rattle.proto_lex.specs.CommentTexts.{Touches, StandsAlone}
+use Rattle.proto_lex.specs.CommentTexts.{StandsAlone}
 use Rattle.proto_decl.specs.Comments.{first_line, last_line, AreJoined, EndBefore, AreLeading, AreLongestLeading}
 use Rattle.proto_decl.proofs.LineLemmas.{lines_rise, behind_place, ends_before, ends_rise, IsAt, at_any, at_index}
 
@@ -269,3 +268,65 @@ module _ (lexed : Lexed) (line : ℕ) (ordered : CommentsInOrder lexed.comments)
         run-front lexed line ordered from upto next x at some le within above n run near alone,
         rw begins' (next-front lexed line ordered from upto next x at some le within above n run near alone),
       )
+
+-- two lists of comments that may lead, of which none is longer, are one
+
+-- such a list, and another comment behind it on the line before
+module _ (lexed : Lexed) (line : ℕ) (ordered : CommentsInOrder lexed.comments) (from upto later : ℕ) (d : Comment) (run : IsRun lexed line from upto) (some : from < upto) (le : upto ≤ later)
+    (within : later < length lexed.comments) (ends : last_line lexed (get_or lexed.comments later d).span + 1 ≡ line) where
+  at_end : (e : Comment) → get_or lexed.comments upto e ≡ get_or lexed.comments upto d
+  at_end e = get_or_default lexed.comments upto e d (omega arith)
+
+  next : StandsAlone lexed.text lexed.tokens (get_or lexed.comments upto d).span × (first_line lexed (get_or lexed.comments upto d).span + 1 ≡ line) × (last_line lexed (get_or lexed.comments upto d).span + 1 ≡ line)
+  next = one_more lexed line ordered from upto later d run some le within ends
+
+  longer_alone : (k : ℕ) (e : Comment) → from ≤ k → (k < upto) ⊎ (k ≡ upto) → StandsAlone lexed.text lexed.tokens (get_or lexed.comments k e).span
+  longer_alone k e low (inl before) = run.alone k e low before
+  longer_alone k e low (inr at) = rw (at, at_end e) next.0
+
+  longer_joined : (k : ℕ) (e : Comment) → from ≤ k → (k + 1 < upto) ⊎ (k + 1 ≡ upto) → first_line lexed (get_or lexed.comments (k + 1) e).span ≤ last_line lexed (get_or lexed.comments k e).span + 1
+  longer_joined k e low (inl before) = run.joined k e low before
+  longer_joined k e low (inr at) =
+      let back : upto - 1 ≡ k = omega arith in
+      let last = rw back at (run.adjoining e some) in
+      rw (at, at_end e) (omega (arith, next.1, last))
+
+  longer : IsRun lexed line from (upto + 1)
+  longer =
+      let here : upto + 1 - 1 ≡ upto = omega arith in
+      record {
+        alone = λ k e low high. longer_alone k e low (grind arith);
+        joined = λ k e low high. longer_joined k e low (grind arith);
+        adjoining = λ e less. rw (here, at_end e) next.2;
+      }
+
+  not_longest : ((others : List Comment) → AreLeading lexed line others → length others ≤ upto - from) → ⊥
+  not_longest longest =
+      let more = longest (take (upto + 1 - from) (drop from lexed.comments)) (leading-from_run lexed line ordered from (upto + 1) (omega arith) (omega arith) longer) in
+      omega (arith, more, length-take-le (upto + 1 - from) (drop from lexed.comments) (omega (arith, length-drop from lexed.comments)))
+
+module _ (lexed : Lexed) (line : ℕ) (ordered : CommentsInOrder lexed.comments) where
+  taken : (cs : List Comment) (a : AreLeading lexed line cs) → cs ≡ take (length cs) (drop (length a.before) lexed.comments)
+  taken cs a = sym (ap (λ xs. take (length cs) (drop (length a.before) xs)) a.consecutive ∙ (ap (take (length cs)) (drop-append_seam a.before (cs ++ a.behind)) ∙ take-append_seam cs a.behind))
+
+  not_before : (c : Comment) (cs ds : List Comment) (a : AreLongestLeading lexed line (c ∷ cs)) (b : AreLongestLeading lexed line ds) → length (c ∷ cs) ≡ length ds → length a.leading.before < length b.leading.before → ⊥
+  not_before c cs ds a b count less =
+      let s : ℕ = length a.leading.before in
+      let t : ℕ = length b.leading.before in
+      let fit = fits lexed line ds b.leading in
+      let last : t + length ds - 1 < length lexed.comments = omega arith in
+      not_longest lexed line ordered s (s + length (c ∷ cs)) (t + length ds - 1) c (run-from_leading lexed line (c ∷ cs) a.leading) (omega arith) (omega arith) last
+      ((run-from_leading lexed line ds b.leading).adjoining c (omega arith)) (λ others l. omega (arith, a.longest others l))
+
+  by_order : (c : Comment) (cs ds : List Comment) (a : AreLongestLeading lexed line (c ∷ cs)) (b : AreLongestLeading lexed line ds) → length (c ∷ cs) ≡ length ds
+      → (length a.leading.before < length b.leading.before) ⊎ ((length a.leading.before ≡ length b.leading.before) ⊎ (length b.leading.before < length a.leading.before)) → c ∷ cs ≡ ds
+  by_order c cs ds a b count (inl less) = absurd (not_before c cs ds a b count less)
+  by_order c cs ds a b count (inr (inl same)) = taken (c ∷ cs) a.leading ∙ (rw (count, same) (sym (taken ds b.leading)))
+  by_order c cs [] a b count (inr (inr less)) = absurd (omega arith)
+  by_order c cs (d ∷ ds) a b count (inr (inr less)) = absurd (not_before d ds (c ∷ cs) b a (sym count) less)
+
+  pub one_longest : (cs ds : List Comment) → AreLongestLeading lexed line cs → AreLongestLeading lexed line ds → cs ≡ ds
+  one_longest [] [] a b = refl
+  one_longest [] (d ∷ ds) a b = absurd (omega (arith, a.longest (d ∷ ds) b.leading))
+  one_longest (c ∷ cs) ds a b =
+      by_order c cs ds a b (omega (arith, a.longest ds b.leading, b.longest (c ∷ cs) a.leading)) (grind arith)

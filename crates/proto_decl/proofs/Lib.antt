@@ -6,3 +6,13 @@ pub mod StandingLemmas
 pub mod LeadingLemmas
 pub mod TrailingLemmas
 pub mod CommentTextLemmas
+-- Spans and literals of a tree
+pub mod SpanLemmas
+pub mod LiteralLemmas
+pub mod OrderLemmas
+-- Facts, and what is law of them
+pub mod FactLemmas
+pub mod NameLemmas
+pub mod FilledLemmas
+pub mod ScopeLemmas
+pub mod LawLemmas

@@ -5,9 +5,9 @@ use Rattle.proto_lex.specs.declared.span.Span.{Span}
 use Rattle.proto_grammar.specs.declared.tree.MessageItem.{MessageItem}
 use Rattle.proto_grammar.specs.declared.tree.MessageItem.TheVariants.{Message, Leaf}
 use Rattle.proto_grammar.specs.declared.tree.Leaf.{Leaf as LeafTree}
-use Rattle.proto_parse.specs.Tree.{MessageTree, body_size, message_size, Body}
+use Rattle.proto_parse.specs.Tree.{MessageTree, body_size, message_size}
 use Rattle.proto_parse.specs.Items.{body_of}
-use Rattle.proto_decl.specs.Spans.{OfHeading, OfMessage, OfLeaf, OfBody}
+use Rattle.proto_decl.specs.Spans.{OfMessage, OfLeaf, OfBody}
 
 -- what is left from an index on begins with the element there
 pub left_at : {X : Type 0} (xs : List X) (i : ℕ) (x : X) → i < length xs → x ≡ get_or xs i x → drop i xs ≡ x ∷ drop (i + 1) xs

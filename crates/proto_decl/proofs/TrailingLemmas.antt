@@ -1,14 +1,15 @@
 -- The comment that trails a declaration: the first one behind its closing token.
-use Rattle.std.proofs.Common.{◌≡◌, ◌∙◌, sym, ap, subst, ℕ, ◌+◌, ◌-◌, ◌<◌, ◌≤◌, ◌≢◌, ◌↔◌, Bool, true, false, IsTrue, List, length, get_or, map, arith}
-use Rattle.std.specs.List.{All, Contains}
+use Rattle.std.proofs.Common.{◌≡◌, ◌∙◌, sym, ap, subst, ℕ, ◌<◌, ◌≤◌, ◌≢◌, ◌↔◌, ◌⊎◌, inl, inr, Bool, true, false, IsTrue, List, length, get_or, arith}
 use Rattle.std.specs.List.Sorted.{IsPartitionPoint}
+use Rattle.std.proofs.lemmas.List.{get_or_default}
+use Rattle.std.proofs.lemmas.List.Elements.{All-contains}
 use Rattle.proto_lex.specs.declared.span.Span.{Span}
 use Rattle.proto_lex.specs.declared.token.Comment.{Comment}
-use Rattle.proto_lex.specs.Lexed.{Lexed, AreInOrder}
+use Rattle.proto_lex.specs.Lexed.{Lexed}
 use Rattle.proto_lex.specs.Position.{line_of}
 use Rattle.proto_lex.specs.CommentTexts.{NoneBetween}
 use Rattle.proto_decl.specs.Comments.{first_line, last_line, IsTrailing}
-use Rattle.proto_decl.proofs.LineLemmas.{starts_rise, IsAt, held, at_any, at_index}
+use Rattle.proto_decl.proofs.LineLemmas.{starts_rise, behind_place, ends_before, IsAt, held, at_any, at_index}
 use Rattle.proto_decl.proofs.LeadingLemmas.{CommentsInOrder}
 
 module _ (lexed : Lexed) (closing : Span) (n : ℕ) (x : Comment) (ordered : CommentsInOrder lexed.comments) (at : IsAt lexed.comments n x)
@@ -69,3 +70,29 @@ module _ (lexed : Lexed) (closing : Span) (n a b : ℕ) (d : Comment) (comments 
   confirmed on_line r is says =
       let says' = rw same at says in
       rw same (is_trailing lexed closing n (get_or lexed.comments n d) ordered here parted (sym starts ∙ (on_line ∙ closes)) (says'.0 is))
+
+-- two comments that trail are one
+
+same_place : (comments : List Comment) (x y : Comment) (k l : ℕ) → CommentsInOrder comments → k < length comments → l < length comments → get_or comments k x ≡ x → get_or comments l y ≡ y → x.span.start ≡ y.span.start
+    → (k < l) ⊎ ((k ≡ l) ⊎ (l < k)) → x ≡ y
+same_place comments x y k l ordered hk hl at_x at_y same (inl before) =
+    let at_x' = get_or_default comments k y x hk ∙ at_x in
+    let apart = ends_before (λ (c : Comment). c.span) 0 k l y comments ordered before hl in
+    let filled = (behind_place (λ (c : Comment). c.span) 0 k y comments ordered hk).1 in
+    let apart' = rw (at_x', at_y) at apart in
+    let filled' = rw at_x' at filled in
+    absurd (omega arith)
+same_place comments x y k l ordered hk hl at_x at_y same (inr (inl at)) = sym at_x ∙ (rw at (get_or_default comments l x y hl) ∙ at_y)
+same_place comments x y k l ordered hk hl at_x at_y same (inr (inr behind)) =
+    let at_y' = get_or_default comments l x y hl ∙ at_y in
+    let apart = ends_before (λ (c : Comment). c.span) 0 l k x comments ordered behind hk in
+    let filled = (behind_place (λ (c : Comment). c.span) 0 l x comments ordered hl).1 in
+    let apart' = rw (at_y', at_x) at apart in
+    let filled' = rw at_y' at filled in
+    absurd (omega arith)
+
+pub one_trailing : (lexed : Lexed) (closing : Span) (x y : Comment) → CommentsInOrder lexed.comments → IsTrailing lexed closing x → IsTrailing lexed closing y → x ≡ y
+one_trailing lexed closing x y ordered a b =
+    let x_first = All-contains (λ c. closing.end ≤ c.span.start → x.span.start ≤ c.span.start) lexed.comments y a.first b.listed b.behind in
+    let y_first = All-contains (λ c. closing.end ≤ c.span.start → y.span.start ≤ c.span.start) lexed.comments x b.first a.listed a.behind in
+    same_place lexed.comments x y a.listed.0 b.listed.0 ordered a.listed.1 b.listed.1 a.listed.2 b.listed.2 (omega arith) (grind arith)

@@ -7,7 +7,6 @@ use Rattle.proto_lex.specs.Lexed.{Lexed, IsPart, part_of}
 use Rattle.proto_lex.specs.CommentTexts.{Touches, StandsAlone, NoneBetween, comment_text}
 use Rattle.proto_lex.specs.declared.span.Span.{Span}
 use Rattle.proto_lex.specs.declared.token.Comment.{Comment}
-use Rattle.proto_lex.specs.declared.token.Token.{Token}
 
 -- the text of a comment, without its marks
 abbrev pub text_of : Lexed → Comment → List ℕ

@@ -1,7 +1,11 @@
 -- What is known of a file from its tokens and its tree.
-use Rattle.std.specs.Prelude.{ℕ, ◌≡◌, List}
-use Rattle.proto_lex.specs.Lexed.{Lexed}
+use Rattle.std.specs.Prelude.{ℕ, ◌≡◌, ◌<◌, List, ◌++◌, length, map, All}
+use Rattle.std.specs.List.{flat_map}
+use Rattle.proto_lex.specs.declared.span.Span.{Span}
+use Rattle.proto_lex.specs.Lexed.{Lexed, IsLexed, AreInOrder}
+use Rattle.proto_grammar.specs.declared.tree.CustomOptions.{CustomOptions}
 use Rattle.proto_grammar.specs.declared.tree.File.{File}
+use Rattle.proto_parse.specs.Derives.{Derives}
 use Rattle.proto_decl.specs.Names.{components_at}
 use Rattle.proto_decl.specs.Imports.{imports_of}
 use Rattle.proto_decl.specs.Outlines.{package_spans}
@@ -27,3 +31,50 @@ pub record AreFactsOf (number : ℕ) (lexed : Lexed) (file : File) (facts : Fact
   pub imports : facts.imports ≡ imports_of lexed.text file.imports
   pub declarations : Declares lexed file facts.declarations
   pub uses : facts.uses ≡ uses_of lexed.text file
+
+-- The facts of some file: of a text that has a lexing, of which the tokens derive a tree.
+pub record AreOfSomeFile (facts : Facts) : Type 0 where
+  pub lexed : Lexed
+  pub file : File
+  pub custom : CustomOptions
+  pub is_lexed : IsLexed lexed.text lexed.tokens lexed.comments
+  pub derives : Derives custom lexed.text lexed.tokens file
+  pub of_file : AreFactsOf facts.number lexed file facts
+
+-- Where declared names stand.
+abbrev pub name_spans : List Declaration → List Span
+name_spans declarations = map (λ declaration. declaration.name) declarations
+
+-- Each declared name stands behind those before it: its place is there once.
+abbrev pub NamesInOrder : List Declaration → Type 0
+NamesInOrder declarations = AreInOrder 0 (name_spans declarations)
+
+-- Where the components of a name stand, and those of uses.
+abbrev pub component_spans : List Component → List Span
+component_spans components = map (λ component. component.span) components
+
+abbrev pub use_spans : List Use → List Span
+use_spans uses = flat_map (λ used. component_spans used.components) uses
+
+-- Each component of a use stands behind those before it.
+abbrev pub UsesInOrder : List Use → Type 0
+UsesInOrder uses = AreInOrder 0 (use_spans uses)
+
+-- Each import stands behind those before it.
+abbrev pub ImportsInOrder : List Imported → Type 0
+ImportsInOrder imports = AreInOrder 0 (map (λ imported. imported.span) imports)
+
+-- The components of the package's name stand in order, between the names of the declarations before its statement and
+-- those of the declarations behind it.
+pub record PackageInOrder (facts : Facts) : Type 0 where
+  pub before : List Declaration
+  pub behind : List Declaration
+  pub split : facts.declarations ≡ before ++ behind
+  pub in_order : AreInOrder 0 (name_spans before ++ (component_spans facts.package_name ++ name_spans behind))
+
+-- Each use has a component at least, and each declaration a name.
+abbrev pub UsesAreFilled : List Use → Type 0
+UsesAreFilled uses = All (λ used. 0 < length used.components) uses
+
+abbrev pub NamesAreFilled : List Declaration → Type 0
+NamesAreFilled declarations = All (λ declaration. 0 < length declaration.full_name) declarations

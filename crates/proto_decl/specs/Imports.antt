@@ -2,10 +2,17 @@
 use Rattle.std.specs.Prelude.{ℕ, List, [], ◌∷◌, map}
 use Rattle.std.specs.List.{flat_map}
 use Rattle.proto_lex.specs.declared.span.Span.{Span}
-use Rattle.proto_lex.specs.Lexed.{part_of}
+use Rattle.proto_lex.specs.declared.token.TokenKind.TheVariants.{StringLiteral}
+use Rattle.proto_lex.specs.Lexed.{IsPart, part_of}
+use Rattle.proto_lex.specs.Lexes.{Spells}
 use Rattle.proto_grammar.specs.declared.tree.Import.{Import}
 use Rattle.proto_grammar.specs.Terminal.{between_quotes}
 use Rattle.proto_decl.specs.declared.imported.Imported.{Imported}
+
+-- A string literal of the text stands at the span.
+pub record IsLiteral (text : List ℕ) (span : Span) : Type 0 where
+  pub part : IsPart text span
+  pub spelled : Spells StringLiteral (part_of text span)
 
 -- Where the first of the spans starts, and where the last one ends.
 abbrev pub start_of : List Span → ℕ

@@ -12,5 +12,7 @@ pub mod Declares
 pub mod Uses
 -- all of it
 pub mod Facts
+-- what is law of it
+pub mod Laws
 -- what a callback sees of a declaration
 pub mod Seen

@@ -28,7 +28,7 @@ fronts_before_dots (byte ∷ others) =
     let longer = map (λ front. byte ∷ front) (fronts_before_dots others) in if byte == 46 then [] ∷ longer else longer
 
 -- The scope with this full name and those around it, innermost first: the enclosing messages or the service, the
--- package, each parent package, and the root.
+-- package, each parent package, and the root. Those between it and the root are the fronts of its name, but the empty one.
 abbrev pub scopes_of : List ℕ → List (List ℕ)
 scopes_of [] = [] ∷ []
-scopes_of (byte ∷ scope) = (byte ∷ scope) ∷ (reverse (fronts_before_dots (byte ∷ scope)) ++ [] ∷ [])
+scopes_of (byte ∷ scope) = (byte ∷ scope) ∷ (reverse (map (λ front. byte ∷ front) (fronts_before_dots scope)) ++ [] ∷ [])

@@ -1,5 +1,5 @@
 -- What holds of the spans that a tree has.
-use Rattle.std.specs.Prelude.{ℕ, Option, Some, None, List, All}
+use Rattle.std.specs.Prelude.{Option, Some, None, List, All}
 use Rattle.proto_lex.specs.declared.span.Span.{Span}
 use Rattle.proto_grammar.specs.declared.tree.Heading.{Heading}
 use Rattle.proto_grammar.specs.declared.tree.TypeName.{TypeName}
@@ -11,14 +11,12 @@ use Rattle.proto_grammar.specs.declared.tree.Enum.{Enum}
 use Rattle.proto_grammar.specs.declared.tree.Oneof.{Oneof}
 use Rattle.proto_grammar.specs.declared.tree.Method.{Method}
 use Rattle.proto_grammar.specs.declared.tree.Service.{Service}
-use Rattle.proto_grammar.specs.declared.tree.Import.{Import}
 use Rattle.proto_grammar.specs.declared.tree.Leaf.{Leaf}
 use Rattle.proto_grammar.specs.declared.tree.Leaf.TheVariants as leaf
 use Rattle.proto_grammar.specs.declared.tree.FileItem.{FileItem}
 use Rattle.proto_grammar.specs.declared.tree.FileItem.TheVariants as item
-use Rattle.proto_grammar.specs.declared.tree.File.{File}
-use Rattle.proto_parse.specs.Tree.{Body, MessageTree}
-use Rattle.proto_parse.specs.Tree.Body.{NoMore, LeafThen, MessageThen}
+use Rattle.proto_grammar.specs.Tree.{Body, MessageTree}
+use Rattle.proto_grammar.specs.Tree.Body.{NoMore, LeafThen, MessageThen}
 
 module _ (P : Span → Type 0) where
   abbrev pub OfHeading : Heading → Type 0
@@ -75,9 +73,3 @@ module _ (P : Span → Type 0) where
   abbrev pub OfPackage : Option (List Span) → Type 0
   OfPackage None = Unit {0}
   OfPackage (Some components) = All P components
-
-  -- P holds of each span of the tree.
-  pub record OfFile (file : File) : Type 0 where
-    pub package_name : OfPackage file.package_name
-    pub imports : All (λ import. All P import.literals) file.imports
-    pub items : All OfItem file.items

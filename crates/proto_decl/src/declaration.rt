@@ -1,6 +1,10 @@
 //! Declarations.
 
+ghost use Rattle.std.specs.Prelude.{◌≡◌};
+ghost use Rattle.proto_decl.specs.Declares.{simple_name};
+
 use crate::kind::DeclarationKind;
+use crate::view::DeclView;
 use proto_lex::Span;
 use proto_parse::Heading;
 use sequences::{OwnedText, Sequence};
@@ -29,6 +33,32 @@ pub struct Declaration {
     pub leading: OwnedText,
     /// The text of the comment that follows it on its line.
     pub trailing: OwnedText,
+}
+
+/// The simple name of what a path leads to.
+fn simple_name(path: &[DeclarationStep]) -> &str
+    ensures { result.now ≡ simple_name path.now }
+{
+    match path {
+        [] => "",
+        [step] => step.name.as_str(),
+        [_, others @ ..] => simple_name(others),
+    }
+}
+
+impl Declaration {
+    /// What a callback sees of it. Takes no memory.
+    pub fn view(&self) -> DeclView<'_>
+        ensures { result ≡ record { kind = self.now.kind; name = simple_name self.now.path; full_name = self.now.full_name; leading = self.now.leading; trailing = self.now.trailing } }
+    {
+        DeclView::new(
+            self.kind,
+            simple_name(self.path.as_slice()),
+            self.full_name.as_str(),
+            self.leading.as_str(),
+            self.trailing.as_str(),
+        )
+    }
 }
 
 /// A declaration before its comments are looked for.

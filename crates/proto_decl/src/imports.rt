@@ -1,9 +1,16 @@
 //! What a file imports.
 
-ghost use Rattle.std.specs.Prelude.{◌≡◌};
+ghost use Rattle.std.specs.Prelude.{◌≡◌, All, IfOk};
+ghost use Rattle.proto_lex.specs.Lexed.{part_of};
+ghost use Rattle.proto_grammar.specs.Terminal.{between_quotes};
 ghost use Rattle.proto_decl.specs.Imports as spec;
 
+use crate::imported::Imported;
+use crate::names::spelling_at;
 use proto_lex::Span;
+use proto_parse::Import;
+use sequences::{OwnedText, Sequence};
+use std::alloc::{AllocError, Global};
 
 /// Where the last of the spans ends.
 pub(crate) fn end_of(spans: &[Span]) -> usize
@@ -34,4 +41,54 @@ pub(crate) fn whole_span(spans: &[Span]) -> Span
         start: start_of(spans),
         end: end_of(spans),
     }
+}
+
+/// What stands between a string literal's quotes.
+fn between_quotes<'a>(text: &'a str, literal: Span) -> &'a str
+    requires { spec.IsLiteral text.now literal }
+    ensures { result.now ≡ between_quotes (part_of text.now literal) }
+{
+    let spelling = spelling_at(text, literal);
+    &spelling[1..spelling.len() - 1]
+}
+
+/// What string literals spell when joined, without their quotes.
+fn joined_literals(alloc: Global, text: &str, literals: &[Span]) -> Result<OwnedText, AllocError>
+    requires { All (spec.IsLiteral text.now) literals.now }
+    ensures { IfOk result (λ path. path ≡ spec.joined_literals text.now literals.now) }
+{
+    let mut path = String::new(alloc);
+    for literal in literals {
+        path.push_str(between_quotes(text, *literal))?;
+    }
+    Ok(OwnedText::from_string(path))
+}
+
+/// What an import imports.
+fn imported_by(alloc: Global, text: &str, import: &Import) -> Result<Imported, AllocError>
+    requires { All (spec.IsLiteral text.now) import.now.literals }
+    ensures { IfOk result (λ imported. imported ≡ spec.imported_by text.now import.now) }
+{
+    let literals = import.literals.as_slice();
+    Ok(Imported {
+        path: joined_literals(alloc, text, literals)?,
+        kind: import.kind,
+        span: whole_span(literals),
+    })
+}
+
+/// What imports import, in order.
+pub(crate) fn imports_of(
+    alloc: Global,
+    text: &str,
+    imports: &[Import],
+) -> Result<Sequence<Imported>, AllocError>
+    requires { All (λ import. All (spec.IsLiteral text.now) import.literals) imports.now }
+    ensures { IfOk result (λ imported. imported ≡ spec.imports_of text.now imports.now) }
+{
+    let mut imported = Vec::new(alloc);
+    for import in imports {
+        imported.push(imported_by(alloc, text, import)?)?;
+    }
+    Ok(Sequence::from_vec(imported))
 }

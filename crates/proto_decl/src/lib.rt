@@ -4,11 +4,16 @@
 mod comment_text;
 mod comments;
 mod declaration;
+mod declaring;
+mod facts;
 mod imported;
 mod imports;
 mod kind;
+mod laws;
 mod names;
 mod outlines;
+mod package;
+mod scopes;
 mod standing;
 mod surrounding;
 mod type_use;
@@ -16,7 +21,14 @@ mod type_uses;
 mod view;
 
 pub use declaration::{Declaration, DeclarationStep};
+pub use declaring::declare;
+pub use facts::FileFacts;
 pub use imported::Imported;
 pub use kind::DeclarationKind;
+pub use laws::{
+    facts_are_filled, facts_in_order, names_are_spelled, one_comment_text, one_list_of_facts,
+    scopes_nest,
+};
+pub use scopes::scope_around;
 pub use type_use::{Component, Use};
 pub use view::DeclView;

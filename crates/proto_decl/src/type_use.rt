@@ -20,7 +20,7 @@ pub struct Use {
     pub has_leading_dot: bool,
     /// From the first token, the leading dot included, to the last one.
     pub span: Span,
-    /// The full name of the innermost scope: the message or the service around the use. The scopes
-    /// around it are the parts of this name that end before a dot, and the empty name.
+    /// The full name of the innermost scope: the message or the service around the use. From each
+    /// scope `scope_around` gives the next one.
     pub scope: OwnedText,
 }

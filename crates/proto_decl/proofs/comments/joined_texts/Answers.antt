@@ -1,4 +1,4 @@
-use Rattle.std.proofs.Common.{◌≡◌, ◌∙◌, ◌++◌, ◌∷◌, [], ap, refl, ℕ, List, string_bytes}
+use Rattle.std.proofs.Common.{◌∙◌, ◌++◌, ◌∷◌, [], ap, refl, ℕ, List, string_bytes}
 use Rattle.proto_lex.specs.declared.token.Comment.{Comment}
 use Rattle.proto_lex.specs.declared.token.CommentKind.TheVariants.{Line}
 use Rattle.proto_decl.specs.Comments.{text_of}

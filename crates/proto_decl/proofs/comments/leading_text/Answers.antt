@@ -1,8 +1,7 @@
-use Rattle.std.proofs.Common.{◌≡◌, ◌∙◌, ap, sym, subst, ℕ, List}
+use Rattle.std.proofs.Common.{◌∙◌, ap, sym, subst, ℕ, List}
 use Rattle.std.proofs.lemmas.Result.{IfOk-weaker}
 use Rattle.proto_lex.specs.Position.{line_of}
-use Rattle.proto_lex.specs.declared.token.Comment.{Comment}
-use Rattle.proto_decl.specs.Comments.{first_line, AreLongestLeading, IsLeadingText}
+use Rattle.proto_decl.specs.Comments.{AreLongestLeading, IsLeadingText}
 use Rattle.proto_decl.specs.Comments.IsLeadingText.{leading, not_first}
 use Rattle.proto_decl.proofs.comments.leading_text.Goals as goal
 

@@ -1,4 +1,4 @@
-use Rattle.std.proofs.Common.{◌≡◌, ◌∙◌, sym, subst, ℕ, List}
+use Rattle.std.proofs.Common.{◌∙◌, sym, subst}
 use Rattle.std.proofs.lemmas.Result.{IfOk-weaker}
 use Rattle.proto_decl.specs.Comments.{IsTrailingText}
 use Rattle.proto_decl.specs.Comments.IsTrailingText.{trailing, none}

@@ -1,4 +1,4 @@
-use Rattle.std.proofs.Common.{rules, subst, sym, ltb, ℕ, List}
+use Rattle.std.proofs.Common.{rules, subst, sym, ltb, List}
 use Rattle.std.specs.List.Sorted.{IsPartitionedBy}
 use Rattle.std.proofs.lemmas.List.Sorted.{IsPartitionPoint-from_clause, IsPartitionedBy-ltb}
 use Rattle.proto_lex.specs.Position.{line_of}

@@ -1,4 +1,3 @@
-use Rattle.std.proofs.Common.{arith}
 use Rattle.proto_decl.proofs.StandingLemmas.{alone_by_both, before_by_alone, behind_by_alone}
 use Rattle.proto_decl.proofs.standing.stands_alone.Goals as goal
 

@@ -1,0 +1,43 @@
+-- Laws of facts, comment texts and scopes.
+use Rattle.std.specs.Prelude.{ℕ, ◌≡◌, ◌<◌, ◌==◌, not, true, List, ◌∷◌, length, All}
+use Rattle.std.specs.List.{list_all}
+use Rattle.proto_lex.specs.declared.span.Span.{Span}
+use Rattle.proto_lex.specs.Lexed.{Lexed, IsLexed, IsPart, part_of}
+use Rattle.proto_grammar.specs.declared.tree.CustomOptions.{CustomOptions}
+use Rattle.proto_grammar.specs.declared.tree.File.{File}
+use Rattle.proto_parse.specs.Derives.{Derives}
+use Rattle.proto_decl.specs.Names.{qualified, scopes_of}
+use Rattle.proto_decl.specs.Comments.{IsLeadingText, IsTrailingText}
+use Rattle.proto_decl.specs.Declares.{simple_name}
+use Rattle.proto_decl.specs.Facts.{Facts, AreFactsOf}
+use Rattle.proto_decl.specs.declared.declaration.Declaration.{Declaration}
+
+-- A token leads one text and trails one, in a text with the tokens and comments of its lexing.
+abbrev pub OneLeadingText : Type 0
+OneLeadingText = (lexed : Lexed) (first : Span) (text other : List ℕ) → IsLexed lexed.text lexed.tokens lexed.comments
+    → IsLeadingText lexed first text → IsLeadingText lexed first other → text ≡ other
+
+abbrev pub OneTrailingText : Type 0
+OneTrailingText = (lexed : Lexed) (closing : Span) (text other : List ℕ) → IsLexed lexed.text lexed.tokens lexed.comments
+    → IsTrailingText lexed closing text → IsTrailingText lexed closing other → text ≡ other
+
+-- A file has one list of facts.
+abbrev pub OneFacts : Type 0
+OneFacts = (number : ℕ) (lexed : Lexed) (file : File) (facts other : Facts) → IsLexed lexed.text lexed.tokens lexed.comments
+    → AreFactsOf number lexed file facts → AreFactsOf number lexed file other → facts ≡ other
+
+-- The simple name of a declaration is what stands at its name's place, and its full name is that in its scope.
+pub record IsNamedAt (text : List ℕ) (declaration : Declaration) : Type 0 where
+  pub place : IsPart text declaration.name
+  pub simple : simple_name declaration.path ≡ part_of text declaration.name
+  pub scope : List ℕ
+  pub full : declaration.full_name ≡ qualified scope (part_of text declaration.name)
+
+abbrev pub NamesAreSpelled : Type 0
+NamesAreSpelled = (custom : CustomOptions) (number : ℕ) (lexed : Lexed) (file : File) (facts : Facts) → IsLexed lexed.text lexed.tokens lexed.comments
+    → Derives custom lexed.text lexed.tokens file → AreFactsOf number lexed file facts → All (IsNamedAt lexed.text) facts.declarations
+
+-- The scopes of a full name are that name and the scopes of the scope around it, where no dot stands in the simple name.
+abbrev pub ScopesNest : Type 0
+ScopesNest = (scope name : List ℕ) → 0 < length name → list_all (λ byte. not (byte == 46)) name ≡ true
+    → scopes_of (qualified scope name) ≡ qualified scope name ∷ scopes_of scope

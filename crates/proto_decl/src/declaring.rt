@@ -1,0 +1,110 @@
+//! From tokens and their tree to a file's facts.
+
+ghost use Rattle.std.specs.Prelude.{All, IfOk};
+ghost use Rattle.std.specs.List.{AllZip};
+ghost use Rattle.proto_lex.specs.Lexed.{IsPart, IsLexed};
+ghost use Rattle.proto_parse.specs.Derives.{Derives};
+ghost use Rattle.proto_grammar.specs.declared.tree.CustomOptions.{CustomOptions};
+ghost use Rattle.proto_decl.specs.Spans.{OfItem, OfPackage};
+ghost use Rattle.proto_decl.specs.Imports.{IsLiteral};
+ghost use Rattle.proto_decl.specs.Declares.{IsDeclaration};
+ghost use Rattle.proto_decl.specs.Facts.{AreFactsOf};
+
+use crate::comments::{leading_text, trailing_text};
+use crate::declaration::{Declaration, Outline};
+use crate::facts::FileFacts;
+use crate::imports::imports_of;
+use crate::outlines::outlines_of;
+use crate::package::{package_scope, package_spans};
+use crate::surrounding::Surrounding;
+use crate::type_uses::{components_at, uses_of};
+use proto_lex::Tokens;
+use proto_parse::{File, spans_of_tokens};
+use sequences::Sequence;
+use std::alloc::{AllocError, Global};
+
+/// What is known of tokens and comments.
+fn are_lexed(lexed: &Tokens<'_>)
+    ensures { IsLexed lexed.now.text lexed.now.tokens lexed.now.comments }
+{
+    let _tokens = lexed.tokens();
+    let _comments = lexed.comments();
+}
+
+/// What is known of the spans of a tree that these tokens derive.
+fn spans_of_tree(lexed: &Tokens<'_>, file: &File)
+    requires { (custom : CustomOptions) × Derives custom lexed.now.text lexed.now.tokens file.now }
+    ensures package_name { OfPackage (IsPart lexed.now.text) file.now.package_name }
+    ensures imports { All (λ import. All (IsLiteral lexed.now.text) import.literals) file.now.imports }
+    ensures items { All (OfItem (IsPart lexed.now.text)) file.now.items }
+{
+    are_lexed(lexed);
+    spans_of_tokens();
+}
+
+/// A declaration with the comments that document it.
+fn documented(
+    alloc: Global,
+    lexed: &Tokens<'_>,
+    outline: Outline,
+) -> Result<Declaration, AllocError>
+    ensures { IfOk result (IsDeclaration lexed.now outline) }
+{
+    let leading = leading_text(alloc, lexed, outline.heading.first)?;
+    let trailing = trailing_text(alloc, lexed, outline.heading.closing)?;
+    Ok(Declaration {
+        kind: outline.kind,
+        full_name: outline.full_name,
+        path: outline.path,
+        name: outline.heading.name,
+        leading,
+        trailing,
+    })
+}
+
+/// Declarations with the comments that document them.
+fn all_documented(
+    alloc: Global,
+    lexed: &Tokens<'_>,
+    outlines: Vec<Outline>,
+) -> Result<Sequence<Declaration>, AllocError>
+    ensures { IfOk result (AllZip (IsDeclaration lexed.now) outlines.items) }
+{
+    let mut declarations = Vec::new(alloc);
+    for outline in outlines {
+        declarations.push(documented(alloc, lexed, outline)?)?;
+    }
+    Ok(Sequence::from_vec(declarations))
+}
+
+/// The facts of the file with this number, whose tree these tokens derive by either choice of what
+/// is done with custom options.
+///
+/// The tree must be that of these tokens: its spans are read off their text. It is refused only for
+/// want of memory.
+pub fn declare(
+    alloc: Global,
+    number: usize,
+    lexed: &Tokens<'_>,
+    file: &File,
+) -> Result<FileFacts, AllocError>
+    requires { (custom : CustomOptions) × Derives custom lexed.now.text lexed.now.tokens file.now }
+    ensures { IfOk result (AreFactsOf number lexed.now file.now) }
+{
+    are_lexed(lexed);
+    spans_of_tree(lexed, file);
+    let text = lexed.text().as_str();
+    let items = file.items.as_slice();
+    let package_name = package_spans(file);
+    let scope = package_scope(alloc, text, package_name)?;
+    let uses = uses_of(alloc, text, scope.as_str(), items)?;
+    let surrounding = Surrounding {
+        scope,
+        path: Sequence::new(alloc),
+    };
+    let outlines = outlines_of(alloc, text, &surrounding, items)?;
+    let declarations = all_documented(alloc, lexed, outlines)?;
+    let imports = imports_of(alloc, text, file.imports.as_slice())?;
+    let package_name = components_at(alloc, text, package_name)?;
+    Ok(FileFacts::new(number, package_name, imports, declarations, uses))
+}

@@ -1,0 +1,96 @@
+//! What is known of a file.
+
+ghost use Rattle.std.specs.Prelude.{◌≡◌};
+ghost use Rattle.proto_decl.specs.Facts.{AreOfSomeFile};
+
+use crate::declaration::Declaration;
+use crate::imported::Imported;
+use crate::type_use::{Component, Use};
+use sequences::Sequence;
+use std::marker::Model;
+
+/// What a file declares, uses and imports, which is all that is linked, named and written of it.
+///
+/// Contracts see its number and the lists of the rest, and that these are the facts of some file:
+/// what is law of a file's facts (`facts_in_order`, `facts_are_filled`) holds of every value.
+#[derive(Debug, Drop)]
+pub struct FileFacts {
+    number: usize,
+    package_name: Sequence<Component>,
+    imports: Sequence<Imported>,
+    declarations: Sequence<Declaration>,
+    uses: Sequence<Use>,
+}
+
+impl Model for FileFacts {
+    ghost use Rattle.proto_decl.specs.Facts.{Facts, AreOfSomeFile};
+
+    ghost Value = { Facts };
+
+    ghost view = { λ inside. record { number = inside.number; package_name = inside.package_name; imports = inside.imports; declarations = inside.declarations; uses = inside.uses } };
+
+    ghost invariant = { λ inside. AreOfSomeFile (record { number = inside.number; package_name = inside.package_name; imports = inside.imports; declarations = inside.declarations; uses = inside.uses }) };
+}
+
+impl FileFacts {
+    pub(crate) fn new(
+        number: usize,
+        package_name: Sequence<Component>,
+        imports: Sequence<Imported>,
+        declarations: Sequence<Declaration>,
+        uses: Sequence<Use>,
+    ) -> FileFacts
+        requires { AreOfSomeFile (record { number = number; package_name = package_name; imports = imports; declarations = declarations; uses = uses }) }
+        ensures { result ≡ record { number = number; package_name = package_name; imports = imports; declarations = declarations; uses = uses } }
+    {
+        FileFacts {
+            number,
+            package_name,
+            imports,
+            declarations,
+            uses,
+        }
+    }
+
+    /// That these are the facts of some file. It does nothing: proofs call it.
+    pub fn origin(&self)
+        ensures { AreOfSomeFile self.now }
+    {
+        let _number = self.number;
+    }
+
+    /// The file's number.
+    pub fn number(&self) -> usize
+        ensures { result ≡ self.now.number }
+    {
+        self.number
+    }
+
+    /// The components of the package's name, in order; none where the file has no package.
+    pub fn package_name(&self) -> &[Component]
+        ensures { result.now ≡ self.now.package_name }
+    {
+        self.package_name.as_slice()
+    }
+
+    /// The imports, in order of place.
+    pub fn imports(&self) -> &[Imported]
+        ensures { result.now ≡ self.now.imports }
+    {
+        self.imports.as_slice()
+    }
+
+    /// The declarations, in order of their names' places.
+    pub fn declarations(&self) -> &[Declaration]
+        ensures { result.now ≡ self.now.declarations }
+    {
+        self.declarations.as_slice()
+    }
+
+    /// The uses of types, in order of place.
+    pub fn uses(&self) -> &[Use]
+        ensures { result.now ≡ self.now.uses }
+    {
+        self.uses.as_slice()
+    }
+}

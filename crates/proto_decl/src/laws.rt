@@ -1,0 +1,51 @@
+//! Laws: what the definitions say of facts, whatever the code does.
+
+ghost use Rattle.proto_decl.specs.Facts.{Facts, AreOfSomeFile, NamesInOrder, UsesInOrder, ImportsInOrder, PackageInOrder, NamesAreFilled, UsesAreFilled};
+ghost use Rattle.proto_decl.specs.Laws.{OneLeadingText, OneTrailingText, OneFacts, NamesAreSpelled, ScopesNest};
+
+use proto_parse::{names_have_components, spans_in_order, spans_of_tokens};
+
+/// A declaration has one leading and one trailing text.
+pub fn one_comment_text()
+    ensures leading { OneLeadingText }
+    ensures trailing { OneTrailingText }
+{}
+
+/// A file has one list of facts.
+pub fn one_list_of_facts()
+    ensures { OneFacts }
+{}
+
+/// Declared names, the components of uses, and imports stand in order, so that each place is there
+/// once; and the package's name stands between two declared names.
+pub fn facts_in_order()
+    ensures names { (facts : Facts) → AreOfSomeFile facts → NamesInOrder facts.declarations }
+    ensures uses { (facts : Facts) → AreOfSomeFile facts → UsesInOrder facts.uses }
+    ensures imports { (facts : Facts) → AreOfSomeFile facts → ImportsInOrder facts.imports }
+    ensures package_name { (facts : Facts) → AreOfSomeFile facts → PackageInOrder facts }
+{
+    spans_of_tokens();
+    spans_in_order();
+    names_have_components();
+}
+
+/// Each use has a component at least, and no declared name is empty.
+pub fn facts_are_filled()
+    ensures uses { (facts : Facts) → AreOfSomeFile facts → UsesAreFilled facts.uses }
+    ensures names { (facts : Facts) → AreOfSomeFile facts → NamesAreFilled facts.declarations }
+{
+    names_have_components();
+    names_are_spelled();
+}
+
+/// Names are spelled as they stand in the text.
+pub fn names_are_spelled()
+    ensures { NamesAreSpelled }
+{
+    spans_of_tokens();
+}
+
+/// The scopes of a name are its own and those of the scope around it.
+pub fn scopes_nest()
+    ensures { ScopesNest }
+{}

@@ -1,0 +1,32 @@
+-- Proofs of the laws.
+use Rattle.std.proofs.Common.{◌≡◌, inl, inr, ℕ, Bool, List, ◌∷◌, refl, ap}
+use Rattle.std.proofs.lemmas.Bool.{cases_order}
+use Rattle.proto_decl.specs.Names.{qualified, dotted}
+use Rattle.proto_link.specs.Files.{File}
+use Rattle.proto_link.specs.Knows.{NameKind}
+use Rattle.proto_link.specs.Resolves.{Innermost, ResolvesIn}
+use Rattle.proto_link.specs.Resolves.Innermost.{here, farther}
+use Rattle.proto_link.specs.Resolves.ResolvesIn.{absolute, single, compound}
+use Rattle.proto_link.specs.Laws.{OneNameAUse, OneBrokenFile}
+
+one_scope : {files : List File} {file : ℕ} {admits : NameKind → Bool} {word : List ℕ} {scopes : List (List ℕ)} {a b : List ℕ}
+    → Innermost files file admits word scopes a → Innermost files file admits word scopes b → a ≡ b
+one_scope (here k) (here l) = refl
+one_scope (here k) (farther absent m) = absurd (absent k)
+one_scope (farther absent m) (here l) = absurd (absent l)
+one_scope (farther absent m) (farther none n) = one_scope m n
+
+one_name : {files : List File} {file : ℕ} {dot : Bool} {words scopes : List (List ℕ)} {a b : List ℕ}
+    → ResolvesIn files file dot words scopes a → ResolvesIn files file dot words scopes b → a ≡ b
+one_name (absolute k) (absolute l) = refl
+one_name (single {word = word} m) (single n) = ap (λ scope. qualified scope word) (one_scope m n)
+one_name (compound {first = first} {second = second} {others = others} m k) (compound n l) = ap (λ scope. qualified scope (dotted (first ∷ (second ∷ others)))) (one_scope m n)
+
+pub one_name_a_use : OneNameAUse
+one_name_a_use files file type_use name other first second = one_name first second
+
+pub one_broken_file : OneBrokenFile
+one_broken_file files number other first second = elim (cases_order number other) [
+  | inl same ↦ same
+  | inr apart ↦ elim apart [ inl less ↦ absurd (second.least number first.unread less) | inr more ↦ absurd (first.least other second.unread more) ]
+]

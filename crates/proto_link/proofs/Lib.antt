@@ -1,0 +1,4 @@
+pub mod FileRowLemmas
+pub mod SearchLemmas
+pub mod SeeingLemmas
+pub mod LawLemmas

@@ -1,0 +1,45 @@
+-- The files that are linked, by their numbers, and what they import (proto3 specification, "Import statement").
+use Rattle.std.specs.Prelude.{◌≡◌, ℕ, Bool, true, false, Option, Some, List, map, Contains}
+use Rattle.std.specs.List.{slice_get}
+use Rattle.proto_grammar.specs.declared.tree.ImportKind.{ImportKind}
+use Rattle.proto_grammar.specs.declared.tree.ImportKind.TheVariants.{Plain, Weak, Public}
+use Rattle.proto_decl.specs.Facts.{Facts}
+use Rattle.proto_decl.specs.declared.imported.Imported.{Imported}
+
+-- A file: its path below its root, its facts unless it couldn't be read or parsed, and whether it is included: linked, but not indexed.
+pub record File : Type 0 where
+  pub path : List ℕ
+  pub facts : Option Facts
+  pub is_included : Bool
+
+-- the file with this number has these facts
+pub record HasFacts (files : List File) (number : ℕ) (facts : Facts) : Type 0 where
+  pub file : File
+  pub numbered : slice_get files number ≡ Some file
+  pub known : file.facts ≡ Some facts
+
+-- the file with this number is a source: it isn't included
+pub record IsSource (files : List File) (number : ℕ) : Type 0 where
+  pub file : File
+  pub numbered : slice_get files number ≡ Some file
+  pub source : file.is_included ≡ false
+
+-- some file has this path
+abbrev pub HasPath : List File → List ℕ → Type 0
+HasPath files path = Contains (map (λ file. file.path) files) path
+
+abbrev pub is_public : ImportKind → Bool
+is_public Plain = false
+is_public Weak = false
+is_public Public = true
+
+-- One file imports another by its path, publicly or not. A weak import counts as a plain one (the profile's).
+pub record Imports (files : List File) (importing : ℕ) (publicly : Bool) (imported : ℕ) : Type 0 where
+  pub facts : Facts
+  pub import : Imported
+  pub file : File
+  pub known : HasFacts files importing facts
+  pub listed : Contains facts.imports import
+  pub kind : is_public import.kind ≡ publicly
+  pub numbered : slice_get files imported ≡ Some file
+  pub path : file.path ≡ import.path

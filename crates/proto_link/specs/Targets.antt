@@ -1,0 +1,50 @@
+-- What each component of a use names.
+use Rattle.std.specs.Prelude.{◌≡◌, ◌==◌, ℕ, ◌+◌, ◌-◌, Some, List, length, take}
+use Rattle.std.specs.List.{slice_get, slice_split}
+use Rattle.proto_decl.specs.Names.{dotted}
+use Rattle.proto_decl.specs.Facts.{Facts}
+use Rattle.proto_decl.specs.declared.type_use.Use.{Use}
+use Rattle.proto_decl.specs.declared.declaration.Declaration.{Declaration}
+use Rattle.proto_link.specs.Files.{File, HasFacts}
+use Rattle.proto_link.specs.Sees.{Sees}
+use Rattle.proto_link.specs.Knows.{Knows}
+use Rattle.proto_link.specs.Knows.NameKind.{OfPackage}
+use Rattle.proto_link.specs.Resolves.{Resolves}
+
+-- What a component names: the package of the full name's first `count` components, or a declaration, by its file's number and its
+-- own in that file.
+pub data Entity : Type 0 where
+  Package : (count : ℕ) → Entity
+  Declared : (file declaration : ℕ) → Entity
+
+-- What a use names: a full name, and what each of the use's components names.
+pub record Target : Type 0 where
+  pub name : List ℕ
+  pub parts : List Entity
+
+-- the components of a full name
+abbrev pub components_of : List ℕ → List (List ℕ)
+components_of name = slice_split (λ byte. byte == 46) name
+
+-- a full name's first components
+abbrev pub front_of : List ℕ → (count : ℕ) → List ℕ
+front_of name count = dotted (take count (components_of name))
+
+-- The entity that the file knows by a full name's first components.
+pub data IsNamed (files : List File) (file : ℕ) (name : List ℕ) (count : ℕ) : Entity → Type 0 where
+  packaged : Knows files file (front_of name count) OfPackage → IsNamed files file name count (Package count)
+  declared : {seen index : ℕ} {facts : Facts} {declaration : Declaration}
+      → Sees files file seen → HasFacts files seen facts → slice_get facts.declarations index ≡ Some declaration → declaration.full_name ≡ front_of name count
+      → IsNamed files file name count (Declared seen index)
+
+-- Of a use with k components that resolves to a full name of m, component number j (from 0) names the entity of the name's first
+-- m - k + j + 1 components.
+pub record IsTarget (files : List File) (file : ℕ) (type_use : Use) (target : Target) : Type 0 where
+  pub resolves : Resolves files file type_use target.name
+  pub one_each : length target.parts ≡ length type_use.components
+  pub named : (j : ℕ) (part : Entity) → slice_get target.parts j ≡ Some part
+      → IsNamed files file target.name (length (components_of target.name) - length type_use.components + j + 1) part
+
+-- no name is that of the use
+abbrev pub IsUnresolved : List File → ℕ → Use → Type 0
+IsUnresolved files file type_use = (name : List ℕ) → Resolves files file type_use name → ⊥

@@ -1,0 +1,14 @@
+//! Which file sees which, which names clash, and what a use names.
+#![tactic(auto)]
+
+mod file_row;
+mod laws;
+mod link_file;
+mod place;
+mod search;
+mod seeing;
+mod steps;
+
+pub use laws::{one_broken_file, one_name_a_use};
+pub use link_file::LinkFile;
+pub use place::FilePlace;

@@ -25,6 +25,8 @@ listing_of_source view bytes index (Err (fault.Syntax e)) of_source is = absurd 
 listing_of_source view bytes index (Err (fault.Duplicate first second)) of_source is = absurd is
 listing_of_source view bytes index (Err fault.TooLarge) of_source is = (index, of_source, is)
 listing_of_source view bytes index (Err (fault.Write count)) of_source is = is
+listing_of_source view bytes index (Err fault.Unreadable) of_source is = absurd is
+listing_of_source view bytes index (Err (fault.Wire e)) of_source is = absurd is
 
 -- a fault that refuses bytes is none of reading or writing
 pub refusal-elim : (P : Fault → Type 0) → P fault.Memory → ((e : LexFault) → P (fault.Lex e)) → ((e : SyntaxFault) → P (fault.Syntax e))

@@ -15,4 +15,5 @@ pub mod FactLemmas
 pub mod NameLemmas
 pub mod FilledLemmas
 pub mod ScopeLemmas
+pub mod ScopedLemmas
 pub mod LawLemmas

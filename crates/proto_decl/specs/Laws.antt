@@ -1,12 +1,11 @@
 -- Laws of facts, comment texts and scopes.
-use Rattle.std.specs.Prelude.{ℕ, ◌≡◌, ◌<◌, ◌==◌, not, true, List, ◌∷◌, length, All}
-use Rattle.std.specs.List.{list_all}
+use Rattle.std.specs.Prelude.{ℕ, ◌≡◌, List, ◌∷◌, map, All, Contains}
 use Rattle.proto_lex.specs.declared.span.Span.{Span}
 use Rattle.proto_lex.specs.Lexed.{Lexed, IsLexed, IsPart, part_of}
 use Rattle.proto_grammar.specs.declared.tree.CustomOptions.{CustomOptions}
 use Rattle.proto_grammar.specs.declared.tree.File.{File}
 use Rattle.proto_parse.specs.Derives.{Derives}
-use Rattle.proto_decl.specs.Names.{qualified, scopes_of}
+use Rattle.proto_decl.specs.Names.{qualified, IsSimple, dotted, scopes_of}
 use Rattle.proto_decl.specs.Comments.{IsLeadingText, IsTrailingText}
 use Rattle.proto_decl.specs.Declares.{simple_name}
 use Rattle.proto_decl.specs.Facts.{Facts, AreFactsOf}
@@ -37,7 +36,19 @@ abbrev pub NamesAreSpelled : Type 0
 NamesAreSpelled = (custom : CustomOptions) (number : ℕ) (lexed : Lexed) (file : File) (facts : Facts) → IsLexed lexed.text lexed.tokens lexed.comments
     → Derives custom lexed.text lexed.tokens file → AreFactsOf number lexed file facts → All (IsNamedAt lexed.text) facts.declarations
 
--- The scopes of a full name are that name and the scopes of the scope around it, where no dot stands in the simple name.
+-- The full name of a scope of a file: of its package, which is the root's where it has none, or of a declaration.
+pub data IsScope (facts : Facts) : List ℕ → Type 0 where
+  of_package : IsScope facts (dotted (map (λ component. component.name) facts.package_name))
+  of_declaration : {declaration : Declaration} → Contains facts.declarations declaration → IsScope facts declaration.full_name
+
+-- A declaration has a simple name in a scope of its file.
+pub record StandsInScope (facts : Facts) (declaration : Declaration) : Type 0 where
+  pub scope : List ℕ
+  pub name : List ℕ
+  pub simple : IsSimple name
+  pub full : declaration.full_name ≡ qualified scope name
+  pub stands : IsScope facts scope
+
+-- The scopes of a full name are that name and the scopes of the scope around it.
 abbrev pub ScopesNest : Type 0
-ScopesNest = (scope name : List ℕ) → 0 < length name → list_all (λ byte. not (byte == 46)) name ≡ true
-    → scopes_of (qualified scope name) ≡ qualified scope name ∷ scopes_of scope
+ScopesNest = (scope name : List ℕ) → IsSimple name → scopes_of (qualified scope name) ≡ qualified scope name ∷ scopes_of scope

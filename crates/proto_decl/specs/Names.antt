@@ -1,6 +1,6 @@
 -- Names and scopes (proto3 specification, "Identifiers"; proto3 language guide, "Packages and Name Resolution").
-use Rattle.std.specs.Prelude.{ℕ, ◌==◌, if◌then◌else◌, List, [], ◌∷◌, ◌++◌, map, reverse}
-use Rattle.std.specs.List.{join_with_byte}
+use Rattle.std.specs.Prelude.{ℕ, ◌≡◌, ◌<◌, ◌==◌, not, true, if◌then◌else◌, List, [], ◌∷◌, ◌++◌, length, map, reverse}
+use Rattle.std.specs.List.{join_with_byte, list_all}
 use Rattle.proto_lex.specs.declared.span.Span.{Span}
 use Rattle.proto_lex.specs.Lexed.{part_of}
 use Rattle.proto_decl.specs.declared.type_use.Component.{Component}
@@ -9,6 +9,11 @@ use Rattle.proto_decl.specs.declared.type_use.Component.{Component}
 abbrev pub qualified : (scope name : List ℕ) → List ℕ
 qualified [] name = name
 qualified (byte ∷ scope) name = (byte ∷ scope) ++ 46 ∷ name
+
+-- A simple name has bytes, of which none is a dot.
+pub record IsSimple (name : List ℕ) : Type 0 where
+  pub some : 0 < length name
+  pub no_dot : list_all (λ byte. not (byte == 46)) name ≡ true
 
 -- Components that are joined by dots.
 abbrev pub dotted : List (List ℕ) → List ℕ

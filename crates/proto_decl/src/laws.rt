@@ -1,7 +1,9 @@
 //! Laws: what the definitions say of facts, whatever the code does.
 
+ghost use Rattle.std.specs.Prelude.{All};
 ghost use Rattle.proto_decl.specs.Facts.{Facts, AreOfSomeFile, NamesInOrder, UsesInOrder, ImportsInOrder, PackageInOrder, NamesAreFilled, UsesAreFilled};
-ghost use Rattle.proto_decl.specs.Laws.{OneLeadingText, OneTrailingText, OneFacts, NamesAreSpelled, ScopesNest};
+ghost use Rattle.proto_decl.specs.Names.{IsSimple};
+ghost use Rattle.proto_decl.specs.Laws.{OneLeadingText, OneTrailingText, OneFacts, NamesAreSpelled, StandsInScope, ScopesNest};
 
 use proto_parse::{names_have_components, spans_in_order, spans_of_tokens};
 
@@ -41,6 +43,16 @@ pub fn facts_are_filled()
 /// Names are spelled as they stand in the text.
 pub fn names_are_spelled()
     ensures { NamesAreSpelled }
+{
+    spans_of_tokens();
+}
+
+/// Each declaration has a simple name in a scope of its file, which is its package's or that of another
+/// declaration; and the components of its package's name are simple. So each front of a full name that
+/// ends before a dot is the full name of a package or of a declaration of the file.
+pub fn scopes_are_known()
+    ensures declarations { (facts : Facts) → AreOfSomeFile facts → All (StandsInScope facts) facts.declarations }
+    ensures package_name { (facts : Facts) → AreOfSomeFile facts → All (λ component. IsSimple component.name) facts.package_name }
 {
     spans_of_tokens();
 }

@@ -27,7 +27,7 @@ pub use imported::Imported;
 pub use kind::DeclarationKind;
 pub use laws::{
     facts_are_filled, facts_in_order, names_are_spelled, one_comment_text, one_list_of_facts,
-    scopes_nest,
+    scopes_are_known, scopes_nest,
 };
 pub use scopes::scope_around;
 pub use type_use::{Component, Use};

@@ -3,7 +3,7 @@
 use crate::calls::{facts_of, see};
 use proto_decl::{
     DeclarationKind, DeclarationStep, FileFacts, facts_are_filled, facts_in_order,
-    names_are_spelled, one_comment_text, one_list_of_facts, scopes_nest,
+    names_are_spelled, one_comment_text, one_list_of_facts, scopes_are_known, scopes_nest,
 };
 use std::alloc::{AllocError, Global};
 
@@ -148,6 +148,7 @@ fn laws(rt: HostRuntime) {
     facts_in_order();
     facts_are_filled();
     names_are_spelled();
+    scopes_are_known();
     scopes_nest();
     match facts_of(rt.alloc(), 3, EVERY_KIND) {
         Ok(facts) => facts.origin(),

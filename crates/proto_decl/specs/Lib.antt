@@ -14,3 +14,5 @@ pub mod Uses
 pub mod Facts
 -- what a callback sees of a declaration
 pub mod Seen
+-- the ways to declarations
+pub mod Ways

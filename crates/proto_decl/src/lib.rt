@@ -14,9 +14,11 @@ mod surrounding;
 mod type_use;
 mod type_uses;
 mod view;
+mod ways;
 
 pub use declaration::{Declaration, DeclarationStep};
 pub use imported::Imported;
 pub use kind::DeclarationKind;
 pub use type_use::{Component, Use};
 pub use view::DeclView;
+pub use ways::declarations_stand_in_declarations;

@@ -1,7 +1,6 @@
 -- Facts of a tree in which no two declarations have one full name: there a symbol names one entity.
 use Rattle.std.specs.Prelude.{◌≡◌, ◌≢◌, ℕ, List, [], ◌∷◌, ◌++◌, Contains}
-use Rattle.proto_decl.specs.declared.kind.DeclarationKind.{DeclarationKind}
-use Rattle.proto_decl.specs.declared.kind.DeclarationKind.TheVariants.{Message, Enum, Service, Field, Oneof, Value, Method}
+use Rattle.proto_decl.specs.Ways.{names_of}
 use Rattle.proto_decl.specs.declared.declaration.DeclarationStep.{DeclarationStep}
 use Rattle.scip_symbol.specs.Entities.{Entity, OfFile, OfPackage, OfDeclaration}
 
@@ -12,22 +11,6 @@ pub record Declaration : Type 0 where
 
 abbrev pub declaration : (components : List (List ℕ)) → (way : List DeclarationStep) → Declaration
 declaration components way = record { components = components; way = way }
-
--- The names of the scopes that a declaration stands in and its own: a message or a service is a scope, and an enum
--- is none, so that a value is a sibling of its enum (proto3 language guide, Enumerations).
-abbrev pub scoped : DeclarationKind → (name : List ℕ) → (inner : List (List ℕ)) → List (List ℕ)
-scoped Enum name inner = inner
-scoped Message name inner = name ∷ inner
-scoped Service name inner = name ∷ inner
-scoped Field name inner = name ∷ inner
-scoped Oneof name inner = name ∷ inner
-scoped Value name inner = name ∷ inner
-scoped Method name inner = name ∷ inner
-
-abbrev pub names_of : List DeclarationStep → List (List ℕ)
-names_of [] = []
-names_of (step ∷ []) = step.name ∷ []
-names_of (step ∷ (next ∷ others)) = scoped step.kind step.name (names_of (next ∷ others))
 
 -- the full name, component by component; a name has no dot, so that the names joined by dots are equal only where these are
 abbrev pub full_name : Declaration → List (List ℕ)

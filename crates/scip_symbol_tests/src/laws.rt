@@ -1,5 +1,6 @@
 //! The laws, which do nothing and end.
 
+use proto_decl::declarations_stand_in_declarations;
 use scip_symbol::{symbols_have_spellings, symbols_name_one_entity, text_spells_one_symbol};
 
 #[test]
@@ -7,4 +8,5 @@ fn laws_are_called() {
     text_spells_one_symbol();
     symbols_have_spellings();
     symbols_name_one_entity();
+    declarations_stand_in_declarations();
 }

@@ -1,3 +1,4 @@
+pub mod WayLemmas
 -- Walks over a tree
 pub mod OutlineLemmas
 -- Lines, and what stands on them

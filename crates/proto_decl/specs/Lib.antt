@@ -16,3 +16,5 @@ pub mod Facts
 pub mod Laws
 -- what a callback sees of a declaration
 pub mod Seen
+-- the ways to declarations
+pub mod Ways

@@ -19,6 +19,7 @@ mod surrounding;
 mod type_use;
 mod type_uses;
 mod view;
+mod ways;
 
 pub use declaration::{Declaration, DeclarationStep};
 pub use declaring::declare;
@@ -32,3 +33,4 @@ pub use laws::{
 pub use scopes::scope_around;
 pub use type_use::{Component, Use};
 pub use view::DeclView;
+pub use ways::declarations_stand_in_declarations;

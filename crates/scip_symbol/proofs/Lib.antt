@@ -13,3 +13,4 @@ pub mod SpellingLemmas
 pub mod PackageLemmas
 pub mod EntityLemmas
 pub mod OneEntityLemmas
+pub mod ClashLemmas

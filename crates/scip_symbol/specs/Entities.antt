@@ -8,7 +8,6 @@ use Rattle.scip_symbol.specs.Path.{IsGoodPath}
 use Rattle.proto_decl.specs.declared.kind.DeclarationKind.{DeclarationKind}
 use Rattle.proto_decl.specs.declared.kind.DeclarationKind.TheVariants.{Message, Enum, Service, Field, Oneof, Value, Method}
 use Rattle.proto_decl.specs.declared.declaration.DeclarationStep.{DeclarationStep}
-use Rattle.proto_decl.specs.declared.type_use.Component.{Component}
 use Rattle.scip_symbol.specs.declared.symbol.Suffix.{Suffix}
 use Rattle.scip_symbol.specs.declared.symbol.Suffix.TheVariants as suffix
 use Rattle.scip_symbol.specs.declared.symbol.Descriptor.{Descriptor}
@@ -33,10 +32,6 @@ suffix_of Method = suffix.Method []
 
 abbrev pub namespace_of : List ℕ → Descriptor
 namespace_of name = descriptor name suffix.Namespace
-
--- the components of a package's name, without their places
-abbrev pub component_names : List Component → List (List ℕ)
-component_names = map (λ c. c.name)
 
 abbrev pub step_descriptor : DeclarationStep → Descriptor
 step_descriptor step = descriptor step.name (suffix_of step.kind)

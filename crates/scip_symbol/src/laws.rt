@@ -7,7 +7,8 @@ ghost use Rattle.scip_symbol.specs.SymbolText.{symbol_text};
 ghost use Rattle.scip_symbol.specs.declared.symbol.SymbolParts.{SymbolParts};
 ghost use Rattle.scip_symbol.specs.Package.{Package, IsPackage};
 ghost use Rattle.scip_symbol.specs.Entities.{Entity, IsEntity, symbol_in};
-ghost use Rattle.scip_symbol.specs.OneEntity.{Declaration, IsWithoutClash, IsAmong};
+ghost use Rattle.scip_symbol.specs.OneEntity.{Declaration, IsWithoutClash, IsAmong, declarations_of, AreWithoutClash};
+ghost use Rattle.proto_decl.specs.Facts.{Facts};
 
 /// A text spells at most one symbol.
 pub fn text_spells_one_symbol()
@@ -26,4 +27,10 @@ pub fn symbols_name_one_entity()
     ensures { (id : Package) (declarations : List Declaration) → IsPackage id → IsWithoutClash declarations
         → (entity other : Entity) → IsEntity entity → IsEntity other → IsAmong declarations entity → IsAmong declarations other
         → symbol_text (symbol_in id entity) ≡ symbol_text (symbol_in id other) → entity ≡ other }
+{}
+
+/// The declarations of files in whose facts a full name is that of one declaration are without a
+/// clash.
+pub fn files_are_without_clash()
+    ensures { (files : List Facts) → AreWithoutClash files → IsWithoutClash (declarations_of files) }
 {}

@@ -11,7 +11,10 @@ mod symbol;
 
 pub use entity::{SCHEME, file_symbol, package_symbol, symbol_of};
 pub use fault::SymbolFault;
-pub use laws::{symbols_have_spellings, symbols_name_one_entity, text_spells_one_symbol};
+pub use laws::{
+    files_are_without_clash, symbols_have_spellings, symbols_name_one_entity,
+    text_spells_one_symbol,
+};
 pub use package::{BadPart, PackageId};
 pub use printer::print;
 pub use reader::read;

@@ -1,6 +1,7 @@
 //! The calls that may want for memory, and how a test tells what it saw.
 
-ghost use Rattle.scip_symbol.specs.Entities.{OfFile, OfPackage, OfDeclaration, component_names, IsEntity};
+ghost use Rattle.proto_decl.specs.Ways.{component_names};
+ghost use Rattle.scip_symbol.specs.Entities.{OfFile, OfPackage, OfDeclaration, IsEntity};
 
 use proto_decl::{Component, DeclarationStep};
 use scip_symbol::{

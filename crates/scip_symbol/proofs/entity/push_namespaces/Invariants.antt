@@ -1,5 +1,6 @@
 use Rattle.std.proofs.Common.{◌≡◌, ◌++◌, drop, map}
-use Rattle.scip_symbol.specs.Entities.{namespace_of, component_names}
+use Rattle.proto_decl.specs.Ways.{component_names}
+use Rattle.scip_symbol.specs.Entities.{namespace_of}
 use Rattle.scip_symbol.proofs.entity.push_namespaces.Given as goal
 
 abbrev pub invariant-loop-component : goal.invariant-loop-component

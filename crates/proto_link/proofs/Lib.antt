@@ -1,4 +1,5 @@
 pub mod FileRowLemmas
 pub mod SearchLemmas
 pub mod SeeingLemmas
+pub mod StepLemmas
 pub mod LawLemmas

@@ -1,4 +1,6 @@
 pub mod FileRowLemmas
 pub mod SearchLemmas
 pub mod SeeingLemmas
+pub mod StepLemmas
+pub mod CountingLemmas
 pub mod LawLemmas

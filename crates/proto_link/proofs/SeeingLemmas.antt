@@ -10,7 +10,7 @@ use Rattle.proto_link.specs.declared.steps.Steps.{Steps}
 use Rattle.proto_link.specs.Sees.{LeadsTo, SeesBy}
 use Rattle.proto_link.specs.Sees.LeadsTo.{at_once, through}
 use Rattle.proto_link.specs.Sees.SeesBy.{itself, import}
-use Rattle.proto_link.specs.StepTables.{targets, HasStep, AreWithin, IsRowOf}
+use Rattle.proto_link.specs.StepTables.{targets, HasStep, AreWithin, AreRowsBy}
 use Rattle.proto_link.specs.Visits.{visit, visit_all}
 
 -- ---- what visits do
@@ -68,7 +68,7 @@ visits_find found (first ∷ numbers) number there = elim (Contains-append_cases
     only x y (zero, h, e) = e
     only x y (suc k, h, e) = absurd (omega arith)
 
-slice_get_front : {X : Type 0} (xs ys : List X) (k : ℕ) → k < length xs → slice_get (xs ++ ys) k ≡ slice_get xs k
+pub slice_get_front : {X : Type 0} (xs ys : List X) (k : ℕ) → k < length xs → slice_get (xs ++ ys) k ≡ slice_get xs k
 slice_get_front [] ys k h = absurd (omega arith)
 slice_get_front (x ∷ xs) ys zero h = refl
 slice_get_front (x ∷ xs) ys (suc k) h = slice_get_front xs ys k (omega arith)
@@ -187,6 +187,10 @@ all_followed numbers done none = elim (cases_lt done (length numbers)) [
 
 -- ---- the rows
 
+-- a row has what the file sees
+abbrev pub IsRowOf : List Steps → ℕ → List ℕ → Type 0
+IsRowOf table file row = (other : ℕ) → Contains row other ↔ SeesBy (HasStep table) file other
+
 pub rows_more : (table : List Steps) (rows : List (List ℕ)) (row : List ℕ) → IsRowOf table (length rows) row
     → ((file : ℕ) (one : List ℕ) → slice_get rows file ≡ Some one → IsRowOf table file one)
     → (file : ℕ) (one : List ℕ) → slice_get (rows ++ row ∷ []) file ≡ Some one → IsRowOf table file one
@@ -202,3 +206,19 @@ rows_more table rows row last each file one stands = elim (cases_lt file (length
   where
     slice_get_last : (xs : List (List ℕ)) (x : List ℕ) → slice_get (xs ++ x ∷ []) (length xs) ≡ Some x
     slice_get_last xs x = slice_get-get_or (xs ++ x ∷ []) (length xs) x (omega (arith, length_push xs x)) ∙ ap Some (get_or_push xs x x (length xs) refl)
+
+-- ---- other imports that are the same
+
+leads_by : {I J : ℕ → Bool → ℕ → Type 0} (change : (from to : ℕ) (publicly : Bool) → I from publicly to → J from publicly to) {a b : ℕ} → LeadsTo I a b → LeadsTo J a b
+leads_by change at_once = at_once
+leads_by change (through {file = a} {next = b} step rest) = through (change a b true step) (leads_by change rest)
+
+sees_by : {I J : ℕ → Bool → ℕ → Type 0} (change : (from to : ℕ) (publicly : Bool) → I from publicly to → J from publicly to) {a b : ℕ} → SeesBy I a b → SeesBy J a b
+sees_by change itself = itself
+sees_by change (import {file = a} {next = b} {publicly = publicly} step rest) = import (change a b publicly step) (leads_by change rest)
+
+pub rows_by : {I J : ℕ → Bool → ℕ → Type 0} (same : (from to : ℕ) (publicly : Bool) → I from publicly to ↔ J from publicly to) (m n : ℕ) (rows : List (List ℕ)) → m ≡ n → AreRowsBy I m rows → AreRowsBy J n rows
+rows_by same m n rows size rows_are = record {
+  one_each = rows_are.one_each ∙ size;
+  each = λ file row stands other. (λ there. sees_by (λ from to publicly. (same from to publicly).0) ((rows_are.each file row stands other).0 there), λ sees. (rows_are.each file row stands other).1 (sees_by (λ from to publicly. (same from to publicly).1) sees));
+}

@@ -43,3 +43,7 @@ pub record Imports (files : List File) (importing : ℕ) (publicly : Bool) (impo
   pub kind : is_public import.kind ≡ publicly
   pub numbered : slice_get files imported ≡ Some file
   pub path : file.path ≡ import.path
+
+-- no two files have one path
+abbrev pub HaveOwnPaths : List File → Type 0
+HaveOwnPaths files = (i j : ℕ) (a b : File) → slice_get files i ≡ Some a → slice_get files j ≡ Some b → a.path ≡ b.path → i ≡ j

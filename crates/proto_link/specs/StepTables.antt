@@ -1,6 +1,13 @@
--- What a table of steps says, and the rows of the files that are seen by it.
-use Rattle.std.specs.Prelude.{ℕ, ◌≡◌, ◌<◌, ◌↔◌, Bool, true, false, Some, List, length, All, Contains, slice_get}
+-- What a table of steps says, how it comes from the files, and the rows of the files that are seen by it.
+use Rattle.std.specs.Prelude.{ℕ, ◌≡◌, ◌<◌, ◌↔◌, Bool, true, false, Option, Some, None, List, [], length, All, Contains, if◌then◌else◌}
+use Rattle.std.specs.List.{slice_get}
+use Rattle.std.specs.Str.{bytes_eq}
+use Rattle.std.specs.HashMap.{HashMap, get_by}
+use denote.Ref.{Bor}
+use Rattle.proto_decl.specs.Facts.{Facts}
+use Rattle.proto_decl.specs.declared.imported.Imported.{Imported}
 use Rattle.proto_link.specs.declared.steps.Steps.{Steps}
+use Rattle.proto_link.specs.Files.{File, Imports, is_public}
 use Rattle.proto_link.specs.Sees.{SeesBy}
 
 -- the files that a file imports, publicly or not
@@ -18,11 +25,38 @@ pub record HasStep (table : List Steps) (importing : ℕ) (publicly : Bool) (imp
 abbrev pub AreWithin : List Steps → Type 0
 AreWithin table = All (λ steps. (publicly : Bool) → All (λ number. number < length table) (targets steps publicly)) table
 
--- the row of a file has the files that it sees
-abbrev pub IsRowOf : List Steps → (file : ℕ) → (row : List ℕ) → Type 0
-IsRowOf table file row = (other : ℕ) → Contains row other ↔ SeesBy (HasStep table) file other
+-- the steps of the table are the imports of the files
+pub record IsTableOf (files : List File) (table : List Steps) : Type 0 where
+  pub one_each : length table ≡ length files
+  pub within : AreWithin table
+  pub steps : (importing imported : ℕ) (publicly : Bool) → HasStep table importing publicly imported ↔ Imports files importing publicly imported
 
--- a row for each file
-pub record AreRowsOf (table : List Steps) (rows : List (List ℕ)) : Type 0 where
-  pub one_each : length rows ≡ length table
-  pub each : (file : ℕ) (row : List ℕ) → slice_get rows file ≡ Some row → IsRowOf table file row
+-- a row for each file, which has the files that it sees by these imports
+pub record AreRowsBy (Imports : ℕ → Bool → ℕ → Type 0) (files : ℕ) (rows : List (List ℕ)) : Type 0 where
+  pub one_each : length rows ≡ files
+  pub each : (file : ℕ) (row : List ℕ) → slice_get rows file ≡ Some row → (other : ℕ) → Contains row other ↔ SeesBy Imports file other
+
+-- the file with this number has this path
+abbrev pub HasPathAt : List File → (path : List ℕ) → (number : ℕ) → Type 0
+HasPathAt files path number = (file : File) × (slice_get files number ≡ Some file) × (file.path ≡ path)
+
+-- the number that stands in a map at a path
+abbrev pub number_in : {S : Type 0} → HashMap (Bor (List ℕ)) ℕ S → (path : List ℕ) → Option ℕ
+number_in numbers path = get_by (λ key. bytes_eq path key.now) numbers
+
+-- the map has the number of each path
+abbrev pub AreNumbered : {S : Type 0} → List File → HashMap (Bor (List ℕ)) ℕ S → Type 0
+AreNumbered files numbers = (path : List ℕ) (number : ℕ) → (number_in numbers path ≡ Some number) ↔ HasPathAt files path number
+
+-- the imports of a file; none of a file without facts
+abbrev pub imports_in : Option Facts → List Imported
+imports_in None = []
+imports_in (Some facts) = facts.imports
+
+abbrev pub imports_of : File → List Imported
+imports_of file = imports_in file.facts
+
+-- the file that an import names, where it is public as asked
+abbrev pub target : (List ℕ → Option ℕ) → (publicly : Bool) → Imported → Option ℕ
+target number true import = if is_public import.kind then number import.path else None
+target number false import = if is_public import.kind then None else number import.path

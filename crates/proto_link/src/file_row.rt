@@ -2,6 +2,7 @@
 
 ghost use Rattle.std.specs.Prelude.{ℕ, ◌≡◌, ◌↔◌, IsTrue, IfOk, Contains, vec_len};
 ghost use Rattle.std.specs.List.{IsDistinct};
+ghost use Rattle.std.specs.List.Sorted.{IsStrictlyIncreasing};
 ghost use Rattle.std.specs.Prelude.{◌==◌};
 
 use std::alloc::{AllocError, Global};
@@ -40,5 +41,13 @@ impl FileRow {
         ensures { IsTrue result ↔ Contains self.now number }
     {
         self.numbers.binary_search(&number).is_ok()
+    }
+
+    // The numbers, each above those before it.
+    pub(crate) fn as_slice(&self) -> &[usize]
+        ensures value { result.now ≡ self.now }
+        ensures rising { IsStrictlyIncreasing self.now }
+    {
+        self.numbers.as_slice()
     }
 }

@@ -1,6 +1,7 @@
 //! Which file sees which, which names clash, and what a use names.
 #![tactic(auto)]
 
+mod counting;
 mod file_row;
 mod laws;
 mod link_file;

@@ -1,5 +1,7 @@
 //! Files to be linked.
 
+ghost use Rattle.std.specs.Prelude.{◌≡◌, ◌↔◌, None, IsTrue};
+
 use proto_decl::FileFacts;
 use std::marker::Model;
 
@@ -23,4 +25,23 @@ impl<'a> Model for LinkFile<'a> {
     ghost Value = { File };
 
     ghost view = { λ file. record { path = file.path.now; facts = option_map (λ facts. facts.now) file.facts; is_included = file.included } };
+}
+
+impl LinkFile<'_> {
+    // Whether it is included, and so no source.
+    pub(crate) fn is_included(&self) -> bool
+        ensures { result ≡ self.now.is_included }
+    {
+        self.included
+    }
+
+    // Whether it couldn't be read or parsed.
+    pub(crate) fn is_unread(&self) -> bool
+        ensures { IsTrue result ↔ (self.now.facts ≡ None) }
+    {
+        match self.facts {
+            Some(_) => false,
+            None => true,
+        }
+    }
 }

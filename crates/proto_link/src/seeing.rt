@@ -1,18 +1,30 @@
 //! The files that each file sees, by a search along imports.
 
 ghost use Rattle.std.specs.Prelude.{ℕ, ◌≡◌, ◌<◌, ◌↔◌, OnOk, IfOk, Contains, length};
+ghost use Rattle.proto_link.specs.Files.{HaveOwnPaths, Imports};
 ghost use Rattle.proto_link.specs.Sees.{SeesBy};
-ghost use Rattle.proto_link.specs.StepTables.{HasStep, AreWithin, AreRowsOf};
+ghost use Rattle.proto_link.specs.StepTables.{HasStep, AreWithin, AreRowsBy};
 
 use crate::file_row::FileRow;
+use crate::link_file::LinkFile;
 use crate::search::Search;
-use crate::steps::Steps;
+use crate::steps::{Steps, steps_of};
 use std::alloc::{AllocError, Global};
 
 // For each file the row of the files that it sees.
-pub(crate) fn seen_rows(alloc: Global, table: &[Steps]) -> Result<Vec<FileRow>, AllocError>
+pub(crate) fn seen_files(alloc: Global, files: &[LinkFile]) -> Result<Vec<FileRow>, AllocError>
+    requires { HaveOwnPaths files.now }
+    ensures { IfOk result (λ rows. AreRowsBy (Imports files.now) (length files.now) rows.items) }
+{
+    let table = steps_of(alloc, files)?;
+    let rows = seen_rows(alloc, table.as_slice())?;
+    Ok(rows)
+}
+
+// The same by the steps of a table.
+fn seen_rows(alloc: Global, table: &[Steps]) -> Result<Vec<FileRow>, AllocError>
     requires { AreWithin table.now }
-    ensures { IfOk result (λ rows. AreRowsOf table.now rows.items) }
+    ensures { IfOk result (λ rows. AreRowsBy (HasStep table.now) (length table.now) rows.items) }
 {
     let mut rows = Vec::with_capacity(alloc, table.len())?;
     let mut search = Search::new(alloc, table.len())?;

@@ -1,8 +1,116 @@
 //! Tables of what files import, by their numbers.
 
+ghost use Rattle.std.specs.Prelude.{◌≡◌, ℕ, ◌↔◌, [], ◌∷◌, ◌++◌, true, false, IfOk, OnOk, if◌then◌else◌};
+ghost use Rattle.std.specs.List.{filter_map};
+ghost use Rattle.proto_link.specs.Files.{HaveOwnPaths, is_public};
+ghost use Rattle.proto_link.specs.StepTables.{IsTableOf, AreNumbered, imports_of, number_in, target};
+
+use crate::link_file::LinkFile;
+use proto_decl::Imported;
+use proto_parse::ImportKind;
+use std::alloc::{AllocError, Global};
+use std::collections::HashMap;
+
 // The numbers of the files that a file imports.
 #[derive(Drop)]
 pub(crate) struct Steps {
     pub(crate) plain: Vec<usize>,
     pub(crate) public: Vec<usize>,
+}
+
+// For each file the numbers of those that it imports.
+pub(crate) fn steps_of(alloc: Global, files: &[LinkFile]) -> Result<Vec<Steps>, AllocError>
+    requires { HaveOwnPaths files.now }
+    ensures { IfOk result (λ table. IsTableOf files.now table.items) }
+{
+    let numbers = numbers_of(alloc, files)?;
+    let mut table = Vec::with_capacity(alloc, files.len())?;
+    for file in files {
+        table.push_reserved(steps_of_file(alloc, &numbers, file)?);
+    }
+    Ok(table)
+}
+
+// The numbers of the files by their paths.
+fn numbers_of<'a>(
+    alloc: Global,
+    files: &[LinkFile<'a>],
+) -> Result<HashMap<&'a str, usize>, AllocError>
+    requires { HaveOwnPaths files.now }
+    ensures { IfOk result (AreNumbered files.now) }
+{
+    let mut numbers = HashMap::new(alloc);
+    for (number, file) in files.iter().enumerate() {
+        let path = file.path;
+        numbers.insert(path, number)?;
+    }
+    Ok(numbers)
+}
+
+// The numbers of the files that one file imports.
+fn steps_of_file(
+    alloc: Global,
+    numbers: &HashMap<&str, usize>,
+    file: &LinkFile,
+) -> Result<Steps, AllocError>
+    ensures public { IfOk result (λ steps. steps.public.items ≡ filter_map (target (number_in numbers.now) true) (imports_of file.now)) }
+    ensures plain { IfOk result (λ steps. steps.plain.items ≡ filter_map (target (number_in numbers.now) false) (imports_of file.now)) }
+{
+    match file.facts {
+        Some(facts) => steps_along(alloc, numbers, facts.imports()),
+        None => Ok(Steps::new(alloc)),
+    }
+}
+
+fn steps_along(
+    alloc: Global,
+    numbers: &HashMap<&str, usize>,
+    imports: &[Imported],
+) -> Result<Steps, AllocError>
+    ensures public { IfOk result (λ steps. steps.public.items ≡ filter_map (target (number_in numbers.now) true) imports.now) }
+    ensures plain { IfOk result (λ steps. steps.plain.items ≡ filter_map (target (number_in numbers.now) false) imports.now) }
+{
+    let mut steps = Steps::new(alloc);
+    for import in imports {
+        steps.add_import(numbers, import)?;
+    }
+    Ok(steps)
+}
+
+impl Steps {
+    fn new(alloc: Global) -> Steps
+        ensures public { result.public.items ≡ [] }
+        ensures plain { result.plain.items ≡ [] }
+    {
+        Steps {
+            plain: Vec::new(alloc),
+            public: Vec::new(alloc),
+        }
+    }
+
+    // Adds the file that an import names, where there is one.
+    fn add_import(
+        &mut self,
+        numbers: &HashMap<&str, usize>,
+        import: &Imported,
+    ) -> Result<(), AllocError>
+        ensures public { OnOk result (self.new.public.items ≡ self.old.public.items ++ filter_map (target (number_in numbers.now) true) (import.now ∷ [])) }
+        ensures plain { OnOk result (self.new.plain.items ≡ self.old.plain.items ++ filter_map (target (number_in numbers.now) false) (import.now ∷ [])) }
+    {
+        match numbers.get(import.path.as_str()).copied() {
+            Some(number) => self.add(import.kind, number),
+            None => Ok(()),
+        }
+    }
+
+    fn add(&mut self, kind: ImportKind, number: usize) -> Result<(), AllocError>
+        ensures public { OnOk result (self.new.public.items ≡ (if is_public kind then self.old.public.items ++ number ∷ [] else self.old.public.items)) }
+        ensures plain { OnOk result (self.new.plain.items ≡ (if is_public kind then self.old.plain.items else self.old.plain.items ++ number ∷ [])) }
+    {
+        match kind {
+            ImportKind::Public => self.public.push(number)?,
+            ImportKind::Plain | ImportKind::Weak => self.plain.push(number)?,
+        }
+        Ok(())
+    }
 }

@@ -1,8 +1,7 @@
 use Rattle.std.proofs.Common.{◌≡◌, ◌≤◌, ◌+◌, ℕ, List, [], ◌∷◌, ◌++◌, length, Some, ap, sym, ◌∙◌, subst}
 use Rattle.std.specs.List.{slice_get}
 use Rattle.std.proofs.lemmas.List.{length_push}
-use Rattle.proto_link.specs.StepTables.{IsRowOf}
-use Rattle.proto_link.proofs.SeeingLemmas.{rows_more}
+use Rattle.proto_link.proofs.SeeingLemmas.{IsRowOf, rows_more}
 use Rattle.proto_link.proofs.seeing.seen_rows.Goals as goal
 
 pub loop-file-preserved : goal.loop-file-preserved

@@ -1,6 +1,6 @@
 use Rattle.std.proofs.Common.{◌≡◌, ◌≤◌, ℕ, Some, List, length, vec_capacity}
 use Rattle.std.specs.List.{slice_get}
-use Rattle.proto_link.specs.StepTables.{IsRowOf}
+use Rattle.proto_link.proofs.SeeingLemmas.{IsRowOf}
 use Rattle.proto_link.proofs.seeing.seen_rows.Given as goal
 
 abbrev pub invariant-loop-file : goal.invariant-loop-file

@@ -17,10 +17,10 @@ use Rattle.proto_grammar.specs.declared.tree.Leaf.TheVariants as leaf
 use Rattle.proto_grammar.specs.declared.tree.FileItem.{FileItem}
 use Rattle.proto_grammar.specs.declared.tree.FileItem.TheVariants as item
 use Rattle.proto_grammar.specs.declared.tree.File.{File}
-use Rattle.proto_parse.specs.Tree.{Body, MessageTree}
+use Rattle.proto_parse.specs.Tree.{Body}
 use Rattle.proto_parse.specs.Tree.Body.{NoMore, LeafThen, MessageThen}
 use Rattle.proto_decl.specs.Names.{qualified, dotted, components_at}
-use Rattle.proto_decl.specs.Outlines.{name_of, step_to, outline_at, inside, beside, in_enum, in_oneof, in_leaf, in_body, in_message, in_service, in_item, package_spans, file_surrounding, outlines_of}
+use Rattle.proto_decl.specs.Outlines.{step_to, outline_at, inside, beside, in_enum, in_leaf, in_body, in_item, package_spans, file_surrounding, outlines_of}
 use Rattle.proto_decl.specs.Declares.{IsDeclaration}
 use Rattle.proto_decl.specs.Facts.{Facts, AreFactsOf}
 use Rattle.proto_decl.specs.declared.kind.DeclarationKind.{DeclarationKind}

@@ -1,5 +1,5 @@
 -- Where the reader stops, what it has read begins a spelling.
-use Rattle.std.proofs.Common.{◌≡◌, ◌≢◌, ℕ, zero, suc, ◌+◌, ◌<◌, ◌⊎◌, inl, inr, false, None, Ok, Err, List, [], ◌∷◌, ◌++◌, codes, length, refl, ap, sym, ◌∙◌, subst, arith, append_assoc}
+use Rattle.std.proofs.Common.{◌≡◌, ◌≢◌, ℕ, zero, suc, ◌<◌, ◌⊎◌, inl, inr, false, None, Ok, Err, List, [], ◌∷◌, ◌++◌, codes, length, refl, ap, sym, ◌∙◌, subst, arith, append_assoc}
 use Rattle.scip_symbol.specs.Names.{doubled}
 use Rattle.scip_symbol.specs.SpellsSymbol.{SpellsScheme, scheme, SpellsPart, empty, SpellsName, simple, quoted, descriptor, SpellsDescriptor, namespace, method, type_parameter, parameter, SpellsDescriptors, last, more, SpellsSymbol, local, global}
 use Rattle.scip_symbol.specs.Reading.{Read, Front, ◌>>=◌, after, expect_at, undoubled_at, run_at, some_at, simple_at, name_at, disambiguator_at, suffix_at, enclosed_at, descriptor_at, last_or_led, descriptors_at, spaced_at, part_of, part_at, global_at, local_of, local_at, symbol_at}

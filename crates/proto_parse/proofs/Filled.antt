@@ -12,7 +12,6 @@ use Rattle.proto_grammar.specs.declared.tree.TypeName.{TypeName}
 use Rattle.proto_grammar.specs.declared.tree.FieldType.{FieldType}
 use Rattle.proto_grammar.specs.declared.tree.Field.{Field}
 use Rattle.proto_grammar.specs.declared.tree.MapField.{MapField}
-use Rattle.proto_grammar.specs.declared.tree.Enum.{Enum}
 use Rattle.proto_grammar.specs.declared.tree.Oneof.{Oneof}
 use Rattle.proto_grammar.specs.declared.tree.Method.{Method}
 use Rattle.proto_grammar.specs.declared.tree.Service.{Service}
@@ -26,7 +25,6 @@ use Rattle.proto_parse.specs.Limits.{max_message_depth}
 use Rattle.proto_grammar.specs.Tree.{MessageTree}
 use Rattle.proto_grammar.specs.Items.{body_of}
 use Rattle.proto_grammar.specs.Grammar.Steps.{Until, Adds}
-use Rattle.proto_grammar.specs.Grammar.Steps.One.{one}
 use Rattle.proto_grammar.specs.Grammar.Steps.Until.{done, more}
 use Rattle.proto_grammar.specs.Grammar.Steps.Adds.{adds}
 use Rattle.proto_grammar.specs.Grammar.Names.{IsName, IsTypeName, IsType}
@@ -39,7 +37,6 @@ use Rattle.proto_grammar.specs.Grammar.Fields.IsField.{field}
 use Rattle.proto_grammar.specs.Grammar.Fields.IsOneofField.{oneof_field}
 use Rattle.proto_grammar.specs.Grammar.Fields.IsMapField.{map_field}
 use Rattle.proto_parse.specs.Grammar.Messages.{IsOneofItem, IsOneof, IsMessageItem, IsMessageOf, IsMessage}
-use Rattle.proto_parse.specs.Grammar.Messages.IsEnum.{enum}
 use Rattle.proto_parse.specs.Grammar.Messages.IsOneofItem.{field as oneofs-field}
 use Rattle.proto_parse.specs.Grammar.Messages.IsOneof.{oneof}
 use Rattle.proto_parse.specs.Grammar.Messages.IsMessageItem.{message as items-message, enum as items-enum, oneof as items-oneof, map_field as items-map_field, field as items-field}

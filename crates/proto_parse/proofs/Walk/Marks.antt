@@ -35,7 +35,6 @@ use Rattle.proto_grammar.specs.Grammar.Names.IsDotName.{dot_name}
 use Rattle.proto_grammar.specs.Grammar.Names.IsName.{name}
 use Rattle.proto_grammar.specs.Grammar.Names.IsTypeName.{rooted, plain as plain_name}
 use Rattle.proto_grammar.specs.Grammar.Names.IsType.{scalar, named}
-use Rattle.proto_grammar.specs.Grammar.Options.IsOptions.{none}
 use Rattle.proto_grammar.specs.Grammar.Fields.{IsNumbered, IsField, IsOneofField, IsMapField}
 use Rattle.proto_grammar.specs.Grammar.Fields.IsNumbered.{numbered}
 use Rattle.proto_grammar.specs.Grammar.Fields.IsTyped.{typed}

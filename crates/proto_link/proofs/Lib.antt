@@ -3,4 +3,5 @@ pub mod SearchLemmas
 pub mod SeeingLemmas
 pub mod StepLemmas
 pub mod CountingLemmas
+pub mod AbsentLemmas
 pub mod LawLemmas

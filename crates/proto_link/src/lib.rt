@@ -1,6 +1,7 @@
 //! Which file sees which, which names clash, and what a use names.
 #![tactic(auto)]
 
+mod absent;
 mod counting;
 mod file_row;
 mod laws;

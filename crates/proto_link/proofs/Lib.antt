@@ -4,4 +4,5 @@ pub mod SeeingLemmas
 pub mod StepLemmas
 pub mod CountingLemmas
 pub mod AbsentLemmas
+pub mod ClashLemmas
 pub mod LawLemmas

@@ -32,6 +32,10 @@ seen_within (import step rest) h = leads_inside rest (imported_within step)
 pub counted_within : (files : List File) (number : ℕ) → Counts files number → number < length files
 counted_within files number (seen {source = source} is sees) = seen_within sees (slice_get_within files source is.file is.numbered)
 
+-- a file of the row of those that count
+pub counted_at : (files : List File) (row items : List ℕ) (k : ℕ) → ((number : ℕ) → Contains row number → Counts files number) → items ≡ row → k < length items → get_or items k 0 < length files
+counted_at files row items k counts are h = counted_within files (get_or items k 0) (counts (get_or items k 0) (subst (λ xs. Contains xs (get_or items k 0)) are (Contains-get_or items k 0 h)))
+
 pub row_within : (files : List File) (file size : ℕ) (row items : List ℕ) → items ≡ row → size ≡ length files → file < length files
     → ((other : ℕ) → Contains row other ↔ Sees files file other) → All (λ number. number < size) items
 row_within files file size row items are same within sees k d h =

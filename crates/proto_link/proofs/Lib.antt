@@ -3,4 +3,6 @@ pub mod SearchLemmas
 pub mod SeeingLemmas
 pub mod StepLemmas
 pub mod CountingLemmas
+pub mod AbsentLemmas
+pub mod ClashLemmas
 pub mod LawLemmas

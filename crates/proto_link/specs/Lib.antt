@@ -15,3 +15,4 @@ pub mod Laws
 -- the tables by which the code finds them
 pub mod StepTables
 pub mod Visits
+pub mod NameTables

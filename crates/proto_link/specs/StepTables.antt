@@ -1,9 +1,11 @@
 -- What a table of steps says, how it comes from the files, and the rows of the files that are seen by it.
-use Rattle.std.specs.Prelude.{ℕ, ◌≡◌, ◌<◌, ◌↔◌, Bool, true, false, Option, Some, None, List, [], length, All, Contains, if◌then◌else◌}
+use Rattle.std.specs.Prelude.{ℕ, ◌≡◌, ◌<◌, ◌↔◌, Bool, true, false, Option, Some, None, List, [], length, All, Contains, if◌then◌else◌, not, ◌||◌, ◌&&◌}
 use Rattle.std.specs.List.{slice_get}
+use Rattle.std.specs.Option.{is_none}
 use Rattle.std.specs.Str.{bytes_eq}
 use Rattle.std.specs.HashMap.{HashMap, get_by}
 use denote.Ref.{Bor}
+use Rattle.proto_lex.specs.declared.span.Span.{Span}
 use Rattle.proto_decl.specs.Facts.{Facts}
 use Rattle.proto_decl.specs.declared.imported.Imported.{Imported}
 use Rattle.proto_link.specs.declared.steps.Steps.{Steps}
@@ -60,3 +62,23 @@ imports_of file = imports_in file.facts
 abbrev pub target : (List ℕ → Option ℕ) → (publicly : Bool) → Imported → Option ℕ
 target number true import = if is_public import.kind then number import.path else None
 target number false import = if is_public import.kind then None else number import.path
+
+-- an import, of an included file or of a source, has to be there and names no file
+abbrev pub is_absent : (List ℕ → Option ℕ) → (included : Bool) → Imported → Bool
+is_absent number included import = (not included || is_public import.kind) && is_none (number import.path)
+
+-- none of the first so many imports is one
+abbrev pub NoneIsAbsentUpTo : (List ℕ → Option ℕ) → Bool → List Imported → (count : ℕ) → Type 0
+NoneIsAbsentUpTo number included imports count = (k : ℕ) (import : Imported) → k < count → slice_get imports k ≡ Some import → is_absent number included import ≡ false
+
+abbrev pub NoneIsAbsent : (List ℕ → Option ℕ) → Bool → List Imported → Type 0
+NoneIsAbsent number included imports = NoneIsAbsentUpTo number included imports (length imports)
+
+-- the first such import stands at this span
+pub record IsFirstAbsent (number : List ℕ → Option ℕ) (included : Bool) (imports : List Imported) (span : Span) : Type 0 where
+  pub index : ℕ
+  pub import : Imported
+  pub stands : slice_get imports index ≡ Some import
+  pub absent : is_absent number included import ≡ true
+  pub place : import.span ≡ span
+  pub first : NoneIsAbsentUpTo number included imports index

@@ -1,6 +1,8 @@
 //! Which file sees which, which names clash, and what a use names.
 #![tactic(auto)]
 
+mod absent;
+mod clash;
 mod counting;
 mod file_row;
 mod laws;

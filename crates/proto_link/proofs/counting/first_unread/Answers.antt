@@ -1,15 +1,9 @@
-use Rattle.std.proofs.Common.{◌≡◌, ◌<◌, ◌≤◌, ℕ, List, Some, length, get_or, refl, ap, sym, ◌∙◌, subst, arith, rules}
-use Rattle.std.specs.List.{Contains, slice_get}
+use Rattle.std.proofs.Common.{◌≡◌, ◌<◌, ◌≤◌, Some, length, get_or, refl, ap, sym, ◌∙◌, subst, arith, rules}
+use Rattle.std.specs.List.{slice_get}
 use Rattle.std.proofs.lemmas.Bool.{false≢true}
 use Rattle.std.proofs.lemmas.Option.{slice_get_read}
-use Rattle.std.proofs.lemmas.List.Elements.{Contains-get_or}
-use Rattle.proto_link.specs.Files.{File}
-use Rattle.proto_link.specs.Sees.{Counts}
-use Rattle.proto_link.proofs.CountingLemmas.{counted_within, is_broken, none_broken, read_more}
+use Rattle.proto_link.proofs.CountingLemmas.{counted_at, is_broken, none_broken, read_more}
 use Rattle.proto_link.proofs.counting.first_unread.Goals as goal
-
-counted_at : (files : List File) (row items : List ℕ) (k : ℕ) → ((number : ℕ) → Contains row number → Counts files number) → items ≡ row → k < length items → get_or items k 0 < length files
-counted_at files row items k counts are h = counted_within files (get_or items k 0) (counts (get_or items k 0) (subst (λ xs. Contains xs (get_or items k 0)) are (Contains-get_or items k 0 h)))
 
 pub offset_bounds-files-number : goal.offset_bounds-files-number
 offset_bounds-files-number c =

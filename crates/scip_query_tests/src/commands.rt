@@ -75,8 +75,8 @@ fn local_symbols_stay_in_their_document(rt: HostRuntime) -> Result<(), Fail> {
 fn the_innermost_of_overlapping_ranges(rt: HostRuntime) -> Result<(), Fail> {
     let cases = [
         ("ref 0 0 a", "0 0 0 9 0 a\n= 1\n"),
-        ("ref 0 2 a", "0 2 0 5 0 a\n= 1\n"),
-        ("ref 0 4 a", "0 2 0 5 0 a\n= 1\n"),
+        ("ref 0 2 a", "0 2 0 5 4 a\n= 1\n"),
+        ("ref 0 4 a", "0 2 0 5 4 a\n= 1\n"),
         ("ref 0 5 a", "0 5 0 5 0 a\n= 1\n"),
         ("ref 0 6 a", "0 0 0 9 0 a\n= 1\n"),
         ("ref 0 9 a", "? nothing there\n"),

@@ -44,13 +44,14 @@ pub const LOCAL_IN_TWO_DOCUMENTS: Plan<'static> = Plan {
     entries: &[(0, "local 1", &["of a"]), (1, "local 1", &["of b"])],
 };
 
-/// Ranges that hold, overlap and end in one another, and an empty one.
+/// Ranges that hold, overlap and end in one another, two that are one with symbols and roles of their
+/// own, and an empty one.
 pub const OVERLAPPING: Plan<'static> = Plan {
     paths: &["a"],
     rows: &[
         (0, [0, 0, 0, 9], "x", 0),
         (0, [0, 2, 0, 5], "z", 0),
-        (0, [0, 2, 0, 5], "y", 0),
+        (0, [0, 2, 0, 5], "y", 4),
         (0, [0, 5, 0, 5], "w", 0),
     ],
     entries: &[],

@@ -17,4 +17,5 @@ pub mod NameLemmas
 pub mod FilledLemmas
 pub mod ScopeLemmas
 pub mod ScopedLemmas
+pub mod FrontLemmas
 pub mod LawLemmas

@@ -1,7 +1,10 @@
 -- The scopes of a name in a scope.
-use Rattle.std.proofs.Common.{◌≡◌, ◌∙◌, sym, ap, refl, subst, ℕ, zero, suc, ◌-◌, ◌<◌, ◌==◌, ◌≢◌, Bool, true, false, not, ◌&&◌, cond, List, [], ◌∷◌, ◌++◌, length, get_or, take, slice_range, map, reverse, arith}
+use Rattle.std.proofs.Common.{◌≡◌, ◌∙◌, sym, ap, refl, subst, ℕ, zero, suc, ◌-◌, ◌<◌, ◌≤◌, ◌==◌, ◌≢◌, Bool, true, false, not, ◌&&◌, cond, List, [], ◌∷◌, ◌++◌, length, get_or, take, slice_range, map, reverse, arith, Option, Some, None, IsCharBoundary}
 use Rattle.std.specs.List.{list_all}
+use Rattle.std.specs.Prelude.{MatchOption}
+use Rattle.std.specs.Str.Pattern.{RFindsChar}
 use Rattle.std.proofs.lemmas.Bool.Decides.{nat_tests}
+use Rattle.std.proofs.lemmas.Str.Pattern.{rfind_char}
 use Rattle.std.proofs.lemmas.List.{map-append, reverse-append}
 use Rattle.proto_decl.specs.Names.{qualified, fronts_before_dots, scopes_of}
 
@@ -81,6 +84,11 @@ scopes_of-no_dot : (name : List ℕ) → 0 < length name → ((i : ℕ) → i < 
 scopes_of-no_dot [] some none = absurd (omega (arith, some))
 scopes_of-no_dot (byte ∷ name) some none =
     ap (λ (fronts : List (List ℕ)). (byte ∷ name) ∷ (reverse (map (λ (front : List ℕ). byte ∷ front) fronts) ++ [] ∷ [])) (no_fronts-at name (λ i h. none (suc i) (omega (arith, h))))
+
+-- a search from the end finds the last dot
+pub found_dot : (name : List ℕ) (r : Option ℕ) → MatchOption r (RFindsChar 46 name None) (λ i. (j : ℕ) × RFindsChar 46 name (Some (i, j)) × (i ≤ j) × IsCharBoundary name i × IsCharBoundary name j)
+    → MatchOption r ((i : ℕ) → i < length name → get_or name i 0 ≢ 46) (λ k. (k < length name) × (get_or name k 0 ≡ 46) × ((i : ℕ) → k < i → i < length name → get_or name i 0 ≢ 46))
+found_dot name r says = rfind_char 46 name r says (omega arith)
 
 -- what stands before the last dot
 pub around_dot : (name outer : List ℕ) (k : ℕ) → outer ≡ slice_range name 0 k

@@ -1,5 +1,5 @@
 -- The comment that trails a declaration: the first one behind its closing token.
-use Rattle.std.proofs.Common.{◌≡◌, ◌∙◌, sym, ap, subst, ℕ, ◌<◌, ◌≤◌, ◌≢◌, ◌↔◌, ◌⊎◌, inl, inr, Bool, true, false, IsTrue, List, length, get_or, arith}
+use Rattle.std.proofs.Common.{◌≡◌, ◌∙◌, sym, ap, subst, ℕ, ◌<◌, ◌≤◌, ◌↔◌, ◌⊎◌, inl, inr, Bool, true, false, IsTrue, List, length, get_or, arith}
 use Rattle.std.specs.List.Sorted.{IsPartitionPoint}
 use Rattle.std.proofs.lemmas.List.{get_or_default}
 use Rattle.std.proofs.lemmas.List.Elements.{All-contains}
@@ -29,12 +29,6 @@ module _ (lexed : Lexed) (closing : Span) (n : ℕ) (x : Comment) (ordered : Com
       let not_behind = held (λ c. closing.end ≤ c.span.start → comment.span.start ≤ c.span.start) lexed.comments n x at (t.first n x at.within) in
       omega (arith, not_before t.behind, not_behind behind)
 
-  on_another_line : first_line lexed x.span ≢ last_line lexed closing → (comment : Comment) → IsTrailing lexed closing comment → ⊥
-  on_another_line other comment t = other (ap (line_of lexed.text) (sym (same_start comment t)) ∙ t.on_line)
-
-  some_between : (NoneBetween lexed.tokens closing.end x.span.start → ⊥) → (comment : Comment) → IsTrailing lexed closing comment → ⊥
-  some_between some comment t = some (subst (λ start. NoneBetween lexed.tokens closing.end start) (same_start comment t) t.none_between)
-
   is_trailing : first_line lexed x.span ≡ last_line lexed closing → NoneBetween lexed.tokens closing.end x.span.start → IsTrailing lexed closing x
   is_trailing on_line none = record {
     listed = (n, at.within, sym at.is);
@@ -44,32 +38,26 @@ module _ (lexed : Lexed) (closing : Span) (n : ℕ) (x : Comment) (ordered : Com
     none_between = none;
   }
 
--- what the tests of the code say: of the comment that the search found, in the comments and texts that the calls gave
-module _ (lexed : Lexed) (closing : Span) (n a b : ℕ) (d : Comment) (comments : List Comment) (text other : List ℕ) (same : comments ≡ lexed.comments) (same_text : text ≡ lexed.text) (same_other : other ≡ lexed.text)
-    (ordered : CommentsInOrder lexed.comments) (within : n < length lexed.comments)
+-- what the test of the code says of the comment that the search found, in the comments that the call gave
+module _ (lexed : Lexed) (closing : Span) (n : ℕ) (d : Comment) (comments : List Comment) (same : comments ≡ lexed.comments) (ordered : CommentsInOrder lexed.comments) (within : n < length lexed.comments)
     (parted : IsPartitionPoint (λ (c : Comment). c.span.start < closing.end) (λ (c : Comment). closing.end ≤ c.span.start) lexed.comments n)
-    (starts_on : a ≡ line_of text (get_or comments n d).span.start) (closes_on : b ≡ line_of other closing.end) where
+    (r : Bool) (says : IsTrue r ↔ (first_line lexed (get_or comments n d).span ≡ last_line lexed closing) × NoneBetween lexed.tokens closing.end (get_or comments n d).span.start) where
   here : IsAt lexed.comments n (get_or lexed.comments n d)
   here = at_index lexed.comments n d within
 
-  starts : a ≡ first_line lexed (get_or lexed.comments n d).span
-  starts = rw (same, same_text) at starts_on
+  said : IsTrue r ↔ (first_line lexed (get_or lexed.comments n d).span ≡ last_line lexed closing) × NoneBetween lexed.tokens closing.end (get_or lexed.comments n d).span.start
+  said = rw same at says
 
-  closes : b ≡ last_line lexed closing
-  closes = rw same_other at closes_on
+  pub refuted : r ≡ false → (comment : Comment) → IsTrailing lexed closing comment → ⊥
+  refuted is comment t =
+      let start = same_start lexed closing n (get_or lexed.comments n d) ordered here parted comment t in
+      let yes = said.1 (ap (line_of lexed.text) (sym start) ∙ t.on_line, subst (λ place. NoneBetween lexed.tokens closing.end place) start t.none_between) in
+      absurd (cc)
 
-  pub refuted_by_line : (a ≡ b → ⊥) → (comment : Comment) → IsTrailing lexed closing comment → ⊥
-  refuted_by_line differ = on_another_line lexed closing n (get_or lexed.comments n d) ordered here parted (λ e. differ (starts ∙ (e ∙ sym closes)))
-
-  pub refuted_by_token : (r : Bool) → r ≡ false → IsTrue r ↔ NoneBetween lexed.tokens closing.end (get_or comments n d).span.start → (comment : Comment) → IsTrailing lexed closing comment → ⊥
-  refuted_by_token r is says =
-      let says' = rw same at says in
-      some_between lexed closing n (get_or lexed.comments n d) ordered here parted (λ none. let true_too = says'.1 none in absurd (cc))
-
-  pub confirmed : a ≡ b → (r : Bool) → r ≡ true → IsTrue r ↔ NoneBetween lexed.tokens closing.end (get_or comments n d).span.start → IsTrailing lexed closing (get_or comments n d)
-  confirmed on_line r is says =
-      let says' = rw same at says in
-      rw same (is_trailing lexed closing n (get_or lexed.comments n d) ordered here parted (sym starts ∙ (on_line ∙ closes)) (says'.0 is))
+  pub confirmed : r ≡ true → IsTrailing lexed closing (get_or comments n d)
+  confirmed is =
+      let both = said.0 is in
+      rw same (is_trailing lexed closing n (get_or lexed.comments n d) ordered here parted both.0 both.1)
 
 -- two comments that trail are one
 

@@ -1,6 +1,6 @@
 -- Names and scopes (proto3 specification, "Identifiers"; proto3 language guide, "Packages and Name Resolution").
-use Rattle.std.specs.Prelude.{ℕ, ◌≡◌, ◌<◌, ◌==◌, not, true, if◌then◌else◌, List, [], ◌∷◌, ◌++◌, length, map, reverse}
-use Rattle.std.specs.List.{join_with_byte, list_all}
+use Rattle.std.specs.Prelude.{ℕ, ◌≡◌, ◌<◌, ◌==◌, not, true, if◌then◌else◌, List, [], ◌∷◌, ◌++◌, length, take, map, reverse}
+use Rattle.std.specs.List.{join_with_byte, list_all, slice_split}
 use Rattle.proto_lex.specs.declared.span.Span.{Span}
 use Rattle.proto_lex.specs.Lexed.{part_of}
 use Rattle.proto_decl.specs.declared.type_use.Component.{Component}
@@ -18,6 +18,13 @@ pub record IsSimple (name : List ℕ) : Type 0 where
 -- Components that are joined by dots.
 abbrev pub dotted : List (List ℕ) → List ℕ
 dotted components = join_with_byte 46 components
+
+-- The components of a full name, and the full name that its first ones make.
+abbrev pub components_of : List ℕ → List (List ℕ)
+components_of name = slice_split (λ byte. byte == 46) name
+
+abbrev pub front_of : List ℕ → (count : ℕ) → List ℕ
+front_of name count = dotted (take count (components_of name))
 
 -- A component of a name: what stands at the span.
 abbrev pub component_at : (text : List ℕ) → Span → Component

@@ -4,7 +4,7 @@ ghost use Rattle.std.specs.Prelude.{◌≡◌, ◌+◌, ◌≤◌, ◌↔◌, �
 ghost use Rattle.std.specs.List.{join_with_byte};
 ghost use Rattle.proto_lex.specs.Position.{line_of};
 ghost use Rattle.proto_lex.specs.Lexed.{AreApart};
-ghost use Rattle.proto_lex.specs.CommentTexts.{StandsAlone};
+ghost use Rattle.proto_lex.specs.CommentTexts.{StandsAlone, NoneBetween};
 ghost use Rattle.proto_lex.specs.declared.token.Comment.{Comment};
 ghost use Rattle.proto_decl.specs.Comments as spec;
 
@@ -107,6 +107,17 @@ pub(crate) fn leading_text(
     texts_of(alloc, lexed, leading_comments(lexed, line))
 }
 
+/// Whether the comment at this span begins on the line on which another span ends, with no token
+/// between.
+fn follows(lexed: &Tokens<'_>, comment: Span, closing: Span) -> bool
+    ensures { IsTrue result ↔ (line_of lexed.now.text comment.start ≡ line_of lexed.now.text closing.end) × NoneBetween lexed.now.tokens closing.end comment.start }
+{
+    if lexed.text().line(comment.start) != lexed.text().line(closing.end) {
+        return false;
+    }
+    is_none_between(lexed, closing.end, comment.start)
+}
+
 /// The comment that trails a declaration with this closing token.
 fn trailing_comment(lexed: &Tokens<'_>, closing: Span) -> Option<Comment>
     ensures found { MatchOption result ((comment : Comment) → spec.IsTrailing lexed.now closing comment → ⊥) (spec.IsTrailing lexed.now closing) }
@@ -118,10 +129,7 @@ fn trailing_comment(lexed: &Tokens<'_>, closing: Span) -> Option<Comment>
         return None;
     }
     let comment = comments[begun];
-    if lexed.text().line(comment.span.start) != lexed.text().line(closing.end) {
-        return None;
-    }
-    if !is_none_between(lexed, closing.end, comment.span.start) {
+    if !follows(lexed, comment.span, closing) {
         return None;
     }
     Some(comment)

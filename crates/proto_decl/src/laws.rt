@@ -3,7 +3,7 @@
 ghost use Rattle.std.specs.Prelude.{All};
 ghost use Rattle.proto_decl.specs.Facts.{Facts, AreOfSomeFile, NamesInOrder, UsesInOrder, ImportsInOrder, PackageInOrder, NamesAreFilled, UsesAreFilled};
 ghost use Rattle.proto_decl.specs.Names.{IsSimple};
-ghost use Rattle.proto_decl.specs.Laws.{OneLeadingText, OneTrailingText, OneFacts, NamesAreSpelled, StandsInScope, ScopesNest};
+ghost use Rattle.proto_decl.specs.Laws.{OneLeadingText, OneTrailingText, OneFacts, NamesAreSpelled, StandsInScope, FrontsAreEntities, ScopesNest};
 
 use proto_parse::{names_have_components, spans_in_order, spans_of_tokens};
 
@@ -48,13 +48,21 @@ pub fn names_are_spelled()
 }
 
 /// Each declaration has a simple name in a scope of its file, which is its package's or that of another
-/// declaration; and the components of its package's name are simple. So each front of a full name that
-/// ends before a dot is the full name of a package or of a declaration of the file.
+/// declaration; and the components of its package's name are simple.
 pub fn scopes_are_known()
     ensures declarations { (facts : Facts) → AreOfSomeFile facts → All (StandsInScope facts) facts.declarations }
     ensures package_name { (facts : Facts) → AreOfSomeFile facts → All (λ component. IsSimple component.name) facts.package_name }
 {
     spans_of_tokens();
+}
+
+/// What the first components of a declaration's full name make, any number of them, is the full name
+/// of a package or of a declaration of its file.
+pub fn fronts_are_entities()
+    ensures { (facts : Facts) → AreOfSomeFile facts → FrontsAreEntities facts }
+{
+    scopes_are_known();
+    facts_are_filled();
 }
 
 /// The scopes of a name are its own and those of the scope around it.

@@ -90,17 +90,25 @@ fn is_clear_behind(lexed: &Tokens<'_>, offset: usize) -> bool
     text.line(offset) < text.line(next.span.start)
 }
 
+/// Whether no token before the span touches its first line, and none behind it its last one.
+fn is_clear_around(lexed: &Tokens<'_>, span: Span) -> bool
+    ensures { IsTrue result
+        ↔ All (λ t. t.span.end ≤ span.start → Touches lexed.now.text t.span (line_of lexed.now.text span.start) → ⊥) lexed.now.tokens
+        × All (λ t. span.end ≤ t.span.start → Touches lexed.now.text t.span (line_of lexed.now.text span.end) → ⊥) lexed.now.tokens }
+{
+    if !is_clear_before(lexed, span.start) {
+        return false;
+    }
+    is_clear_behind(lexed, span.end)
+}
+
 /// Whether no token touches a line that the comment at this span touches.
 pub(crate) fn stands_alone(lexed: &Tokens<'_>, comment: Span) -> bool
     requires some { comment.start ≤ comment.end }
     requires apart { All (λ t. AreApart t.span comment) lexed.now.tokens }
     ensures { IsTrue result ↔ StandsAlone lexed.now.text lexed.now.tokens comment }
 {
-    if is_clear_before(lexed, comment.start) {
-        is_clear_behind(lexed, comment.end)
-    } else {
-        false
-    }
+    is_clear_around(lexed, comment)
 }
 
 /// Whether no token stands between two offsets.

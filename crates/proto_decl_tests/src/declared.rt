@@ -3,7 +3,8 @@
 use crate::calls::{facts_of, see};
 use proto_decl::{
     DeclarationKind, DeclarationStep, FileFacts, facts_are_filled, facts_in_order,
-    names_are_spelled, one_comment_text, one_list_of_facts, scopes_are_known, scopes_nest,
+    fronts_are_entities, names_are_spelled, one_comment_text, one_list_of_facts, scopes_are_known,
+    scopes_nest,
 };
 use std::alloc::{AllocError, Global};
 
@@ -149,6 +150,7 @@ fn laws(rt: HostRuntime) {
     facts_are_filled();
     names_are_spelled();
     scopes_are_known();
+    fronts_are_entities();
     scopes_nest();
     match facts_of(rt.alloc(), 3, EVERY_KIND) {
         Ok(facts) => facts.origin(),

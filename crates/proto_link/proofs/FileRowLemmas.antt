@@ -34,7 +34,8 @@ decides_found xs x (Err i) h = (λ e. absurd (false≢true e), λ found. absurd 
 pub decides_has : (xs : List ℕ) (x : ℕ) (r : Result ℕ ℕ) → IsStrictlyIncreasing xs → IsBinarySearchResult (λ y. nat_cmp y x) xs r → Decides (is_ok r) (Contains xs x)
 decides_has xs x r rises h = decides_found xs x r (searched xs x r h (not_falling xs rises))
 
-flips : (x y : ℕ) → eqb x y ≡ eqb y x
+-- whether two numbers are equal
+pub flips : (x y : ℕ) → eqb x y ≡ eqb y x
 flips x y = grind (arith, nat_tests)
 
 -- numbers that differ rise once they are sorted

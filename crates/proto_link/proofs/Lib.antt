@@ -5,4 +5,5 @@ pub mod StepLemmas
 pub mod CountingLemmas
 pub mod AbsentLemmas
 pub mod ClashLemmas
+pub mod ItemLemmas
 pub mod LawLemmas

@@ -23,7 +23,8 @@ cases_Option : {Y : Type 0} (o : Option Y) → (o ≡ None) ⊎ ((y : Y) × (o �
 cases_Option None = inl refl
 cases_Option (Some y) = inr (y, refl)
 
-only : {X : Type 0} (x y : X) → Contains (x ∷ []) y → x ≡ y
+-- the only item of a list
+pub only : {X : Type 0} (x y : X) → Contains (x ∷ []) y → x ≡ y
 only x y (zero, h, e) = e
 only x y (suc k, h, e) = absurd (omega arith)
 

@@ -16,3 +16,4 @@ pub mod Laws
 pub mod StepTables
 pub mod Visits
 pub mod NameTables
+pub mod FileItems

@@ -5,6 +5,7 @@ mod absent;
 mod clash;
 mod counting;
 mod file_row;
+mod items;
 mod laws;
 mod link_file;
 mod place;

@@ -2,6 +2,7 @@
 #![tactic(auto)]
 
 mod absent;
+mod all_items;
 mod clash;
 mod counting;
 mod file_row;

@@ -1,5 +1,5 @@
 -- The first clash of names, over items in order of place.
-use Rattle.std.proofs.Common.{◌≡◌, ◌⊎◌, inl, inr, ℕ, ◌+◌, ◌<◌, ◌≤◌, Bool, true, false, ◌||◌, List, length, Option, Some, None, MatchOption, is_some, cond, refl, ap, sym, ◌∙◌, subst, arith}
+use Rattle.std.proofs.Common.{◌≡◌, ◌↔◌, ◌⊎◌, inl, inr, ℕ, ◌+◌, ◌<◌, ◌≤◌, Bool, true, false, ◌||◌, List, length, Option, Some, None, MatchOption, is_some, cond, refl, ap, sym, ◌∙◌, subst, arith}
 use Rattle.std.specs.List.{Contains, slice_get}
 use Rattle.std.specs.Str.{bytes_eq}
 use Rattle.std.specs.HashMap.{HashMap}
@@ -9,7 +9,7 @@ use Rattle.std.proofs.lemmas.Option.{slice_get_within, slice_get-get_or, get_or_
 use Rattle.std.proofs.lemmas.Slice.Eq.{bytes_eq-Decides}
 use Rattle.proto_link.specs.declared.place.FilePlace.{FilePlace}
 use Rattle.proto_link.specs.Items.{Before, Item}
-use Rattle.proto_link.specs.Clashes.{ClashBy, NoClashBy}
+use Rattle.proto_link.specs.Clashes.{Excludes, ClashBy, NoClashBy}
 use Rattle.proto_link.specs.NameTables.{AreInPlace, HasNone, IsFirstNamed, AreFirst, place_if_declared, clash_with}
 use Rattle.proto_link.specs.StepTables.{number_in}
 
@@ -213,3 +213,27 @@ first_more items count item first old new stands is after so_far name = by_first
           subst (λ o. MatchOption o (HasNone items (count + 1) name) (IsFirstNamed items (count + 1) name)) (sym (update name))
           (at_name items count item name (number_in old name) stands (λ e. false≢true (sym apart ∙ (bytes_eq-Decides item.full_name name).1 e)) (so_far name))
     ]
+
+-- ---- the same items by another word
+
+excludes_by : {I J : Item → Type 0} → ((item : Item) → I item → J item) → (a b : Item) → Excludes I a b → Excludes J a b
+excludes_by change a b e = record { first_is = change a e.first_is; second_is = change b e.second_is; ordered = e.ordered; one_name = e.one_name; declares = e.declares }
+
+pub clash_by : {I J : Item → Type 0} → ((item : Item) → I item ↔ J item) → (first second : FilePlace) → ClashBy I first second → ClashBy J first second
+clash_by same first second clash = record {
+  earlier = clash.earlier;
+  later = clash.later;
+  exclude = excludes_by (λ item. (same item).0) clash.earlier clash.later clash.exclude;
+  first_is = clash.first_is;
+  second_is = clash.second_is;
+  least_second = λ a b e. clash.least_second a b (excludes_by (λ item. (same item).1) a b e);
+  least_first = λ a b e. clash.least_first a b (excludes_by (λ item. (same item).1) a b e);
+}
+
+pub no_clash_by : {I J : Item → Type 0} → ((item : Item) → I item ↔ J item) → NoClashBy I → NoClashBy J
+no_clash_by same clear a b e = clear a b (excludes_by (λ item. (same item).1) a b e)
+
+pub clash_of_items : {I J : Item → Type 0} → ((item : Item) → I item ↔ J item) → (clash : Option (FilePlace × FilePlace))
+    → MatchOption clash (NoClashBy I) (λ places. ClashBy I places.0 places.1) → MatchOption clash (NoClashBy J) (λ places. ClashBy J places.0 places.1)
+clash_of_items same None clear = no_clash_by same clear
+clash_of_items same (Some places) clash = clash_by same places.0 places.1 clash

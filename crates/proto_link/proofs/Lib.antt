@@ -6,4 +6,5 @@ pub mod CountingLemmas
 pub mod AbsentLemmas
 pub mod ClashLemmas
 pub mod ItemLemmas
+pub mod AllItemsLemmas
 pub mod LawLemmas

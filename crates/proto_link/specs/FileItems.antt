@@ -1,10 +1,11 @@
 -- The items of one file.
-use Rattle.std.specs.Prelude.{◌≡◌, ◌⊎◌, ◌↔◌, ℕ, ◌+◌, ◌<◌, true, false, Some, List, ◌++◌, length, map, take, Contains}
+use Rattle.std.specs.Prelude.{◌≡◌, ◌⊎◌, ◌↔◌, ℕ, ◌+◌, ◌<◌, true, false, Option, Some, None, List, [], ◌++◌, length, map, take, Contains}
 use Rattle.std.specs.List.{slice_get}
 use Rattle.proto_decl.specs.Names.{dotted}
 use Rattle.proto_decl.specs.Facts.{Facts}
 use Rattle.proto_decl.specs.declared.type_use.Component.{Component}
 use Rattle.proto_decl.specs.declared.declaration.Declaration.{Declaration}
+use Rattle.proto_link.specs.Files.{File}
 use Rattle.proto_link.specs.Items.{Item}
 
 -- the name of the first `count` components
@@ -43,3 +44,20 @@ pub record AreWithPackage (number : ℕ) (components : List Component) (old new 
   pub starts : starts_of new ≡ starts_of old ++ map (λ component. component.span.start) components
   pub of_file : AreOfFile number old → AreOfFile number new
   pub each : (item : Item) → Contains new item ↔ (Contains old item ⊎ IsPackaged number components (length components) item)
+
+-- the components of a file's package name; none of a file without facts
+abbrev pub package_name_in : Option Facts → List Component
+package_name_in None = []
+package_name_in (Some facts) = facts.package_name
+
+abbrev pub package_name_of : File → List Component
+package_name_of file = package_name_in file.facts
+
+-- for each file the fronts of its package's name
+pub record AreAllFronts (files : List File) (fronts : List (List (List ℕ))) : Type 0 where
+  pub one_each : length fronts ≡ length files
+  pub each : (number : ℕ) (file : File) (its : List (List ℕ)) → slice_get files number ≡ Some file → slice_get fronts number ≡ Some its → AreFronts (package_name_of file) its
+
+-- an item of a file with this number, which has facts
+abbrev pub IsItemIn : (number : ℕ) → File → Item → Type 0
+IsItemIn number file item = (facts : Facts) × (file.facts ≡ Some facts) × IsItemOf number facts item

@@ -17,3 +17,4 @@ pub mod StepTables
 pub mod Visits
 pub mod NameTables
 pub mod FileItems
+pub mod Linked

@@ -2,17 +2,22 @@
 #![tactic(auto)]
 
 mod absent;
+mod all_items;
 mod clash;
 mod counting;
+mod fault;
 mod file_row;
 mod items;
 mod laws;
 mod link_file;
+mod linker;
 mod place;
 mod search;
 mod seeing;
 mod steps;
 
+pub use fault::LinkFault;
 pub use laws::{one_broken_file, one_name_a_use};
 pub use link_file::LinkFile;
+pub use linker::Linker;
 pub use place::FilePlace;

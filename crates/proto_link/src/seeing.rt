@@ -1,22 +1,27 @@
 //! The files that each file sees, by a search along imports.
 
 ghost use Rattle.std.specs.Prelude.{ℕ, ◌≡◌, ◌<◌, ◌↔◌, OnOk, IfOk, Contains, length};
-ghost use Rattle.proto_link.specs.Files.{HaveOwnPaths, Imports};
+ghost use Rattle.proto_link.specs.Files.{Imports};
 ghost use Rattle.proto_link.specs.Sees.{SeesBy};
-ghost use Rattle.proto_link.specs.StepTables.{HasStep, AreWithin, AreRowsBy};
+ghost use Rattle.proto_link.specs.StepTables.{HasStep, AreWithin, AreRowsBy, AreNumbered};
 
 use crate::file_row::FileRow;
 use crate::link_file::LinkFile;
 use crate::search::Search;
 use crate::steps::{Steps, steps_of};
 use std::alloc::{AllocError, Global};
+use std::collections::HashMap;
 
 // For each file the row of the files that it sees.
-pub(crate) fn seen_files(alloc: Global, files: &[LinkFile]) -> Result<Vec<FileRow>, AllocError>
-    requires { HaveOwnPaths files.now }
+pub(crate) fn seen_files(
+    alloc: Global,
+    files: &[LinkFile],
+    numbers: &HashMap<&str, usize>,
+) -> Result<Vec<FileRow>, AllocError>
+    requires { AreNumbered files.now numbers.now }
     ensures { IfOk result (λ rows. AreRowsBy (Imports files.now) (length files.now) rows.items) }
 {
-    let table = steps_of(alloc, files)?;
+    let table = steps_of(alloc, files, numbers)?;
     let rows = seen_rows(alloc, table.as_slice())?;
     Ok(rows)
 }

@@ -19,20 +19,23 @@ pub(crate) struct Steps {
 }
 
 // For each file the numbers of those that it imports.
-pub(crate) fn steps_of(alloc: Global, files: &[LinkFile]) -> Result<Vec<Steps>, AllocError>
-    requires { HaveOwnPaths files.now }
+pub(crate) fn steps_of(
+    alloc: Global,
+    files: &[LinkFile],
+    numbers: &HashMap<&str, usize>,
+) -> Result<Vec<Steps>, AllocError>
+    requires { AreNumbered files.now numbers.now }
     ensures { IfOk result (λ table. IsTableOf files.now table.items) }
 {
-    let numbers = numbers_of(alloc, files)?;
     let mut table = Vec::with_capacity(alloc, files.len())?;
     for file in files {
-        table.push_reserved(steps_of_file(alloc, &numbers, file)?);
+        table.push_reserved(steps_of_file(alloc, numbers, file)?);
     }
     Ok(table)
 }
 
 // The numbers of the files by their paths.
-fn numbers_of<'a>(
+pub(crate) fn numbers_of<'a>(
     alloc: Global,
     files: &[LinkFile<'a>],
 ) -> Result<HashMap<&'a str, usize>, AllocError>

@@ -1,0 +1,93 @@
+//! Files that are linked.
+
+ghost use Rattle.std.specs.Prelude.{ℕ, ◌≡◌, ◌<◌, ◌↔◌, IsTrue, IfOk, IfErr, MatchOption, Contains, length};
+ghost use Rattle.proto_link.specs.Files.{HaveOwnPaths};
+ghost use Rattle.proto_link.specs.Sees.{Sees, Counts};
+ghost use Rattle.proto_link.specs.Clashes.{Clash, NoClash};
+ghost use Rattle.proto_link.specs.Linked.{CanBeLinked, MayRefuse};
+
+use crate::absent::first_absent;
+use crate::all_items::{all_fronts, all_items};
+use crate::clash::first_clash;
+use crate::counting::{counted_files, first_unread};
+use crate::fault::LinkFault;
+use crate::file_row::FileRow;
+use crate::link_file::LinkFile;
+use crate::place::FilePlace;
+use crate::seeing::seen_files;
+use crate::steps::numbers_of;
+use std::alloc::{AllocError, Global};
+use std::marker::Model;
+
+/// Files in which each import of a source is there, and no full name is declared twice.
+///
+/// Contracts see the list of the files.
+#[derive(Drop)]
+pub struct Linker<'a> {
+    files: &'a [LinkFile<'a>],
+    rows: Vec<FileRow>,
+}
+
+impl<'a> Model for Linker<'a> {
+    ghost use Rattle.std.specs.Prelude.{List};
+    ghost use Rattle.proto_link.specs.Files.{File};
+    ghost use Rattle.proto_link.specs.Linked.{IsLinked};
+
+    ghost Value = { List File };
+
+    ghost view = { λ linker. linker.files.now };
+
+    ghost invariant = { λ linker. IsLinked linker.files.now linker.rows.items };
+}
+
+impl<'a> Linker<'a> {
+    /// Links files, by their numbers in the list.
+    ///
+    /// An included file has an effect only where some source sees it.
+    pub fn new(alloc: Global, files: &'a [LinkFile<'a>]) -> Result<Linker<'a>, LinkFault>
+        requires { HaveOwnPaths files.now }
+        ensures linked { IfOk result (λ linker. linker ≡ files.now) }
+        ensures can_be { IfOk result (λ _. CanBeLinked files.now) }
+        ensures refused { IfErr result (MayRefuse files.now) }
+    {
+        let numbers = numbers_of(alloc, files)?;
+        let rows = seen_files(alloc, files, &numbers)?;
+        let counted = counted_files(alloc, files, rows.as_slice())?;
+        if let Some(number) = first_unread(files, &counted) {
+            return Err(LinkFault::Broken(number));
+        }
+        let clash = clash_among(alloc, files, &counted)?;
+        if let Some((first, second)) = clash {
+            return Err(LinkFault::Duplicate(first, second));
+        }
+        if let Some(place) = first_absent(files, &numbers, &counted) {
+            return Err(LinkFault::MissingImport(place));
+        }
+        Ok(Linker { files, rows })
+    }
+
+    /// Whether a file sees another: itself, what it imports, and what public imports lead to from
+    /// there. Takes no memory.
+    pub fn visible(&self, file: usize, other: usize) -> bool
+        requires file { file < length self.now }
+        requires other { other < length self.now }
+        ensures { IsTrue result ↔ Sees self.now file other }
+    {
+        self.rows[file].has(other)
+    }
+}
+
+// The first clash of names among the items of the files that count.
+fn clash_among(
+    alloc: Global,
+    files: &[LinkFile],
+    counted: &FileRow,
+) -> Result<Option<(FilePlace, FilePlace)>, AllocError>
+    requires { (number : ℕ) → Contains counted.now number ↔ Counts files.now number }
+    ensures { IfOk result (λ clash. MatchOption clash (NoClash files.now) (λ places. Clash files.now places.0 places.1)) }
+{
+    let fronts = all_fronts(alloc, files)?;
+    let items = all_items(alloc, files, fronts.as_slice(), counted)?;
+    let clash = first_clash(alloc, items.as_slice())?;
+    Ok(clash)
+}

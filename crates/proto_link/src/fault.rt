@@ -6,13 +6,15 @@ use std::alloc::AllocError;
 /// Why files can't be linked. Where several of the first three hold, the first of them is answered.
 #[derive(Clone, Copy, Debug, Drop, PartialEq, Eq)]
 pub enum LinkFault {
-    /// The least number of an included file that some source sees and that couldn't be read or
-    /// parsed.
+    /// The least number of a file without facts, of the sources and the included files that some
+    /// source sees.
     Broken(usize),
-    /// The places of the first two declarations, or of a declaration and a package, that have one
-    /// full name: of these pairs that with the least second place, and then the least first.
+    /// The places of two declarations, or of a declaration and a component of a package statement,
+    /// that give one full name, of the files as above: of these pairs that with the least second
+    /// place, and then the least first. Places are ordered by file number, then start.
     Duplicate(FilePlace, FilePlace),
-    /// The first import, by its literal's place, of a file that isn't there.
+    /// The first import, by its literal's place, of a path that no file has: any import of a source
+    /// counts, and the public ones of an included file that some source sees.
     MissingImport(FilePlace),
     /// Memory was refused.
     Memory,

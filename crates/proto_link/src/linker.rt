@@ -19,7 +19,8 @@ use crate::steps::numbers_of;
 use std::alloc::{AllocError, Global};
 use std::marker::Model;
 
-/// Files in which each import of a source is there, and no full name is declared twice.
+/// Files in which each import that has to be there is, and no full name is declared twice: all
+/// sources, and the included files that they see, are one namespace.
 ///
 /// Contracts see the list of the files.
 #[derive(Drop)]
@@ -41,9 +42,10 @@ impl<'a> Model for Linker<'a> {
 }
 
 impl<'a> Linker<'a> {
-    /// Links files, by their numbers in the list.
+    /// Links files, no two of which have one path, by their numbers in the list.
     ///
-    /// An included file has an effect only where some source sees it.
+    /// An included file has an effect only where some source sees it. A weak import counts as a
+    /// plain one.
     pub fn new(alloc: Global, files: &'a [LinkFile<'a>]) -> Result<Linker<'a>, LinkFault>
         requires { HaveOwnPaths files.now }
         ensures linked { IfOk result (λ linker. linker ≡ files.now) }

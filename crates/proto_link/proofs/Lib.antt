@@ -8,3 +8,5 @@ pub mod ClashLemmas
 pub mod ItemLemmas
 pub mod AllItemsLemmas
 pub mod LawLemmas
+pub mod GivenLemmas
+pub mod KnowingLemmas

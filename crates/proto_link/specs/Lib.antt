@@ -18,3 +18,4 @@ pub mod Visits
 pub mod NameTables
 pub mod FileItems
 pub mod Linked
+pub mod Given

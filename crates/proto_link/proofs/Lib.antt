@@ -10,3 +10,5 @@ pub mod AllItemsLemmas
 pub mod LawLemmas
 pub mod GivenLemmas
 pub mod KnowingLemmas
+pub mod LookupLemmas
+pub mod ResolveLemmas

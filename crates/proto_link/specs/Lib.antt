@@ -19,3 +19,4 @@ pub mod NameTables
 pub mod FileItems
 pub mod Linked
 pub mod Given
+pub mod Found

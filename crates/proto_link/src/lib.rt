@@ -12,6 +12,7 @@ mod items;
 mod laws;
 mod link_file;
 mod linker;
+mod lookup;
 mod place;
 mod search;
 mod seeing;

@@ -1,5 +1,5 @@
 -- From lookups to what a use names.
-use Rattle.std.proofs.Common.{◌≡◌, ℕ, ◌≤◌, Bool, true, false, List, [], ◌∷◌, length, map, get_or, Option, Some, None, MatchOption, refl, ap, sym, ◌∙◌, subst, arith}
+use Rattle.std.proofs.Common.{◌≡◌, ℕ, ◌≤◌, Bool, true, false, List, [], ◌∷◌, length, map, get_or, Option, Some, None, MatchOption, Result, Ok, Err, IfOk, refl, ap, sym, ◌∙◌, subst, arith}
 use Rattle.proto_decl.specs.Names.{qualified, dotted, scopes_of}
 use Rattle.proto_decl.specs.declared.type_use.Component.{Component}
 use Rattle.proto_decl.specs.declared.type_use.Use.{Use}
@@ -98,3 +98,29 @@ use_none files file type_use dot size = λ name r. no type_use.components size n
     no : (cs : List Component) → length cs ≡ 0 → (name : List ℕ) → ResolvesIn files file false (map (λ c. c.name) cs) (scopes_of type_use.scope) name → ⊥
     no [] e name r = elim r [ ]
     no (c ∷ cs) e name r = absurd (omega arith)
+
+-- ---- a use, by the texts of what is looked up
+
+pub ok_each : {A E : Type 0} (P Q : A → Type 0) (result : Result A E) → IfOk result P → ((x : A) → P x → Q x) → IfOk result Q
+ok_each P Q (Ok x) holds each = each x holds
+ok_each P Q (Err e) holds each = tt
+
+-- what a lookup of a word, or of more words, finds
+abbrev pub SingleFound : {S : Type 0} → List File → ℕ → (bytes : S → List ℕ) → (word scope : List ℕ) → Option S → Type 0
+SingleFound files file bytes word scope result = MatchOption result ((start : List ℕ) → Innermost files file is_type word (scopes_of scope) start → ⊥) (λ name. IsSingle files file word (scopes_of scope) (bytes name))
+
+abbrev pub CompoundFound : {S : Type 0} → List File → ℕ → (bytes : S → List ℕ) → (first words scope : List ℕ) → Option S → Type 0
+CompoundFound files file bytes first words scope result = MatchOption result ((name : List ℕ) → IsCompound files file first words (scopes_of scope) name → ⊥) (λ name. IsCompound files file first words (scopes_of scope) (bytes name))
+
+module _ {S : Type 0} (files : List File) (file : ℕ) (type_use : Use) (bytes : S → List ℕ) (components : List Component) (scope : List ℕ) (are : components ≡ type_use.components) (scope_is : scope ≡ type_use.scope) (plain : type_use.has_leading_dot ≡ false) where
+  pub single_of_use : (word : Component) (text : List ℕ) (result : Option S) → length components ≡ 1 → word ≡ get_or components 0 word → text ≡ word.name → SingleFound files file bytes text scope result → AnswersUse files file type_use bytes result
+  single_of_use word text result size is text_is found =
+      use_single files file type_use bytes result word plain (subst (λ (cs : List Component). length cs ≡ 1) are size) (subst (λ (cs : List Component). word ≡ get_or cs 0 word) are is)
+      (subst (λ t. SingleFound files file bytes t type_use.scope result) text_is (subst (λ s. SingleFound files file bytes text s result) scope_is found))
+
+  pub compound_of_use : (first : Component) (text words : List ℕ) (result : Option S) → 2 ≤ length components → first ≡ get_or components 0 first → text ≡ first.name → words ≡ dotted (map (λ c. c.name) components)
+      → CompoundFound files file bytes text words scope result → AnswersUse files file type_use bytes result
+  compound_of_use first text words result size is text_is words_are found =
+      use_compound files file type_use bytes result first words plain (subst (λ (cs : List Component). 2 ≤ length cs) are size) (subst (λ (cs : List Component). first ≡ get_or cs 0 first) are is)
+      (words_are ∙ ap (λ (cs : List Component). dotted (map (λ c. c.name) cs)) are)
+      (subst (λ t. CompoundFound files file bytes t words type_use.scope result) text_is (subst (λ s. CompoundFound files file bytes text words s result) scope_is found))

@@ -4,13 +4,14 @@ ghost use Rattle.std.specs.Prelude.{List, ℕ, ◌≡◌, ◌<◌, ◌↔◌, Is
 ghost use Rattle.std.specs.String.{string_bytes};
 ghost use Rattle.proto_decl.specs.Names.{qualified, dotted, scopes_of};
 ghost use Rattle.proto_link.specs.Knows.{KnowsAs, is_type};
-ghost use Rattle.proto_link.specs.Resolves.{Innermost};
+ghost use Rattle.proto_link.specs.Resolves.{Innermost, Resolves};
+ghost use Rattle.proto_link.specs.Targets.{IsUnresolved};
 ghost use Rattle.proto_link.specs.Given.{admits};
 ghost use Rattle.proto_link.specs.Found.{IsSingle, IsCompound};
 
 use crate::given::Role;
 use crate::linker::Linker;
-use proto_decl::{Component, scope_around};
+use proto_decl::{Component, Use, scope_around};
 use std::alloc::{AllocError, Global};
 
 // Writes the full name of a name in a scope over a text.
@@ -51,6 +52,31 @@ fn joined_behind(
 }
 
 impl Linker<'_> {
+    // The full name of the type that a use of a file names.
+    pub(crate) fn name_of(
+        &self,
+        alloc: Global,
+        file: usize,
+        type_use: &Use,
+    ) -> Result<Option<String>, AllocError>
+        requires { file < length self.now }
+        ensures { IfOk result (λ found. MatchOption found (IsUnresolved self.now file type_use.now) (λ name. Resolves self.now file type_use.now (string_bytes name))) }
+    {
+        let components = type_use.components.as_slice();
+        let words = joined(alloc, components)?;
+        if type_use.has_leading_dot {
+            return Ok(self.if_type(file, words));
+        }
+        let scope = type_use.scope.as_str();
+        match components {
+            [] => Ok(None),
+            [word] => self.single(alloc, file, scope, word.name.as_str()),
+            [first, _, ..] => {
+                self.compound(alloc, file, scope, first.name.as_str(), words.as_str())
+            }
+        }
+    }
+
     // The first of the scopes from this one on in which a file knows a word in this role. The text
     // is overwritten.
     fn innermost<'s>(

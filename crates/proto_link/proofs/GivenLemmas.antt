@@ -114,12 +114,12 @@ empty_if (b ∷ text) r e = (λ t. absurd (omega (arith, eqb-true (length (b ∷
 
 -- ---- declarations
 
-position-none : {X : Type 0} (p : X → Bool) (xs : List X) → position p xs ≡ None → (k : ℕ) (d : X) → k < length xs → p (get_or xs k d) ≡ false
+pub position-none : {X : Type 0} (p : X → Bool) (xs : List X) → position p xs ≡ None → (k : ℕ) (d : X) → k < length xs → p (get_or xs k d) ≡ false
 position-none p xs e k d within =
     let far : length xs ≤ position_or_len p xs = grind (arith, nat_tests) in
     fails_before_first p xs k d (omega arith)
 
-found_at : {X : Type 0} (p : X → Bool) (xs : List X) (i : ℕ) → position p xs ≡ Some i → (x : X) × (slice_get xs i ≡ Some x) × (p x ≡ true)
+pub found_at : {X : Type 0} (p : X → Bool) (xs : List X) (i : ℕ) → position p xs ≡ Some i → (x : X) × (slice_get xs i ≡ Some x) × (p x ≡ true)
 found_at p xs i e = elim (slice_get_cases xs i).1 [
   | inl at ↦ (at.0, at.2, subst (λ y. p y ≡ true) at.3 (position-Some p xs i at.0 e).1)
   | inr past ↦ absurd (by xs e past.0)

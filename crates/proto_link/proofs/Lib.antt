@@ -12,3 +12,4 @@ pub mod GivenLemmas
 pub mod KnowingLemmas
 pub mod LookupLemmas
 pub mod ResolveLemmas
+pub mod PartLemmas

@@ -20,3 +20,4 @@ pub mod FileItems
 pub mod Linked
 pub mod Given
 pub mod Found
+pub mod Parts

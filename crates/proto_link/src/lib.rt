@@ -13,6 +13,7 @@ mod laws;
 mod link_file;
 mod linker;
 mod lookup;
+mod parts;
 mod place;
 mod search;
 mod seeing;

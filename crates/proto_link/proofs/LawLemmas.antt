@@ -9,7 +9,7 @@ use Rattle.proto_link.specs.Resolves.Innermost.{here, farther}
 use Rattle.proto_link.specs.Resolves.ResolvesIn.{absolute, single, compound}
 use Rattle.proto_link.specs.Laws.{OneNameAUse, OneBrokenFile}
 
-one_scope : {files : List File} {file : ℕ} {admits : NameKind → Bool} {word : List ℕ} {scopes : List (List ℕ)} {a b : List ℕ}
+pub one_scope : {files : List File} {file : ℕ} {admits : NameKind → Bool} {word : List ℕ} {scopes : List (List ℕ)} {a b : List ℕ}
     → Innermost files file admits word scopes a → Innermost files file admits word scopes b → a ≡ b
 one_scope (here k) (here l) = refl
 one_scope (here k) (farther absent m) = absurd (absent k)

@@ -8,3 +8,8 @@ pub mod ClashLemmas
 pub mod ItemLemmas
 pub mod AllItemsLemmas
 pub mod LawLemmas
+pub mod GivenLemmas
+pub mod KnowingLemmas
+pub mod LookupLemmas
+pub mod ResolveLemmas
+pub mod PartLemmas

@@ -18,3 +18,6 @@ pub mod Visits
 pub mod NameTables
 pub mod FileItems
 pub mod Linked
+pub mod Given
+pub mod Found
+pub mod Parts

@@ -1,34 +1,18 @@
 -- What each component of a use names.
-use Rattle.std.specs.Prelude.{◌≡◌, ◌==◌, ℕ, ◌+◌, ◌-◌, Some, List, length, take}
-use Rattle.std.specs.List.{slice_get, slice_split}
-use Rattle.proto_decl.specs.Names.{dotted}
+use Rattle.std.specs.Prelude.{◌≡◌, ℕ, ◌+◌, ◌-◌, Some, List, length}
+use Rattle.std.specs.List.{slice_get}
+use Rattle.proto_decl.specs.Names.{components_of, front_of}
 use Rattle.proto_decl.specs.Facts.{Facts}
 use Rattle.proto_decl.specs.declared.type_use.Use.{Use}
 use Rattle.proto_decl.specs.declared.declaration.Declaration.{Declaration}
+use Rattle.proto_link.specs.declared.target.Entity.{Entity}
+use Rattle.proto_link.specs.declared.target.Entity.TheVariants.{Package, Declared}
+use Rattle.proto_link.specs.declared.target.Target.{Target}
 use Rattle.proto_link.specs.Files.{File, HasFacts}
 use Rattle.proto_link.specs.Sees.{Sees}
 use Rattle.proto_link.specs.Knows.{Knows}
 use Rattle.proto_link.specs.Knows.NameKind.{OfPackage}
 use Rattle.proto_link.specs.Resolves.{Resolves}
-
--- What a component names: the package of the full name's first `count` components, or a declaration, by its file's number and its
--- own in that file.
-pub data Entity : Type 0 where
-  Package : (count : ℕ) → Entity
-  Declared : (file declaration : ℕ) → Entity
-
--- What a use names: a full name, and what each of the use's components names.
-pub record Target : Type 0 where
-  pub name : List ℕ
-  pub parts : List Entity
-
--- the components of a full name
-abbrev pub components_of : List ℕ → List (List ℕ)
-components_of name = slice_split (λ byte. byte == 46) name
-
--- a full name's first components
-abbrev pub front_of : List ℕ → (count : ℕ) → List ℕ
-front_of name count = dotted (take count (components_of name))
 
 -- The entity that the file knows by a full name's first components.
 pub data IsNamed (files : List File) (file : ℕ) (name : List ℕ) (count : ℕ) : Entity → Type 0 where

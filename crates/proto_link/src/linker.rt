@@ -5,6 +5,8 @@ ghost use Rattle.proto_link.specs.Files.{HaveOwnPaths};
 ghost use Rattle.proto_link.specs.Sees.{Sees, Counts};
 ghost use Rattle.proto_link.specs.Clashes.{Clash, NoClash};
 ghost use Rattle.proto_link.specs.Linked.{CanBeLinked, MayRefuse};
+ghost use Rattle.proto_link.specs.Knows.{KnowsAs};
+ghost use Rattle.proto_link.specs.Given.{admits, SeesGiving};
 
 use crate::absent::first_absent;
 use crate::all_items::{all_fronts, all_items};
@@ -12,6 +14,7 @@ use crate::clash::first_clash;
 use crate::counting::{counted_files, first_unread};
 use crate::fault::LinkFault;
 use crate::file_row::FileRow;
+use crate::given::{Role, first_giving};
 use crate::link_file::LinkFile;
 use crate::place::FilePlace;
 use crate::seeing::seen_files;
@@ -76,6 +79,22 @@ impl<'a> Linker<'a> {
         ensures { IsTrue result ↔ Sees self.now file other }
     {
         self.rows[file].has(other)
+    }
+
+    // The first file that a file sees and that gives a name in a role.
+    pub(crate) fn first_giving(&self, file: usize, name: &str, role: Role) -> Option<usize>
+        requires { file < length self.now }
+        ensures { MatchOption result (KnowsAs self.now file (admits role) name.now → ⊥) (SeesGiving self.now file (admits role) name.now) }
+    {
+        first_giving(self.files, self.rows[file].as_slice(), name, role)
+    }
+
+    // Whether a file knows a name in a role.
+    pub(crate) fn knows(&self, file: usize, name: &str, role: Role) -> bool
+        requires { file < length self.now }
+        ensures { IsTrue result ↔ KnowsAs self.now file (admits role) name.now }
+    {
+        self.first_giving(file, name, role).is_some()
     }
 }
 

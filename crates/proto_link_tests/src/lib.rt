@@ -16,6 +16,8 @@ mod included;
 #[cfg(test)]
 mod items;
 #[cfg(test)]
+mod paths;
+#[cfg(test)]
 mod scans;
 #[cfg(test)]
 mod trees;

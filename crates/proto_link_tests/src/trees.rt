@@ -104,7 +104,8 @@ fn files_of<'a>(
     Ok(files)
 }
 
-fn own_paths(alloc: Global, files: &[LinkFile]) -> Result<bool, AllocError>
+/// Whether no two files have one path.
+pub(crate) fn own_paths(alloc: Global, files: &[LinkFile]) -> Result<bool, AllocError>
     ensures { IfOk result (λ own. IsTrue own ↔ HaveOwnPaths files.now) }
 {
     match have_own_paths(alloc, files) {

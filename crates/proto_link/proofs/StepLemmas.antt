@@ -1,5 +1,5 @@
 -- Steps by the numbers of paths are imports.
-use Rattle.std.proofs.Common.{◌≡◌, ◌↔◌, ◌⊎◌, inl, inr, ℕ, ◌+◌, ◌<◌, ◌≤◌, Bool, true, false, zero, suc, List, [], ◌∷◌, ◌++◌, length, get_or, take, Option, Some, None, refl, ap, sym, ◌∙◌, subst, cond, arith}
+use Rattle.std.proofs.Common.{◌≡◌, ◌↔◌, ◌⊎◌, inl, inr, ℕ, ◌+◌, ◌<◌, ◌≤◌, Bool, true, false, zero, suc, List, [], ◌∷◌, ◌++◌, length, get_or, take, is_some, Option, Some, None, refl, ap, sym, ◌∙◌, subst, cond, arith}
 use Rattle.std.specs.List.{Contains, slice_get, filter_map}
 use Rattle.std.specs.Str.{bytes_eq}
 use Rattle.std.specs.HashMap.{HashMap}
@@ -176,7 +176,7 @@ abbrev pub AreNumberedUpTo : {S : Type 0} → List File → HashMap (Bor (List �
 AreNumberedUpTo files numbers count = (path : List ℕ) (number : ℕ) → (number_in numbers path ≡ Some number) ↔ (HasPathAt files path number × (number < count))
 
 pub numbered_more : {S : Type 0} (files : List File) (old new : HashMap (Bor (List ℕ)) ℕ S) (count : ℕ) (file : File)
-    → HaveOwnPaths files → slice_get files count ≡ Some file
+    → ((k : ℕ) (x : File) → k < count + 1 → slice_get files k ≡ Some x → x.path ≡ file.path → k ≡ count) → slice_get files count ≡ Some file
     → ((path : List ℕ) → number_in new path ≡ cond (bytes_eq file.path path) (Some count) (number_in old path))
     → AreNumberedUpTo files old count → AreNumberedUpTo files new (count + 1)
 numbered_more files old new count file own stands after so_far path number = elim (cases_Bool (bytes_eq file.path path)) [
@@ -184,7 +184,7 @@ numbered_more files old new count file own stands after so_far path number = eli
       let equal : file.path ≡ path = (bytes_eq-Decides file.path path).0 same in
       let now : number_in new path ≡ Some count = after path ∙ cond-true (bytes_eq file.path path) (Some count) (number_in old path) same in (
         λ found. (let is : count ≡ number = one_Some count number (sym now ∙ found) in (subst (HasPathAt files path) is (file, stands, equal), omega arith)),
-        λ there. (let is : count ≡ number = own count number file there.0.0 stands there.0.1 (equal ∙ sym there.0.2) in now ∙ ap Some is),
+        λ there. (let is : count ≡ number = sym (own number there.0.0 there.1 there.0.1 (there.0.2 ∙ sym equal)) in now ∙ ap Some is),
       ))
   | inr apart ↦ (
       let now : number_in new path ≡ number_in old path = after path ∙ cond-false (bytes_eq file.path path) (Some count) (number_in old path) apart in (
@@ -221,3 +221,51 @@ steps_more number files table count file steps size stands here each k one its h
       let its_is : its ≡ steps = one_Some its steps (sym there ∙ last) in
       subst (λ f. AreStepsOf number f its) (sym same) (subst (AreStepsOf number file) (sym its_is) here))
 ]
+
+-- ---- whether paths are apart
+
+-- no two of the first so many files have one path
+abbrev pub OwnUpTo : List File → (count : ℕ) → Type 0
+OwnUpTo files count = (i j : ℕ) (a b : File) → i < count → j < count → slice_get files i ≡ Some a → slice_get files j ≡ Some b → a.path ≡ b.path → i ≡ j
+
+pub own_all : (files : List File) (count : ℕ) → length files ≤ count → OwnUpTo files count → HaveOwnPaths files
+own_all files count all own i j a b at there same =
+    let i_within = slice_get_within files i a at in
+    let j_within = slice_get_within files j b there in
+    own i j a b (omega arith) (omega arith) at there same
+
+-- the path at hand has no number yet
+pub own_more : {S : Type 0} (files : List File) (old : HashMap (Bor (List ℕ)) ℕ S) (count : ℕ) (file : File) → slice_get files count ≡ Some file → number_in old file.path ≡ None
+    → AreNumberedUpTo files old count → OwnUpTo files count → OwnUpTo files (count + 1)
+own_more files old count file stands new numbered own i j a b i_in j_in at there same = elim (cases_lt i count) [
+  | inl i_front ↦ elim (cases_lt j count) [
+    | inl j_front ↦ own i j a b i_front j_front at there same
+    | inr j_last ↦ absurd (never i a i_front at (same ∙ path_of j b (omega arith) there))
+  ]
+  | inr i_last ↦ elim (cases_lt j count) [
+    | inl j_front ↦ absurd (never j b j_front there (sym same ∙ path_of i a (omega arith) at))
+    | inr j_last ↦ omega arith
+  ]
+]
+  where
+    path_of : (k : ℕ) (x : File) → k ≡ count → slice_get files k ≡ Some x → x.path ≡ file.path
+    path_of k x is here = ap (λ (f : File). f.path) (one_Some x file (sym here ∙ (ap (slice_get files) is ∙ stands)))
+
+    never : (k : ℕ) (x : File) → k < count → slice_get files k ≡ Some x → x.path ≡ file.path → ⊥
+    never k x before here path =
+        let some : number_in old file.path ≡ Some k = (numbered file.path k).1 ((x, here, path), before) in
+        let wrong : None ≡ Some k = sym new ∙ some in
+        absurd (cc)
+
+-- the path at hand has a number, of a file before it
+pub not_own : {S : Type 0} (files : List File) (old : HashMap (Bor (List ℕ)) ℕ S) (count : ℕ) (file : File) (first : Option ℕ) → slice_get files count ≡ Some file → first ≡ number_in old file.path → is_some first ≡ true
+    → AreNumberedUpTo files old count → HaveOwnPaths files → ⊥
+not_own files old count file None stands is some numbered own = false≢true some
+not_own files old count file (Some k) stands is some numbered own =
+    let there = (numbered file.path k).0 (sym is) in
+    let same : k ≡ count = own k count there.0.0 file there.0.1 stands there.0.2 in
+    omega (arith, there.1)
+
+pub no_number : (o other : Option ℕ) → o ≡ other → is_some o ≡ false → other ≡ None
+no_number None other is none = sym is
+no_number (Some k) other is none = absurd (false≢true (sym none))

@@ -49,7 +49,7 @@ pub(crate) fn first_clash(
 }
 
 // The index of the first item with a name, where there is one; else this index is kept as its.
-fn first_named<'a>(
+pub(crate) fn first_named<'a>(
     names: &mut HashMap<&'a str, usize>,
     name: &'a str,
     index: usize,

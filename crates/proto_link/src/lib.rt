@@ -25,4 +25,5 @@ pub use laws::{one_broken_file, one_name_a_use};
 pub use link_file::LinkFile;
 pub use linker::Linker;
 pub use place::FilePlace;
+pub use steps::have_own_paths;
 pub use target::{Entity, Target};

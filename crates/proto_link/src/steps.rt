@@ -1,10 +1,11 @@
 //! Tables of what files import, by their numbers.
 
-ghost use Rattle.std.specs.Prelude.{◌≡◌, ℕ, ◌↔◌, [], ◌∷◌, ◌++◌, true, false, IfOk, OnOk, if◌then◌else◌};
+ghost use Rattle.std.specs.Prelude.{◌≡◌, ℕ, ◌↔◌, [], ◌∷◌, ◌++◌, true, false, IfOk, OnOk, IsTrue, if◌then◌else◌};
 ghost use Rattle.std.specs.List.{filter_map};
 ghost use Rattle.proto_link.specs.Files.{HaveOwnPaths, is_public};
 ghost use Rattle.proto_link.specs.StepTables.{IsTableOf, AreNumbered, imports_of, number_in, target};
 
+use crate::clash::first_named;
 use crate::link_file::LinkFile;
 use proto_decl::Imported;
 use proto_parse::ImportKind;
@@ -32,6 +33,22 @@ pub(crate) fn steps_of(
         table.push_reserved(steps_of_file(alloc, numbers, file)?);
     }
     Ok(table)
+}
+
+/// Whether no two of the files have one path, as `Linker::new` needs it. `Err` where memory was
+/// refused.
+pub fn have_own_paths(alloc: Global, files: &[LinkFile]) -> Result<bool, AllocError>
+    ensures { IfOk result (λ own. IsTrue own ↔ HaveOwnPaths files.now) }
+{
+    let mut numbers = HashMap::new(alloc);
+    for (number, file) in files.iter().enumerate() {
+        let path = file.path;
+        let first = first_named(&mut numbers, path, number)?;
+        if first.is_some() {
+            return Ok(false);
+        }
+    }
+    Ok(true)
 }
 
 // The numbers of the files by their paths.

@@ -1,0 +1,23 @@
+//! Tests of `proto_link`, by its public calls.
+#![tactic(auto)]
+
+#[cfg(test)]
+mod calls;
+#[cfg(test)]
+mod chain;
+#[cfg(test)]
+mod clashes;
+#[cfg(test)]
+mod generated;
+#[cfg(test)]
+mod imports;
+#[cfg(test)]
+mod included;
+#[cfg(test)]
+mod items;
+#[cfg(test)]
+mod paths;
+#[cfg(test)]
+mod scans;
+#[cfg(test)]
+mod trees;

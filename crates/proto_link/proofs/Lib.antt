@@ -13,3 +13,5 @@ pub mod KnowingLemmas
 pub mod LookupLemmas
 pub mod ResolveLemmas
 pub mod PartLemmas
+pub mod NameLemmas
+pub mod ListedLemmas

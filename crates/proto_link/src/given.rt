@@ -15,7 +15,7 @@ pub(crate) enum Role {
 }
 
 impl Role {
-    fn admits(self, kind: DeclarationKind) -> bool
+    pub(crate) fn admits(self, kind: DeclarationKind) -> bool
         ensures { result ≡ admits self (OfDeclaration kind) }
     {
         match kind {
@@ -28,7 +28,7 @@ impl Role {
         }
     }
 
-    fn admits_packages(self) -> bool
+    pub(crate) fn admits_packages(self) -> bool
         ensures { result ≡ admits self OfPackage }
     {
         match self {

@@ -13,3 +13,6 @@ pub mod KnowingLemmas
 pub mod LookupLemmas
 pub mod ResolveLemmas
 pub mod PartLemmas
+pub mod TargetLemmas
+pub mod OneItemLemmas
+pub mod OneTargetLemmas

@@ -1,7 +1,7 @@
 -- Which files can be linked, and why others can't.
 use Rattle.std.specs.Prelude.{ℕ, ⊤, List, length}
 use Rattle.proto_link.specs.declared.fault.LinkFault.{LinkFault}
-use Rattle.proto_link.specs.declared.fault.LinkFault.TheVariants.{Broken, Duplicate, MissingImport, Memory}
+use Rattle.proto_link.specs.declared.fault.LinkFault.TheVariants.{Broken, Duplicate, MissingImport, Unresolved, Memory}
 use Rattle.proto_link.specs.Files.{File, Imports}
 use Rattle.proto_link.specs.Clashes.{Clash, NoClash}
 use Rattle.proto_link.specs.Absences as absences
@@ -13,11 +13,12 @@ pub record CanBeLinked (files : List File) : Type 0 where
   pub clear : NoClash files
   pub complete : absences.NoAbsent files
 
--- each fault comes where it holds and none of those before it does; of memory nothing is said
+-- each fault comes where it holds and none of those before it does; of memory nothing is said; that a use names no type is none of them
 abbrev pub MayRefuse : List File → LinkFault → Type 0
 MayRefuse files (Broken number) = absences.Broken files number
 MayRefuse files (Duplicate first second) = absences.NoneBroken files × Clash files first second
 MayRefuse files (MissingImport place) = absences.NoneBroken files × NoClash files × absences.Absent files place
+MayRefuse files (Unresolved place) = ⊥
 MayRefuse files Memory = ⊤
 
 -- what a linker keeps of its files

@@ -1,7 +1,8 @@
 //! Files that are linked.
 
 ghost use Rattle.std.specs.Prelude.{ℕ, ◌≡◌, ◌<◌, ◌↔◌, IsTrue, IfOk, IfErr, MatchOption, Contains, length};
-ghost use Rattle.proto_link.specs.Files.{HaveOwnPaths};
+ghost use Rattle.proto_decl.specs.Facts.{Facts};
+ghost use Rattle.proto_link.specs.Files.{HaveOwnPaths, HasFacts};
 ghost use Rattle.proto_link.specs.Sees.{Sees, Counts};
 ghost use Rattle.proto_link.specs.Clashes.{Clash, NoClash};
 ghost use Rattle.proto_link.specs.Linked.{CanBeLinked, MayRefuse};
@@ -19,6 +20,7 @@ use crate::link_file::LinkFile;
 use crate::place::FilePlace;
 use crate::seeing::seen_files;
 use crate::steps::numbers_of;
+use proto_decl::FileFacts;
 use std::alloc::{AllocError, Global};
 use std::marker::Model;
 
@@ -87,6 +89,16 @@ impl<'a> Linker<'a> {
         ensures { MatchOption result (KnowsAs self.now file (admits role) name.now → ⊥) (SeesGiving self.now file (admits role) name.now) }
     {
         first_giving(self.files, self.rows[file].as_slice(), name, role)
+    }
+
+    // The facts of a file, where it has some.
+    pub(crate) fn facts_of(&self, number: usize) -> Option<&FileFacts>
+        requires { number < length self.now }
+        ensures { MatchOption result ((facts : Facts) → HasFacts self.now number facts → ⊥) (λ facts. HasFacts self.now number facts.now) }
+    {
+        let files = self.files;
+        let file = &files[number];
+        file.facts
     }
 
     // Whether a file knows a name in a role.

@@ -16,3 +16,4 @@ pub mod PartLemmas
 pub mod TargetLemmas
 pub mod OneItemLemmas
 pub mod OneTargetLemmas
+pub mod OriginLemmas

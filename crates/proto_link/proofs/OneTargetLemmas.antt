@@ -15,7 +15,7 @@ use Rattle.proto_link.specs.declared.fault.LinkFault.TheVariants as fault
 use Rattle.proto_link.specs.declared.target.Entity.{Entity}
 use Rattle.proto_link.specs.declared.target.Entity.TheVariants.{Declared}
 use Rattle.proto_link.specs.declared.target.Target.{Target}
-use Rattle.proto_link.specs.Files.{File, HasFacts, IsSource}
+use Rattle.proto_link.specs.Files.{File, HasFacts, HaveOrigins, IsSource}
 use Rattle.proto_link.specs.Sees.{Sees, Counts}
 use Rattle.proto_link.specs.Sees.Counts.{seen as counts_seen}
 use Rattle.proto_link.specs.Items.{Before, Item, IsItem}
@@ -28,7 +28,7 @@ use Rattle.proto_link.specs.Knows.Knows.{declared as known_declared, packaged as
 use Rattle.proto_link.specs.Targets.{IsNamed, IsTarget}
 use Rattle.proto_link.specs.Targets.IsNamed.{packaged, declared}
 use Rattle.proto_link.specs.Linked.{MayRefuse}
-use Rattle.proto_link.specs.Laws.{HaveOrigins, IsDeclaredAt, HasPackage}
+use Rattle.proto_link.specs.Laws.{IsDeclaredAt, HasPackage}
 use Rattle.proto_link.proofs.LawLemmas.{one_name_a_use, one_broken_file}
 use Rattle.proto_link.proofs.TargetLemmas.{one_list_of_facts}
 use Rattle.proto_link.proofs.OneItemLemmas.{contains_map, one_start, neither, one_FilePlace, one_place, one_declaration, package_not_declared}

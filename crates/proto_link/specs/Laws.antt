@@ -1,7 +1,7 @@
 -- Laws about linking.
 use Rattle.std.specs.Prelude.{◌≡◌, ◌≢◌, ◌<◌, ◌≤◌, ℕ, Some, List, length}
 use Rattle.std.specs.List.{slice_get}
-use Rattle.proto_decl.specs.Facts.{Facts, AreOfSomeFile}
+use Rattle.proto_decl.specs.Facts.{Facts}
 use Rattle.proto_decl.specs.declared.declaration.Declaration.{Declaration}
 use Rattle.proto_decl.specs.declared.type_use.Use.{Use}
 use Rattle.proto_link.specs.declared.place.FilePlace.{FilePlace}
@@ -9,7 +9,7 @@ use Rattle.proto_link.specs.declared.fault.LinkFault.{LinkFault}
 use Rattle.proto_link.specs.declared.fault.LinkFault.TheVariants.{Memory}
 use Rattle.proto_link.specs.declared.target.Entity.{Entity}
 use Rattle.proto_link.specs.declared.target.Target.{Target}
-use Rattle.proto_link.specs.Files.{File, HasFacts, IsSource}
+use Rattle.proto_link.specs.Files.{File, HasFacts, HaveOrigins, IsSource}
 use Rattle.proto_link.specs.Sees.{Counts}
 use Rattle.proto_link.specs.Items.{package_of}
 use Rattle.proto_link.specs.Clashes.{Clash, NoClash}
@@ -25,10 +25,6 @@ OneNameAUse = (files : List File) (file : ℕ) (type_use : Use) (name other : Li
 -- there is one least file that counts and has no facts
 abbrev pub OneBrokenFile : Type 0
 OneBrokenFile = (files : List File) (number other : ℕ) → Broken files number → Broken files other → number ≡ other
-
--- the facts of each file are those of some text
-abbrev pub HaveOrigins : List File → Type 0
-HaveOrigins files = (number : ℕ) (facts : Facts) → HasFacts files number facts → AreOfSomeFile facts
 
 -- a file that counts declares it, by its index there
 pub record IsDeclaredAt (files : List File) (number index : ℕ) (declaration : Declaration) : Type 0 where

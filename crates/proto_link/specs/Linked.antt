@@ -2,7 +2,7 @@
 use Rattle.std.specs.Prelude.{ℕ, ⊤, List, length}
 use Rattle.proto_link.specs.declared.fault.LinkFault.{LinkFault}
 use Rattle.proto_link.specs.declared.fault.LinkFault.TheVariants.{Broken, Duplicate, MissingImport, Unresolved, Memory}
-use Rattle.proto_link.specs.Files.{File, Imports}
+use Rattle.proto_link.specs.Files.{File, Imports, HaveOrigins}
 use Rattle.proto_link.specs.Clashes.{Clash, NoClash}
 use Rattle.proto_link.specs.Absences as absences
 use Rattle.proto_link.specs.StepTables.{AreRowsBy}
@@ -24,4 +24,5 @@ MayRefuse files Memory = ⊤
 -- what a linker keeps of its files
 pub record IsLinked (files : List File) (rows : List (List ℕ)) : Type 0 where
   pub can_be : CanBeLinked files
+  pub origins : HaveOrigins files
   pub rows_are : AreRowsBy (Imports files) (length files) rows

@@ -13,6 +13,7 @@ mod laws;
 mod link_file;
 mod linker;
 mod lookup;
+mod origins;
 mod parts;
 mod place;
 mod resolve;

@@ -15,3 +15,7 @@ pub mod ResolveLemmas
 pub mod PartLemmas
 pub mod NameLemmas
 pub mod ListedLemmas
+pub mod TargetLemmas
+pub mod OneItemLemmas
+pub mod OneTargetLemmas
+pub mod OriginLemmas

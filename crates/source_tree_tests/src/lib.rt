@@ -1,0 +1,13 @@
+//! Tests of `source_tree`, by its public calls.
+#![tactic(auto)]
+
+#[cfg(test)]
+mod calls;
+#[cfg(test)]
+mod limits;
+#[cfg(test)]
+mod refusals;
+#[cfg(test)]
+mod symbols;
+#[cfg(test)]
+mod trees;

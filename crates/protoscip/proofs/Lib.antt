@@ -1,5 +1,3 @@
--- The command line
-pub mod CommandLineLemmas
 -- A source's bytes, its tree, and what it declares
 pub mod SourceLemmas
 pub mod SyntaxLemmas

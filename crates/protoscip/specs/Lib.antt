@@ -1,5 +1,3 @@
--- The command line
-pub mod CommandLine
 -- A source's bytes, its tree, and what it declares
 pub mod Source
 pub mod Syntax

@@ -3,7 +3,6 @@
 #![tactic(auto)]
 
 // The program.
-pub mod command;
 pub mod run;
 
 // A dump: a source is read, indexed, spelled, read back and listed.

@@ -2,7 +2,7 @@
 
 ghost use Rattle.std.specs.Prelude.{◌≡◌, ◌⊎◌, ◌++◌, ℕ, List, Some, Result, Err, IfSome, IfOk, IfErr, codes};
 ghost use Rattle.std.specs.Io.KnownBytes.{Appends};
-ghost use Rattle.protoscip.specs.CommandLine.{IsDump, index_path, printed_text, refused_text};
+ghost use Rattle.command_line.specs.Requests.{IsDump, index_path, printed_text, refused_text};
 ghost use Rattle.protoscip.specs.Dump.{Dumps, LeavesReader, LeavesWriter, source_path};
 ghost use Rattle.protoscip.specs.Output.{Writes};
 ghost use Rattle.protoscip.specs.Query.{Queried};
@@ -11,12 +11,12 @@ ghost use Rattle.protoscip.specs.Faults.{status_of};
 ghost use Rattle.protoscip.specs.Messages.{Heard, Said, Tells};
 ghost use Rattle.protoscip.specs.declared.fault.Fault.TheVariants.{Memory};
 
-use crate::command::Request;
 use crate::dump::{SOURCE_PATH, dump};
 use crate::fault::Fault;
 use crate::files::ReadFile;
 use crate::output::write_text;
 use crate::query::query;
+use command_line::Request;
 use scip_model::{Feed, Sink, write_all};
 use std::alloc::{AllocError, Global};
 

@@ -1,7 +1,7 @@
 //! The program `protoscip`: a parallel indexer of proto3 trees that writes SCIP.
 #![tactic(auto)]
 
-use protoscip::command::request_of_process;
+use command_line::request_of_process;
 use protoscip::files::SystemFiles;
 use protoscip::run::run;
 use scip_model::Std;

@@ -2,8 +2,6 @@
 #![tactic(auto)]
 
 #[cfg(test)]
-mod command;
-#[cfg(test)]
 mod dump;
 #[cfg(test)]
 mod fault;

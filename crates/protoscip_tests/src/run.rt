@@ -5,7 +5,7 @@
 
 use crate::see::see;
 use crate::streams::TwoFiles;
-use protoscip::command::Request;
+use command_line::Request;
 use protoscip::fault::Fault;
 use protoscip::run::run;
 use scip_model::Std;

@@ -10,9 +10,11 @@ use Rattle.clap.specs.declared.parser.matches.ArgMatches.TheViews.{out-SubComman
 use Rattle.clap.specs.declared.error.Error.{Error}
 use Rattle.clap.specs.declared.error.kind.ErrorKind.TheVariants as kind
 use Rattle.clap.proofs.OnLiterals.{clap_on_literals}
-use Rattle.protoscip.specs.CommandLine.{AsksBy, IsRefused, Names, Prints, command_line, index_argument, index_of, name_of}
-use Rattle.protoscip.specs.declared.command.Request.{Request}
-use Rattle.protoscip.specs.declared.command.Request.TheVariants as request
+use Rattle.command_line.specs.Program.{command_line, index_argument}
+use Rattle.command_line.specs.Requests.{IsRefused, Prints}
+use Rattle.command_line.specs.Asks.{AsksBy, Names, index_of, name_of}
+use Rattle.command_line.specs.declared.request.Request.{Request}
+use Rattle.command_line.specs.declared.request.Request.TheVariants as request
 
 pub command_line_is_simple : is_simple_and_free command_line ≡ true
 unfolding clap_on_literals

@@ -1,61 +1,18 @@
-//! The command line.
-ghost use Rattle.std.specs.Prelude.{◌≡◌, ◌≢◌, IfOk, IfErr, IsErr, false, map, string_bytes};
+//! What the words of a command line ask for.
+
+ghost use Rattle.std.specs.Prelude.{◌≢◌, ◌≡◌, IfOk, IfErr, IsErr, map, string_bytes};
 ghost use Rattle.std.specs.IoError.{error_kind};
 ghost use Rattle.std.specs.declared.io.ErrorKind.TheVariants.{OutOfMemory as Memory};
-ghost use Rattle.clap.specs.Words.{app_of, fault_of, kind_of, subcommand_rows_of};
-ghost use Rattle.clap.specs.declared.builder.command.Command.TheViews.{out-Command as fields_of};
-ghost use Rattle.protoscip.specs.CommandLine.{Asks, IsRefused, Names, Prints, command_line, query_line};
+ghost use Rattle.clap.specs.Words.{kind_of, subcommand_rows_of};
+ghost use Rattle.command_line.specs.Asks.{Asks, Names};
+ghost use Rattle.command_line.specs.Requests.{IsRefused, Prints};
 
+use crate::program::{INDEX, QUERY, program};
+use crate::request::Request;
 use clap::error::ErrorKind;
-use clap::{Arg, ArgMatches, Command, Error};
+use clap::{ArgMatches, Error};
 use std::alloc::{AllocError, Global};
 use std::io;
-
-/// What a command line asks for.
-#[derive(Debug, Drop)]
-pub enum Request {
-    /// The program `dump`.
-    Dump,
-    /// The program `query`, about the index that the file with this path holds.
-    Query(String),
-    /// A text for standard output: help or the version.
-    Print(String),
-    /// A text for standard error: what is wrong with the command line.
-    Refuse(String),
-}
-
-/// The name of `query`, and of the argument that it wants.
-const QUERY: &str = "query";
-
-const INDEX: &str = "INDEX";
-
-/// The command line of `query`.
-fn query_program<'a>(alloc: Global) -> Result<Command<'a>, AllocError>
-    ensures line { IfOk result (λ c. (app_of c).top ≡ query_line) }
-    ensures local { IfOk result (λ c. (fields_of c).has_globals ≡ false) }
-{
-    let index = Arg::new(alloc, INDEX)
-        .help("The file of a SCIP index")
-        .required(true);
-    Command::new(alloc, QUERY)
-        .about("Answers commands about an index, from standard input")
-        .arg(index)
-}
-
-/// The command line's programs and options.
-fn program<'a>(alloc: Global) -> Result<Command<'a>, AllocError>
-    ensures { IfOk result (λ c. app_of c ≡ command_line) }
-{
-    let dump = Command::new(alloc, "dump").about(
-        "Indexes one source from standard input and prints its occurrences",
-    );
-    Command::new(alloc, "protoscip")
-        .version("1")
-        .about("Indexes proto3 sources and writes SCIP")
-        .subcommand_required(true)
-        .subcommand(query_program(alloc)?)?
-        .subcommand(dump)
-}
 
 /// Reads a command line, of which the first word is the program's name.
 ///

@@ -4,9 +4,9 @@ use Rattle.std.specs.Borrow.{Bor}
 use Rattle.clap.specs.declared.parser.matches.ArgMatches.TheViews.{out-ArgMatches}
 use Rattle.clap.specs.Words.{found_of}
 use Rattle.clap.proofs.WalkLemmas.{first_value-rows}
-use Rattle.protoscip.specs.CommandLine.{index_argument}
-use Rattle.protoscip.proofs.CommandLineLemmas.{matches_index, matches_name, text_or_none}
-use Rattle.protoscip.proofs.command.named.Goals as goal
+use Rattle.command_line.specs.Program.{index_argument}
+use Rattle.command_line.proofs.AnswerLemmas.{matches_index, matches_name, text_or_none}
+use Rattle.command_line.proofs.reading.named.Goals as goal
 
 pub returns-in_ok-from_str-in-Some : goal.returns-in_ok-from_str-in-Some
 returns-in_ok-from_str-in-Some c = (

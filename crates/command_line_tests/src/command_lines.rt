@@ -1,7 +1,7 @@
 //! Command lines, as `clap` of Rust reads them.
 
 use crate::see::see;
-use protoscip::command::{Request, request_of, request_of_process};
+use command_line::{Request, request_of, request_of_process};
 use std::alloc::{AllocError, Global};
 use std::io;
 use std::io::ErrorKind;

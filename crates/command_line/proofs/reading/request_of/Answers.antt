@@ -1,9 +1,9 @@
 use Rattle.std.proofs.Common.{◌∙◌, ap, ap₂, sym, subst, map, string_bytes, List, Option}
 use Rattle.std.proofs.lemmas.Result.{IfOk-weaker}
 use Rattle.clap.specs.Words.{Kinds, HasKind, Row, Text, fault_of, is_simple, is_simple_and_free, subcommand_of}
-use Rattle.protoscip.specs.CommandLine.{Names}
-use Rattle.protoscip.proofs.CommandLineLemmas.{asks_answer, asks_program, command_line_is_simple, command_line_is_walked}
-use Rattle.protoscip.proofs.command.request_of.Goals as goal
+use Rattle.command_line.specs.Asks.{Names}
+use Rattle.command_line.proofs.AnswerLemmas.{asks_answer, asks_program, command_line_is_simple, command_line_is_walked}
+use Rattle.command_line.proofs.reading.request_of.Goals as goal
 
 pub returns-in-Ok : goal.returns-in-Ok
 returns-in-Ok c =

@@ -1,0 +1,3 @@
+pub mod Program
+pub mod Requests
+pub mod Asks

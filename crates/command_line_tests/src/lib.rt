@@ -1,0 +1,7 @@
+//! Tests of `command_line`, by its public calls.
+#![tactic(auto)]
+
+#[cfg(test)]
+mod command_lines;
+#[cfg(test)]
+mod see;

@@ -100,10 +100,11 @@ impl<'a> Linker<'a> {
         first_giving(&self.names, &self.rows[file], name, role)
     }
 
-    /// The facts of each file are those of some text, so that laws which ask for it hold of a
-    /// linker's files. Takes no memory.
-    pub fn origins(&self)
-        ensures { HaveOrigins self.now }
+    /// The files can be linked, and the facts of each are those of some text: what the laws ask
+    /// for. Takes no memory.
+    pub fn linked(&self)
+        ensures can_be { CanBeLinked self.now }
+        ensures origins { HaveOrigins self.now }
     {
         let _files = self.files;
     }

@@ -31,6 +31,7 @@ fn first_with(declarations: &[Declaration], name: &str) -> Option<usize>
 
 // What a full name of so many components names, where it is that of a declaration or a package of
 // the file with this number.
+#[tactic(auto, using(crate::proofs::PartLemmas::found_entity))]
 fn entity_in(number: usize, facts: &FileFacts, name: &str, count: usize) -> Entity
     requires { IsEntity facts.now name.now }
     ensures { IsEntityOf number facts.now name.now count result }

@@ -1,11 +1,6 @@
 use Rattle.std.proofs.Common.{position, sym, ◌∙◌, ap}
-use Rattle.proto_link.proofs.PartLemmas.{has_name, found_entity, package_entity}
+use Rattle.proto_link.proofs.PartLemmas.{has_name, package_entity}
 use Rattle.proto_link.proofs.parts.entity_in.Goals as goal
-
-pub returns-in-Some : goal.returns-in-Some
-returns-in-Some c =
-    let found = sym (ap (position (has_name c.args.name.now)) c.declarations.ensures) ∙ (sym c.first_with.ensures ∙ c.in-Some.is) in
-    found_entity c.args.number c.args.facts.now c.args.name.now c.args.count c.in-Some.index found
 
 pub returns-in-None : goal.returns-in-None
 returns-in-None c =

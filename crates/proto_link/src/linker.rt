@@ -9,6 +9,7 @@ ghost use Rattle.proto_link.specs.FileItems.{AreAllFronts};
 ghost use Rattle.proto_link.specs.Linked.{CanBeLinked, MayRefuse};
 ghost use Rattle.proto_link.specs.Knows.{KnowsAs};
 ghost use Rattle.proto_link.specs.Given.{admits, SeesGiving};
+ghost use Rattle.proto_link.specs.GivenNames.{AreNames};
 
 use crate::absent::first_absent;
 use crate::all_items::{all_fronts, all_items};
@@ -107,6 +108,13 @@ impl<'a> Linker<'a> {
         ensures origins { HaveOrigins self.now }
     {
         let _files = self.files;
+    }
+
+    // The tables of the names that its files give.
+    pub(crate) fn names(&self) -> &Names<'a>
+        ensures { AreNames self.now result.now }
+    {
+        &self.names
     }
 
     // The facts of a file, where it has some.

@@ -78,9 +78,9 @@ pub(crate) fn stands_among(number: usize, others: &[usize]) -> bool
 pub(crate) fn index_in(declared: &[DeclaredAt], file: usize) -> Option<usize>
     ensures { MatchOption result ((one : DeclaredAt) → Contains declared.now one → one.file ≡ file → ⊥) (λ index. (one : DeclaredAt) × Contains declared.now one × (one.file ≡ file) × (one.index ≡ index)) }
 {
-    for one in declared {
-        if one.file == file {
-            return Some(one.index);
+    for listed in declared {
+        if listed.file == file {
+            return Some(listed.index);
         }
     }
     None

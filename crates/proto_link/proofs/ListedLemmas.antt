@@ -73,6 +73,25 @@ pub none_shared : (numbers others : List ℕ) (count : ℕ) → length numbers �
 none_shared numbers others count all so_far number there among =
     so_far there.0 (omega (arith, there.1)) (subst (Contains others) (sym (get_or_default numbers there.0 0 number there.1 ∙ there.2)) among)
 
+-- none of the first so many declarations is of the file
+abbrev pub NoneOfFileUpTo : List DeclaredAt → (file : ℕ) → (count : ℕ) → Type 0
+NoneOfFileUpTo declared file count = (k : ℕ) (one : DeclaredAt) → k < count → slice_get declared k ≡ Some one → one.file ≡ file → ⊥
+
+pub none_of_file_more : (declared : List DeclaredAt) (file count : ℕ) (one : DeclaredAt) → slice_get declared count ≡ Some one → (one.file ≡ file → ⊥) → NoneOfFileUpTo declared file count → NoneOfFileUpTo declared file (count + 1)
+none_of_file_more declared file count one stands not so_far k other h at here = elim (cases_lt k count) [
+  | inl before ↦ so_far k other before at here
+  | inr last ↦ (
+      let is : k ≡ count = omega arith in
+      let same : other ≡ one = one_Declared other one (sym at ∙ (ap (slice_get declared) is ∙ stands)) in
+      not (ap (λ (x : DeclaredAt). x.file) (sym same) ∙ here))
+]
+
+pub none_of_file : (declared : List DeclaredAt) (file count : ℕ) → length declared ≤ count → NoneOfFileUpTo declared file count → (one : DeclaredAt) → Contains declared one → one.file ≡ file → ⊥
+none_of_file declared file count all so_far one there here =
+    let at = contained_at declared one there in
+    let within = slice_get_within declared at.0 one at.1 in
+    so_far at.0 one (omega arith) at.1 here
+
 -- what a binary search says of numbers that don't fall
 pub decides_among : (xs : List ℕ) (x : ℕ) (r : Result ℕ ℕ) → IsNonDecreasing xs → IsBinarySearchResult (λ y. nat_cmp y x) xs r → Decides (is_ok r) (Contains xs x)
 decides_among xs x r order h = decides_found xs x r (searched xs x r h (λ i j. order i j 0))

@@ -67,3 +67,10 @@ IsDeclaring declared admits number = (one : DeclaredAt) × Contains declared one
 -- the file with this number gives the name in this role, by the tables
 abbrev pub IsListed : Names → (NameKind → Bool) → (name : List ℕ) → (number : ℕ) → Type 0
 IsListed names admits name number = IsDeclaring (listed_at names.declared name) admits number ⊎ ((admits OfPackage ≡ true) × Contains (owned_at names.packages name) number)
+
+-- what the tables list of the file with this number is so of its facts
+pub record AreNamesOf (number : ℕ) (facts : Facts) (names : Names) : Type 0 where
+  pub declared : (name : List ℕ) (one : DeclaredAt) → Contains (listed_at names.declared name) one → one.file ≡ number
+      → (declaration : Declaration) × (slice_get facts.declarations one.index ≡ Some declaration) × (declaration.full_name ≡ name)
+  pub packaged : (name : List ℕ) → Contains (owned_at names.packages name) number → IsFront facts.package_name name
+  pub in_order : (name : List ℕ) → IsNonDecreasing (owned_at names.packages name)

@@ -1,7 +1,8 @@
 //! The files that give a name, by the tables.
 
-ghost use Rattle.std.specs.Prelude.{ℕ, List, MatchOption, Contains};
+ghost use Rattle.std.specs.Prelude.{ℕ, List, ◌≡◌, ◌↔◌, IsTrue, MatchOption, Contains};
 ghost use Rattle.std.specs.List.Sorted.{IsNonDecreasing};
+ghost use Rattle.proto_link.specs.declared.names.DeclaredAt.{DeclaredAt};
 ghost use Rattle.proto_link.specs.Given.{admits};
 ghost use Rattle.proto_link.specs.GivenNames.{owned_at, IsDeclaring, IsListed};
 
@@ -58,8 +59,28 @@ fn first_among(numbers: &[usize], others: &[usize]) -> Option<usize>
     ensures { MatchOption result ((number : ℕ) → Contains numbers.now number → Contains others.now number → ⊥) (λ number. Contains numbers.now number × Contains others.now number) }
 {
     for number in numbers {
-        if others.binary_search(number).is_ok() {
+        if stands_among(*number, others) {
             return Some(*number);
+        }
+    }
+    None
+}
+
+// Whether a number stands among others, which don't fall.
+pub(crate) fn stands_among(number: usize, others: &[usize]) -> bool
+    requires { IsNonDecreasing others.now }
+    ensures { IsTrue result ↔ Contains others.now number }
+{
+    others.binary_search(&number).is_ok()
+}
+
+// The index of the first of these declarations that is of the file with this number.
+pub(crate) fn index_in(declared: &[DeclaredAt], file: usize) -> Option<usize>
+    ensures { MatchOption result ((one : DeclaredAt) → Contains declared.now one → one.file ≡ file → ⊥) (λ index. (one : DeclaredAt) × Contains declared.now one × (one.file ≡ file) × (one.index ≡ index)) }
+{
+    for listed in declared {
+        if listed.file == file {
+            return Some(listed.index);
         }
     }
     None

@@ -9,6 +9,7 @@ ghost use Rattle.proto_link.specs.FileItems.{AreAllFronts};
 ghost use Rattle.proto_link.specs.Linked.{CanBeLinked, MayRefuse};
 ghost use Rattle.proto_link.specs.Knows.{KnowsAs};
 ghost use Rattle.proto_link.specs.Given.{admits, SeesGiving};
+ghost use Rattle.proto_link.specs.GivenNames.{AreNames};
 
 use crate::absent::first_absent;
 use crate::all_items::{all_fronts, all_items};
@@ -100,12 +101,20 @@ impl<'a> Linker<'a> {
         first_giving(&self.names, &self.rows[file], name, role)
     }
 
-    /// The facts of each file are those of some text, so that laws which ask for it hold of a
-    /// linker's files. Takes no memory.
-    pub fn origins(&self)
-        ensures { HaveOrigins self.now }
+    /// The files can be linked, and the facts of each are those of some text: what the laws ask
+    /// for. Takes no memory.
+    pub fn linked(&self)
+        ensures can_be { CanBeLinked self.now }
+        ensures origins { HaveOrigins self.now }
     {
         let _files = self.files;
+    }
+
+    // The tables of the names that its files give.
+    pub(crate) fn names(&self) -> &Names<'a>
+        ensures { AreNames self.now result.now }
+    {
+        &self.names
     }
 
     // The facts of a file, where it has some.

@@ -26,7 +26,7 @@ is_absent xs x i before behind found =
       | inr more ↦ (let b = behind found.0 more found.1 in omega (arith, found.2, e))
     ]
 
-decides_found : (xs : List ℕ) (x : ℕ) (r : Result ℕ ℕ) → MatchResult r (λ i. (i < length xs) × (get_or xs i 0 ≡ x)) (λ i. (i ≤ length xs) × ((k : ℕ) → k < i → get_or xs k 0 < x) × ((k : ℕ) → i ≤ k → k < length xs → x < get_or xs k 0)) → Decides (is_ok r) (Contains xs x)
+pub decides_found : (xs : List ℕ) (x : ℕ) (r : Result ℕ ℕ) → MatchResult r (λ i. (i < length xs) × (get_or xs i 0 ≡ x)) (λ i. (i ≤ length xs) × ((k : ℕ) → k < i → get_or xs k 0 < x) × ((k : ℕ) → i ≤ k → k < length xs → x < get_or xs k 0)) → Decides (is_ok r) (Contains xs x)
 decides_found xs x (Ok i) h = (λ _. subst (Contains xs) h.1 (Contains-get_or xs i 0 h.0), λ _. refl)
 decides_found xs x (Err i) h = (λ e. absurd (false≢true e), λ found. absurd (is_absent xs x i h.1 h.2 found))
 

@@ -13,6 +13,8 @@ pub mod KnowingLemmas
 pub mod LookupLemmas
 pub mod ResolveLemmas
 pub mod PartLemmas
+pub mod NameLemmas
+pub mod ListedLemmas
 pub mod TargetLemmas
 pub mod OneItemLemmas
 pub mod OneTargetLemmas

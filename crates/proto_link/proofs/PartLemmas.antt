@@ -1,5 +1,6 @@
 -- What a full name names in one file.
-use Rattle.std.proofs.Common.{◌≡◌, ℕ, Bool, List, Some, None, refl, ap, sym, ◌∙◌, position}
+use Rattle.std.proofs.Common.{◌≡◌, ℕ, Bool, List, Some, None, refl, ap, sym, ◌∙◌, subst, position}
+use Rattle.std.specs.List.{Contains, slice_get}
 use Rattle.std.specs.Str.{bytes_eq}
 use Rattle.std.proofs.lemmas.Bool.{false≢true}
 use Rattle.std.proofs.lemmas.Slice.Eq.{bytes_eq-Decides}
@@ -8,7 +9,11 @@ use Rattle.proto_decl.specs.Laws.{IsEntity}
 use Rattle.proto_decl.specs.Laws.IsEntity.{packaged as entity_packaged, declared as entity_declared}
 use Rattle.proto_decl.specs.declared.declaration.Declaration.{Declaration}
 use Rattle.proto_link.specs.declared.target.Entity.TheVariants.{Package, Declared}
+use Rattle.proto_link.specs.declared.names.DeclaredAt.{DeclaredAt}
+use Rattle.proto_link.specs.declared.names.Names.{Names}
+use Rattle.proto_link.specs.Files.{File, HasFacts}
 use Rattle.proto_link.specs.Given.{IsFront}
+use Rattle.proto_link.specs.GivenNames.{listed_at, AreNames, AreNamesOf}
 use Rattle.proto_link.specs.Parts.{IsEntityOf}
 use Rattle.proto_link.specs.Parts.IsEntityOf.{packaged, declared}
 use Rattle.proto_link.proofs.GivenLemmas.{found_at, position-none}
@@ -30,3 +35,35 @@ front_if facts name n same none (entity_declared {declaration = d} there) =
 
 pub package_entity : (number : ℕ) (facts : Facts) (name : List ℕ) (count : ℕ) → position (has_name name) facts.declarations ≡ None → IsEntity facts name → IsEntityOf number facts name count (Package count)
 package_entity number facts name count none is = packaged (front_if facts name name refl none is)
+
+pub listed_entity : (number : ℕ) (facts : Facts) (names : Names) (name : List ℕ) (count index : ℕ) → AreNamesOf number facts names
+    → (one : DeclaredAt) × Contains (listed_at names.declared name) one × (one.file ≡ number) × (one.index ≡ index) → IsEntityOf number facts name count (Declared number index)
+listed_entity number facts names name count index are listed =
+    let d = are.declared name listed.0 listed.1 listed.2 in
+    declared (subst (λ i. slice_get facts.declarations i ≡ Some d.0) listed.3 d.1) d.2
+
+-- the tables of all files, seen from one
+pub names_of_file : (files : List File) (names : Names) (number : ℕ) (facts : Facts) → AreNames files names → HasFacts files number facts → AreNamesOf number facts names
+names_of_file files names number facts are has = record {
+  declared = λ name one there here.
+      let at = (are.declared name one).0 there in
+      let by = at.1 in
+      let its = by.2 in
+      let d = its.3 in
+      let file_is : at.0 ≡ number = ap (λ (x : DeclaredAt). x.file) (sym d.is) ∙ here in
+      let same : its.0 ≡ facts = one_facts by.0 its.0 (subst (λ n. slice_get files n ≡ Some by.0) file_is by.1) its.1 in
+      let index : its.2 ≡ one.index = ap (λ (x : DeclaredAt). x.index) (sym d.is) in
+      (d.declaration, subst (λ i. slice_get facts.declarations i ≡ Some d.declaration) index (subst (λ (f : Facts). slice_get f.declarations its.2 ≡ Some d.declaration) same d.stands), d.named);
+  packaged = λ name there.
+      let front = (are.packaged name number).0 there in
+      subst (λ (f : Facts). IsFront f.package_name name) (one_facts front.0 front.1 front.2 front.3) front.4;
+  in_order = are.in_order;
+}
+  where
+    one_Some : {X : Type 0} (x y : X) → Some x ≡ Some y → x ≡ y
+    one_Some x y e = cc
+
+    one_facts : (file : File) (its : Facts) → slice_get files number ≡ Some file → file.facts ≡ Some its → its ≡ facts
+    one_facts file its stands known =
+        let same : file ≡ has.file = one_Some file has.file (sym stands ∙ has.numbered) in
+        one_Some its facts (sym known ∙ (ap (λ (f : File). f.facts) same ∙ has.known))

@@ -1,7 +1,6 @@
 -- The names that one file gives, and what a name is looked up as.
-use Rattle.std.specs.Prelude.{◌≡◌, ◌<◌, ◌≤◌, ◌&&◌, ℕ, Bool, true, Some, List, length, Contains}
+use Rattle.std.specs.Prelude.{◌≡◌, ◌<◌, ◌≤◌, ℕ, Bool, true, Some, List, length, Contains}
 use Rattle.std.specs.List.{slice_get}
-use Rattle.std.specs.Str.{bytes_eq}
 use Rattle.proto_decl.specs.Facts.{Facts}
 use Rattle.proto_decl.specs.declared.declaration.Declaration.{Declaration}
 use Rattle.proto_decl.specs.declared.type_use.Component.{Component}
@@ -16,10 +15,6 @@ use Rattle.proto_link.specs.FileItems.{front_named}
 abbrev pub admits : Role → NameKind → Bool
 admits AsType kind = is_type kind
 admits AsAggregate kind = is_aggregate kind
-
--- the declaration gives the name in this role
-abbrev pub declares_as : Role → (name : List ℕ) → Declaration → Bool
-declares_as role name declaration = bytes_eq declaration.full_name name && admits role (OfDeclaration declaration.kind)
 
 -- some first components make the name
 abbrev pub IsFront : List Component → (name : List ℕ) → Type 0

@@ -19,5 +19,6 @@ pub mod NameTables
 pub mod FileItems
 pub mod Linked
 pub mod Given
+pub mod GivenNames
 pub mod Found
 pub mod Parts

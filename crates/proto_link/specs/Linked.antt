@@ -6,6 +6,8 @@ use Rattle.proto_link.specs.Files.{File, Imports, HaveOrigins}
 use Rattle.proto_link.specs.Clashes.{Clash, NoClash}
 use Rattle.proto_link.specs.Absences as absences
 use Rattle.proto_link.specs.StepTables.{AreRowsBy}
+use Rattle.proto_link.specs.declared.names.Names.{Names}
+use Rattle.proto_link.specs.GivenNames.{AreNames}
 
 -- the files that count have facts, no clash of names, and each import that has to be there
 pub record CanBeLinked (files : List File) : Type 0 where
@@ -22,7 +24,8 @@ MayRefuse files (Unresolved place) = ⊥
 MayRefuse files Memory = ⊤
 
 -- what a linker keeps of its files
-pub record IsLinked (files : List File) (rows : List (List ℕ)) : Type 0 where
+pub record IsLinked (files : List File) (rows : List (List ℕ)) (names : Names) : Type 0 where
   pub can_be : CanBeLinked files
   pub origins : HaveOrigins files
   pub rows_are : AreRowsBy (Imports files) (length files) rows
+  pub names_are : AreNames files names

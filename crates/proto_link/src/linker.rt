@@ -5,9 +5,11 @@ ghost use Rattle.proto_decl.specs.Facts.{Facts};
 ghost use Rattle.proto_link.specs.Files.{HaveOwnPaths, HaveOrigins, HasFacts};
 ghost use Rattle.proto_link.specs.Sees.{Sees, Counts};
 ghost use Rattle.proto_link.specs.Clashes.{Clash, NoClash};
+ghost use Rattle.proto_link.specs.FileItems.{AreAllFronts};
 ghost use Rattle.proto_link.specs.Linked.{CanBeLinked, MayRefuse};
 ghost use Rattle.proto_link.specs.Knows.{KnowsAs};
 ghost use Rattle.proto_link.specs.Given.{admits, SeesGiving};
+ghost use Rattle.proto_link.specs.GivenNames.{AreNames};
 
 use crate::absent::first_absent;
 use crate::all_items::{all_fronts, all_items};
@@ -15,13 +17,16 @@ use crate::clash::first_clash;
 use crate::counting::{counted_files, first_unread};
 use crate::fault::LinkFault;
 use crate::file_row::FileRow;
-use crate::given::{Role, first_giving};
+use crate::given::Role;
+use crate::knowing::first_giving;
 use crate::link_file::LinkFile;
+use crate::names::Names;
 use crate::origins::have_origins;
 use crate::place::FilePlace;
 use crate::seeing::seen_files;
 use crate::steps::numbers_of;
 use proto_decl::FileFacts;
+use sequences::{OwnedText, Sequence};
 use std::alloc::{AllocError, Global};
 use std::marker::Model;
 
@@ -33,6 +38,7 @@ use std::marker::Model;
 pub struct Linker<'a> {
     files: &'a [LinkFile<'a>],
     rows: Vec<FileRow>,
+    names: Names<'a>,
 }
 
 impl<'a> Model for Linker<'a> {
@@ -44,7 +50,7 @@ impl<'a> Model for Linker<'a> {
 
     ghost view = { λ linker. linker.files.now };
 
-    ghost invariant = { λ linker. IsLinked linker.files.now linker.rows.items };
+    ghost invariant = { λ linker. IsLinked linker.files.now linker.rows.items linker.names };
 }
 
 impl<'a> Linker<'a> {
@@ -64,7 +70,8 @@ impl<'a> Linker<'a> {
         if let Some(number) = first_unread(files, &counted) {
             return Err(LinkFault::Broken(number));
         }
-        let clash = clash_among(alloc, files, &counted)?;
+        let fronts = all_fronts(alloc, files)?;
+        let clash = clash_among(alloc, files, fronts.as_slice(), &counted)?;
         if let Some((first, second)) = clash {
             return Err(LinkFault::Duplicate(first, second));
         }
@@ -72,7 +79,8 @@ impl<'a> Linker<'a> {
             return Err(LinkFault::MissingImport(place));
         }
         have_origins(files);
-        Ok(Linker { files, rows })
+        let names = Names::of(alloc, files, fronts.as_slice())?;
+        Ok(Linker { files, rows, names })
     }
 
     /// Whether a file sees another: itself, what it imports, and what public imports lead to from
@@ -85,20 +93,28 @@ impl<'a> Linker<'a> {
         self.rows[file].has(other)
     }
 
-    // The first file that a file sees and that gives a name in a role.
+    // A file that a file sees and that gives a name in a role.
     pub(crate) fn first_giving(&self, file: usize, name: &str, role: Role) -> Option<usize>
         requires { file < length self.now }
         ensures { MatchOption result (KnowsAs self.now file (admits role) name.now → ⊥) (SeesGiving self.now file (admits role) name.now) }
     {
-        first_giving(self.files, self.rows[file].as_slice(), name, role)
+        first_giving(&self.names, &self.rows[file], name, role)
     }
 
-    /// The facts of each file are those of some text, so that laws which ask for it hold of a
-    /// linker's files. Takes no memory.
-    pub fn origins(&self)
-        ensures { HaveOrigins self.now }
+    /// The files can be linked, and the facts of each are those of some text: what the laws ask
+    /// for. Takes no memory.
+    pub fn linked(&self)
+        ensures can_be { CanBeLinked self.now }
+        ensures origins { HaveOrigins self.now }
     {
         let _files = self.files;
+    }
+
+    // The tables of the names that its files give.
+    pub(crate) fn names(&self) -> &Names<'a>
+        ensures { AreNames self.now result.now }
+    {
+        &self.names
     }
 
     // The facts of a file, where it has some.
@@ -124,13 +140,14 @@ impl<'a> Linker<'a> {
 fn clash_among(
     alloc: Global,
     files: &[LinkFile],
+    fronts: &[Sequence<OwnedText>],
     counted: &FileRow,
 ) -> Result<Option<(FilePlace, FilePlace)>, AllocError>
-    requires { (number : ℕ) → Contains counted.now number ↔ Counts files.now number }
+    requires fronts { AreAllFronts files.now fronts.now }
+    requires counted { (number : ℕ) → Contains counted.now number ↔ Counts files.now number }
     ensures { IfOk result (λ clash. MatchOption clash (NoClash files.now) (λ places. Clash files.now places.0 places.1)) }
 {
-    let fronts = all_fronts(alloc, files)?;
-    let items = all_items(alloc, files, fronts.as_slice(), counted)?;
+    let items = all_items(alloc, files, fronts, counted)?;
     let clash = first_clash(alloc, items.as_slice())?;
     Ok(clash)
 }

@@ -7,8 +7,11 @@ ghost use Rattle.proto_decl.specs.Laws.{IsEntity};
 ghost use Rattle.std.specs.String.{string_bytes};
 ghost use Rattle.proto_link.specs.Knows.{is_type};
 ghost use Rattle.proto_link.specs.Given.{GivesAs};
+ghost use Rattle.proto_link.specs.GivenNames.{AreNamesOf};
 ghost use Rattle.proto_link.specs.Parts.{IsEntityOf, AreEntitiesOf, longer};
 
+use crate::knowing::{index_in, stands_among};
+use crate::names::Names;
 use crate::target::Entity;
 use proto_decl::{Declaration, FileFacts, fronts_are_entities};
 use std::alloc::{AllocError, Global};
@@ -30,8 +33,25 @@ fn first_with(declarations: &[Declaration], name: &str) -> Option<usize>
 }
 
 // What a full name of so many components names, where it is that of a declaration or a package of
-// the file with this number.
-fn entity_in(number: usize, facts: &FileFacts, name: &str, count: usize) -> Entity
+// the file with this number: by the tables, which have all that types stand in.
+#[tactic(auto, using(crate::proofs::PartLemmas::listed_entity))]
+fn entity_in(names: &Names, number: usize, facts: &FileFacts, name: &str, count: usize) -> Entity
+    requires entity { IsEntity facts.now name.now }
+    requires names { AreNamesOf number facts.now names.now }
+    ensures { IsEntityOf number facts.now name.now count result }
+{
+    if let Some(index) = index_in(names.declaring(name), number) {
+        return Entity::Declared(number, index);
+    }
+    if stands_among(number, names.packaging(name)) {
+        return Entity::Package(count);
+    }
+    other_entity(number, facts, name, count)
+}
+
+// The same by a scan, for what the tables leave out: a field, a value, a oneof or a method.
+#[tactic(auto, using(crate::proofs::PartLemmas::found_entity))]
+fn other_entity(number: usize, facts: &FileFacts, name: &str, count: usize) -> Entity
     requires { IsEntity facts.now name.now }
     ensures { IsEntityOf number facts.now name.now count result }
 {
@@ -55,12 +75,14 @@ fn lengthen(front: &mut String, count: usize, component: &str) -> Result<(), All
 // declares it.
 pub(crate) fn parts_in(
     alloc: Global,
+    names: &Names,
     number: usize,
     facts: &FileFacts,
     name: &str,
     count: usize,
 ) -> Result<Vec<Entity>, AllocError>
     requires declared { GivesAs is_type name.now facts.now }
+    requires names { AreNamesOf number facts.now names.now }
     requires count { count ≤ length (components_of name.now) }
     ensures { IfOk result (λ parts. AreEntitiesOf number facts.now name.now count parts.items) }
 {
@@ -73,7 +95,7 @@ pub(crate) fn parts_in(
     for (index, component) in components.iter().enumerate() {
         lengthen(&mut front, index, component)?;
         if index >= skipped {
-            parts.push(entity_in(number, facts, front.as_str(), index + 1))?;
+            parts.push(entity_in(names, number, facts, front.as_str(), index + 1))?;
         }
     }
     Ok(parts)

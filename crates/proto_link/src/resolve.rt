@@ -55,6 +55,6 @@ impl Linker<'_> {
     {
         let seen = self.first_giving(file, name, Role::AsType).unwrap();
         let facts = self.facts_of(seen).unwrap();
-        parts_in(alloc, seen, facts, name, count)
+        parts_in(alloc, self.names(), seen, facts, name, count)
     }
 }

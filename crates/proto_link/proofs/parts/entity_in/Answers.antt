@@ -1,13 +1,7 @@
-use Rattle.std.proofs.Common.{position, sym, ◌∙◌, ap}
-use Rattle.proto_link.proofs.PartLemmas.{has_name, found_entity, package_entity}
+use Rattle.std.proofs.Common.{List, ℕ, subst}
+use Rattle.std.specs.List.{Contains}
+use Rattle.proto_link.specs.Parts.IsEntityOf.{packaged}
 use Rattle.proto_link.proofs.parts.entity_in.Goals as goal
 
-pub returns-in-Some : goal.returns-in-Some
-returns-in-Some c =
-    let found = sym (ap (position (has_name c.args.name.now)) c.declarations.ensures) ∙ (sym c.first_with.ensures ∙ c.in-Some.is) in
-    found_entity c.args.number c.args.facts.now c.args.name.now c.args.count c.in-Some.index found
-
-pub returns-in-None : goal.returns-in-None
-returns-in-None c =
-    let none = sym (ap (position (has_name c.args.name.now)) c.declarations.ensures) ∙ (sym c.first_with.ensures ∙ c.in-None.is) in
-    package_entity c.args.number c.args.facts.now c.args.name.now c.args.count none c.requires
+pub returns-then-stands_among : goal.returns-then-stands_among
+returns-then-stands_among c = packaged (c.requires.names.packaged c.args.name.now (subst (λ (ns : List ℕ). Contains ns c.args.number) c.packaging.ensures (c.stands_among.ensures.0 c.if-stands_among.true)))

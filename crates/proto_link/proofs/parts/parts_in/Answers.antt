@@ -7,8 +7,8 @@ use Rattle.proto_link.proofs.TargetLemmas.{AreParts, front_longer, front_is_enti
 use Rattle.proto_link.proofs.parts.parts_in.Goals as goal
 use Rattle.proto_link.proofs.parts.parts_in.Goals.{then-index-skipped+in_ok-push, else-index-skipped}
 
-pub entity_in-requires : goal.entity_in-requires
-entity_in-requires c =
+pub entity_in-requires-clause-entity : goal.entity_in-requires-clause-entity
+entity_in-requires-clause-entity c =
     let name = c.args.name.now in
     let items = c.deref-component-items.result.now in
     let are : map (λ (x : Bor (List ℕ)). x.now) items ≡ components_of name = ap (map (λ (x : Bor (List ℕ)). x.now)) c.deref-component-items.ensures.value ∙ c.in_ok-components.ensures in

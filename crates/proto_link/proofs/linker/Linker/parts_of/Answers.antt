@@ -6,7 +6,8 @@ use Rattle.proto_link.specs.Knows.{KnowsAs, is_type}
 use Rattle.proto_link.specs.Given.{SeesGiving}
 use Rattle.proto_link.specs.Parts.{AreEntitiesOf, AreNamed}
 use Rattle.proto_link.proofs.ResolveLemmas.{ok_each}
-use Rattle.proto_link.proofs.TargetLemmas.{facts_known, some_facts, gives_there, all_named}
+use Rattle.proto_link.proofs.PartLemmas.{names_of_file}
+use Rattle.proto_link.proofs.TargetLemmas.{facts_known, some_facts, all_named}
 use Rattle.proto_link.proofs.linker.Linker.parts_of.Goals as goal
 
 pub unwrap-facts-requires : goal.unwrap-facts-requires
@@ -18,15 +19,12 @@ unwrap-facts-requires c =
     let sees : SeesGiving files file is_type name seen = subst (λ (o : Option ℕ). MatchOption o (KnowsAs files file is_type name → ⊥) (SeesGiving files file is_type name)) c.unwrap-seen.ensures c.first_giving.ensures in
     some_facts (λ (facts : Bor Facts). HasFacts files seen facts.now) files seen sees.giving.gives.facts c.facts_of.result (facts_known files file is_type name seen sees) c.facts_of.ensures
 
-pub parts_in-requires-clause-declared : goal.parts_in-requires-clause-declared
-parts_in-requires-clause-declared c =
+pub parts_in-requires-clause-names : goal.parts_in-requires-clause-names
+parts_in-requires-clause-names c =
     let files = c.args.self.now in
-    let file = c.args.file in
-    let name = c.args.name.now in
     let seen = c.unwrap-seen.result in
-    let sees : SeesGiving files file is_type name seen = subst (λ (o : Option ℕ). MatchOption o (KnowsAs files file is_type name → ⊥) (SeesGiving files file is_type name)) c.unwrap-seen.ensures c.first_giving.ensures in
     let has : HasFacts files seen c.unwrap-facts.result.now = subst (λ (o : Option (Bor Facts)). MatchOption o ((facts : Facts) → HasFacts files seen facts → ⊥) (λ facts. HasFacts files seen facts.now)) c.unwrap-facts.ensures c.facts_of.ensures in
-    gives_there files file is_type name seen c.unwrap-facts.result.now sees has
+    names_of_file files c.names.result.now seen c.unwrap-facts.result.now c.names.ensures has
 
 pub returns : goal.returns
 returns c =

@@ -144,7 +144,10 @@ fn is_meant(
         return Ok(false);
     }
     Ok(match link(alloc, files) {
-        Ok(linker) => all_mean(alloc, &linker, files, meanings),
+        Ok(linker) => {
+            linker.linked();
+            all_mean(alloc, &linker, files, meanings)
+        }
         Err(_) => false,
     })
 }

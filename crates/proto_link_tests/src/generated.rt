@@ -1,17 +1,11 @@
 //! Trees of up to 12 files that look like chance, compared with scans.
 
+use crate::dice::{Dice, word_at};
+use crate::drafts::{add_enum, add_message, add_service};
 use crate::trees::{Source, see_scanned};
 use std::alloc::{AllocError, Global};
 use std::process::Abort;
 use std::test::Fail;
-
-/// A fixed sequence of numbers that looks like chance.
-#[derive(Clone, Copy)]
-struct Dice {
-    state: u32,
-}
-
-const WORDS: [&str; 6] = ["a", "b", "c", "d", "e", "f"];
 
 const PATHS: [&str; 12] = [
     "a.proto", "b.proto", "c.proto", "d.proto", "e.proto", "f.proto", "g.proto", "h.proto",
@@ -25,40 +19,16 @@ const IMPORTS: [&str; 4] = [
     "import public \"",
 ];
 
-impl Dice {
-    /// A number below this one; 0 where there is none.
-    fn below(&mut self, limit: u8) -> u8 {
-        self.state = self
-            .state
-            .wrapping_mul(1_664_525)
-            .wrapping_add(1_013_904_223);
-        ((self.state / 65_536) % u32::from(limit.max(1))) as u8
+/// The name of a package of up to three words; none is empty.
+fn package_of(alloc: Global, dice: &mut Dice) -> Result<String, AllocError> {
+    let mut package = String::new(alloc);
+    for _ in 0..dice.below(4) {
+        if !package.is_empty() {
+            package.push_str(".")?;
+        }
+        package.push_str(dice.word())?;
     }
-
-    fn word(&mut self) -> &'static str {
-        word_at(&WORDS, self.below(6) as usize)
-    }
-}
-
-fn word_at(words: &[&'static str], index: usize) -> &'static str {
-    match words.get(index) {
-        Some(word) => *word,
-        None => "x",
-    }
-}
-
-fn add_package(text: &mut String, dice: &mut Dice) -> Result<(), AllocError> {
-    let components = dice.below(4);
-    if components == 0 {
-        return Ok(());
-    }
-    text.push_str("package ")?;
-    for _ in 1..components {
-        text.push_str(dice.word())?;
-        text.push_str(".")?;
-    }
-    text.push_str(dice.word())?;
-    text.push_str(";\n")
+    Ok(package)
 }
 
 /// Adds an import of one of so many files, or at times of none.
@@ -71,37 +41,38 @@ fn add_import(text: &mut String, dice: &mut Dice, files: u8) -> Result<(), Alloc
     text.push_str("\";\n")
 }
 
-fn add_message(text: &mut String, dice: &mut Dice) -> Result<(), AllocError> {
-    text.push_str("message ")?;
-    text.push_str(dice.word())?;
-    text.push_str(" { message ")?;
-    text.push_str(dice.word())?;
-    text.push_str(" {} }\n")
-}
-
-fn add_enum(text: &mut String, dice: &mut Dice) -> Result<(), AllocError> {
-    text.push_str("enum ")?;
-    text.push_str(dice.word())?;
-    text.push_str(" { ")?;
-    text.push_str(dice.word())?;
-    text.push_str(" = 0; }\n")
-}
-
-fn add_part(text: &mut String, dice: &mut Dice, files: u8) -> Result<(), AllocError> {
-    match dice.below(8) {
-        0 => add_message(text, dice),
-        1 => add_enum(text, dice),
+fn add_part(
+    alloc: Global,
+    text: &mut String,
+    dice: &mut Dice,
+    files: u8,
+    package: &str,
+    types: &mut Vec<String>,
+) -> Result<(), AllocError> {
+    match dice.below(12) {
+        0 | 1 => add_message(alloc, text, dice, package, types),
+        2 => add_enum(alloc, text, dice, package, types),
+        3 => add_service(text, dice, types.as_slice()),
         _ => add_import(text, dice, files),
     }
 }
 
-/// The text of one of so many files.
-fn text_of(alloc: Global, dice: &mut Dice, files: u8) -> Result<String, AllocError> {
-    let mut text = String::new(alloc);
-    text.push_str("syntax = \"proto3\";\n")?;
-    add_package(&mut text, dice)?;
+/// The text of one of so many files, which may use all these types; its own are added to them.
+fn text_of(
+    alloc: Global,
+    dice: &mut Dice,
+    files: u8,
+    types: &mut Vec<String>,
+) -> Result<String, AllocError> {
+    let mut text = String::from_str(alloc, "syntax = \"proto3\";\n")?;
+    let package = package_of(alloc, dice)?;
+    if !package.is_empty() {
+        text.push_str("package ")?;
+        text.push_str(package.as_str())?;
+        text.push_str(";\n")?;
+    }
     for _ in 0..dice.below(5) {
-        add_part(&mut text, dice, files)?;
+        add_part(alloc, &mut text, dice, files, package.as_str(), types)?;
     }
     if dice.below(16) == 0 {
         text.push_str("@")?;
@@ -111,8 +82,9 @@ fn text_of(alloc: Global, dice: &mut Dice, files: u8) -> Result<String, AllocErr
 
 fn texts_of(alloc: Global, dice: &mut Dice, files: u8) -> Result<Vec<String>, AllocError> {
     let mut texts = Vec::new(alloc);
+    let mut types = Vec::new(alloc);
     for _ in 0..files {
-        let text = text_of(alloc, dice, files)?;
+        let text = text_of(alloc, dice, files, &mut types)?;
         texts.push(text)?;
     }
     Ok(texts)
@@ -133,7 +105,7 @@ fn sources_of<'a>(
 
 /// Sees that a generated tree is linked as scans tell.
 fn see_generated(rt: &impl Abort, alloc: Global, seed: u32) -> Result<(), AllocError> {
-    let mut dice = Dice { state: seed };
+    let mut dice = Dice::new(seed);
     let files = dice.below(13).max(1);
     let included = if seed % 2 == 0 { 12 } else { dice.below(files) };
     let texts = texts_of(alloc, &mut dice, files)?;

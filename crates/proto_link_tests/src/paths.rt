@@ -2,7 +2,10 @@
 
 use crate::calls::see;
 use crate::trees::own_paths;
-use proto_link::{LinkFile, one_broken_file, one_name_a_use};
+use proto_link::{
+    LinkFile, one_broken_file, one_declaration_a_name, one_name_a_use, one_refusal,
+    one_target_a_use,
+};
 use std::alloc::{AllocError, Global};
 use std::test::Fail;
 
@@ -37,4 +40,7 @@ fn paths(rt: HostRuntime) -> Result<(), Fail> {
 fn laws(_rt: HostRuntime) {
     one_broken_file();
     one_name_a_use();
+    one_declaration_a_name();
+    one_target_a_use();
+    one_refusal();
 }

@@ -4,6 +4,7 @@ ghost use Rattle.std.specs.Prelude.{◌≡◌, ◌↔◌, IfOk, IsTrue, length};
 ghost use Rattle.proto_link.specs.Files.{HaveOwnPaths};
 
 use crate::calls::{accepted, see};
+use crate::lookups::{link, resolve_as_scanned};
 use crate::scans;
 use proto_decl::FileFacts;
 use proto_lex::Span;
@@ -36,7 +37,7 @@ pub(crate) struct Case<'a> {
     pub(crate) sees: &'a [&'a str],
 }
 
-fn place_of(place: [usize; 3]) -> FilePlace {
+pub(crate) fn place_of(place: [usize; 3]) -> FilePlace {
     let [file, start, end] = place;
     FilePlace {
         file,
@@ -71,7 +72,10 @@ fn sights_of(alloc: Global, sees: &[&str]) -> Result<Vec<Sight>, AllocError> {
 }
 
 /// The facts of each source.
-fn facts_of_all(alloc: Global, sources: &[Source]) -> Result<Vec<Option<FileFacts>>, AllocError> {
+pub(crate) fn facts_of_all(
+    alloc: Global,
+    sources: &[Source],
+) -> Result<Vec<Option<FileFacts>>, AllocError> {
     let mut all = Vec::with_capacity(alloc, sources.len())?;
     for (number, source) in sources.iter().enumerate() {
         let facts = accepted(alloc, number, source.1)?;
@@ -88,7 +92,7 @@ fn facts_at<'a>(facts: &'a [Option<FileFacts>], number: usize) -> Option<&'a Fil
 }
 
 /// The files of sources with these facts.
-fn files_of<'a>(
+pub(crate) fn files_of<'a>(
     alloc: Global,
     sources: &'a [Source<'a>],
     facts: &'a [Option<FileFacts>],
@@ -136,21 +140,30 @@ fn is_answered(
     if !own_paths(alloc, files)? {
         return Ok(false);
     }
-    let linked = match Linker::new(alloc, files) {
-        Err(LinkFault::Memory) => Linker::new(alloc, files),
-        answer => answer,
-    };
-    Ok(match linked {
+    Ok(match link(alloc, files) {
         Ok(linker) => fault.is_none() && see_each_other(&linker, files.len(), sights),
         Err(found) => fault == Some(found),
     })
+}
+
+/// Whether the uses of files that can be linked name what scans tell.
+fn are_resolved(alloc: Global, files: &[LinkFile], sights: &[Sight]) -> Result<bool, AllocError> {
+    if !own_paths(alloc, files)? {
+        return Ok(false);
+    }
+    match link(alloc, files) {
+        Ok(linker) => resolve_as_scanned(alloc, &linker, files, sights),
+        Err(_) => Ok(true),
+    }
 }
 
 /// Whether linking answers to files what scans do.
 fn is_as_scanned(alloc: Global, files: &[LinkFile]) -> Result<bool, AllocError> {
     let sights = scans::sights(alloc, files)?;
     let fault = scans::fault(alloc, files, sights.as_slice())?;
-    is_answered(alloc, files, fault, sights.as_slice())
+    let answered = is_answered(alloc, files, fault, sights.as_slice())?;
+    let resolved = are_resolved(alloc, files, sights.as_slice())?;
+    Ok(answered && resolved)
 }
 
 /// Sees that files are linked as scans tell.

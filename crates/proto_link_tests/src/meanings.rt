@@ -1,0 +1,252 @@
+//! What uses name, found by looking at each name that a file knows.
+
+use crate::trees::Sight;
+use proto_decl::{Component, Declaration, DeclarationKind, FileFacts, Use};
+use proto_link::{Entity, FilePlace, LinkFault, LinkFile, Target};
+use std::alloc::{AllocError, Global};
+
+/// What a name is looked for as.
+#[derive(Clone, Copy)]
+enum Role {
+    Type,
+    Aggregate,
+}
+
+/// A full name that a file knows, and what it names; a package has no kind.
+#[derive(Drop)]
+pub(crate) struct Known {
+    name: String,
+    kind: Option<DeclarationKind>,
+    entity: Entity,
+}
+
+fn known_of(
+    alloc: Global,
+    name: &str,
+    kind: Option<DeclarationKind>,
+    entity: Entity,
+) -> Result<Known, AllocError> {
+    let name = String::from_str(alloc, name)?;
+    Ok(Known { name, kind, entity })
+}
+
+fn add_packages(
+    alloc: Global,
+    known: &mut Vec<Known>,
+    components: &[Component],
+) -> Result<(), AllocError> {
+    let mut name = String::new(alloc);
+    for (index, component) in components.iter().enumerate() {
+        name.push_str(component.name.as_str())?;
+        let package = known_of(alloc, name.as_str(), None, Entity::Package(index + 1))?;
+        known.push(package)?;
+        name.push_str(".")?;
+    }
+    Ok(())
+}
+
+fn add_declarations(
+    alloc: Global,
+    known: &mut Vec<Known>,
+    number: usize,
+    declarations: &[Declaration],
+) -> Result<(), AllocError> {
+    for (index, declaration) in declarations.iter().enumerate() {
+        let name = declaration.full_name.as_str();
+        let entity = Entity::Declared(number, index);
+        let declared = known_of(alloc, name, Some(declaration.kind), entity)?;
+        known.push(declared)?;
+    }
+    Ok(())
+}
+
+fn add_names(
+    alloc: Global,
+    known: &mut Vec<Known>,
+    number: usize,
+    facts: &FileFacts,
+) -> Result<(), AllocError> {
+    add_packages(alloc, known, facts.package_name())?;
+    add_declarations(alloc, known, number, facts.declarations())
+}
+
+/// What the files that a file sees declare, and their packages with those above them.
+pub(crate) fn known_to(
+    alloc: Global,
+    files: &[LinkFile],
+    sights: &[Sight],
+    file: usize,
+) -> Result<Vec<Known>, AllocError> {
+    let mut known = Vec::new(alloc);
+    for (number, other) in files.iter().enumerate() {
+        if let Some(facts) = other.facts {
+            if sights.contains(&(file, number, true)) {
+                add_names(alloc, &mut known, number, facts)?;
+            }
+        }
+    }
+    Ok(known)
+}
+
+fn is_sought(kind: Option<DeclarationKind>, role: Role) -> bool {
+    match kind {
+        Some(DeclarationKind::Message | DeclarationKind::Enum) => true,
+        Some(DeclarationKind::Service) | None => match role {
+            Role::Type => false,
+            Role::Aggregate => true,
+        },
+        Some(_) => false,
+    }
+}
+
+fn is_known(known: &[Known], name: &str, role: Role) -> bool {
+    for candidate in known {
+        if candidate.name.as_str() == name && is_sought(candidate.kind, role) {
+            return true;
+        }
+    }
+    false
+}
+
+fn is_known_as(known: &[Known], name: &str, entity: Entity) -> bool {
+    for candidate in known {
+        if candidate.name.as_str() == name && candidate.entity == entity {
+            return true;
+        }
+    }
+    false
+}
+
+fn words_of<'a>(alloc: Global, name: &'a str) -> Result<Vec<&'a str>, AllocError> {
+    if name.is_empty() {
+        return Ok(Vec::new(alloc));
+    }
+    name.split('.').collect(alloc)
+}
+
+/// So many of the words, with dots between them.
+fn front_of(alloc: Global, words: &[&str], count: usize) -> Result<String, AllocError> {
+    let mut front = String::new(alloc);
+    for word in words.iter().take(count) {
+        if !front.is_empty() {
+            front.push_str(".")?;
+        }
+        front.push_str(word)?;
+    }
+    Ok(front)
+}
+
+/// The name that components are in the scope of so many words.
+fn name_in(
+    alloc: Global,
+    scope: &[&str],
+    count: usize,
+    components: &[Component],
+) -> Result<String, AllocError> {
+    let mut name = front_of(alloc, scope, count)?;
+    for component in components {
+        if !name.is_empty() {
+            name.push_str(".")?;
+        }
+        name.push_str(component.name.as_str())?;
+    }
+    Ok(name)
+}
+
+/// With how many words the scope is the innermost one in which components are known: all scopes are
+/// tried, from the root on, and the last one counts.
+fn innermost(
+    alloc: Global,
+    known: &[Known],
+    scope: &[&str],
+    components: &[Component],
+    role: Role,
+) -> Result<Option<usize>, AllocError> {
+    let mut found = None;
+    for count in 0..=scope.len() {
+        let name = name_in(alloc, scope, count, components)?;
+        if is_known(known, name.as_str(), role) {
+            found = Some(count);
+        }
+    }
+    Ok(found)
+}
+
+/// In which scope a use is looked for, by its number of words.
+fn start_of(
+    alloc: Global,
+    known: &[Known],
+    scope: &[&str],
+    type_use: &Use,
+) -> Result<Option<usize>, AllocError> {
+    if type_use.has_leading_dot {
+        return Ok(Some(0));
+    }
+    let components = type_use.components.as_slice();
+    match components {
+        [] => Ok(None),
+        [_] => innermost(alloc, known, scope, components, Role::Type),
+        [_, others @ ..] => {
+            let first = components.len() - others.len();
+            innermost(alloc, known, scope, &components[..first], Role::Aggregate)
+        }
+    }
+}
+
+/// The full name of the type that a use names.
+fn name_of(alloc: Global, known: &[Known], type_use: &Use) -> Result<Option<String>, AllocError> {
+    let scope = words_of(alloc, type_use.scope.as_str())?;
+    let Some(count) = start_of(alloc, known, scope.as_slice(), type_use)? else {
+        return Ok(None);
+    };
+    let components = type_use.components.as_slice();
+    let name = name_in(alloc, scope.as_slice(), count, components)?;
+    if is_known(known, name.as_str(), Role::Type) {
+        Ok(Some(name))
+    } else {
+        Ok(None)
+    }
+}
+
+/// Whether each part is known by the name up to it.
+fn are_parts(
+    alloc: Global,
+    known: &[Known],
+    name: &str,
+    parts: &[Entity],
+) -> Result<bool, AllocError> {
+    let words = words_of(alloc, name)?;
+    let before = words.len().saturating_sub(parts.len());
+    for (index, part) in parts.iter().enumerate() {
+        let count = before.saturating_add(index + 1);
+        let front = front_of(alloc, words.as_slice(), count)?;
+        if !is_known_as(known, front.as_str(), *part) {
+            return Ok(false);
+        }
+    }
+    Ok(true)
+}
+
+/// Whether a use of a file, which knows these names, has this answer.
+pub(crate) fn is_due(
+    alloc: Global,
+    known: &[Known],
+    file: usize,
+    type_use: &Use,
+    answer: &Result<Target, LinkFault>,
+) -> Result<bool, AllocError> {
+    let name = name_of(alloc, known, type_use)?;
+    match (answer, name) {
+        (Ok(target), Some(name)) => {
+            let parts = target.parts.as_slice();
+            let counted = parts.len() == type_use.components.as_slice().len();
+            let named = are_parts(alloc, known, name.as_str(), parts)?;
+            Ok(target.name.as_str() == name.as_str() && counted && named)
+        }
+        (Err(fault), None) => {
+            let span = type_use.span;
+            Ok(*fault == LinkFault::Unresolved(FilePlace { file, span }))
+        }
+        _ => Ok(false),
+    }
+}

@@ -1,0 +1,19 @@
+use Rattle.std.proofs.Common.{◌≡◌, ◌<◌, ◌+◌, Some, subst, ap, length, arith}
+use Rattle.std.specs.List.{slice_get}
+use Rattle.std.specs.Option.{option_map}
+use lib.Dec.{leb}
+use Rattle.source_tree.specs.Files.{TreeFile}
+use Rattle.source_tree.proofs.PlaceLemmas.{is_included_at, length-files}
+use Rattle.source_tree.proofs.tree.Tree.is_included.Goals as goal
+
+pub returns : goal.returns
+returns c =
+    let sources = c.self.inside.sources.items in
+    let included = c.self.inside.included.items in
+    let count : length sources ≡ c.len.result = omega arith in
+    let size = ap length c.self.view_is in
+    let whole = length-files sources included in
+    let within : c.args.number < length sources + length included = omega arith in
+    subst (λ n. option_map (λ (file : TreeFile). file.is_included) (slice_get c.args.self.now c.args.number) ≡ Some (leb n c.args.number)) count
+    (subst (λ files. option_map (λ (file : TreeFile). file.is_included) (slice_get files c.args.number) ≡ Some (leb (length sources) c.args.number)) c.self.view_is
+    (is_included_at sources included c.args.number within))

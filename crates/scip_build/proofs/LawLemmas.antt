@@ -19,7 +19,7 @@ use Rattle.proto_decl.specs.Laws.{OneFacts}
 use Rattle.scip_build.specs.declared.fault.FileFault.{FileFault}
 use Rattle.scip_build.specs.declared.fault.FileFault.TheVariants.{Lex, Syntax}
 use Rattle.scip_build.specs.Parsed.{HasLexing, AreFactsIn, IsUnlexed, IsUnparsed}
-use Rattle.scip_build.specs.Files.{TreeFile}
+use Rattle.source_tree.specs.Files.{TreeFile}
 use Rattle.scip_build.specs.Readings.{IsFirstFaulty}
 use Rattle.scip_build.specs.Laws.{OneListOfFacts, NoFactsWhereUnreadable, LexedWhereUnparsed, OneFirstFaulty}
 

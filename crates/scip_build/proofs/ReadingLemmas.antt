@@ -11,7 +11,8 @@ use Rattle.index_pool.specs.Phase.{AnswersEach, IsLeastFault}
 use Rattle.scip_build.specs.declared.fault.FileFault.{FileFault}
 use Rattle.scip_build.specs.declared.fault.Stop.TheVariants.{Unreadable}
 use Rattle.scip_build.specs.Laws.{NoFactsWhereUnreadable}
-use Rattle.scip_build.specs.Files.{TreeFile, FileContents, ReadFile}
+use Rattle.source_tree.specs.Files.{TreeFile}
+use Rattle.scip_build.specs.Files.{FileContents, ReadFile}
 use Rattle.scip_build.specs.Readings.{HasContents, IsReadingOf, AreReadingsOf, IsFaultySource, IsReadIfSource, IsFirstFaulty, GivesReading}
 
 -- what a list has at a number below its length

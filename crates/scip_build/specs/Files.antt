@@ -1,14 +1,8 @@
--- The files of a tree, and what is known of each after it was read.
+-- What is known of a file after it was read.
 use Rattle.std.specs.Prelude.{ℕ, Bool, Result, List}
 use Rattle.proto_decl.specs.Facts.{Facts}
 use Rattle.index_hooks.specs.declared.choice.Choice.{Choice}
 use Rattle.scip_build.specs.declared.fault.FileFault.{FileFault}
-
--- A file of a tree: its path below its root, its bytes, and whether it is included: linked, but not indexed.
-pub record TreeFile : Type 0 where
-  pub path : List ℕ
-  pub bytes : List ℕ
-  pub is_included : Bool
 
 -- The contents of a file that can be read: its text, its facts, and the choice for each of its declarations.
 pub record FileContents : Type 0 where

@@ -8,7 +8,8 @@ use Rattle.proto_decl.specs.Seen.{Seen}
 use Rattle.index_hooks.specs.declared.choice.Choice.{Choice}
 use Rattle.scip_build.specs.declared.fault.FileFault.{FileFault}
 use Rattle.scip_build.specs.Parsed.{AreFactsIn, IsUnlexed, IsUnparsed, IsUnreadable}
-use Rattle.scip_build.specs.Files.{TreeFile, ReadFile}
+use Rattle.source_tree.specs.Files.{TreeFile}
+use Rattle.scip_build.specs.Files.{ReadFile}
 use Rattle.scip_build.specs.Readings.{AreReadingsOf, IsFirstFaulty}
 
 -- A file has one list of facts at most,

@@ -1,6 +1,6 @@
 -- what the bytes of a file say, and why they say nothing
 pub mod Parsed
--- the files of a tree, before and after they were read
+-- what is known of a file after it was read
 pub mod Files
 -- what files are read as, and the first that can't be
 pub mod Readings

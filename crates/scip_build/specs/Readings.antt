@@ -13,7 +13,8 @@ use Rattle.scip_build.specs.declared.fault.Stop.TheVariants as stop
 use Rattle.scip_build.specs.declared.fault.ReadFault.{ReadFault}
 use Rattle.scip_build.specs.declared.fault.ReadFault.TheVariants.{Spawn, Memory, File}
 use Rattle.scip_build.specs.Parsed.{AreFactsIn, IsUnreadable}
-use Rattle.scip_build.specs.Files.{TreeFile, FileContents, ReadFile}
+use Rattle.source_tree.specs.Files.{TreeFile}
+use Rattle.scip_build.specs.Files.{FileContents, ReadFile}
 
 -- what a callback sees of a declaration
 abbrev pub seen_of : Declaration → Seen

@@ -1,19 +1,19 @@
 //! From the bytes of a file to its contents.
 
-ghost use Rattle.std.specs.Prelude.{MatchResult};
+ghost use Rattle.std.specs.Prelude.{◌<◌, length, MatchResult};
 ghost use Rattle.proto_lex.specs.Text.{IsText};
 ghost use Rattle.scip_build.specs.Parsed.{AreFactsIn};
-ghost use Rattle.scip_build.specs.Readings.{AreContentsOf, IsReadingOf, MayStop, MayStopAt};
+ghost use Rattle.scip_build.specs.Readings.{AreContentsOf, GivesReading, IsReadingOf, MayStop, MayStopAt};
 ghost use Rattle.scip_build.specs.Stops.{IsPassedOver, IsStopping};
 
 use crate::choosing::choose_each;
 use crate::fault::{FileFault, Stop};
 use crate::reading::{Contents, Reading};
-use crate::tree_file::TreeFile;
 use index_hooks::Chooses;
 use proto_decl::{FileFacts, declare};
 use proto_lex::{Text, lex};
 use proto_parse::{CustomOptions, parse_with};
+use source_tree::Tree;
 use std::alloc::Global;
 
 /// The facts of a text: it is lexed whole, then parsed, then declared.
@@ -67,27 +67,51 @@ fn unless_stopped(is_included: bool, stop: Stop) -> Result<FileFault, Stop>
     }
 }
 
-/// Reads the file with this number. An included file that can't be read has its fault in place of
-/// contents.
-pub(crate) fn read_file<'a, C: Chooses>(
+/// Reads the file with this number, which has this path and these bytes. An included file that
+/// can't be read has its fault in place of contents.
+fn read_parts<'a, C: Chooses>(
     alloc: Global,
     number: usize,
-    file: &TreeFile<'a>,
+    path: &'a str,
+    bytes: &'a [u8],
+    is_included: bool,
     chooser: &C,
     custom: CustomOptions,
 ) -> Result<Reading<'a>, Stop>
-    ensures { MatchResult result (IsReadingOf custom (C.allows chooser.now) number file.now) (MayStopAt custom file.now) }
+    ensures { MatchResult result (IsReadingOf custom (C.allows chooser.now) number (record { path = path.now; bytes = bytes.now; is_included = is_included })) (MayStopAt custom (record { path = path.now; bytes = bytes.now; is_included = is_included })) }
 {
-    match contents_of(alloc, number, file.bytes, chooser, custom) {
+    match contents_of(alloc, number, bytes, chooser, custom) {
         Ok(contents) => Ok(Reading {
-            path: file.path,
-            is_included: file.is_included,
+            path,
+            is_included,
             contents: Ok(contents),
         }),
         Err(stop) => Ok(Reading {
-            path: file.path,
-            is_included: file.is_included,
-            contents: Err(unless_stopped(file.is_included, stop)?),
+            path,
+            is_included,
+            contents: Err(unless_stopped(is_included, stop)?),
         }),
     }
+}
+
+/// Reads the file of a tree with this number.
+pub(crate) fn read_file<'a, C: Chooses>(
+    alloc: Global,
+    number: usize,
+    tree: &'a Tree,
+    chooser: &C,
+    custom: CustomOptions,
+) -> Result<Reading<'a>, Stop>
+    requires { number < length tree.now }
+    ensures { GivesReading custom (C.allows chooser.now) tree.now number result }
+{
+    read_parts(
+        alloc,
+        number,
+        tree.path(number),
+        tree.bytes(number),
+        tree.is_included(number),
+        chooser,
+        custom,
+    )
 }

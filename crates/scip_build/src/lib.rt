@@ -7,7 +7,6 @@ mod file_reading;
 mod laws;
 mod phase_one;
 mod reading;
-mod tree_file;
 
 pub use fault::{FileFault, ReadFault};
 pub use laws::{
@@ -15,4 +14,3 @@ pub use laws::{
 };
 pub use phase_one::read_files;
 pub use reading::{Contents, Reading};
-pub use tree_file::TreeFile;

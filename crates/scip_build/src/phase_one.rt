@@ -1,30 +1,29 @@
 //! The first phase: the files of a tree are read, on workers.
 
-ghost use Rattle.std.specs.Prelude.{◌≤◌, length, MatchResult};
-ghost use Rattle.index_pool.specs.declared.workers.TheConstants.{MAX_INPUTS};
+ghost use Rattle.std.specs.Prelude.{MatchResult};
 ghost use Rattle.scip_build.specs.Readings.{AreReadingsOf, IsReadFault};
 
 use crate::fault::{ReadFault, Stop};
 use crate::file_reading::read_file;
 use crate::reading::Reading;
-use crate::tree_file::TreeFile;
 use index_hooks::Chooses;
-use index_pool::{Gate, Job, MAX_INPUTS, PoolFault, Workers, run_phase};
+use index_pool::{Gate, Job, PoolFault, Workers, run_phase};
 use proto_parse::CustomOptions;
+use source_tree::Tree;
 use std::alloc::Global;
 use std::sync::Wait;
 use std::thread::Threads;
 
 /// The reading of each file.
 #[derive(Drop)]
-struct PhaseOne<'s, 'a, C: Chooses + Sync> {
+struct PhaseOne<'a, 'c, C: Chooses + Sync> {
     alloc: Global,
-    files: &'s [TreeFile<'a>],
-    chooser: &'s C,
+    tree: &'a Tree,
+    chooser: &'c C,
     custom: CustomOptions,
 }
 
-impl<'s, 'a, C: Chooses + Sync> Job for PhaseOne<'s, 'a, C> {
+impl<'a, 'c, C: Chooses + Sync> Job for PhaseOne<'a, 'c, C> {
     ghost use Rattle.std.specs.Prelude.{length};
     ghost use Rattle.scip_build.specs.Readings.{GivesReading};
 
@@ -32,18 +31,12 @@ impl<'s, 'a, C: Chooses + Sync> Job for PhaseOne<'s, 'a, C> {
 
     type Fault = Stop;
 
-    ghost inputs = { λ s. length s.files.now };
+    ghost inputs = { λ s. length s.tree.now };
 
-    ghost gives = { λ s number result. GivesReading s.custom (C.allows s.chooser.now) s.files.now number result };
+    ghost gives = { λ s number result. GivesReading s.custom (C.allows s.chooser.now) s.tree.now number result };
 
     fn run(&self, number: usize) -> Result<Reading<'a>, Stop> {
-        read_file(
-            self.alloc,
-            number,
-            &self.files[number],
-            self.chooser,
-            self.custom,
-        )
+        read_file(self.alloc, number, self.tree, self.chooser, self.custom)
     }
 }
 
@@ -59,22 +52,21 @@ impl<'s, 'a, C: Chooses + Sync> Job for PhaseOne<'s, 'a, C> {
 pub fn read_files<'a, R: Threads + Wait, C: Chooses + Sync, G: Gate>(
     rt: &R,
     alloc: Global,
-    files: &[TreeFile<'a>],
+    tree: &'a Tree,
     chooser: &C,
     workers: Workers,
     custom: CustomOptions,
     gate: &G,
 ) -> Result<Vec<Reading<'a>>, ReadFault>
-    requires { length files.now ≤ MAX_INPUTS }
-    ensures { MatchResult result (λ readings. AreReadingsOf custom (C.allows chooser.now) files.now readings.items) (IsReadFault custom files.now workers) }
+    ensures { MatchResult result (λ readings. AreReadingsOf custom (C.allows chooser.now) tree.now readings.items) (IsReadFault custom tree.now workers) }
 {
     let job = PhaseOne {
         alloc,
-        files,
+        tree,
         chooser,
         custom,
     };
-    match run_phase(rt, alloc, &job, files.len(), workers, gate) {
+    match run_phase(rt, alloc, &job, tree.file_count(), workers, gate) {
         Ok(readings) => Ok(readings),
         Err(PoolFault::Spawn) => Err(ReadFault::Spawn),
         Err(PoolFault::Memory) => Err(ReadFault::Memory),

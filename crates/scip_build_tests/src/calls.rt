@@ -4,8 +4,9 @@ use index_hooks::{Choice, Chooses, DocChoice};
 use index_pool::{NoGate, Workers};
 use proto_decl::DeclView;
 use proto_parse::CustomOptions;
-use scip_build::{ReadFault, Reading, TreeFile, read_files};
-use std::alloc::Global;
+use scip_build::{ReadFault, Reading, read_files};
+use source_tree::{Source, Tree, TreeFault};
+use std::alloc::{AllocError, Global};
 use std::process::Abort;
 use std::sync::Wait;
 use std::sync::atomic::{AtomicU64, Ordering};
@@ -21,9 +22,17 @@ pub(crate) fn workers(rt: &impl Abort, count: usize) -> Workers {
     Workers::new(count).expect(rt, "1 to 16 workers")
 }
 
+/// A file as tests name it.
+#[derive(Clone, Copy)]
+pub(crate) struct Given<'a> {
+    pub(crate) path: &'a str,
+    pub(crate) bytes: &'a [u8],
+    pub(crate) is_included: bool,
+}
+
 /// A source.
-pub(crate) fn source<'a>(path: &'a str, text: &'a str) -> TreeFile<'a> {
-    TreeFile {
+pub(crate) fn source<'a>(path: &'a str, text: &'a str) -> Given<'a> {
+    Given {
         path,
         bytes: text.as_bytes(),
         is_included: false,
@@ -31,12 +40,49 @@ pub(crate) fn source<'a>(path: &'a str, text: &'a str) -> TreeFile<'a> {
 }
 
 /// An included file.
-pub(crate) fn included<'a>(path: &'a str, text: &'a str) -> TreeFile<'a> {
-    TreeFile {
+pub(crate) fn included<'a>(path: &'a str, text: &'a str) -> Given<'a> {
+    Given {
         path,
         bytes: text.as_bytes(),
         is_included: true,
     }
+}
+
+/// The sources among files, or the included ones.
+fn those(alloc: Global, files: &[Given<'_>], included: bool) -> Result<Vec<Source>, AllocError> {
+    let mut found = Vec::new(alloc);
+    for file in files {
+        if file.is_included == included {
+            found.push(Source {
+                path: String::from_str(alloc, file.path)?,
+                bytes: Vec::from_slice(alloc, file.bytes)?,
+            })?;
+        }
+    }
+    Ok(found)
+}
+
+fn tree_once(alloc: Global, files: &[Given<'_>]) -> Result<Option<Tree>, AllocError> {
+    let sources = those(alloc, files, false)?;
+    let included = those(alloc, files, true)?;
+    match Tree::with_included(alloc, sources, included) {
+        Ok(tree) => Ok(Some(tree)),
+        Err((_, TreeFault::Memory)) => Err(AllocError),
+        Err(_) => Ok(None),
+    }
+}
+
+/// The tree of these files. After want of memory it is made again.
+pub(crate) fn tree(
+    rt: &impl Abort,
+    alloc: Global,
+    files: &[Given<'_>],
+) -> Result<Tree, AllocError> {
+    let made = match tree_once(alloc, files) {
+        Ok(made) => made,
+        Err(_) => tree_once(alloc, files)?,
+    };
+    Ok(made.expect(rt, "files with good paths of their own"))
 }
 
 /// Keeps each declaration, with both texts, and counts how often it was asked.
@@ -70,33 +116,30 @@ impl Chooses for Counting {
     }
 }
 
-/// The readings of files, where custom options are refused. After want of memory or of a thread
+/// The readings of a tree's files, where custom options are refused. After want of memory or of a thread
 /// they are read again, and the second answer counts.
 pub(crate) fn read<'a, R: Threads + Wait, C: Chooses + Sync>(
     rt: &R,
     alloc: Global,
-    files: &[TreeFile<'a>],
+    tree: &'a Tree,
     chooser: &C,
     workers: Workers,
 ) -> Result<Vec<Reading<'a>>, ReadFault> {
-    read_with(rt, alloc, files, chooser, workers, CustomOptions::Refuse)
+    read_with(rt, alloc, tree, chooser, workers, CustomOptions::Refuse)
 }
 
 /// The same, with a choice of what is done with custom options.
 pub(crate) fn read_with<'a, R: Threads + Wait, C: Chooses + Sync>(
     rt: &R,
     alloc: Global,
-    files: &[TreeFile<'a>],
+    tree: &'a Tree,
     chooser: &C,
     workers: Workers,
     custom: CustomOptions,
 ) -> Result<Vec<Reading<'a>>, ReadFault> {
-    if files.len() > 100 {
-        return Err(ReadFault::Memory);
-    }
-    match read_files(rt, alloc, files, chooser, workers, custom, &NoGate) {
+    match read_files(rt, alloc, tree, chooser, workers, custom, &NoGate) {
         Err(ReadFault::Memory) | Err(ReadFault::Spawn) => {
-            read_files(rt, alloc, files, chooser, workers, custom, &NoGate)
+            read_files(rt, alloc, tree, chooser, workers, custom, &NoGate)
         }
         answer => answer,
     }

@@ -1,10 +1,11 @@
 //! What is chosen, and how often it is asked for.
 
-use crate::calls::{Counting, included, read, see, source, workers};
+use crate::calls::{Counting, Given, included, read, see, source, tree, workers};
 use index_hooks::{AnyAnswer, Choice, DocAlways, DocChoice, Filter, FilterCallback, Registry};
 use index_pool::Workers;
 use proto_decl::{DeclView, DeclarationKind};
-use scip_build::{Reading, TreeFile};
+use scip_build::Reading;
+use source_tree::Tree;
 use std::alloc::Global;
 use std::sync::Wait;
 use std::test::Fail;
@@ -24,7 +25,7 @@ impl FilterCallback for NoEnums {
     }
 }
 
-fn files<'a>() -> [TreeFile<'a>; 3] {
+fn files<'a>() -> [Given<'a>; 3] {
     [
         source("a.proto", SOURCE),
         included("s.proto", SHARED),
@@ -50,10 +51,10 @@ fn keeps(reading: &Reading<'_>, kept: &[bool]) -> bool {
 
 #[test]
 fn each_declaration_is_asked_about_once(rt: HostRuntime) -> Result<(), Fail> {
-    let files = files();
+    let tree = tree(&rt, rt.alloc(), &files())?;
     for count in [1, 2, 16] {
         let chooser = Counting::new();
-        let answer = read(&rt, rt.alloc(), &files, &chooser, workers(&rt, count));
+        let answer = read(&rt, rt.alloc(), &tree, &chooser, workers(&rt, count));
         see(&rt, answer.is_ok(), "read");
         see(
             &rt,
@@ -68,10 +69,11 @@ fn each_declaration_is_asked_about_once(rt: HostRuntime) -> Result<(), Fail> {
 fn chooses_as_told<R: Threads + Wait>(
     rt: &R,
     alloc: Global,
+    tree: &Tree,
     registry: &Registry,
     workers: Workers,
 ) -> bool {
-    match read(rt, alloc, &files(), registry, workers) {
+    match read(rt, alloc, tree, registry, workers) {
         Ok(readings) => match readings.as_slice() {
             [a, s, u] => {
                 keeps(a, &[false, true, true, true])
@@ -87,13 +89,14 @@ fn chooses_as_told<R: Threads + Wait>(
 #[test]
 fn choices_stand_with_their_declarations(rt: HostRuntime) -> Result<(), Fail> {
     let alloc = rt.alloc();
+    let tree = tree(&rt, alloc, &files())?;
     let mut registry = Registry::new(alloc);
     let filter = Box::new(alloc, Filter::new(AnyAnswer, NoEnums))?;
     see(&rt, registry.add_filter(filter).is_ok(), "the filter");
     let rule = Box::new(alloc, DocAlways(DocChoice::Both).rule())?;
     see(&rt, registry.add_doc(rule).is_ok(), "the rule");
     for count in [1, 2, 16] {
-        let as_told = chooses_as_told(&rt, alloc, &registry, workers(&rt, count));
+        let as_told = chooses_as_told(&rt, alloc, &tree, &registry, workers(&rt, count));
         see(&rt, as_told, "choices");
     }
     Ok(())

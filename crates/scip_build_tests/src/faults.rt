@@ -1,9 +1,9 @@
 //! Which file is named, and why.
 
-use crate::calls::{Counting, included, read, see, source, workers};
+use crate::calls::{Counting, Given, included, read, see, source, tree, workers};
 use proto_lex::LexFault;
 use proto_parse::SyntaxFault;
-use scip_build::{FileFault, ReadFault, TreeFile};
+use scip_build::{FileFault, ReadFault};
 use std::test::Fail;
 
 const GOOD: &str = "syntax = \"proto3\";\n";
@@ -71,9 +71,10 @@ fn the_first_faulty_source_is_named(rt: HostRuntime) -> Result<(), Fail> {
         ),
     ]?;
     for (files, number, fault) in rows {
+        let tree = tree(&rt, alloc, &files)?;
         for count in [1, 2, 4, 16] {
             let chooser = Counting::new();
-            let answer = read(&rt, alloc, &files, &chooser, workers(&rt, count));
+            let answer = read(&rt, alloc, &tree, &chooser, workers(&rt, count));
             let named =
                 matches!(answer, Err(ReadFault::File(k, cause)) if k == number && cause == fault);
             see(&rt, named, "the file and its fault");
@@ -92,8 +93,8 @@ fn a_file_is_lexed_whole_before_it_is_parsed(rt: HostRuntime) -> Result<(), Fail
     ];
     for (text, fault) in rows {
         let chooser = Counting::new();
-        let files = [source("a.proto", text)];
-        let answer = read(&rt, alloc, &files, &chooser, workers(&rt, 1));
+        let tree = tree(&rt, alloc, &[source("a.proto", text)])?;
+        let answer = read(&rt, alloc, &tree, &chooser, workers(&rt, 1));
         let named =
             matches!(answer, Err(ReadFault::File(0, FileFault::Lex(cause))) if cause == fault);
         see(&rt, named, "the fault of the lexing");
@@ -106,12 +107,13 @@ fn a_file_is_lexed_whole_before_it_is_parsed(rt: HostRuntime) -> Result<(), Fail
 fn bytes_that_are_no_text_are_named(rt: HostRuntime) -> Result<(), Fail> {
     let alloc = rt.alloc();
     let chooser = Counting::new();
-    let files = [TreeFile {
+    let file = Given {
         path: "a.proto",
         bytes: &[b'@', 0xFF],
         is_included: false,
-    }];
-    let answer = read(&rt, alloc, &files, &chooser, workers(&rt, 2));
+    };
+    let tree = tree(&rt, alloc, &[file])?;
+    let answer = read(&rt, alloc, &tree, &chooser, workers(&rt, 2));
     let named = matches!(
         answer,
         Err(ReadFault::File(0, FileFault::Lex(LexFault::NotUtf8(1))))

@@ -1,9 +1,9 @@
 //! What files are read as.
 
-use crate::calls::{Counting, included, read, see, source, workers};
+use crate::calls::{Counting, Given, included, read, see, source, tree, workers};
 use proto_lex::LexFault;
 use proto_parse::SyntaxFault;
-use scip_build::{FileFault, Reading, TreeFile};
+use scip_build::{FileFault, Reading};
 use std::test::Fail;
 
 const MESSAGE: &str =
@@ -40,7 +40,7 @@ fn has_fault(reading: &Reading<'_>, path: &str, fault: FileFault) -> bool {
         && matches!(&reading.contents, Err(cause) if *cause == fault)
 }
 
-fn four<'a>() -> [TreeFile<'a>; 4] {
+fn four<'a>() -> [Given<'a>; 4] {
     [
         source("a.proto", IMPORT),
         included("o.proto", "\"abc"),
@@ -74,10 +74,10 @@ fn are_numbered(readings: &[Reading<'_>]) -> bool {
 
 #[test]
 fn files_are_read_under_their_numbers(rt: HostRuntime) -> Result<(), Fail> {
-    let files = four();
+    let tree = tree(&rt, rt.alloc(), &four())?;
     for count in [1, 2, 3, 16] {
         let chooser = Counting::new();
-        match read(&rt, rt.alloc(), &files, &chooser, workers(&rt, count)) {
+        match read(&rt, rt.alloc(), &tree, &chooser, workers(&rt, count)) {
             Ok(readings) => {
                 see(&rt, are_read(&readings), "readings");
                 see(&rt, are_numbered(&readings), "numbers");
@@ -91,7 +91,8 @@ fn files_are_read_under_their_numbers(rt: HostRuntime) -> Result<(), Fail> {
 #[test]
 fn no_files_have_no_readings(rt: HostRuntime) -> Result<(), Fail> {
     let chooser = Counting::new();
-    let none = match read(&rt, rt.alloc(), &[], &chooser, workers(&rt, 4)) {
+    let tree = tree(&rt, rt.alloc(), &[])?;
+    let none = match read(&rt, rt.alloc(), &tree, &chooser, workers(&rt, 4)) {
         Ok(readings) => readings.is_empty(),
         Err(_) => false,
     };

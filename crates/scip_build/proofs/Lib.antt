@@ -1,5 +1,7 @@
 -- one more choice
 mod ChosenLemmas
+-- files as they are linked
+mod LinkingLemmas
 -- proofs of the laws
 mod LawLemmas
 -- what the phase answers, file by file

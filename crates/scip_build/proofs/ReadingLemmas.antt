@@ -16,7 +16,7 @@ use Rattle.scip_build.specs.Files.{FileContents, ReadFile}
 use Rattle.scip_build.specs.Readings.{HasContents, IsReadingOf, AreReadingsOf, IsFaultySource, IsReadIfSource, IsFirstFaulty, GivesReading}
 
 -- what a list has at a number below its length
-at_number : {X : Type 0} (xs : List X) (k : ℕ) → k < length xs → (x : X) × (slice_get xs k ≡ Some x)
+pub at_number : {X : Type 0} (xs : List X) (k : ℕ) → k < length xs → (x : X) × (slice_get xs k ≡ Some x)
 at_number [] k within = absurd (omega (arith, within))
 at_number (x ∷ xs) zero within = (x, refl)
 at_number (x ∷ xs) (suc k) within = at_number xs k (omega (arith, within))

@@ -8,9 +8,12 @@ use Rattle.proto_decl.specs.Seen.{Seen}
 use Rattle.index_hooks.specs.declared.choice.Choice.{Choice}
 use Rattle.scip_build.specs.declared.fault.FileFault.{FileFault}
 use Rattle.scip_build.specs.Parsed.{AreFactsIn, IsUnlexed, IsUnparsed, IsUnreadable}
+use Rattle.proto_link.specs.Files as link
 use Rattle.source_tree.specs.Files.{TreeFile}
+use Rattle.source_tree.specs.Trees.{HaveOwnPaths}
 use Rattle.scip_build.specs.Files.{ReadFile}
 use Rattle.scip_build.specs.Readings.{AreReadingsOf, IsFirstFaulty}
+use Rattle.scip_build.specs.Linking.{linked_files}
 
 -- A file has one list of facts at most,
 abbrev pub OneListOfFacts : Type 0
@@ -37,3 +40,9 @@ abbrev pub NoReadingsWhereFaulty : (allows : Seen → Choice → Type 0) → Typ
 NoReadingsWhereFaulty allows =
     (custom : CustomOptions) (files : List TreeFile) (readings : List ReadFile) (number : ℕ) (fault : FileFault)
     → AreReadingsOf custom allows files readings → IsFirstFaulty custom files number fault → ⊥
+
+-- Files that were read have paths of their own, as the tree's have, so that they can be handed to the linker.
+abbrev pub ReadingsHaveOwnPaths : (allows : Seen → Choice → Type 0) → Type 0
+ReadingsHaveOwnPaths allows =
+    (custom : CustomOptions) (files : List TreeFile) (readings : List ReadFile) → AreReadingsOf custom allows files readings → HaveOwnPaths files
+    → link.HaveOwnPaths (linked_files readings)

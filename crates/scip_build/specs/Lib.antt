@@ -6,5 +6,7 @@ pub mod Files
 pub mod Readings
 -- why the reading of a file stops
 pub mod Stops
+-- what is linked of files that were read
+pub mod Linking
 -- the laws
 pub mod Laws

@@ -1,6 +1,7 @@
 //! Why files can't be read.
 
 use proto_lex::LexFault;
+use proto_link::FilePlace;
 use proto_parse::SyntaxFault;
 use std::alloc::AllocError;
 use thiserror::Error;
@@ -29,6 +30,25 @@ pub enum ReadFault {
     /// The number of the first source that can't be read, and why. Memory sufficed for every file
     /// before it.
     File(usize, FileFault),
+}
+
+/// Why a tree has no index. The first of those that hold is answered, in this order; but `Spawn` and
+/// `Memory` also come again, before what the same step would answer.
+#[derive(Clone, Copy, Debug, Drop, PartialEq, Eq)]
+pub enum BuildFault {
+    /// A thread could not be started.
+    Spawn,
+    /// Memory ran out.
+    Memory,
+    /// The number of the first source that can't be read, and why; or, where all can be, of the first
+    /// included file that some source sees and that can't be.
+    File(usize, FileFault),
+    /// Two places that give one full name.
+    Duplicate(FilePlace, FilePlace),
+    /// The first import of a path that no file has.
+    MissingImport(FilePlace),
+    /// The first use of the first source in which a use names no type.
+    Unresolved(FilePlace),
 }
 
 /// Why the reading of a file ends without contents.

@@ -1,6 +1,6 @@
 //! Laws: what the definitions say of readings and faults, whatever the code does.
 
-ghost use Rattle.scip_build.specs.Laws.{OneListOfFacts, NoFactsWhereUnreadable, LexedWhereUnparsed, OneFirstFaulty, NoReadingsWhereFaulty};
+ghost use Rattle.scip_build.specs.Laws.{OneListOfFacts, NoFactsWhereUnreadable, LexedWhereUnparsed, OneFirstFaulty, NoReadingsWhereFaulty, ReadingsHaveOwnPaths};
 
 use index_hooks::Chooses;
 use proto_decl::one_list_of_facts;
@@ -38,3 +38,8 @@ pub fn readings_exclude_faults<C: Chooses>(chooser: &C)
 {
     faults_exclude_facts();
 }
+
+/// Files that were read have paths of their own, as `link` needs it.
+pub fn readings_have_own_paths<C: Chooses>(chooser: &C)
+    ensures { ReadingsHaveOwnPaths (C.allows chooser.now) }
+{}

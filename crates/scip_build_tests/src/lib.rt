@@ -10,4 +10,6 @@ mod custom;
 #[cfg(test)]
 mod faults;
 #[cfg(test)]
+mod linking;
+#[cfg(test)]
 mod readings;

@@ -1,0 +1,95 @@
+-- Proofs of the laws.
+use Rattle.std.proofs.Common.{◌≡◌, ◌∙◌, inl, inr, ℕ, ◌<◌, ◌≤◌, List, length, take, sym, subst, arith}
+use Rattle.std.specs.Str.{IsUtf8}
+use Rattle.std.proofs.lemmas.List.{take_all}
+use Rattle.std.proofs.lemmas.Bool.{cases_order}
+use Rattle.proto_lex.specs.Text.{IsText, IsNoText}
+use Rattle.proto_lex.specs.Lexed.{Lexed}
+use Rattle.proto_lex.specs.Lexes.{Lexes}
+use Rattle.proto_lex.specs.LexLaws.{OneTokens, OneComments, NoFaultWhereItLexes}
+use Rattle.proto_lex.specs.declared.fault.LexFault.{LexFault}
+use Rattle.proto_lex.specs.declared.fault.LexFault.TheVariants.{TooLong, NotUtf8, BadByte, OpenString, OpenComment, BadEscape, BadNumber, Memory}
+use Rattle.proto_lex.specs.declared.token.Token.{Token}
+use Rattle.proto_grammar.specs.declared.tree.CustomOptions.{CustomOptions}
+use Rattle.proto_grammar.specs.declared.tree.File.{File}
+use Rattle.proto_grammar.specs.declared.fault.SyntaxFault.{SyntaxFault}
+use Rattle.proto_parse.specs.Derives.{Derives}
+use Rattle.proto_decl.specs.Facts.{Facts, AreFactsOf}
+use Rattle.proto_decl.specs.Laws.{OneFacts}
+use Rattle.scip_build.specs.declared.fault.FileFault.{FileFault}
+use Rattle.scip_build.specs.declared.fault.FileFault.TheVariants.{Lex, Syntax}
+use Rattle.scip_build.specs.Parsed.{HasLexing, AreFactsIn, IsUnlexed, IsUnparsed}
+use Rattle.source_tree.specs.Files.{TreeFile}
+use Rattle.scip_build.specs.Readings.{IsFirstFaulty}
+use Rattle.scip_build.specs.Laws.{OneListOfFacts, NoFactsWhereUnreadable, LexedWhereUnparsed, OneFirstFaulty}
+
+abbrev pub OneTree : Type 0
+OneTree = (custom : CustomOptions) (text : List ℕ) (tokens : List Token) (file other : File) → Derives custom text tokens file → Derives custom text tokens other → file ≡ other
+
+-- a text isn't called none
+text_is_text : (bytes : List ℕ) (fault : LexFault) → IsText bytes → IsNoText bytes fault → ⊥
+text_is_text bytes TooLong text wrong = omega (arith, text.short, wrong)
+text_is_text bytes (NotUtf8 offset) text wrong = wrong.1.longest (length bytes) wrong.1.short (subst IsUtf8 (sym (take_all (length bytes) bytes (omega arith))) text.utf8)
+text_is_text bytes (BadByte offset) text wrong = absurd wrong
+text_is_text bytes (OpenString offset) text wrong = absurd wrong
+text_is_text bytes (OpenComment offset) text wrong = absurd wrong
+text_is_text bytes (BadEscape offset) text wrong = absurd wrong
+text_is_text bytes (BadNumber offset) text wrong = absurd wrong
+text_is_text bytes Memory text wrong = absurd wrong
+
+module _ (one_tokens : OneTokens) (one_comments : OneComments) where
+  -- a file has one lexing
+  same_lexing : (bytes : List ℕ) (lexed other : Lexed) → HasLexing bytes lexed → HasLexing bytes other → lexed ≡ other
+  same_lexing bytes lexed other a b =
+      let same_text : lexed.text ≡ other.text = a.of_bytes ∙ sym b.of_bytes in
+      let Of : List ℕ → Type 0 = λ text. Lexes text other.tokens other.comments in
+      let lexes : Lexes lexed.text other.tokens other.comments = subst Of (sym same_text) b.is_lexed.lexes in
+      let tokens : lexed.tokens ≡ other.tokens = one_tokens lexed.text lexed.tokens other.tokens lexed.comments other.comments a.is_lexed.lexes lexes in
+      let comments : lexed.comments ≡ other.comments = one_comments lexed.text lexed.tokens other.tokens lexed.comments other.comments a.is_lexed.lexes lexes in
+      λ i. record { text = same_text i; tokens = tokens i; comments = comments i }
+
+  pub one_list_of_facts : OneTree → OneFacts → OneListOfFacts
+  one_list_of_facts one_tree one_facts custom number bytes facts other a b =
+      let Here : Lexed → Type 0 = λ lexed. Derives custom lexed.text lexed.tokens b.tree × AreFactsOf number lexed b.tree other in
+      let moved : Here a.lexed = subst Here (sym (same_lexing bytes a.lexed b.lexed a.lexing b.lexing)) (b.derives, b.of_tree) in
+      let trees : a.tree ≡ b.tree = one_tree custom a.lexed.text a.lexed.tokens a.tree b.tree a.derives moved.0 in
+      let Of : File → Type 0 = λ tree. AreFactsOf number a.lexed tree other in
+      one_facts number a.lexed a.tree facts other a.lexing.is_lexed a.of_tree (subst Of (sym trees) moved.1)
+
+  -- tokens of a file that derive a tree aren't said to derive none
+  parsed_is_parsed : (custom : CustomOptions) (number : ℕ) (bytes : List ℕ) (facts : Facts) (fault : SyntaxFault) → AreFactsIn custom number bytes facts → IsUnparsed custom bytes fault → ⊥
+  parsed_is_parsed custom number bytes facts fault has un =
+      let Here : Lexed → Type 0 = λ lexed. Derives custom lexed.text lexed.tokens has.tree in
+      un.no_tree has.tree (subst Here (same_lexing bytes has.lexed un.lexed has.lexing un.lexing) has.derives)
+
+  module _ (no_fault : NoFaultWhereItLexes) where
+    -- a file with a lexing isn't said to have none
+    lexed_is_lexed : (bytes : List ℕ) (lexed : Lexed) (fault : LexFault) → HasLexing bytes lexed → IsUnlexed bytes fault → ⊥
+    lexed_is_lexed bytes lexed fault has (inl wrong) = text_is_text bytes fault has.text wrong
+    lexed_is_lexed bytes lexed fault has (inr first) =
+        let Of : List ℕ → Type 0 = λ text. Lexes text lexed.tokens lexed.comments in
+        no_fault bytes lexed.tokens lexed.comments fault (subst Of has.of_bytes has.is_lexed.lexes) first.1
+
+    pub no_facts_where_unreadable : NoFactsWhereUnreadable
+    no_facts_where_unreadable custom number bytes facts (Lex fault) has un = lexed_is_lexed bytes has.lexed fault has.lexing un
+    no_facts_where_unreadable custom number bytes facts (Syntax fault) has un = parsed_is_parsed custom number bytes facts fault has un
+
+    pub lexed_where_unparsed : LexedWhereUnparsed
+    lexed_where_unparsed custom bytes lexing parsing un = lexed_is_lexed bytes un.lexed lexing un.lexing
+
+module _ (no_facts : NoFactsWhereUnreadable) where
+  -- no source before the first faulty one is faulty
+  not_before : (custom : CustomOptions) (files : List TreeFile) (number other : ℕ) (fault another : FileFault)
+      → IsFirstFaulty custom files number fault → IsFirstFaulty custom files other another → number < other → ⊥
+  not_before custom files number other fault another first second less =
+      let has = second.before number first.file less first.numbered first.faulty.source in
+      no_facts custom number first.file.bytes has.0 fault has.1 first.faulty.unreadable
+
+  pub one_first_faulty : OneFirstFaulty
+  one_first_faulty custom files number other fault another first second = elim (cases_order number other) [
+    | inl same ↦ same
+    | inr apart ↦ elim apart [
+      | inl less ↦ absurd (not_before custom files number other fault another first second less)
+      | inr more ↦ absurd (not_before custom files other number another fault second first more)
+    ]
+  ]

@@ -1,0 +1,17 @@
+-- What is known of a file after it was read.
+use Rattle.std.specs.Prelude.{ℕ, Bool, Result, List}
+use Rattle.proto_decl.specs.Facts.{Facts}
+use Rattle.index_hooks.specs.declared.choice.Choice.{Choice}
+use Rattle.scip_build.specs.declared.fault.FileFault.{FileFault}
+
+-- The contents of a file that can be read: its text, its facts, and the choice for each of its declarations.
+pub record FileContents : Type 0 where
+  pub text : List ℕ
+  pub facts : Facts
+  pub choices : List Choice
+
+-- A file after it was read: its contents, or why it has none.
+pub record ReadFile : Type 0 where
+  pub path : List ℕ
+  pub is_included : Bool
+  pub contents : Result FileContents FileFault

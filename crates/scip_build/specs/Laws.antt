@@ -1,0 +1,48 @@
+-- What the definitions say of readings and faults, whatever the code does.
+use Rattle.std.specs.Prelude.{◌≡◌, ℕ, List}
+use Rattle.proto_lex.specs.declared.fault.LexFault.{LexFault}
+use Rattle.proto_grammar.specs.declared.tree.CustomOptions.{CustomOptions}
+use Rattle.proto_grammar.specs.declared.fault.SyntaxFault.{SyntaxFault}
+use Rattle.proto_decl.specs.Facts.{Facts}
+use Rattle.proto_decl.specs.Seen.{Seen}
+use Rattle.index_hooks.specs.declared.choice.Choice.{Choice}
+use Rattle.scip_build.specs.declared.fault.FileFault.{FileFault}
+use Rattle.scip_build.specs.Parsed.{AreFactsIn, IsUnlexed, IsUnparsed, IsUnreadable}
+use Rattle.proto_link.specs.Files as link
+use Rattle.source_tree.specs.Files.{TreeFile}
+use Rattle.source_tree.specs.Trees.{HaveOwnPaths}
+use Rattle.scip_build.specs.Files.{ReadFile}
+use Rattle.scip_build.specs.Readings.{AreReadingsOf, IsFirstFaulty}
+use Rattle.scip_build.specs.Linking.{linked_files}
+
+-- A file has one list of facts at most,
+abbrev pub OneListOfFacts : Type 0
+OneListOfFacts =
+    (custom : CustomOptions) (number : ℕ) (bytes : List ℕ) (facts other : Facts) → AreFactsIn custom number bytes facts → AreFactsIn custom number bytes other → facts ≡ other
+
+-- and none where it can't be read,
+abbrev pub NoFactsWhereUnreadable : Type 0
+NoFactsWhereUnreadable =
+    (custom : CustomOptions) (number : ℕ) (bytes : List ℕ) (facts : Facts) (fault : FileFault) → AreFactsIn custom number bytes facts → IsUnreadable custom bytes fault → ⊥
+
+-- which it can't be for one kind of fault.
+abbrev pub LexedWhereUnparsed : Type 0
+LexedWhereUnparsed = (custom : CustomOptions) (bytes : List ℕ) (lexing : LexFault) (parsing : SyntaxFault) → IsUnparsed custom bytes parsing → IsUnlexed bytes lexing → ⊥
+
+-- Of the sources that can't be read one is the first.
+abbrev pub OneFirstFaulty : Type 0
+OneFirstFaulty =
+    (custom : CustomOptions) (files : List TreeFile) (number other : ℕ) (fault another : FileFault)
+    → IsFirstFaulty custom files number fault → IsFirstFaulty custom files other another → number ≡ other
+
+-- Where there is one, the files have no readings.
+abbrev pub NoReadingsWhereFaulty : (allows : Seen → Choice → Type 0) → Type 0
+NoReadingsWhereFaulty allows =
+    (custom : CustomOptions) (files : List TreeFile) (readings : List ReadFile) (number : ℕ) (fault : FileFault)
+    → AreReadingsOf custom allows files readings → IsFirstFaulty custom files number fault → ⊥
+
+-- Files that were read have paths of their own, as the tree's have, so that they can be handed to the linker.
+abbrev pub ReadingsHaveOwnPaths : (allows : Seen → Choice → Type 0) → Type 0
+ReadingsHaveOwnPaths allows =
+    (custom : CustomOptions) (files : List TreeFile) (readings : List ReadFile) → AreReadingsOf custom allows files readings → HaveOwnPaths files
+    → link.HaveOwnPaths (linked_files readings)

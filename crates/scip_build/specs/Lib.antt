@@ -1,0 +1,12 @@
+-- what the bytes of a file say, and why they say nothing
+pub mod Parsed
+-- what is known of a file after it was read
+pub mod Files
+-- what files are read as, and the first that can't be
+pub mod Readings
+-- why the reading of a file stops
+pub mod Stops
+-- what is linked of files that were read
+pub mod Linking
+-- the laws
+pub mod Laws

@@ -1,0 +1,53 @@
+-- What is linked of files that were read, and why they can't be.
+use Rattle.std.specs.Prelude.{◌≡◌, ℕ, ⊤, Option, Some, None, Result, Ok, Err, List, [], map}
+use Rattle.std.specs.List.{slice_get}
+use Rattle.proto_decl.specs.Facts.{Facts}
+use Rattle.proto_link.specs.declared.fault.LinkFault.TheVariants as link
+use Rattle.proto_link.specs.Files.{File, HaveOwnPaths}
+use Rattle.proto_link.specs.Absences.{Broken}
+use Rattle.proto_link.specs.Linked.{CanBeLinked, MayRefuse}
+use Rattle.index_hooks.specs.declared.choice.Choice.{Choice}
+use Rattle.scip_build.specs.declared.fault.FileFault.{FileFault}
+use Rattle.scip_build.specs.declared.fault.BuildFault.{BuildFault}
+use Rattle.scip_build.specs.declared.fault.BuildFault.TheVariants as build
+use Rattle.scip_build.specs.Files.{FileContents, ReadFile}
+
+-- a file's facts, where it has contents
+abbrev pub facts_in : Result FileContents FileFault → Option Facts
+facts_in (Ok contents) = Some contents.facts
+facts_in (Err fault) = None
+
+-- a file as it is linked
+abbrev pub linked_file : ReadFile → File
+linked_file reading = record { path = reading.path; facts = facts_in reading.contents; is_included = reading.is_included }
+
+abbrev pub linked_files : List ReadFile → List File
+linked_files readings = map linked_file readings
+
+-- the choices for a file's declarations; none where it has no contents
+abbrev pub choices_in : Result FileContents FileFault → List Choice
+choices_in (Ok contents) = contents.choices
+choices_in (Err fault) = []
+
+abbrev pub choices_of : ReadFile → List Choice
+choices_of reading = choices_in reading.contents
+
+-- the file with this number has no contents, for this fault
+pub record HasFault (readings : List ReadFile) (number : ℕ) (fault : FileFault) : Type 0 where
+  pub reading : ReadFile
+  pub numbered : slice_get readings number ≡ Some reading
+  pub unread : reading.contents ≡ Err fault
+
+-- Why files that were read can't be linked: the least of the sources and included sources that has no contents, and the
+-- fault of that; else what the linker refuses. Of memory nothing is said, and threads and uses are no matter of it.
+abbrev pub MayRefuseReadings : List ReadFile → BuildFault → Type 0
+MayRefuseReadings readings build.Spawn = ⊥
+MayRefuseReadings readings build.Memory = ⊤
+MayRefuseReadings readings (build.File number fault) = Broken (linked_files readings) number × HasFault readings number fault
+MayRefuseReadings readings (build.Duplicate first second) = MayRefuse (linked_files readings) (link.Duplicate first second)
+MayRefuseReadings readings (build.MissingImport place) = MayRefuse (linked_files readings) (link.MissingImport place)
+MayRefuseReadings readings (build.Unresolved place) = ⊥
+
+-- the files can be linked, and are those of the linker
+abbrev pub AreLinked : List ReadFile → List File → Type 0
+AreLinked readings files = (files ≡ linked_files readings) × CanBeLinked (linked_files readings)

@@ -1,0 +1,98 @@
+//! Why files can't be read.
+
+use proto_lex::LexFault;
+use proto_link::FilePlace;
+use proto_parse::SyntaxFault;
+use std::alloc::AllocError;
+use thiserror::Error;
+
+/// Why a file can't be read. `Lex` comes before `Syntax`: a file is lexed whole before it is parsed.
+///
+/// Neither holds its `Memory`: want of memory is no fault of a file.
+#[derive(Clone, Copy, Debug, Drop, PartialEq, Eq, Error)]
+pub enum FileFault {
+    /// Its bytes are no text, or the text has no lexing.
+    #[error("{0}")]
+    Lex(LexFault),
+    /// The tokens of its text derive no tree.
+    #[error("{0}")]
+    Syntax(SyntaxFault),
+}
+
+/// Why the files of a tree aren't read.
+#[derive(Clone, Copy, Debug, Drop, PartialEq, Eq)]
+pub enum ReadFault {
+    /// A thread could not be started.
+    Spawn,
+    /// Memory ran out: for what all files share, or for the least file that stops the run, be it an
+    /// included one.
+    Memory,
+    /// The number of the first source that can't be read, and why. Memory sufficed for every file
+    /// before it.
+    File(usize, FileFault),
+}
+
+/// Why a tree has no index. The first of those that hold is answered, in this order; but `Spawn` and
+/// `Memory` also come again, before what the same step would answer.
+#[derive(Clone, Copy, Debug, Drop, PartialEq, Eq)]
+pub enum BuildFault {
+    /// A thread could not be started.
+    Spawn,
+    /// Memory ran out.
+    Memory,
+    /// The number of the first source that can't be read, and why; or, where all can be, of the first
+    /// included file that some source sees and that can't be.
+    File(usize, FileFault),
+    /// Two places that give one full name.
+    Duplicate(FilePlace, FilePlace),
+    /// The first import of a path that no file has.
+    MissingImport(FilePlace),
+    /// The first use of the first source in which a use names no type.
+    Unresolved(FilePlace),
+}
+
+/// Why the reading of a file ends without contents.
+#[derive(Clone, Copy, Debug, Drop, PartialEq, Eq)]
+pub(crate) enum Stop {
+    Memory,
+    Unreadable(FileFault),
+}
+
+impl From<LexFault> for Stop {
+    ghost use Rattle.std.specs.Prelude.{◌≡◌};
+    ghost use Rattle.scip_build.specs.Stops.{stop_of_lexing};
+
+    ghost from_gives = { λ fault stop. stop ≡ stop_of_lexing fault };
+
+    fn from(fault: LexFault) -> Stop {
+        match fault {
+            LexFault::Memory => Stop::Memory,
+            fault => Stop::Unreadable(FileFault::Lex(fault)),
+        }
+    }
+}
+
+impl From<SyntaxFault> for Stop {
+    ghost use Rattle.std.specs.Prelude.{◌≡◌};
+    ghost use Rattle.scip_build.specs.Stops.{stop_of_parsing};
+
+    ghost from_gives = { λ fault stop. stop ≡ stop_of_parsing fault };
+
+    fn from(fault: SyntaxFault) -> Stop {
+        match fault {
+            SyntaxFault::Memory => Stop::Memory,
+            fault => Stop::Unreadable(FileFault::Syntax(fault)),
+        }
+    }
+}
+
+impl From<AllocError> for Stop {
+    ghost use Rattle.std.specs.Prelude.{◌≡◌};
+    ghost use Rattle.scip_build.specs.declared.fault.Stop.TheVariants.{Memory};
+
+    ghost from_gives = { λ _ stop. stop ≡ Memory };
+
+    fn from(_refused: AllocError) -> Stop {
+        Stop::Memory
+    }
+}

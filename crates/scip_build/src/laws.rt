@@ -1,0 +1,45 @@
+//! Laws: what the definitions say of readings and faults, whatever the code does.
+
+ghost use Rattle.scip_build.specs.Laws.{OneListOfFacts, NoFactsWhereUnreadable, LexedWhereUnparsed, OneFirstFaulty, NoReadingsWhereFaulty, ReadingsHaveOwnPaths};
+
+use index_hooks::Chooses;
+use proto_decl::one_list_of_facts;
+use proto_lex::{one_first_fault, one_lexing};
+use proto_parse::one_tree;
+
+/// A file has one list of facts at most.
+pub fn one_list_of_facts_a_file()
+    ensures { OneListOfFacts }
+{
+    one_lexing();
+    one_tree();
+    one_list_of_facts();
+}
+
+/// A file that has facts can't be unreadable, and one that can't be parsed has a lexing.
+pub fn faults_exclude_facts()
+    ensures facts { NoFactsWhereUnreadable }
+    ensures kinds { LexedWhereUnparsed }
+{
+    one_lexing();
+    one_first_fault();
+}
+
+/// Of the sources that can't be read one is the first.
+pub fn one_first_faulty()
+    ensures { OneFirstFaulty }
+{
+    faults_exclude_facts();
+}
+
+/// Where a source can't be read, the files have no readings, whatever is chosen.
+pub fn readings_exclude_faults<C: Chooses>(chooser: &C)
+    ensures { NoReadingsWhereFaulty (C.allows chooser.now) }
+{
+    faults_exclude_facts();
+}
+
+/// Files that were read have paths of their own, as `link` needs it.
+pub fn readings_have_own_paths<C: Chooses>(chooser: &C)
+    ensures { ReadingsHaveOwnPaths (C.allows chooser.now) }
+{}

@@ -1,0 +1,47 @@
+//! What is known of a file after it was read.
+
+use crate::fault::FileFault;
+use index_hooks::Choice;
+use proto_decl::FileFacts;
+use proto_lex::Text;
+use sequences::Sequence;
+use std::marker::Model;
+
+/// The contents of a file.
+///
+/// Contracts see the bytes of its text, its facts, and the list of choices.
+#[derive(Drop)]
+pub struct Contents<'a> {
+    pub text: Text<'a>,
+    pub facts: FileFacts,
+    /// The choice for each declaration, in their order.
+    pub choices: Sequence<Choice>,
+}
+
+impl<'a> Model for Contents<'a> {
+    ghost use Rattle.scip_build.specs.Files.{FileContents};
+
+    ghost Value = { FileContents };
+
+    ghost view = { λ contents. record { text = contents.text; facts = contents.facts; choices = contents.choices } };
+}
+
+/// A file after it was read: its contents, or, of an included file alone, why it has none.
+///
+/// Contracts see its path's bytes, whether it is included, and the contents or the fault.
+#[derive(Drop)]
+pub struct Reading<'a> {
+    /// Its path below its root.
+    pub path: &'a str,
+    /// Whether it is included: linked, but not indexed.
+    pub is_included: bool,
+    pub contents: Result<Contents<'a>, FileFault>,
+}
+
+impl<'a> Model for Reading<'a> {
+    ghost use Rattle.scip_build.specs.Files.{ReadFile};
+
+    ghost Value = { ReadFile };
+
+    ghost view = { λ reading. record { path = reading.path.now; is_included = reading.is_included; contents = reading.contents } };
+}

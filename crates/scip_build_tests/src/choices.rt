@@ -1,0 +1,103 @@
+//! What is chosen, and how often it is asked for.
+
+use crate::calls::{Counting, Given, included, read, see, source, tree, workers};
+use index_hooks::{AnyAnswer, Choice, DocAlways, DocChoice, Filter, FilterCallback, Registry};
+use index_pool::Workers;
+use proto_decl::{DeclView, DeclarationKind};
+use scip_build::Reading;
+use source_tree::Tree;
+use std::alloc::Global;
+use std::sync::Wait;
+use std::test::Fail;
+use std::thread::Threads;
+
+const SOURCE: &str = "syntax = \"proto3\";\nenum E { ZERO = 0; }\nmessage M { E e = 1; }\n";
+
+const SHARED: &str = "syntax = \"proto3\";\nmessage S { message T {} }\n";
+
+/// Keeps all but enums.
+#[derive(Drop)]
+struct NoEnums;
+
+impl FilterCallback for NoEnums {
+    fn call(&self, view: &DeclView<'_>) -> bool {
+        view.kind() != DeclarationKind::Enum
+    }
+}
+
+fn files<'a>() -> [Given<'a>; 3] {
+    [
+        source("a.proto", SOURCE),
+        included("s.proto", SHARED),
+        included("u.proto", "syntax = \"proto2\";\n"),
+    ]
+}
+
+/// Whether the choices of a reading are to keep these, and to document with both texts.
+fn keeps(reading: &Reading<'_>, kept: &[bool]) -> bool {
+    match &reading.contents {
+        Ok(contents) => {
+            let choices = contents.choices.as_slice();
+            choices.len() == kept.len()
+                && choices.iter().zip(kept.iter()).all(|(choice, keep)| *choice
+                    == Choice {
+                        keep: *keep,
+                        doc: DocChoice::Both,
+                    })
+        }
+        Err(_) => false,
+    }
+}
+
+#[test]
+fn each_declaration_is_asked_about_once(rt: HostRuntime) -> Result<(), Fail> {
+    let tree = tree(&rt, rt.alloc(), &files())?;
+    for count in [1, 2, 16] {
+        let chooser = Counting::new();
+        let answer = read(&rt, rt.alloc(), &tree, &chooser, workers(&rt, count));
+        see(&rt, answer.is_ok(), "read");
+        see(
+            &rt,
+            chooser.asked() == 6,
+            "four declarations of the source, two of the shared file",
+        );
+    }
+    Ok(())
+}
+
+/// Whether a registry without enums is asked about the declarations of each file.
+fn chooses_as_told<R: Threads + Wait>(
+    rt: &R,
+    alloc: Global,
+    tree: &Tree,
+    registry: &Registry,
+    workers: Workers,
+) -> bool {
+    match read(rt, alloc, tree, registry, workers) {
+        Ok(readings) => match readings.as_slice() {
+            [a, s, u] => {
+                keeps(a, &[false, true, true, true])
+                    && keeps(s, &[true, true])
+                    && u.contents.is_err()
+            }
+            _ => false,
+        },
+        Err(_) => false,
+    }
+}
+
+#[test]
+fn choices_stand_with_their_declarations(rt: HostRuntime) -> Result<(), Fail> {
+    let alloc = rt.alloc();
+    let tree = tree(&rt, alloc, &files())?;
+    let mut registry = Registry::new(alloc);
+    let filter = Box::new(alloc, Filter::new(AnyAnswer, NoEnums))?;
+    see(&rt, registry.add_filter(filter).is_ok(), "the filter");
+    let rule = Box::new(alloc, DocAlways(DocChoice::Both).rule())?;
+    see(&rt, registry.add_doc(rule).is_ok(), "the rule");
+    for count in [1, 2, 16] {
+        let as_told = chooses_as_told(&rt, alloc, &tree, &registry, workers(&rt, count));
+        see(&rt, as_told, "choices");
+    }
+    Ok(())
+}

@@ -2,5 +2,6 @@
 #![tactic(auto)]
 
 mod choices;
+mod symbol_texts;
 
 pub use choices::Choices;

@@ -1,0 +1,2 @@
+-- Entities of facts
+pub mod EntityLemmas

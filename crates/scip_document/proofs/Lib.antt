@@ -1,2 +1,4 @@
 -- Entities of facts
 pub mod EntityLemmas
+-- Lists of entries
+pub mod EntryLemmas

@@ -2,6 +2,8 @@
 #![tactic(auto)]
 
 mod choices;
+mod documentation;
+mod entries;
 mod symbol_texts;
 
 pub use choices::Choices;

@@ -2,3 +2,7 @@
 pub mod EntityLemmas
 -- Lists of entries
 pub mod EntryLemmas
+pub mod ApartLemmas
+pub mod LinkedLemmas
+pub mod SortLemmas
+pub mod SourceEntryLemmas

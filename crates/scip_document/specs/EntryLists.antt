@@ -7,7 +7,7 @@ use Rattle.proto_decl.specs.Facts.{Facts}
 use Rattle.proto_decl.specs.declared.declaration.Declaration.{Declaration}
 use Rattle.scip_symbol.specs.Package.{Package}
 use Rattle.scip_document.specs.Chosen.{Chosen}
-use Rattle.scip_document.specs.Entries.{package_entry, declaration_entry}
+use Rattle.scip_document.specs.Entries.{file_entry, package_entry, declaration_entry}
 
 -- of the first component, the first two, and so on
 abbrev pub package_entries_up_to : Package → Facts → (count : ℕ) → List Info
@@ -24,6 +24,10 @@ abbrev pub kept_entries : Package → Facts → List Declaration → List Choice
 kept_entries id facts [] choices = []
 kept_entries id facts (declared ∷ others) [] = []
 kept_entries id facts (declared ∷ others) (choice ∷ choices) = entry_if_kept id facts declared choice ++ kept_entries id facts others choices
+
+-- the file's, its packages', and its declarations'
+abbrev pub source_entries : Package → (path : List ℕ) → Facts → List Choice → List Info
+source_entries id path facts choices = file_entry id path ∷ (package_entries id facts ++ kept_entries id facts facts.declarations choices)
 
 -- the choices for a file's declarations
 abbrev pub choices_for : Chosen → (file : ℕ) → List Choice

@@ -4,19 +4,24 @@ ghost use Rattle.std.specs.Prelude.{ℕ, ◌≡◌, ◌<◌, ◌≤◌, ◌∷�
 ghost use Rattle.proto_decl.specs.Names.{dotted};
 ghost use Rattle.proto_decl.specs.Ways.{component_names};
 ghost use Rattle.scip_symbol.specs.Path.{IsGoodPath};
-ghost use Rattle.scip_document.specs.Chosen.{HasChoice};
-ghost use Rattle.scip_document.specs.Entries.{file_entry, package_entry, declaration_entry};
-ghost use Rattle.scip_document.specs.EntryLists.{package_entries, entry_if_kept, kept_entries, choices_for};
+ghost use Rattle.proto_link.specs.Files.{IsSource};
+ghost use Rattle.scip_document.specs.Chosen.{HasChoice, HaveChoices};
+ghost use Rattle.scip_document.specs.Conditions.{HaveGoodPaths};
+ghost use Rattle.scip_document.specs.Entries.{file_entry, package_entry, declaration_entry, HasEntry};
+ghost use Rattle.scip_document.specs.EntryLists.{package_entries, entry_if_kept, kept_entries, choices_for, source_entries};
+ghost use Rattle.scip_document.specs.Indexes.{info_cmp, IsAscendingListOf};
 
 use crate::choices::Choices;
 use crate::documentation::documentation_of;
 use crate::symbol_texts::{declaration_text, file_text, package_text};
 use index_hooks::Choice;
-use proto_decl::{Component, Declaration, FileFacts};
+use proto_decl::{Component, Declaration, FileFacts, names_are_identifiers};
+use proto_link::{Linker, one_declaration_a_name};
 use scip_model::Info;
-use scip_symbol::PackageId;
+use scip_symbol::{PackageId, files_are_without_clash, symbols_name_one_entity};
 use sequences::{OwnedText, Sequence};
 use std::alloc::{AllocError, Global};
+use std::cmp::Ordering;
 
 // The components joined by dots.
 fn joined(alloc: Global, components: &[Component]) -> Result<OwnedText, AllocError>
@@ -151,4 +156,57 @@ fn push_declarations(
         push_if_kept(alloc, entries, id, facts, declaration, choice)?;
     }
     Ok(())
+}
+
+// Those of a source, by kind.
+fn listed_entries(
+    alloc: Global,
+    id: &PackageId,
+    path: &str,
+    file: usize,
+    facts: &FileFacts,
+    choices: &Choices,
+) -> Result<Vec<Info>, AllocError>
+    requires path { IsGoodPath path.now }
+    requires choices { (index : ℕ) → index < length facts.now.declarations → HasChoice choices.now file index }
+    ensures { IfOk result (λ entries. entries.items ≡ source_entries id.now path.now facts.now (choices_for choices.now file)) }
+{
+    let mut entries = Vec::new(alloc);
+    let first = file_entry(alloc, id, path)?;
+    entries.push(first)?;
+    push_packages(alloc, &mut entries, id, facts)?;
+    push_declarations(alloc, &mut entries, id, file, facts, choices)?;
+    Ok(entries)
+}
+
+fn compare_symbols(a: &Info, b: &Info) -> Ordering
+    ensures { result ≡ info_cmp a.now b.now }
+{
+    a.symbol.as_str().cmp(b.symbol.as_str())
+}
+
+// The entries of a source, by symbol.
+pub(crate) fn entries(
+    alloc: Global,
+    linker: &Linker<'_>,
+    source: usize,
+    choices: &Choices,
+    id: &PackageId,
+) -> Result<Sequence<Info>, AllocError>
+    requires source { IsSource linker.now source }
+    requires paths { HaveGoodPaths linker.now }
+    requires choices { HaveChoices linker.now choices.now }
+    ensures { IfOk result (IsAscendingListOf info_cmp (HasEntry linker.now choices.now id.now source)) }
+{
+    linker.linked();
+    one_declaration_a_name();
+    names_are_identifiers();
+    symbols_name_one_entity();
+    files_are_without_clash();
+    let _manager = id.manager();
+    let path = linker.path_of(source);
+    let facts = linker.facts_of(source).unwrap();
+    let mut entries = listed_entries(alloc, id, path, source, facts, choices)?;
+    entries.sort_by(|a, b| compare_symbols(a, b))?;
+    Ok(Sequence::from_vec(entries))
 }

@@ -10,3 +10,6 @@ pub mod Conditions
 pub mod EntryLists
 -- documents, external entries, and the index of a tree
 pub mod Indexes
+-- documents put together
+pub mod Pieces
+pub mod TakenPaths

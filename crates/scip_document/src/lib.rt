@@ -4,6 +4,10 @@
 mod choices;
 mod documentation;
 mod entries;
+mod merge_fault;
+mod pieces;
 mod symbol_texts;
 
 pub use choices::Choices;
+pub use merge_fault::{MergeFault, Unmerged};
+pub use pieces::merge;

@@ -16,6 +16,8 @@ pub mod FactLemmas
 pub mod NameLemmas
 pub mod FilledLemmas
 pub mod ScopeLemmas
+pub mod MarkLemmas
 pub mod ScopedLemmas
+pub mod IdentifierLemmas
 pub mod FrontLemmas
 pub mod LawLemmas

@@ -10,6 +10,7 @@ ghost use Rattle.proto_link.specs.Linked.{CanBeLinked, MayRefuse};
 ghost use Rattle.proto_link.specs.Knows.{KnowsAs};
 ghost use Rattle.proto_link.specs.Given.{admits, SeesGiving};
 ghost use Rattle.proto_link.specs.GivenNames.{AreNames};
+ghost use Rattle.proto_link.specs.StepTables.{HasPathAt};
 
 use crate::absent::first_absent;
 use crate::all_items::{all_fronts, all_items};
@@ -117,14 +118,24 @@ impl<'a> Linker<'a> {
         &self.names
     }
 
-    // The facts of a file, where it has some.
-    pub(crate) fn facts_of(&self, number: usize) -> Option<&FileFacts>
+    /// The facts of a file, where it has some. Takes no memory.
+    pub fn facts_of(&self, number: usize) -> Option<&FileFacts>
         requires { number < length self.now }
         ensures { MatchOption result ((facts : Facts) → HasFacts self.now number facts → ⊥) (λ facts. HasFacts self.now number facts.now) }
     {
         let files = self.files;
         let file = &files[number];
         file.facts
+    }
+
+    /// The path of a file. Takes no memory.
+    pub fn path_of(&self, number: usize) -> &str
+        requires { number < length self.now }
+        ensures { HasPathAt self.now result.now number }
+    {
+        let files = self.files;
+        let file = &files[number];
+        file.path
     }
 
     // Whether a file knows a name in a role.

@@ -1,0 +1,10 @@
+-- Entities of facts
+pub mod EntityLemmas
+-- Lists of entries
+pub mod EntryLemmas
+pub mod ApartLemmas
+pub mod LinkedLemmas
+pub mod SortLemmas
+pub mod SourceEntryLemmas
+-- Pieces of an index
+pub mod PieceLemmas

@@ -168,6 +168,22 @@ fn add_front(
 ) -> Result<(), AllocError>
     ensures { OnOk result ((other : List ℕ) → owned_at names.new other ≡ (if bytes_eq front.now other then owned_at names.old other ++ number ∷ [] else owned_at names.old other)) }
 {
+    if let Some(listed) = names.get_mut(front) {
+        listed.push(number)?;
+        return Ok(());
+    }
+    add_copied(alloc, names, number, front)
+}
+
+// The same, by a copy of the text.
+fn add_copied(
+    alloc: Global,
+    names: &mut IndexMap<String, Vec<usize>>,
+    number: usize,
+    front: &str,
+) -> Result<(), AllocError>
+    ensures { OnOk result ((other : List ℕ) → owned_at names.new other ≡ (if bytes_eq front.now other then owned_at names.old other ++ number ∷ [] else owned_at names.old other)) }
+{
     let name = String::from_str(alloc, front)?;
     names.entry(name)?.or_default().push(number)?;
     Ok(())

@@ -2,5 +2,5 @@ use Rattle.std.proofs.Common.{arith}
 use Rattle.std.proofs.lemmas.Grind.{text_groups}
 use Rattle.proto_link.proofs.names.add_front.Goals as goal
 
-pub returns : goal.returns
-returns c = λ other. grind (arith, text_groups)
+pub returns-in-Some : goal.returns-in-Some
+returns-in-Some c = λ other. grind (arith, text_groups)

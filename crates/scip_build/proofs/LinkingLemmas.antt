@@ -1,5 +1,5 @@
 -- Files as they are linked.
-use Rattle.std.proofs.Common.{◌≡◌, ◌∙◌, ℕ, zero, suc, ◌<◌, List, [], ◌∷◌, length, map, Option, Some, ap, sym, refl}
+use Rattle.std.proofs.Common.{◌≡◌, ◌∙◌, ℕ, zero, suc, ◌<◌, List, [], ◌∷◌, length, map, Option, Some, Result, Ok, Err, ap, sym, refl, arith}
 use Rattle.std.specs.List.{slice_get}
 use Rattle.std.specs.Option.{unwrap_or}
 use Rattle.std.proofs.lemmas.Option.{slice_get_within, none-some}
@@ -10,9 +10,11 @@ use Rattle.proto_decl.specs.Seen.{Seen}
 use Rattle.index_hooks.specs.declared.choice.Choice.{Choice}
 use Rattle.source_tree.specs.Files.{TreeFile}
 use Rattle.source_tree.specs.Trees.{HaveOwnPaths}
-use Rattle.scip_build.specs.Files.{ReadFile}
-use Rattle.scip_build.specs.Readings.{AreReadingsOf}
-use Rattle.scip_build.specs.Linking.{linked_file, linked_files}
+use Rattle.scip_build.specs.declared.fault.FileFault.{FileFault}
+use Rattle.scip_build.specs.Files.{FileContents, ReadFile}
+use Rattle.scip_build.specs.Readings.{HasContents, IsReadingOf, AreReadingsOf}
+use Rattle.scip_build.specs.Laws.{OneListOfFacts, NoFactsWhereUnreadable, OneLinking}
+use Rattle.scip_build.specs.Linking.{facts_in, linked_file, linked_files}
 use Rattle.scip_build.proofs.ReadingLemmas.{at_number}
 
 same_some : {A : Type 0} (a b : A) → Some a ≡ Some b → a ≡ b
@@ -38,3 +40,37 @@ module _ (custom : CustomOptions) (allows : Seen → Choice → Type 0) (files :
       let first = in_tree i a at_i in
       let second = in_tree j b at_j in
       own i j first.0 second.0 first.1 second.1 (sym first.2 ∙ (same ∙ second.2))
+
+-- lists whose items are mapped to the same
+same_mapped : {A B : Type 0} (f : A → B) (xs ys : List A) → length xs ≡ length ys
+    → ((k : ℕ) (x y : A) → slice_get xs k ≡ Some x → slice_get ys k ≡ Some y → f x ≡ f y) → map f xs ≡ map f ys
+same_mapped f [] [] few each = refl
+same_mapped f [] (y ∷ ys) few each = absurd (omega (arith, few))
+same_mapped f (x ∷ xs) [] few each = absurd (omega (arith, few))
+same_mapped f (x ∷ xs) (y ∷ ys) few each =
+    let here = each zero x y refl refl in
+    let others = same_mapped f xs ys (omega (arith, few)) (λ k a b. each (suc k) a b) in
+    λ i. here i ∷ others i
+
+module _ (one : OneListOfFacts) (apart : NoFactsWhereUnreadable) (custom : CustomOptions) (allows others : Seen → Choice → Type 0) where
+  -- two readings of a file have the same facts, or both none
+  same_facts : (number : ℕ) (file : TreeFile) (a b : Result FileContents FileFault) → HasContents custom allows number file a → HasContents custom others number file b → facts_in a ≡ facts_in b
+  same_facts number file (Ok a) (Ok b) has also = ap Some (one custom number file.bytes a.facts b.facts has.1.facts_in also.1.facts_in)
+  same_facts number file (Ok a) (Err f) has also = absurd (apart custom number file.bytes a.facts f has.1.facts_in also.1)
+  same_facts number file (Err f) (Ok b) has also = absurd (apart custom number file.bytes b.facts f also.1.facts_in has.1)
+  same_facts number file (Err f) (Err g) has also = refl
+
+  same_linked : (number : ℕ) (file : TreeFile) (a b : ReadFile) → IsReadingOf custom allows number file a → IsReadingOf custom others number file b → linked_file a ≡ linked_file b
+  same_linked number file a b reads again =
+      let path = reads.path ∙ sym again.path in
+      let facts = same_facts number file a.contents b.contents reads.contents again.contents in
+      let is_included = reads.is_included ∙ sym again.is_included in
+      λ i. record { path = path i; facts = facts i; is_included = is_included i }
+
+  pub one_linking : (files : List TreeFile) (readings again : List ReadFile) → AreReadingsOf custom allows files readings → AreReadingsOf custom others files again
+      → linked_files readings ≡ linked_files again
+  one_linking files readings again are also =
+      same_mapped linked_file readings again (are.one_each ∙ sym also.one_each) (λ k a b at and.
+      let within : k < length files = rw (sym are.one_each) (slice_get_within readings k a at) in
+      let there = at_number files k within in
+      same_linked k there.0 a b (are.each k there.0 a there.1 at) (also.each k there.0 b there.1 and))

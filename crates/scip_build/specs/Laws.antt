@@ -46,3 +46,9 @@ abbrev pub ReadingsHaveOwnPaths : (allows : Seen → Choice → Type 0) → Type
 ReadingsHaveOwnPaths allows =
     (custom : CustomOptions) (files : List TreeFile) (readings : List ReadFile) → AreReadingsOf custom allows files readings → HaveOwnPaths files
     → link.HaveOwnPaths (linked_files readings)
+
+-- Files that were read link as one list of files, whatever was chosen.
+abbrev pub OneLinking : (allows others : Seen → Choice → Type 0) → Type 0
+OneLinking allows others =
+    (custom : CustomOptions) (files : List TreeFile) (readings again : List ReadFile) → AreReadingsOf custom allows files readings → AreReadingsOf custom others files again
+    → linked_files readings ≡ linked_files again

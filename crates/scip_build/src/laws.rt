@@ -1,6 +1,6 @@
 //! Laws: what the definitions say of readings and faults, whatever the code does.
 
-ghost use Rattle.scip_build.specs.Laws.{OneListOfFacts, NoFactsWhereUnreadable, LexedWhereUnparsed, OneFirstFaulty, NoReadingsWhereFaulty, ReadingsHaveOwnPaths};
+ghost use Rattle.scip_build.specs.Laws.{OneListOfFacts, NoFactsWhereUnreadable, LexedWhereUnparsed, OneFirstFaulty, NoReadingsWhereFaulty, ReadingsHaveOwnPaths, OneLinking};
 
 use index_hooks::Chooses;
 use proto_decl::one_list_of_facts;
@@ -43,3 +43,11 @@ pub fn readings_exclude_faults<C: Chooses>(chooser: &C)
 pub fn readings_have_own_paths<C: Chooses>(chooser: &C)
     ensures { ReadingsHaveOwnPaths (C.allows chooser.now) }
 {}
+
+/// Files that were read link as one list of files, whatever was chosen.
+pub fn one_linking<C: Chooses, D: Chooses>(chooser: &C, other: &D)
+    ensures { OneLinking (C.allows chooser.now) (D.allows other.now) }
+{
+    one_list_of_facts_a_file();
+    faults_exclude_facts();
+}

@@ -14,8 +14,8 @@ mod reading;
 pub use chosen::chosen_lists;
 pub use fault::{BuildFault, FileFault, ReadFault};
 pub use laws::{
-    faults_exclude_facts, one_first_faulty, one_list_of_facts_a_file, readings_exclude_faults,
-    readings_have_own_paths,
+    faults_exclude_facts, one_first_faulty, one_linking, one_list_of_facts_a_file,
+    readings_exclude_faults, readings_have_own_paths,
 };
 pub use linking::{link, linked_files};
 pub use phase_one::read_files;

@@ -4,9 +4,12 @@ use crate::calls::{Counting, Given, included, read, see, source, tree, workers};
 use index_hooks::{AnyAnswer, Choice, DocAlways, DocChoice, Filter, FilterCallback, Registry};
 use index_pool::Workers;
 use proto_decl::{DeclView, DeclarationKind};
-use scip_build::Reading;
+use scip_build::{
+    Reading, chosen_lists, faults_exclude_facts, one_first_faulty, one_list_of_facts_a_file,
+    readings_exclude_faults, readings_have_own_paths,
+};
 use source_tree::Tree;
-use std::alloc::Global;
+use std::alloc::{AllocError, Global};
 use std::sync::Wait;
 use std::test::Fail;
 use std::thread::Threads;
@@ -84,6 +87,43 @@ fn chooses_as_told<R: Threads + Wait>(
         },
         Err(_) => false,
     }
+}
+
+/// Whether the lists of choices are as long as the declarations are many, and agree with the readings.
+fn are_listed(alloc: Global, readings: &[Reading<'_>]) -> Result<bool, AllocError> {
+    let lists = match chosen_lists(alloc, readings) {
+        Ok(lists) => lists,
+        Err(_) => chosen_lists(alloc, readings)?,
+    };
+    match lists.as_slice() {
+        [a, s, u] => Ok(
+            a.len() == 4
+                && s.len() == 2
+                && u.is_empty()
+                && a.iter().chain(s.iter()).all(|choice| choice.keep),
+        ),
+        _ => Ok(false),
+    }
+}
+
+#[test]
+fn choices_are_listed_by_file(rt: HostRuntime) -> Result<(), Fail> {
+    let alloc = rt.alloc();
+    let tree = tree(&rt, alloc, &files())?;
+    let chooser = Counting::new();
+    readings_have_own_paths(&chooser);
+    readings_exclude_faults(&chooser);
+    faults_exclude_facts();
+    one_first_faulty();
+    one_list_of_facts_a_file();
+    match read(&rt, alloc, &tree, &chooser, workers(&rt, 2)) {
+        Ok(readings) => {
+            let listed = are_listed(alloc, &readings)?;
+            see(&rt, listed, "the lists");
+        }
+        Err(_) => see(&rt, false, "read"),
+    }
+    Ok(())
 }
 
 #[test]

@@ -9,9 +9,7 @@ use Rattle.proto_lex.specs.declared.span.Span.{Span}
 use Rattle.proto_grammar.specs.declared.tree.Heading.{Heading}
 use Rattle.proto_grammar.specs.declared.tree.Field.{Field}
 use Rattle.proto_grammar.specs.declared.tree.Enum.{Enum}
-use Rattle.proto_grammar.specs.declared.tree.Oneof.{Oneof}
 use Rattle.proto_grammar.specs.declared.tree.Method.{Method}
-use Rattle.proto_grammar.specs.declared.tree.Service.{Service}
 use Rattle.proto_grammar.specs.declared.tree.Leaf.{Leaf}
 use Rattle.proto_grammar.specs.declared.tree.Leaf.TheVariants as leaf
 use Rattle.proto_grammar.specs.declared.tree.FileItem.{FileItem}

@@ -17,6 +17,8 @@ pub mod NameLemmas
 pub mod FilledLemmas
 pub mod PartLemmas
 pub mod ScopeLemmas
+pub mod MarkLemmas
 pub mod ScopedLemmas
+pub mod IdentifierLemmas
 pub mod FrontLemmas
 pub mod LawLemmas

@@ -1,5 +1,5 @@
 -- Declared names are spelled as they stand, and aren't empty.
-use Rattle.std.proofs.Common.{◌≡◌, ◌∙◌, sym, ap, refl, ℕ, ◌-◌, ◌<◌, ◌≤◌, List, [], ◌∷◌, ◌++◌, length, drop, map, arith, length-append}
+use Rattle.std.proofs.Common.{◌≡◌, ◌≢◌, ◌∙◌, sym, ap, refl, ℕ, ◌-◌, ◌<◌, ◌≤◌, List, [], ◌∷◌, ◌++◌, length, drop, map, arith, length-append}
 use Rattle.std.specs.List.{All, AllZip, flat_map}
 use Rattle.std.proofs.lemmas.List.{length-take-le, length-drop}
 use Rattle.std.proofs.lemmas.List.Elements.{All-nil, All-cons, All-head, All-tail, All-append}
@@ -121,3 +121,11 @@ named_some text declaration is =
     let place = is.place in
     let count = part-length text declaration.name place in
     omega (arith, place.some, ap length is.full, count, qualified-length is.scope (part_of text declaration.name))
+
+-- so the way to it has a step
+pub way_some : (text : List ℕ) (declaration : Declaration) → IsNamedAt text declaration → declaration.path ≢ []
+way_some text declaration is none =
+    let place = is.place in
+    let count = part-length text declaration.name place in
+    let nothing : part_of text declaration.name ≡ [] = sym is.simple ∙ ap simple_name none in
+    omega (arith, place.some, count, ap length nothing)

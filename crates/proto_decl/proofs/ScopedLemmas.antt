@@ -1,6 +1,6 @@
 -- Each declaration has a simple name in a scope of its file.
 use Rattle.std.proofs.Common.{◌≡◌, ◌∙◌, sym, ap, refl, subst, ℕ, ◌==◌, Bool, true, false, not, ◌&&◌, cond, Option, Some, None, List, [], ◌∷◌, ◌++◌, map, arith, option_to_list}
-use Rattle.std.specs.List.{All, AllByRecursion, AllZip, Contains, flat_map, list_all}
+use Rattle.std.specs.List.{All, AllZip, Contains, flat_map, list_all}
 use Rattle.std.proofs.lemmas.Bool.Decides.{nat_tests}
 use Rattle.std.proofs.lemmas.List.Elements.{All-nil, All-cons, All-head, All-tail, All-append, All-contains_itself}
 use Rattle.proto_lex.specs.Bytes.{is_letter, is_word}
@@ -8,15 +8,11 @@ use Rattle.proto_lex.specs.Lexes.{Spells}
 use Rattle.proto_lex.specs.Lexes.Spells.{literal, sign, identifier, integer, float}
 use Rattle.proto_lex.specs.Lexed.{Lexed, IsLexed, part_of}
 use Rattle.proto_lex.specs.declared.span.Span.{Span}
-use Rattle.proto_lex.specs.declared.token.Token.{Token}
 use Rattle.proto_lex.specs.declared.token.TokenKind.{TokenKind}
 use Rattle.proto_lex.specs.declared.token.TokenKind.TheVariants.{Identifier}
 use Rattle.proto_lex.proofs.PieceFound.{sign_cases}
-use Rattle.proto_grammar.specs.Lexeme.{Lexeme, lexemes_of}
+use Rattle.proto_grammar.specs.Lexeme.{lexemes_of}
 use Rattle.proto_grammar.specs.declared.tree.Heading.{Heading}
-use Rattle.proto_grammar.specs.declared.tree.TypeName.{TypeName}
-use Rattle.proto_grammar.specs.declared.tree.FieldType.{FieldType}
-use Rattle.proto_grammar.specs.declared.tree.FieldType.TheVariants.{Scalar, Named}
 use Rattle.proto_grammar.specs.declared.tree.Field.{Field}
 use Rattle.proto_grammar.specs.declared.tree.Method.{Method}
 use Rattle.proto_grammar.specs.declared.tree.Enum.{Enum}
@@ -27,9 +23,9 @@ use Rattle.proto_grammar.specs.declared.tree.FileItem.TheVariants as item
 use Rattle.proto_grammar.specs.declared.tree.File.{File}
 use Rattle.proto_grammar.specs.Tree.{Body}
 use Rattle.proto_grammar.specs.Tree.Body.{NoMore, LeafThen, MessageThen}
-use Rattle.proto_parse.specs.Walk.{Mark, Among, each_then, names_then, dot_then, type_name_then, type_then, heading_then, field_then, enum_then, leaf_then, body_then, method_then, item_then, marks_of_items}
-use Rattle.proto_parse.specs.Walk.Mark.{First, Name, Literal, Other}
-use Rattle.proto_parse.specs.Walk.Among.{none as no_marks, skip, first as at_first, name as at_name, literal as at_literal, other as at_other}
+use Rattle.proto_parse.specs.Walk.{Mark, Among, each_then, names_then, type_name_then, heading_then, field_then, enum_then, leaf_then, body_then, method_then, item_then, marks_of_items}
+use Rattle.proto_parse.specs.Walk.Mark.{Name, Other}
+use Rattle.proto_decl.proofs.MarkLemmas.{OfNames, of_lexemes, of_names, past_type_name, past_type}
 use Rattle.proto_decl.specs.Names.{qualified, IsSimple, dotted, components_at}
 use Rattle.proto_decl.specs.Outlines.{name_of, outline_at, inside, beside, in_enum, in_leaf, in_body, in_item, file_surrounding, package_scope, package_spans, outlines_of}
 use Rattle.proto_decl.specs.Declares.{IsDeclaration}
@@ -75,31 +71,6 @@ spelled_simple (literal e ends) is = never (ap is_identifier is)
 spelled_simple (sign {b} {k} e) is =
     never (sym (sign_cases (λ b k. is_identifier k ≡ false) b k e refl refl refl refl refl refl refl refl refl refl refl refl refl refl refl refl) ∙ ap is_identifier is)
 
--- what holds of the spans of identifiers holds of the marks of names
-module _ (N : Span → Type 0) where
-  abbrev pub OfNames : List Mark → Type 0
-  OfNames [] = Unit {0}
-  OfNames (First span ∷ marks) = OfNames marks
-  OfNames (Name span ∷ marks) = N span × OfNames marks
-  OfNames (Literal span ∷ marks) = OfNames marks
-  OfNames (Other span ∷ marks) = OfNames marks
-
-  abbrev OfIdentifiers : List Lexeme → Type 0
-  OfIdentifiers lexemes = AllByRecursion (λ (t : Lexeme). t.kind ≡ Identifier → N t.span) lexemes
-
-  of_lexemes : (text : List ℕ) (tokens : List Token) → All (λ t. t.kind ≡ Identifier → N t.span) tokens → OfIdentifiers (lexemes_of text tokens)
-  of_lexemes text [] all = tt
-  of_lexemes text (t ∷ tokens) all =
-      (All-head (λ (x : Token). x.kind ≡ Identifier → N x.span) t tokens all, of_lexemes text tokens (All-tail (λ (x : Token). x.kind ≡ Identifier → N x.span) t tokens all))
-
-  of_names : {marks : List Mark} {tokens : List Lexeme} → Among marks tokens → OfIdentifiers tokens → OfNames marks
-  of_names no_marks all = tt
-  of_names (skip among) all = of_names among all.1
-  of_names (at_first among) all = of_names among all
-  of_names (at_name kind among) all = (all.0 kind, of_names among all.1)
-  of_names (at_literal kind among) all = of_names among all.1
-  of_names (at_other among) all = of_names among all.1
-
 -- a list's parts
 module _ {X : Type 0} (P : X → Type 0) where
   all_left : (xs ys : List X) → All P (xs ++ ys) → All P xs
@@ -133,22 +104,6 @@ module _ (text : List ℕ) (K : List ℕ → Type 0) where
   scoped : (surrounding : Surrounding) (kind : DeclarationKind) (heading : Heading) → K surrounding.scope → Simple heading.name → IsScoped K (outline_at text surrounding kind heading)
   scoped surrounding kind heading known simple = record { scope = surrounding.scope; name = name_of text heading; simple = simple; full = refl; known = known }
 
-  -- the names of types are passed over
-  past_names : (names : List Span) (marks : List Mark) → OfNames Simple (names_then names marks) → OfNames Simple marks
-  past_names [] marks h = h
-  past_names (name ∷ names) marks h = past_names names marks h.1
-
-  past_dot : (dot : Option Span) (marks : List Mark) → OfNames Simple (dot_then dot marks) → OfNames Simple marks
-  past_dot None marks h = h
-  past_dot (Some dot) marks h = h
-
-  past_type_name : (name : TypeName) (marks : List Mark) → OfNames Simple (type_name_then name marks) → OfNames Simple marks
-  past_type_name name marks h = past_names name.components marks (past_dot name.leading_dot (names_then name.components marks) h)
-
-  past_type : (type : FieldType) (marks : List Mark) → OfNames Simple (type_then type marks) → OfNames Simple marks
-  past_type (Scalar word) marks h = h.1
-  past_type (Named name) marks h = past_type_name name marks h
-
   -- each of a list is declared in one scope
   each_scoped : {A : Type 0} (marks_then : A → List Mark → List Mark) (heading : A → Heading) (kind : DeclarationKind) (surrounding : Surrounding) → K surrounding.scope
       → ((x : A) (marks : List Mark) → OfNames Simple (marks_then x marks) → Simple (heading x).name × OfNames Simple marks)
@@ -160,11 +115,11 @@ module _ (text : List ℕ) (K : List ℕ → Type 0) where
       (All-cons (IsScoped K) (outline_at text surrounding kind (heading x)) (map (λ y. outline_at text surrounding kind (heading y)) xs) (scoped surrounding kind (heading x) known first.0) others.0, others.1)
 
   field_simple : (field : Field) (marks : List Mark) → OfNames Simple (field_then field marks) → Simple field.heading.name × OfNames Simple marks
-  field_simple field marks h = let behind = past_type field.field_type (Name field.heading.name ∷ (Other field.heading.closing ∷ marks)) h in (behind.0, behind.1)
+  field_simple field marks h = let behind = past_type Simple field.field_type (Name field.heading.name ∷ (Other field.heading.closing ∷ marks)) h in (behind.0, behind.1)
 
   method_simple : (method : Method) (marks : List Mark) → OfNames Simple (method_then method marks) → Simple method.heading.name × OfNames Simple marks
   method_simple method marks h =
-      (h.0, past_type_name method.output (Other method.heading.closing ∷ marks) (past_type_name method.input (type_name_then method.output (Other method.heading.closing ∷ marks)) h.1))
+      (h.0, past_type_name Simple method.output (Other method.heading.closing ∷ marks) (past_type_name Simple method.input (type_name_then method.output (Other method.heading.closing ∷ marks)) h.1))
 
   enum_scoped : (surrounding : Surrounding) (enum : Enum) (marks : List Mark) → K surrounding.scope → OfNames Simple (enum_then enum marks) → Scoped (in_enum text surrounding enum) × OfNames Simple marks
   enum_scoped surrounding enum marks known h =
@@ -184,7 +139,7 @@ module _ (text : List ℕ) (K : List ℕ → Type 0) where
       let name = field_simple field marks h in
       (All-cons (IsScoped K) (outline_at text surrounding kind.Field field.heading) [] (scoped surrounding kind.Field field.heading known name.0) (All-nil (IsScoped K)), name.1)
   leaf_scoped surrounding (leaf.MapField field) marks known h =
-      let behind = past_type field.value (Name field.heading.name ∷ (Other field.heading.closing ∷ marks)) h.1 in
+      let behind = past_type Simple field.value (Name field.heading.name ∷ (Other field.heading.closing ∷ marks)) h.1 in
       (All-cons (IsScoped K) (outline_at text surrounding kind.Field field.heading) [] (scoped surrounding kind.Field field.heading known behind.0) (All-nil (IsScoped K)), behind.1)
 
   body_scoped : (surrounding : Surrounding) (body : Body) (marks : List Mark) → K surrounding.scope → All Known (in_body text surrounding body) → OfNames Simple (body_then body marks)

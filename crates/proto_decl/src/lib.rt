@@ -33,4 +33,4 @@ pub use laws::{
 pub use scopes::scope_around;
 pub use type_use::{Component, Use};
 pub use view::DeclView;
-pub use ways::declarations_stand_in_declarations;
+pub use ways::{declarations_stand_in_declarations, names_are_identifiers};

@@ -1,0 +1,54 @@
+-- What holds of the spans of identifiers holds of the marks of names.
+use Rattle.std.proofs.Common.{◌≡◌, ℕ, Option, Some, None, List, [], ◌∷◌}
+use Rattle.std.specs.List.{All, AllByRecursion}
+use Rattle.std.proofs.lemmas.List.Elements.{All-head, All-tail}
+use Rattle.proto_lex.specs.declared.span.Span.{Span}
+use Rattle.proto_lex.specs.declared.token.Token.{Token}
+use Rattle.proto_lex.specs.declared.token.TokenKind.TheVariants.{Identifier}
+use Rattle.proto_grammar.specs.Lexeme.{Lexeme, lexemes_of}
+use Rattle.proto_grammar.specs.declared.tree.TypeName.{TypeName}
+use Rattle.proto_grammar.specs.declared.tree.FieldType.{FieldType}
+use Rattle.proto_grammar.specs.declared.tree.FieldType.TheVariants.{Scalar, Named}
+use Rattle.proto_parse.specs.Walk.{Mark, Among, names_then, dot_then, type_name_then, type_then}
+use Rattle.proto_parse.specs.Walk.Mark.{First, Name, Literal, Other}
+use Rattle.proto_parse.specs.Walk.Among.{none as no_marks, skip, first as at_first, name as at_name, literal as at_literal, other as at_other}
+
+module _ (N : Span → Type 0) where
+  abbrev pub OfNames : List Mark → Type 0
+  OfNames [] = Unit {0}
+  OfNames (First span ∷ marks) = OfNames marks
+  OfNames (Name span ∷ marks) = N span × OfNames marks
+  OfNames (Literal span ∷ marks) = OfNames marks
+  OfNames (Other span ∷ marks) = OfNames marks
+
+  abbrev pub OfIdentifiers : List Lexeme → Type 0
+  OfIdentifiers lexemes = AllByRecursion (λ (t : Lexeme). t.kind ≡ Identifier → N t.span) lexemes
+
+  pub of_lexemes : (text : List ℕ) (tokens : List Token) → All (λ t. t.kind ≡ Identifier → N t.span) tokens → OfIdentifiers (lexemes_of text tokens)
+  of_lexemes text [] all = tt
+  of_lexemes text (t ∷ tokens) all =
+      (All-head (λ (x : Token). x.kind ≡ Identifier → N x.span) t tokens all, of_lexemes text tokens (All-tail (λ (x : Token). x.kind ≡ Identifier → N x.span) t tokens all))
+
+  pub of_names : {marks : List Mark} {tokens : List Lexeme} → Among marks tokens → OfIdentifiers tokens → OfNames marks
+  of_names no_marks all = tt
+  of_names (skip among) all = of_names among all.1
+  of_names (at_first among) all = of_names among all
+  of_names (at_name kind among) all = (all.0 kind, of_names among all.1)
+  of_names (at_literal kind among) all = of_names among all.1
+  of_names (at_other among) all = of_names among all.1
+
+  -- the names of types are passed over
+  pub past_names : (names : List Span) (marks : List Mark) → OfNames (names_then names marks) → OfNames marks
+  past_names [] marks h = h
+  past_names (name ∷ names) marks h = past_names names marks h.1
+
+  pub past_dot : (dot : Option Span) (marks : List Mark) → OfNames (dot_then dot marks) → OfNames marks
+  past_dot None marks h = h
+  past_dot (Some dot) marks h = h
+
+  pub past_type_name : (name : TypeName) (marks : List Mark) → OfNames (type_name_then name marks) → OfNames marks
+  past_type_name name marks h = past_names name.components marks (past_dot name.leading_dot (names_then name.components marks) h)
+
+  pub past_type : (type : FieldType) (marks : List Mark) → OfNames (type_then type marks) → OfNames marks
+  past_type (Scalar word) marks h = h.1
+  past_type (Named name) marks h = past_type_name name marks h

@@ -1,0 +1,79 @@
+-- The index of a tree: a document for each source, in order of path, and the external entries (`scip.proto`, Index, Document, Metadata).
+use Rattle.std.specs.Prelude.{◌≡◌, ◌↔◌, ℕ, ℤ, pos, not, Some, List, [], codes, length, filter, Contains}
+use Rattle.std.specs.declared.cmp.Ordering.{Ordering}
+use Rattle.std.specs.Ordering.{nat_cmp, int_cmp, on, then_cmp}
+use Rattle.std.specs.Cmp.Lexicographic.{slice_cmp}
+use Rattle.std.specs.List.{slice_get}
+use Rattle.std.specs.List.Sorted.{IsStrictlySortedBy}
+use Rattle.proto_lex.specs.declared.position.Encoding.{Encoding}
+use Rattle.proto_lex.specs.declared.position.Encoding.TheVariants.{Utf8, Utf16}
+use Rattle.scip_model.specs.declared.records.Index.{Index}
+use Rattle.scip_model.specs.declared.records.Metadata.{Metadata}
+use Rattle.scip_model.specs.declared.records.Document.{Document}
+use Rattle.scip_model.specs.declared.records.Occurrence.{Occurrence}
+use Rattle.scip_model.specs.declared.records.Info.{Info}
+use Rattle.scip_symbol.specs.Package.{Package}
+use Rattle.proto_link.specs.Files.{File}
+use Rattle.scip_document.specs.Chosen.{Chosen}
+use Rattle.scip_document.specs.Occurs.{Occurs}
+use Rattle.scip_document.specs.Entries.{HasEntry, HasExternal}
+
+-- The strictly ascending list of a set: it has all of it, and nothing else.
+pub record IsAscendingListOf {X : Type 0} (cmp : X → X → Ordering) (IsWanted : X → Type 0) (list : List X) : Type 0 where
+  pub exact : (x : X) → Contains list x ↔ IsWanted x
+  pub ascends : IsStrictlySortedBy cmp list
+
+-- By start, then end, then symbol. No two occurrences of a document tie in these; the roles come last only so that the order is
+-- one of all occurrences that there are.
+abbrev pub occurrence_cmp : Occurrence → Occurrence → Ordering
+occurrence_cmp =
+    then_cmp (on (λ (o : Occurrence). o.range.start_line) nat_cmp)
+    (then_cmp (on (λ (o : Occurrence). o.range.start_column) nat_cmp)
+    (then_cmp (on (λ (o : Occurrence). o.range.end_line) nat_cmp)
+    (then_cmp (on (λ (o : Occurrence). o.range.end_column) nat_cmp)
+    (then_cmp (on (λ (o : Occurrence). o.symbol) (slice_cmp nat_cmp))
+    (on (λ (o : Occurrence). o.symbol_roles) int_cmp)))))
+
+-- by symbol
+abbrev pub info_cmp : Info → Info → Ordering
+info_cmp = on (λ (i : Info). i.symbol) (slice_cmp nat_cmp)
+
+-- (`scip.proto`, PositionEncoding)
+abbrev pub encoding_number : Encoding → ℤ
+encoding_number Utf8 = pos 1
+encoding_number Utf16 = pos 2
+
+-- the document of a source, which has this text
+pub record IsDocumentOf (files : List File) (chosen : Chosen) (id : Package) (encoding : Encoding) (source : ℕ) (text : List ℕ) (document : Document) : Type 0 where
+  pub file : File
+  pub numbered : slice_get files source ≡ Some file
+  pub relative_path : document.relative_path ≡ file.path
+  pub occurrences : IsAscendingListOf occurrence_cmp (Occurs files chosen id encoding source text) document.occurrences
+  pub symbols : IsAscendingListOf info_cmp (HasEntry files chosen id source) document.symbols
+  pub language : document.language ≡ codes "Protobuf"
+  pub position_encoding : document.position_encoding ≡ encoding_number encoding
+
+-- the external entries
+abbrev pub AreExternals : List File → Chosen → Package → List Info → Type 0
+AreExternals files chosen id = IsAscendingListOf info_cmp (HasExternal files chosen id)
+
+-- what an index says of itself (`scip.proto`, Metadata): the protocol's version 0; its own text is UTF-8
+abbrev pub metadata_of : (project_root : List ℕ) → Metadata
+metadata_of project_root = record {
+  version = pos 0;
+  tool_info = Some (record { name = codes "protoscip"; version = codes "1"; arguments = [] });
+  project_root = project_root;
+  text_document_encoding = pos 1;
+}
+
+-- how many of the files are sources
+abbrev pub source_count : List File → ℕ
+source_count files = length (filter (λ file. not file.is_included) files)
+
+-- The index of the files, of which the sources come first, by path, and have these texts.
+pub record IsIndexOf (files : List File) (texts : List (List ℕ)) (chosen : Chosen) (id : Package) (encoding : Encoding) (project_root : List ℕ) (index : Index) : Type 0 where
+  pub metadata_is : index.metadata ≡ Some (metadata_of project_root)
+  pub one_each : length index.documents ≡ source_count files
+  pub documents : (source : ℕ) (text : List ℕ) (document : Document) → slice_get texts source ≡ Some text → slice_get index.documents source ≡ Some document
+      → IsDocumentOf files chosen id encoding source text document
+  pub externals : AreExternals files chosen id index.external_symbols

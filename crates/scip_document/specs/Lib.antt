@@ -1,0 +1,8 @@
+-- the entities that have symbols, and what was chosen for declarations
+pub mod Named
+pub mod Chosen
+-- what occurs in the document of a source, and its symbol entries
+pub mod Occurs
+pub mod Entries
+-- documents, external entries, and the index of a tree
+pub mod Indexes

@@ -1,0 +1,6 @@
+//! The documents of sources, what they say of included files, and the index that they make.
+#![tactic(auto)]
+
+mod choices;
+
+pub use choices::Choices;

@@ -6,3 +6,5 @@ pub mod Occurs
 pub mod Entries
 -- documents, external entries, and the index of a tree
 pub mod Indexes
+-- two lists in order made one
+pub mod Merges

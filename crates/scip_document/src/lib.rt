@@ -2,5 +2,6 @@
 #![tactic(auto)]
 
 mod choices;
+mod merging;
 
 pub use choices::Choices;

@@ -1,0 +1,3 @@
+-- occurrences in order, and two lists of them made one
+pub mod OrderLemmas
+pub mod MergeLemmas

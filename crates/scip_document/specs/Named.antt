@@ -19,7 +19,7 @@ pub record HasDeclaration (files : List File) (file index : ℕ) (facts : Facts)
   pub numbered : slice_get facts.declarations index ≡ Some declaration
 
 -- the text of an entity's symbol, in the package that the settings name
-abbrev pub text_of : Package → symbols.Entity → List ℕ
+unfoldable pub text_of : Package → symbols.Entity → List ℕ
 text_of id entity = symbol_text (symbol_in id entity)
 
 -- the package of the first components of a file's package name

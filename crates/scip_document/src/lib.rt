@@ -3,5 +3,6 @@
 
 mod choices;
 mod merging;
+mod symbol_texts;
 
 pub use choices::Choices;

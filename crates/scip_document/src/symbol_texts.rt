@@ -1,0 +1,59 @@
+//! The texts of the symbols of files, packages and declarations.
+
+ghost use Rattle.std.specs.Prelude.{◌≡◌, ◌<◌, ◌≤◌, IfOk, Contains, length};
+ghost use Rattle.scip_symbol.specs.Entities.{OfFile};
+ghost use Rattle.scip_symbol.specs.Path.{IsGoodPath};
+ghost use Rattle.scip_document.specs.Named.{text_of, package_at, declaration_at};
+
+use proto_decl::{Declaration, FileFacts, names_are_identifiers};
+use scip_symbol::{PackageId, file_symbol, package_symbol, print, symbol_of};
+use sequences::OwnedText;
+use std::alloc::{AllocError, Global};
+
+// Of the file with a path.
+#[tactic(auto, unfolding(crate::specs::Named::text_of))]
+pub(crate) fn file_text(alloc: Global, id: &PackageId, path: &str) -> Result<OwnedText, AllocError>
+    requires { IsGoodPath path.now }
+    ensures { IfOk result (λ text. text ≡ text_of id.now (OfFile path.now)) }
+{
+    let symbol = file_symbol(alloc, id, path)?;
+    let text = print(alloc, &symbol)?;
+    Ok(OwnedText::from_string(text))
+}
+
+// Of the package that the first components of a file's package name make, so many.
+pub(crate) fn package_text(
+    alloc: Global,
+    id: &PackageId,
+    facts: &FileFacts,
+    count: usize,
+) -> Result<OwnedText, AllocError>
+    requires some { 0 < count }
+    requires within { count ≤ length facts.now.package_name }
+    ensures { IfOk result (λ text. text ≡ text_of id.now (package_at facts.now count)) }
+{
+    facts.origin();
+    names_are_identifiers();
+    let (front, _) = facts.package_name().split_at(count);
+    let symbol = package_symbol(alloc, id, front)?;
+    let text = print(alloc, &symbol)?;
+    Ok(OwnedText::from_string(text))
+}
+
+// Of a declaration of a file.
+#[tactic(auto, unfolding(crate::specs::Named::text_of))]
+pub(crate) fn declaration_text(
+    alloc: Global,
+    id: &PackageId,
+    facts: &FileFacts,
+    declaration: &Declaration,
+) -> Result<OwnedText, AllocError>
+    requires { Contains facts.now.declarations declaration.now }
+    ensures { IfOk result (λ text. text ≡ text_of id.now (declaration_at facts.now declaration.now)) }
+{
+    facts.origin();
+    names_are_identifiers();
+    let symbol = symbol_of(alloc, id, facts.package_name(), declaration.path.as_slice())?;
+    let text = print(alloc, &symbol)?;
+    Ok(OwnedText::from_string(text))
+}

@@ -1,5 +1,6 @@
 -- occurrences in order, and two lists of them made one
 pub mod OrderLemmas
 pub mod MergeLemmas
+pub mod ListingLemmas
 -- Entities of facts
 pub mod EntityLemmas

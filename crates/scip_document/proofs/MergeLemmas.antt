@@ -18,7 +18,7 @@ none_is_some h = cc
 same_some : {Y : Type 0} {x y : Y} → Some x ≡ Some y → x ≡ y
 same_some h = cc
 
-either : {A B C : Type 0} → (A → C) → (B → C) → A ⊎ B → C
+pub either : {A B C : Type 0} → (A → C) → (B → C) → A ⊎ B → C
 either f g (inl a) = f a
 either f g (inr b) = g b
 
@@ -40,16 +40,16 @@ abbrev In3 : {X : Type 0} → X → (taken first second : List X) → Type 0
 In3 x taken first second = Contains taken x ⊎ (Contains first x ⊎ Contains second x)
 
 module _ {X : Type 0} where
-  at_head : (x z : X) (zs : List X) → z ≡ x → Contains (z ∷ zs) x
+  pub at_head : (x z : X) (zs : List X) → z ≡ x → Contains (z ∷ zs) x
   at_head x z zs e = Contains-append_left (z ∷ []) zs x (subst (Contains (z ∷ [])) e (Contains-push [] z))
 
-  in_tail : (x z : X) (zs : List X) → Contains zs x → Contains (z ∷ zs) x
+  pub in_tail : (x z : X) (zs : List X) → Contains zs x → Contains (z ∷ zs) x
   in_tail x z zs h = Contains-append_right (z ∷ []) zs x h
 
-  not_in_none : (x : X) → Contains [] x → ⊥
+  pub not_in_none : (x : X) → Contains [] x → ⊥
   not_in_none x h = omega (arith, h.1)
 
-  head_or_tail : (x z : X) (zs : List X) → Contains (z ∷ zs) x → (z ≡ x) ⊎ Contains zs x
+  pub head_or_tail : (x z : X) (zs : List X) → Contains (z ∷ zs) x → (z ≡ x) ⊎ Contains zs x
   head_or_tail x z zs h = either (λ one. either (λ none. absurd (not_in_none x none)) inl (Contains-push_cases [] z x one)) inr (Contains-append_cases (z ∷ []) zs x h)
 
   swap3 : (x : X) (t a b : List X) → In3 x t a b → In3 x t b a

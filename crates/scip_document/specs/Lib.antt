@@ -6,5 +6,7 @@ pub mod Occurs
 pub mod Entries
 -- documents, external entries, and the index of a tree
 pub mod Indexes
+-- the lists that make up those occurrences
+pub mod Listing
 -- two lists in order made one
 pub mod Merges

@@ -3,6 +3,7 @@
 
 mod choices;
 mod merging;
+mod occurrences;
 mod symbol_texts;
 
 pub use choices::Choices;

@@ -24,7 +24,7 @@ use Rattle.proto_link.proofs.SeeingLemmas.{slice_get_front}
 
 -- ---- fronts
 
-join_push : (c : ℕ) (first x : List ℕ) (others : List (List ℕ)) → join_with_byte c (first ∷ (others ++ x ∷ [])) ≡ join_with_byte c (first ∷ others) ++ (c ∷ x)
+pub join_push : (c : ℕ) (first x : List ℕ) (others : List (List ℕ)) → join_with_byte c (first ∷ (others ++ x ∷ [])) ≡ join_with_byte c (first ∷ others) ++ (c ∷ x)
 join_push c first x [] = refl
 join_push c first x (next ∷ others) = ap (λ t. first ++ (c ∷ t)) (join_push c next x others) ∙ sym (append_assoc first (c ∷ join_with_byte c (next ∷ others)) (c ∷ x))
 

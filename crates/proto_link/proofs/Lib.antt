@@ -13,3 +13,7 @@ pub mod KnowingLemmas
 pub mod LookupLemmas
 pub mod ResolveLemmas
 pub mod PartLemmas
+pub mod TargetLemmas
+pub mod OneItemLemmas
+pub mod OneTargetLemmas
+pub mod OriginLemmas

@@ -3,7 +3,7 @@ use Rattle.std.specs.Prelude.{◌≡◌, ℕ, Bool, true, false, Option, Some, L
 use Rattle.std.specs.List.{slice_get}
 use Rattle.proto_grammar.specs.declared.tree.ImportKind.{ImportKind}
 use Rattle.proto_grammar.specs.declared.tree.ImportKind.TheVariants.{Plain, Weak, Public}
-use Rattle.proto_decl.specs.Facts.{Facts}
+use Rattle.proto_decl.specs.Facts.{Facts, AreOfSomeFile}
 use Rattle.proto_decl.specs.declared.imported.Imported.{Imported}
 
 -- A file: its path below its root, its facts unless it couldn't be read or parsed, and whether it is included: linked, but not indexed.
@@ -17,6 +17,10 @@ pub record HasFacts (files : List File) (number : ℕ) (facts : Facts) : Type 0 
   pub file : File
   pub numbered : slice_get files number ≡ Some file
   pub known : file.facts ≡ Some facts
+
+-- the facts of each file are those of some text
+abbrev pub HaveOrigins : List File → Type 0
+HaveOrigins files = (number : ℕ) (facts : Facts) → HasFacts files number facts → AreOfSomeFile facts
 
 -- the file with this number is a source: it isn't included
 pub record IsSource (files : List File) (number : ℕ) : Type 0 where

@@ -1,9 +1,22 @@
 -- Laws about linking.
-use Rattle.std.specs.Prelude.{◌≡◌, ℕ, List}
+use Rattle.std.specs.Prelude.{◌≡◌, ◌≢◌, ◌<◌, ◌≤◌, ℕ, Some, List, length}
+use Rattle.std.specs.List.{slice_get}
+use Rattle.proto_decl.specs.Facts.{Facts}
+use Rattle.proto_decl.specs.declared.declaration.Declaration.{Declaration}
 use Rattle.proto_decl.specs.declared.type_use.Use.{Use}
-use Rattle.proto_link.specs.Files.{File}
-use Rattle.proto_link.specs.Absences.{Broken}
+use Rattle.proto_link.specs.declared.place.FilePlace.{FilePlace}
+use Rattle.proto_link.specs.declared.fault.LinkFault.{LinkFault}
+use Rattle.proto_link.specs.declared.fault.LinkFault.TheVariants.{Memory}
+use Rattle.proto_link.specs.declared.target.Entity.{Entity}
+use Rattle.proto_link.specs.declared.target.Target.{Target}
+use Rattle.proto_link.specs.Files.{File, HasFacts, HaveOrigins, IsSource}
+use Rattle.proto_link.specs.Sees.{Counts}
+use Rattle.proto_link.specs.Items.{package_of}
+use Rattle.proto_link.specs.Clashes.{Clash, NoClash}
+use Rattle.proto_link.specs.Absences.{Absent, Broken}
 use Rattle.proto_link.specs.Resolves.{Resolves}
+use Rattle.proto_link.specs.Targets.{IsNamed, IsTarget}
+use Rattle.proto_link.specs.Linked.{MayRefuse}
 
 -- a use names one type at most
 abbrev pub OneNameAUse : Type 0
@@ -12,3 +25,51 @@ OneNameAUse = (files : List File) (file : ℕ) (type_use : Use) (name other : Li
 -- there is one least file that counts and has no facts
 abbrev pub OneBrokenFile : Type 0
 OneBrokenFile = (files : List File) (number other : ℕ) → Broken files number → Broken files other → number ≡ other
+
+-- a file that counts declares it, by its index there
+pub record IsDeclaredAt (files : List File) (number index : ℕ) (declaration : Declaration) : Type 0 where
+  pub facts : Facts
+  pub counts : Counts files number
+  pub known : HasFacts files number facts
+  pub stands : slice_get facts.declarations index ≡ Some declaration
+
+-- a file that counts has the package, or one below it
+pub record HasPackage (files : List File) (name : List ℕ) : Type 0 where
+  pub number : ℕ
+  pub facts : Facts
+  pub count : ℕ
+  pub counts : Counts files number
+  pub known : HasFacts files number facts
+  pub some : 0 < count
+  pub few : count ≤ length facts.package_name
+  pub named : name ≡ package_of facts count
+
+-- without a clash a full name is that of one declaration at most, or names packages alone
+abbrev pub OneDeclarationAName : Type 0
+OneDeclarationAName = (files : List File) → HaveOrigins files → NoClash files → (number index other its : ℕ) (a b : Declaration)
+    → IsDeclaredAt files number index a → IsDeclaredAt files other its b → a.full_name ≡ b.full_name → (number ≡ other) × (index ≡ its)
+
+abbrev pub NoPackageIsDeclared : Type 0
+NoPackageIsDeclared = (files : List File) → HaveOrigins files → NoClash files → (number index : ℕ) (declaration : Declaration)
+    → IsDeclaredAt files number index declaration → HasPackage files declaration.full_name → ⊥
+
+-- so a source knows one entity at most by a name's first components
+abbrev pub OneEntityAName : Type 0
+OneEntityAName = (files : List File) → HaveOrigins files → NoClash files → (source : ℕ) → IsSource files source → (name : List ℕ) (count : ℕ) (a b : Entity)
+    → IsNamed files source name count a → IsNamed files source name count b → a ≡ b
+
+-- and a use in a source has one target at most
+abbrev pub OneTargetAUse : Type 0
+OneTargetAUse = (files : List File) → HaveOrigins files → NoClash files → (source : ℕ) → IsSource files source → (type_use : Use) (a b : Target)
+    → IsTarget files source type_use a → IsTarget files source type_use b → a ≡ b
+
+-- there is one first clash, and one first import of a file that isn't there
+abbrev pub OneClash : Type 0
+OneClash = (files : List File) → HaveOrigins files → (first second other its : FilePlace) → Clash files first second → Clash files other its → (first ≡ other) × (second ≡ its)
+
+abbrev pub OneAbsence : Type 0
+OneAbsence = (files : List File) → HaveOrigins files → (place other : FilePlace) → Absent files place → Absent files other → place ≡ other
+
+-- so files that can't be linked are refused for one reason, but for memory
+abbrev pub OneRefusal : Type 0
+OneRefusal = (files : List File) → HaveOrigins files → (a b : LinkFault) → MayRefuse files a → MayRefuse files b → a ≢ Memory → b ≢ Memory → a ≡ b

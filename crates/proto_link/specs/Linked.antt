@@ -1,8 +1,8 @@
 -- Which files can be linked, and why others can't.
 use Rattle.std.specs.Prelude.{ℕ, ⊤, List, length}
 use Rattle.proto_link.specs.declared.fault.LinkFault.{LinkFault}
-use Rattle.proto_link.specs.declared.fault.LinkFault.TheVariants.{Broken, Duplicate, MissingImport, Memory}
-use Rattle.proto_link.specs.Files.{File, Imports}
+use Rattle.proto_link.specs.declared.fault.LinkFault.TheVariants.{Broken, Duplicate, MissingImport, Unresolved, Memory}
+use Rattle.proto_link.specs.Files.{File, Imports, HaveOrigins}
 use Rattle.proto_link.specs.Clashes.{Clash, NoClash}
 use Rattle.proto_link.specs.Absences as absences
 use Rattle.proto_link.specs.StepTables.{AreRowsBy}
@@ -13,14 +13,16 @@ pub record CanBeLinked (files : List File) : Type 0 where
   pub clear : NoClash files
   pub complete : absences.NoAbsent files
 
--- each fault comes where it holds and none of those before it does; of memory nothing is said
+-- each fault comes where it holds and none of those before it does; of memory nothing is said; that a use names no type is none of them
 abbrev pub MayRefuse : List File → LinkFault → Type 0
 MayRefuse files (Broken number) = absences.Broken files number
 MayRefuse files (Duplicate first second) = absences.NoneBroken files × Clash files first second
 MayRefuse files (MissingImport place) = absences.NoneBroken files × NoClash files × absences.Absent files place
+MayRefuse files (Unresolved place) = ⊥
 MayRefuse files Memory = ⊤
 
 -- what a linker keeps of its files
 pub record IsLinked (files : List File) (rows : List (List ℕ)) : Type 0 where
   pub can_be : CanBeLinked files
+  pub origins : HaveOrigins files
   pub rows_are : AreRowsBy (Imports files) (length files) rows

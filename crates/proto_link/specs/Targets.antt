@@ -1,10 +1,12 @@
 -- What each component of a use names.
-use Rattle.std.specs.Prelude.{◌≡◌, ℕ, ◌+◌, ◌-◌, Some, List, length}
+use Rattle.std.specs.Prelude.{◌≡◌, ⊤, ℕ, ◌+◌, ◌-◌, Some, List, length}
 use Rattle.std.specs.List.{slice_get}
 use Rattle.proto_decl.specs.Names.{components_of, front_of}
 use Rattle.proto_decl.specs.Facts.{Facts}
 use Rattle.proto_decl.specs.declared.type_use.Use.{Use}
 use Rattle.proto_decl.specs.declared.declaration.Declaration.{Declaration}
+use Rattle.proto_link.specs.declared.fault.LinkFault.{LinkFault}
+use Rattle.proto_link.specs.declared.fault.LinkFault.TheVariants.{Broken, Duplicate, MissingImport, Unresolved, Memory}
 use Rattle.proto_link.specs.declared.target.Entity.{Entity}
 use Rattle.proto_link.specs.declared.target.Entity.TheVariants.{Package, Declared}
 use Rattle.proto_link.specs.declared.target.Target.{Target}
@@ -32,3 +34,11 @@ pub record IsTarget (files : List File) (file : ℕ) (type_use : Use) (target : 
 -- no name is that of the use
 abbrev pub IsUnresolved : List File → ℕ → Use → Type 0
 IsUnresolved files file type_use = (name : List ℕ) → Resolves files file type_use name → ⊥
+
+-- A use is refused where it names no type, at the place of the whole use. Of memory nothing is said.
+abbrev pub MayRefuseUse : List File → ℕ → Use → LinkFault → Type 0
+MayRefuseUse files file type_use (Unresolved place) = IsUnresolved files file type_use × (place ≡ record { file = file; span = type_use.span })
+MayRefuseUse files file type_use (Broken number) = ⊥
+MayRefuseUse files file type_use (Duplicate first second) = ⊥
+MayRefuseUse files file type_use (MissingImport place) = ⊥
+MayRefuseUse files file type_use Memory = ⊤

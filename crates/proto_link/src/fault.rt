@@ -3,7 +3,8 @@
 use crate::place::FilePlace;
 use std::alloc::AllocError;
 
-/// Why files can't be linked. Where several of the first three hold, the first of them is answered.
+/// Why files can't be linked, or why a use of a type names none. Where several of the first three
+/// hold, the first of them is answered.
 #[derive(Clone, Copy, Debug, Drop, PartialEq, Eq)]
 pub enum LinkFault {
     /// The least number of a file without facts, of the sources and the included files that some
@@ -16,6 +17,9 @@ pub enum LinkFault {
     /// The first import, by its literal's place, of a path that no file has: any import of a source
     /// counts, and the public ones of an included file that some source sees.
     MissingImport(FilePlace),
+    /// A use that names no type, by the place of the whole use: from its leading dot, or its first
+    /// component where it has none, to its last one. `Linker::resolve` alone answers it.
+    Unresolved(FilePlace),
     /// Memory was refused.
     Memory,
 }

@@ -1,6 +1,8 @@
 //! Laws about linking, each the contract of an empty function.
 
-ghost use Rattle.proto_link.specs.Laws.{OneNameAUse, OneBrokenFile};
+ghost use Rattle.proto_link.specs.Laws.{OneNameAUse, OneBrokenFile, OneDeclarationAName, NoPackageIsDeclared, OneEntityAName, OneTargetAUse, OneClash, OneAbsence, OneRefusal};
+
+use proto_decl::facts_in_order;
 
 /// A use names one type at most.
 pub fn one_name_a_use()
@@ -11,3 +13,30 @@ pub fn one_name_a_use()
 pub fn one_broken_file()
     ensures { OneBrokenFile }
 {}
+
+/// In files without a clash a full name is that of one declaration at most, or names packages alone.
+pub fn one_declaration_a_name()
+    ensures declarations { OneDeclarationAName }
+    ensures packages { NoPackageIsDeclared }
+{
+    facts_in_order();
+}
+
+/// In files without a clash a use in a source has one target at most, and each part of a name that
+/// the source knows is that of one entity.
+pub fn one_target_a_use()
+    ensures entities { OneEntityAName }
+    ensures targets { OneTargetAUse }
+{
+    facts_in_order();
+}
+
+/// Files have one first clash of names at most, and one first import of a file that isn't there. So
+/// `Linker::new` refuses files for one reason, unless memory is refused.
+pub fn one_refusal()
+    ensures clash { OneClash }
+    ensures absence { OneAbsence }
+    ensures refusal { OneRefusal }
+{
+    facts_in_order();
+}

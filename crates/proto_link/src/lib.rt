@@ -13,15 +13,19 @@ mod laws;
 mod link_file;
 mod linker;
 mod lookup;
+mod origins;
 mod parts;
 mod place;
+mod resolve;
 mod search;
 mod seeing;
 mod steps;
 mod target;
 
 pub use fault::LinkFault;
-pub use laws::{one_broken_file, one_name_a_use};
+pub use laws::{
+    one_broken_file, one_declaration_a_name, one_name_a_use, one_refusal, one_target_a_use,
+};
 pub use link_file::LinkFile;
 pub use linker::Linker;
 pub use place::FilePlace;

@@ -1,0 +1,200 @@
+-- What the last components of a name that a use resolves to name.
+use Rattle.std.proofs.Common.{◌≡◌, inl, inr, ℕ, ◌+◌, ◌-◌, ◌<◌, ◌≤◌, ◌==◌, Bool, true, zero, suc, List, [], ◌∷◌, ◌++◌, length, get_or, take, map, Some, None, Option, MatchOption, IsSome, refl, ap, sym, ◌∙◌, subst, cond, arith}
+use Rattle.std.specs.List.{slice_get, count_by}
+use Rattle.std.proofs.lemmas.Bool.{cases_lt, false≢true}
+use Rattle.std.proofs.lemmas.Option.{slice_get-get_or, slice_get_within}
+use Rattle.std.proofs.lemmas.List.{take_more, length-map, length_push, get_or_push, get_or-map}
+use Rattle.std.proofs.lemmas.List.Sums.{sum_by-append, sum_by-cons}
+use Rattle.std.proofs.lemmas.List.Elements.{All-contains}
+use Rattle.std.proofs.lemmas.List.Splits.{length-slice_split}
+use denote.Ref.{Bor}
+use Rattle.std.specs.Option.{option_map}
+use Rattle.proto_decl.specs.Names.{qualified, dotted, components_of, front_of}
+use Rattle.proto_decl.specs.Facts.{Facts}
+use Rattle.proto_decl.specs.Laws.{IsEntity, FrontsAreEntities}
+use Rattle.proto_decl.specs.declared.type_use.Use.{Use}
+use Rattle.proto_decl.specs.declared.declaration.Declaration.{Declaration}
+use Rattle.proto_link.specs.declared.target.Entity.{Entity}
+use Rattle.proto_link.specs.Files.{File, HasFacts}
+use Rattle.proto_link.specs.Sees.{Sees}
+use Rattle.proto_link.specs.Knows.{NameKind, Knows, KnowsAs, is_type}
+use Rattle.proto_link.specs.Knows.NameKind.{OfPackage}
+use Rattle.proto_link.specs.Knows.Knows.{packaged as known_packaged}
+use Rattle.proto_link.specs.Resolves.{Innermost, ResolvesIn, Resolves}
+use Rattle.proto_link.specs.Resolves.Innermost.{here, farther}
+use Rattle.proto_link.specs.Resolves.ResolvesIn.{absolute, single, compound}
+use Rattle.proto_link.specs.Targets.{IsNamed}
+use Rattle.proto_link.specs.Targets.IsNamed.{packaged as named_packaged, declared as named_declared}
+use Rattle.proto_link.specs.Given.{Gives, GivesAs, SeesGiving}
+use Rattle.proto_link.specs.Given.Gives.{declared as gives_declared, packaged as gives_packaged}
+use Rattle.proto_link.specs.Parts.{IsEntityOf, AreEntitiesOf, AreNamed, longer}
+use Rattle.proto_link.specs.Parts.IsEntityOf.{packaged, declared}
+use Rattle.proto_link.proofs.ItemLemmas.{join_push}
+use Rattle.proto_link.proofs.SeeingLemmas.{slice_get_front}
+
+-- ---- fronts
+
+longer_of : (ts : List (List ℕ)) (i : ℕ) (x : List ℕ) → i < length ts → x ≡ get_or ts i x → longer (dotted (take i ts)) i x ≡ dotted (take (i + 1) ts)
+longer_of [] i x within is = absurd (omega (arith, within))
+longer_of (t ∷ ts) zero x within is = is
+longer_of (t ∷ ts) (suc i) x within is =
+    let next : suc i + 1 ≡ suc (i + 1) = omega arith in
+    let more : take (i + 1) ts ≡ take i ts ++ x ∷ [] = take_more ts i x (omega (arith, within)) ∙ ap (λ y. take i ts ++ y ∷ []) (sym is) in
+    sym (join_push 46 t x (take i ts)) ∙ (ap (λ ys. dotted (t ∷ ys)) (sym more) ∙ ap (λ n. dotted (take n (t ∷ ts))) (sym next))
+
+pub front_longer : (name : List ℕ) (components : List (Bor (List ℕ))) (i : ℕ) (d : Bor (List ℕ)) (old new : List ℕ) → map (λ c. c.now) components ≡ components_of name → i < length components
+    → old ≡ front_of name i → new ≡ longer old i (get_or components i d).now → new ≡ front_of name (i + 1)
+front_longer name components i d old new are within so_far pushed =
+    let x = (get_or components i d).now in
+    let size = length-map components (λ (c : Bor (List ℕ)). c.now) in
+    let is : x ≡ get_or (map (λ (c : Bor (List ℕ)). c.now) components) i x = sym (get_or-map (λ (c : Bor (List ℕ)). c.now) components i d x within) in
+    pushed ∙ (ap (λ t. longer t i x) so_far ∙ longer_of (components_of name) i x (omega (arith, within, size, ap length are)) (subst (λ cs. x ≡ get_or cs i x) are is))
+
+-- ---- a name that a use resolves to has its components
+
+abbrev is_dot : ℕ → Bool
+is_dot byte = byte == 46
+
+abbrev ones : ℕ → ℕ
+ones byte = cond (is_dot byte) 1 0
+
+words_fit : (words : List (List ℕ)) → length words ≤ length (components_of (dotted words))
+words_fit [] = omega arith
+words_fit (word ∷ []) = omega (arith, length-slice_split is_dot word)
+words_fit (word ∷ (next ∷ others)) =
+    let behind = dotted (next ∷ others) in
+    let rest = words_fit (next ∷ others) in
+    let counted : count_by is_dot (word ++ 46 ∷ behind) ≡ count_by is_dot word + (1 + count_by is_dot behind) = sum_by-append ones word (46 ∷ behind) ∙ ap (λ n. count_by is_dot word + n) (sum_by-cons ones 46 behind) in
+    omega (arith, rest, counted, length-slice_split is_dot behind, length-slice_split is_dot (word ++ 46 ∷ behind))
+
+qualified_fit : (scope name : List ℕ) → length (components_of name) ≤ length (components_of (qualified scope name))
+qualified_fit [] name = omega arith
+qualified_fit (byte ∷ scope) name =
+    let counted : count_by is_dot ((byte ∷ scope) ++ 46 ∷ name) ≡ count_by is_dot (byte ∷ scope) + (1 + count_by is_dot name) = sum_by-append ones (byte ∷ scope) (46 ∷ name) ∙ ap (λ n. count_by is_dot (byte ∷ scope) + n) (sum_by-cons ones 46 name) in
+    omega (arith, counted, length-slice_split is_dot name, length-slice_split is_dot ((byte ∷ scope) ++ 46 ∷ name))
+
+fits : {files : List File} {file : ℕ} {dot : Bool} {words scopes : List (List ℕ)} {name : List ℕ} → ResolvesIn files file dot words scopes name → length words ≤ length (components_of name)
+fits (absolute {words = words} known) = words_fit words
+fits (single {word = word} {scope = scope} innermost) = omega (arith, words_fit (word ∷ []), qualified_fit scope word)
+fits (compound {first = first} {second = second} {scope = scope} {others = others} innermost known) =
+    omega (arith, words_fit (first ∷ (second ∷ others)), qualified_fit scope (dotted (first ∷ (second ∷ others))))
+
+pub used_fit : (files : List File) (file : ℕ) (type_use : Use) (name : List ℕ) → Resolves files file type_use name → length type_use.components ≤ length (components_of name)
+used_fit files file type_use name r = omega (arith, fits r, length-map type_use.components (λ component. component.name))
+
+-- ---- and is that of a type
+
+known_there : {files : List File} {file : ℕ} {admits : NameKind → Bool} {word : List ℕ} {scopes : List (List ℕ)} {scope : List ℕ} → Innermost files file admits word scopes scope → KnowsAs files file admits (qualified scope word)
+known_there (here known) = known
+known_there (farther absent innermost) = known_there innermost
+
+is_of_type : {files : List File} {file : ℕ} {dot : Bool} {words scopes : List (List ℕ)} {name : List ℕ} → ResolvesIn files file dot words scopes name → KnowsAs files file is_type name
+is_of_type (absolute known) = known
+is_of_type (single innermost) = known_there innermost
+is_of_type (compound innermost known) = known
+
+pub resolved_type : (files : List File) (file : ℕ) (type_use : Use) (name : List ℕ) → Resolves files file type_use name → KnowsAs files file is_type name
+resolved_type files file type_use name r = is_of_type r
+
+-- ---- its fronts are entities of the file that declares it
+
+front_entity : {facts : Facts} {name : List ℕ} {kind : NameKind} → FrontsAreEntities facts → Gives facts name kind → is_type kind ≡ true → (count : ℕ) → 0 < count → count ≤ length (components_of name) → IsEntity facts (front_of name count)
+front_entity {facts = facts} fronts (gives_declared {declaration = d} listed) admitted count some few =
+    All-contains (λ (declaration : Declaration). (n : ℕ) → 0 < n → n ≤ length (components_of declaration.full_name) → IsEntity facts (front_of declaration.full_name n)) facts.declarations d fronts listed count some few
+front_entity fronts (gives_packaged front) admitted count some few = absurd (false≢true admitted)
+
+pub front_is_entity : (facts : Facts) (name front : List ℕ) (components : List (Bor (List ℕ))) (i : ℕ) → FrontsAreEntities facts → GivesAs is_type name facts → map (λ c. c.now) components ≡ components_of name → i < length components
+    → front ≡ front_of name (i + 1) → IsEntity facts front
+front_is_entity facts name front components i fronts gives are within is =
+    let size = length-map components (λ (c : Bor (List ℕ)). c.now) in
+    subst (IsEntity facts) (sym is) (front_entity fronts gives.gives gives.admitted (i + 1) (omega arith) (omega (arith, within, size, ap length are)))
+
+-- ---- the parts so far
+
+one_Entity : (a b : Entity) → Some a ≡ Some b → a ≡ b
+one_Entity a b e = cc
+
+module _ (number : ℕ) (facts : Facts) (name : List ℕ) (skipped : ℕ) where
+  -- what the components from there on name, of the first so many
+  pub record AreParts (count : ℕ) (parts : List Entity) : Type 0 where
+    pub size : length parts ≡ count - skipped
+    pub each : (j : ℕ) (part : Entity) → slice_get parts j ≡ Some part → IsEntityOf number facts (front_of name (skipped + j + 1)) (skipped + j + 1) part
+
+  pub parts_none : AreParts 0 []
+  parts_none = record { size = omega arith; each = λ j part at. absurd (omega (arith, slice_get_within {A = Entity} [] j part at)) }
+
+  pub parts_skip : (count : ℕ) (parts : List Entity) → count < skipped → AreParts count parts → AreParts (count + 1) parts
+  parts_skip count parts before so_far = record { size = omega (arith, so_far.size); each = so_far.each }
+
+  pub parts_more : (count : ℕ) (parts : List Entity) (front : List ℕ) (part : Entity) → skipped ≤ count → front ≡ front_of name (count + 1) → IsEntityOf number facts front (count + 1) part → AreParts count parts → AreParts (count + 1) (parts ++ part ∷ [])
+  parts_more count parts front part behind is entity so_far = record {
+    size = omega (arith, length_push parts part, so_far.size);
+    each = λ j one at. elim (cases_lt j (length parts)) [
+      | inl before ↦ so_far.each j one (sym (slice_get_front parts (part ∷ []) j before) ∙ at)
+      | inr last ↦ (
+          let within = slice_get_within (parts ++ part ∷ []) j one at in
+          let here_it : j ≡ length parts = omega (arith, length_push parts part) in
+          let stands : slice_get (parts ++ part ∷ []) j ≡ Some part = slice_get-get_or (parts ++ part ∷ []) j part within ∙ ap Some (get_or_push parts part part j (sym here_it)) in
+          let same : one ≡ part = one_Entity one part (sym at ∙ stands) in
+          let index : count + 1 ≡ skipped + j + 1 = omega (arith, so_far.size) in
+          subst (λ n. IsEntityOf number facts (front_of name n) n one) index (subst (λ f. IsEntityOf number facts f (count + 1) one) is (subst (IsEntityOf number facts front (count + 1)) (sym same) entity)))
+    ];
+  }
+
+pub parts_all : (number : ℕ) (facts : Facts) (name : List ℕ) (components : List (Bor (List ℕ))) (used skipped count : ℕ) (parts : List Entity) → map (λ c. c.now) components ≡ components_of name → used ≤ length (components_of name)
+    → skipped ≡ length components - used → count ≡ length components → AreParts number facts name skipped count parts → AreEntitiesOf number facts name used parts
+parts_all number facts name components used skipped count parts are few skip all so_far =
+    let size : length components ≡ length (components_of name) = sym (length-map components (λ (c : Bor (List ℕ)). c.now)) ∙ ap length are in
+    let skip_is : skipped ≡ length (components_of name) - used = skip ∙ ap (λ n. n - used) size in
+    record {
+      one_each = omega (arith, so_far.size, size, few, skip_is, all);
+      each = λ j part at. subst (λ n. IsEntityOf number facts (front_of name (n + j + 1)) (n + j + 1) part) skip_is (so_far.each j part at);
+    }
+
+-- ---- and what a file knows by them
+
+module _ (files : List File) (file seen : ℕ) (facts : Facts) (sees : Sees files file seen) (has : HasFacts files seen facts) where
+  named : (name : List ℕ) (count : ℕ) (part : Entity) → IsEntityOf seen facts (front_of name count) count part → IsNamed files file name count part
+  named name count part (packaged front) = named_packaged (subst (λ n. Knows files file n OfPackage) (sym front.3) (known_packaged sees has front.1 front.2))
+  named name count part (declared stands is) = named_declared sees has stands is
+
+  pub all_named : (name : List ℕ) (count : ℕ) (parts : List Entity) → AreEntitiesOf seen facts name count parts → AreNamed files file name count parts
+  all_named name count parts are = record { one_each = are.one_each; named = λ j part at. named name (length (components_of name) - count + j + 1) part (are.each j part at) }
+
+-- ---- the file that declares it
+
+pub some_seen : {P : Type 0} (Q : ℕ → Type 0) (found : Option ℕ) → MatchOption found (P → ⊥) Q → P → IsSome found
+some_seen Q None none p = absurd (none p)
+some_seen Q (Some number) some p = refl
+
+pub facts_known : (files : List File) (file : ℕ) (admits : NameKind → Bool) (name : List ℕ) (seen : ℕ) → (s : SeesGiving files file admits name seen) → HasFacts files seen s.giving.gives.facts
+facts_known files file admits name seen s = record { file = s.giving.file; numbered = s.giving.numbered; known = s.giving.gives.known }
+
+pub some_facts : {S : Type 0} (Q : S → Type 0) (files : List File) (seen : ℕ) (facts : Facts) (found : Option S) → HasFacts files seen facts → MatchOption found ((other : Facts) → HasFacts files seen other → ⊥) Q → IsSome found
+some_facts Q files seen facts None has none = absurd (none facts has)
+some_facts Q files seen facts (Some other) has some = refl
+
+one_File : (a b : File) → Some a ≡ Some b → a ≡ b
+one_File a b e = cc
+
+one_Facts : (a b : Facts) → Some a ≡ Some b → a ≡ b
+one_Facts a b e = cc
+
+pub one_list_of_facts : (files : List File) (number : ℕ) (facts other : Facts) → HasFacts files number facts → HasFacts files number other → facts ≡ other
+one_list_of_facts files number facts other has its =
+    one_Facts facts other (sym has.known ∙ (ap (λ (f : File). f.facts) (one_File has.file its.file (sym has.numbered ∙ its.numbered)) ∙ its.known))
+
+pub seen_within_files : (files : List File) (file : ℕ) (admits : NameKind → Bool) (name : List ℕ) (seen : ℕ) → SeesGiving files file admits name seen → seen < length files
+seen_within_files files file admits name seen s = slice_get_within files seen s.giving.file s.giving.numbered
+
+pub gives_there : (files : List File) (file : ℕ) (admits : NameKind → Bool) (name : List ℕ) (seen : ℕ) (facts : Facts) → SeesGiving files file admits name seen → HasFacts files seen facts → GivesAs admits name facts
+gives_there files file admits name seen facts s has =
+    subst (GivesAs admits name) (one_list_of_facts files seen s.giving.gives.facts facts (facts_known files file admits name seen s) has) s.giving.gives.gives
+
+none_some : {X : Type 0} (x : X) → None ≡ Some x → ⊥
+none_some x e = cc
+
+pub facts_at : (files : List File) (number : ℕ) (file : File) (facts : Option (Bor Facts)) → slice_get files number ≡ Some file → option_map (λ its. its.now) facts ≡ file.facts
+    → MatchOption facts ((other : Facts) → HasFacts files number other → ⊥) (λ its. HasFacts files number its.now)
+facts_at files number file None stands is = λ other has. none_some other (is ∙ (ap (λ (f : File). f.facts) (one_File file has.file (sym stands ∙ has.numbered)) ∙ has.known))
+facts_at files number file (Some its) stands is = record { file = file; numbered = stands; known = sym is }

@@ -8,6 +8,7 @@ ghost use Rattle.proto_link.specs.Clashes.{Clash, NoClash};
 ghost use Rattle.proto_link.specs.Linked.{CanBeLinked, MayRefuse};
 ghost use Rattle.proto_link.specs.Knows.{KnowsAs};
 ghost use Rattle.proto_link.specs.Given.{admits, SeesGiving};
+ghost use Rattle.proto_link.specs.StepTables.{HasPathAt};
 
 use crate::absent::first_absent;
 use crate::all_items::{all_fronts, all_items};
@@ -93,22 +94,33 @@ impl<'a> Linker<'a> {
         first_giving(self.files, self.rows[file].as_slice(), name, role)
     }
 
-    /// The facts of each file are those of some text, so that laws which ask for it hold of a
-    /// linker's files. Takes no memory.
-    pub fn origins(&self)
-        ensures { HaveOrigins self.now }
+    /// The files can be linked, and the facts of each are those of some text: what the laws ask
+    /// for. Takes no memory.
+    pub fn linked(&self)
+        ensures can_be { CanBeLinked self.now }
+        ensures origins { HaveOrigins self.now }
     {
         let _files = self.files;
     }
 
-    // The facts of a file, where it has some.
-    pub(crate) fn facts_of(&self, number: usize) -> Option<&FileFacts>
+    /// The facts of a file, where it has some. Takes no memory.
+    pub fn facts_of(&self, number: usize) -> Option<&FileFacts>
         requires { number < length self.now }
         ensures { MatchOption result ((facts : Facts) → HasFacts self.now number facts → ⊥) (λ facts. HasFacts self.now number facts.now) }
     {
         let files = self.files;
         let file = &files[number];
         file.facts
+    }
+
+    /// The path of a file. Takes no memory.
+    pub fn path_of(&self, number: usize) -> &str
+        requires { number < length self.now }
+        ensures { HasPathAt self.now result.now number }
+    {
+        let files = self.files;
+        let file = &files[number];
+        file.path
     }
 
     // Whether a file knows a name in a role.

@@ -1,5 +1,5 @@
 -- The packages and declarations of facts have symbols.
-use Rattle.std.proofs.Common.{◌≡◌, ◌≢◌, ℕ, ◌<◌, ◌≤◌, List, [], ◌∷◌, length, take, sym, arith}
+use Rattle.std.proofs.Common.{◌≡◌, ◌≢◌, ℕ, ◌<◌, ◌≤◌, List, [], ◌∷◌, length, take, subst, arith}
 use Rattle.std.specs.Prelude.{All, Contains}
 use Rattle.std.proofs.lemmas.List.{take-map, length-map, length-take-le}
 use Rattle.std.proofs.lemmas.List.Elements.{All-take, All-contains}
@@ -15,17 +15,16 @@ some-of : {A : Type 0} (xs : List A) → 0 < length xs → xs ≢ []
 some-of [] h = absurd (omega arith)
 some-of (x ∷ xs) h = λ e. cc
 
-pub names-front : (count : ℕ) (components : List Component) → component_names (take count components) ≡ take count (component_names components)
-names-front count components = sym (take-map (λ (c : Component). c.name) count components)
+all-front : (count : ℕ) (components : List Component) → All IsIdentifier (component_names components) → All IsIdentifier (component_names (take count components))
+all-front count components all = subst (All IsIdentifier) (take-map (λ (c : Component). c.name) count components) (All-take IsIdentifier count (component_names components) all)
 
 -- the package of the first components
 pub package-is : (facts : Facts) (count : ℕ) → AreNamed facts.package_name facts.declarations → 0 < count → count ≤ length facts.package_name → IsEntity (package_at facts count)
 package-is facts count named some within =
-    let names = component_names facts.package_name in
-    let all = All-take IsIdentifier count names named.of_components in
-    let size : length names ≡ length facts.package_name = length-map facts.package_name (λ (c : Component). c.name) in
-    let front : length (take count names) ≡ count = length-take-le count names (omega (arith, size, within)) in
-    (some-of (take count names) (omega (arith, front, some)), all)
+    let front = take count facts.package_name in
+    let names : length (component_names front) ≡ length front = length-map front (λ (c : Component). c.name) in
+    let size : length front ≡ count = length-take-le count facts.package_name within in
+    (some-of (component_names front) (omega (arith, names, size, some)), all-front count facts.package_name named.of_components)
 
 -- a declaration
 pub declaration-is : (facts : Facts) (declaration : Declaration) → AreNamed facts.package_name facts.declarations → All (λ (d : Declaration). d.path ≢ []) facts.declarations

@@ -4,3 +4,9 @@ pub mod MergeLemmas
 pub mod ListingLemmas
 -- Entities of facts
 pub mod EntityLemmas
+-- Lists of entries
+pub mod EntryLemmas
+pub mod ApartLemmas
+pub mod LinkedLemmas
+pub mod SortLemmas
+pub mod SourceEntryLemmas

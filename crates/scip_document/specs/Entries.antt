@@ -1,23 +1,21 @@
--- The symbol entries of the document of a source, and those of included files (`scip.proto`, SymbolInformation; which symbols have one is the profile's).
-use Rattle.std.specs.Prelude.{◌≡◌, ℕ, ◌+◌, true, Some, List, [], take, Contains}
+-- The symbol entries of the document of a source, and those of included files (`scip.proto`, SymbolInformation; which symbols have
+-- one, and the names that they are shown by, is the profile's).
+use Rattle.std.specs.Prelude.{◌≡◌, ℕ, ◌+◌, true, Some, List, []}
 use Rattle.std.specs.List.{slice_get}
 use Rattle.scip_model.specs.declared.records.Info.{Info}
 use Rattle.index_hooks.specs.declared.choice.Choice.{Choice}
-use Rattle.proto_decl.specs.Names.{dotted}
 use Rattle.proto_decl.specs.Declares.{simple_name}
 use Rattle.proto_decl.specs.Facts.{Facts}
 use Rattle.proto_decl.specs.declared.declaration.Declaration.{Declaration}
 use Rattle.proto_decl.specs.declared.type_use.Component.{Component}
-use Rattle.proto_decl.specs.declared.type_use.Use.{Use}
-use Rattle.proto_decl.specs.Ways.{component_names}
 use Rattle.scip_symbol.specs.Entities.{OfFile}
+use Rattle.scip_symbol.specs.Entities as symbols
 use Rattle.scip_symbol.specs.Package.{Package}
 use Rattle.proto_link.specs.Files.{File, HasFacts, IsSource}
-use Rattle.proto_link.specs.Targets.{IsTarget}
-use Rattle.proto_link.specs.declared.target.Target.{Target}
+use Rattle.proto_link.specs.Items.{package_of}
 use Rattle.proto_link.specs.declared.target.Entity.TheVariants as link
 use Rattle.scip_document.specs.Chosen.{Chosen, IsChosen, documentation_of}
-use Rattle.scip_document.specs.Named.{HasDeclaration, text_of, package_at, declaration_at}
+use Rattle.scip_document.specs.Named.{HasDeclaration, NamesIn, text_of, package_at, declaration_at}
 
 -- of a file, shown by its path
 abbrev pub file_entry : Package → (path : List ℕ) → Info
@@ -28,7 +26,7 @@ abbrev pub package_entry : Package → Facts → (count : ℕ) → Info
 package_entry id facts count = record {
   symbol = text_of id (package_at facts count);
   documentation = [];
-  display_name = dotted (take count (component_names facts.package_name));
+  display_name = package_of facts count;
 }
 
 -- of a declaration, with the texts chosen for it, shown by its simple name
@@ -39,21 +37,34 @@ declaration_entry id facts declared choice = record {
   display_name = simple_name declared.path;
 }
 
-module _ (files : List File) (chosen : Chosen) (id : Package) where
-  -- The entries of a source: the file, each component of its package's name, and each declaration that is kept.
-  pub data HasEntry (source : ℕ) : Info → Type 0 where
-    of_file : {file : File} → slice_get files source ≡ Some file → HasEntry source (file_entry id file.path)
-    of_package : {facts : Facts} (index : ℕ) {component : Component} → HasFacts files source facts → slice_get facts.package_name index ≡ Some component
-        → HasEntry source (package_entry id facts (index + 1))
-    of_declaration : {facts : Facts} (index : ℕ) {declared : Declaration} {choice : Choice}
-        → HasDeclaration files source index facts declared → IsChosen chosen source index choice → choice.keep ≡ true
-        → HasEntry source (declaration_entry id facts declared choice)
+-- the entry of a declaration that is kept, by its file's number and its own
+pub record IsKeptEntry (files : List File) (chosen : Chosen) (id : Package) (file index : ℕ) (entry : Info) : Type 0 where
+  pub facts : Facts
+  pub declaration : Declaration
+  pub choice : Choice
+  pub has : HasDeclaration files file index facts declaration
+  pub is_chosen : IsChosen chosen file index choice
+  pub keeps : choice.keep ≡ true
+  pub is : entry ≡ declaration_entry id facts declaration choice
 
-  -- The external entries: each declaration of an included file that is kept, and that a component of a use in a source names.
-  pub data HasExternal : Info → Type 0 where
-    of_included : (source file index component : ℕ) {included : File} {facts used_in : Facts} {declared : Declaration} {choice : Choice} {type_use : Use} {target : Target}
-        → IsSource files source → HasFacts files source used_in → Contains used_in.uses type_use → IsTarget files source type_use target
-        → slice_get target.parts component ≡ Some (link.Declared file index)
-        → slice_get files file ≡ Some included → included.is_included ≡ true
-        → HasDeclaration files file index facts declared → IsChosen chosen file index choice → choice.keep ≡ true
-        → HasExternal (declaration_entry id facts declared choice)
+-- The entries of a source: the file, each component of its package's name, and each declaration that is kept.
+pub data HasEntry (files : List File) (chosen : Chosen) (id : Package) (source : ℕ) : Info → Type 0 where
+  of_file : {file : File} → slice_get files source ≡ Some file → HasEntry files chosen id source (file_entry id file.path)
+  of_package : {facts : Facts} (index : ℕ) {component : Component} → HasFacts files source facts → slice_get facts.package_name index ≡ Some component
+      → HasEntry files chosen id source (package_entry id facts (index + 1))
+  of_declaration : (index : ℕ) {entry : Info} → IsKeptEntry files chosen id source index entry → HasEntry files chosen id source entry
+
+-- The external entries (`scip.proto`, Index.external_symbols): each declaration of an included file that is kept, and that a component
+-- of a use in a source names.
+pub record HasExternal (files : List File) (chosen : Chosen) (id : Package) (entry : Info) : Type 0 where
+  pub source : ℕ
+  pub is_source : IsSource files source
+  pub component : Component
+  pub entity : symbols.Entity
+  pub number : ℕ
+  pub index : ℕ
+  pub names : NamesIn files source component (link.Declared number index) entity
+  pub file : File
+  pub numbered : slice_get files number ≡ Some file
+  pub included : file.is_included ≡ true
+  pub kept : IsKeptEntry files chosen id number index entry

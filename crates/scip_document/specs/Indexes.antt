@@ -1,5 +1,5 @@
 -- The index of a tree: a document for each source, in order of path, and the external entries (`scip.proto`, Index, Document, Metadata).
-use Rattle.std.specs.Prelude.{◌≡◌, ◌↔◌, ℕ, ℤ, pos, not, Some, List, [], codes, length, filter, Contains}
+use Rattle.std.specs.Prelude.{◌≡◌, ◌↔◌, ℕ, ℤ, pos, false, Some, List, [], codes, length, Contains}
 use Rattle.std.specs.declared.cmp.Ordering.{Ordering}
 use Rattle.std.specs.Ordering.{nat_cmp, int_cmp, on, then_cmp}
 use Rattle.std.specs.Cmp.Lexicographic.{slice_cmp}
@@ -23,8 +23,7 @@ pub record IsAscendingListOf {X : Type 0} (cmp : X → X → Ordering) (IsWanted
   pub exact : (x : X) → Contains list x ↔ IsWanted x
   pub ascends : IsStrictlySortedBy cmp list
 
--- By start, then end, then symbol. No two occurrences of a document tie in these; the roles come last only so that the order is
--- one of all occurrences that there are.
+-- by start, then end, then symbol; the roles come last, so that any set of occurrences has one such list
 abbrev pub occurrence_cmp : Occurrence → Occurrence → Ordering
 occurrence_cmp =
     then_cmp (on (λ (o : Occurrence). o.range.start_line) nat_cmp)
@@ -43,10 +42,11 @@ abbrev pub encoding_number : Encoding → ℤ
 encoding_number Utf8 = pos 1
 encoding_number Utf16 = pos 2
 
--- the document of a source, which has this text
+-- the document of a source, which has this text (`scip.proto`, Document; the word for the language is the profile's)
 pub record IsDocumentOf (files : List File) (chosen : Chosen) (id : Package) (encoding : Encoding) (source : ℕ) (text : List ℕ) (document : Document) : Type 0 where
   pub file : File
   pub numbered : slice_get files source ≡ Some file
+  pub is_source : file.is_included ≡ false
   pub relative_path : document.relative_path ≡ file.path
   pub occurrences : IsAscendingListOf occurrence_cmp (Occurs files chosen id encoding source text) document.occurrences
   pub symbols : IsAscendingListOf info_cmp (HasEntry files chosen id source) document.symbols
@@ -57,7 +57,7 @@ pub record IsDocumentOf (files : List File) (chosen : Chosen) (id : Package) (en
 abbrev pub AreExternals : List File → Chosen → Package → List Info → Type 0
 AreExternals files chosen id = IsAscendingListOf info_cmp (HasExternal files chosen id)
 
--- what an index says of itself (`scip.proto`, Metadata): the protocol's version 0; its own text is UTF-8
+-- What an index says of itself (`scip.proto`, Metadata, ProtocolVersion, TextEncoding): the protocol's version 0; the sources are UTF-8.
 abbrev pub metadata_of : (project_root : List ℕ) → Metadata
 metadata_of project_root = record {
   version = pos 0;
@@ -66,14 +66,20 @@ metadata_of project_root = record {
   text_document_encoding = pos 1;
 }
 
--- how many of the files are sources
-abbrev pub source_count : List File → ℕ
-source_count files = length (filter (λ file. not file.is_included) files)
+-- by path
+abbrev pub document_cmp : Document → Document → Ordering
+document_cmp = on (λ (d : Document). d.relative_path) (slice_cmp nat_cmp)
 
--- The index of the files, of which the sources come first, by path, and have these texts.
+-- the document of one of the sources, of which each has one of the texts
+pub record HasDocument (files : List File) (texts : List (List ℕ)) (chosen : Chosen) (id : Package) (encoding : Encoding) (document : Document) : Type 0 where
+  pub source : ℕ
+  pub text : List ℕ
+  pub text_is : slice_get texts source ≡ Some text
+  pub is : IsDocumentOf files chosen id encoding source text document
+
+-- The index of the files, which have these texts.
 pub record IsIndexOf (files : List File) (texts : List (List ℕ)) (chosen : Chosen) (id : Package) (encoding : Encoding) (project_root : List ℕ) (index : Index) : Type 0 where
   pub metadata_is : index.metadata ≡ Some (metadata_of project_root)
-  pub one_each : length index.documents ≡ source_count files
-  pub documents : (source : ℕ) (text : List ℕ) (document : Document) → slice_get texts source ≡ Some text → slice_get index.documents source ≡ Some document
-      → IsDocumentOf files chosen id encoding source text document
+  pub one_text_each : length texts ≡ length files
+  pub documents : IsAscendingListOf document_cmp (HasDocument files texts chosen id encoding) index.documents
   pub externals : AreExternals files chosen id index.external_symbols

@@ -4,6 +4,10 @@ pub mod Chosen
 -- what occurs in the document of a source, and its symbol entries
 pub mod Occurs
 pub mod Entries
+-- what is asked of files, and why a document is refused
+pub mod Conditions
+-- the lists by which the code finds entries
+pub mod EntryLists
 -- documents, external entries, and the index of a tree
 pub mod Indexes
 -- the lists that make up those occurrences

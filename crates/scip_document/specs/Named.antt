@@ -1,37 +1,60 @@
 -- The entities that have symbols, as the linker's files give them.
-use Rattle.std.specs.Prelude.{◌≡◌, ℕ, Some, List, take}
+use Rattle.std.specs.Prelude.{◌≡◌, ℕ, Some, List, take, Contains}
 use Rattle.std.specs.List.{slice_get}
 use Rattle.proto_decl.specs.Names.{components_of}
 use Rattle.proto_decl.specs.Facts.{Facts}
-use Rattle.proto_decl.specs.declared.declaration.Declaration.{Declaration}
 use Rattle.proto_decl.specs.Ways.{component_names}
+use Rattle.proto_decl.specs.declared.declaration.Declaration.{Declaration}
+use Rattle.proto_decl.specs.declared.type_use.Component.{Component}
+use Rattle.proto_decl.specs.declared.type_use.Use.{Use}
 use Rattle.scip_symbol.specs.Entities.{OfPackage, OfDeclaration, symbol_in}
 use Rattle.scip_symbol.specs.Entities as symbols
 use Rattle.scip_symbol.specs.Package.{Package}
 use Rattle.scip_symbol.specs.SymbolText.{symbol_text}
 use Rattle.proto_link.specs.Files.{File, HasFacts}
+use Rattle.proto_link.specs.Targets.{IsTarget}
 use Rattle.proto_link.specs.declared.target.Entity.{Entity}
 use Rattle.proto_link.specs.declared.target.Entity.TheVariants as link
+use Rattle.proto_link.specs.declared.target.Target.{Target}
 
 -- a declaration of one of the files, by the file's number and its own
 pub record HasDeclaration (files : List File) (file index : ℕ) (facts : Facts) (declaration : Declaration) : Type 0 where
   pub has_facts : HasFacts files file facts
   pub numbered : slice_get facts.declarations index ≡ Some declaration
 
--- the text of an entity's symbol, in the package that the settings name
+-- the text of an entity's symbol, in the package that the settings name (`scip.proto`, Symbol)
 unfoldable pub text_of : Package → symbols.Entity → List ℕ
 text_of id entity = symbol_text (symbol_in id entity)
 
 -- the package of the first components of a file's package name
 abbrev pub package_at : Facts → (count : ℕ) → symbols.Entity
-package_at facts count = OfPackage (take count (component_names facts.package_name))
+package_at facts count = OfPackage (component_names (take count facts.package_name))
 
 -- a declaration: its file's package, and the way to it
 abbrev pub declaration_at : Facts → Declaration → symbols.Entity
 declaration_at facts declaration = OfDeclaration (component_names facts.package_name) declaration.path
 
--- What a component of a use names, of a use that resolves to this full name.
-pub data Names (files : List File) (name : List ℕ) : Entity → symbols.Entity → Type 0 where
-  of_package : {count : ℕ} → Names files name (link.Package count) (OfPackage (take count (components_of name)))
-  of_declaration : {file index : ℕ} {facts : Facts} {declared : Declaration}
-      → HasDeclaration files file index facts declared → Names files name (link.Declared file index) (declaration_at facts declared)
+-- the entity is that of a declaration, by the file's number and its own
+pub record IsDeclaredAs (files : List File) (file index : ℕ) (entity : symbols.Entity) : Type 0 where
+  pub facts : Facts
+  pub declaration : Declaration
+  pub has : HasDeclaration files file index facts declaration
+  pub is : entity ≡ declaration_at facts declaration
+
+-- What a component of a use is the name of, of a use that resolves to this full name.
+abbrev pub IsNamedAs : (files : List File) (name : List ℕ) → Entity → symbols.Entity → Type 0
+IsNamedAs files name (link.Package count) entity = entity ≡ OfPackage (take count (components_of name))
+IsNamedAs files name (link.Declared file index) entity = IsDeclaredAs files file index entity
+
+-- A component of a use in a file names an entity: of the linker's, and of those that have symbols.
+pub record NamesIn (files : List File) (file : ℕ) (component : Component) (part : Entity) (entity : symbols.Entity) : Type 0 where
+  pub facts : Facts
+  pub type_use : Use
+  pub target : Target
+  pub index : ℕ
+  pub has_facts : HasFacts files file facts
+  pub listed : Contains facts.uses type_use
+  pub is_target : IsTarget files file type_use target
+  pub component_is : slice_get type_use.components index ≡ Some component
+  pub part_is : slice_get target.parts index ≡ Some part
+  pub entity_is : IsNamedAs files target.name part entity

@@ -1,5 +1,5 @@
 -- What occurs in the document of a source: exactly this, whatever its order (`scip.proto`, Occurrence and SymbolRole; which symbols
--- occur is the profile's).
+-- occur, and the file's own range, is the profile's).
 use Rattle.std.specs.Prelude.{◌≡◌, ℕ, ◌+◌, ℤ, pos, Some, List, Contains}
 use Rattle.std.specs.List.{slice_get}
 use Rattle.proto_lex.specs.declared.span.Span.{Span}
@@ -11,19 +11,16 @@ use Rattle.proto_decl.specs.Facts.{Facts}
 use Rattle.proto_decl.specs.declared.imported.Imported.{Imported}
 use Rattle.proto_decl.specs.declared.declaration.Declaration.{Declaration}
 use Rattle.proto_decl.specs.declared.type_use.Component.{Component}
-use Rattle.proto_decl.specs.declared.type_use.Use.{Use}
 use Rattle.scip_symbol.specs.Entities.{OfFile}
 use Rattle.scip_symbol.specs.Entities as symbols
 use Rattle.scip_symbol.specs.Package.{Package}
 use Rattle.proto_link.specs.Files.{File, HasFacts}
-use Rattle.proto_link.specs.Targets.{IsTarget}
-use Rattle.proto_link.specs.declared.target.Target.{Target}
 use Rattle.proto_link.specs.declared.target.Entity.{Entity}
 use Rattle.proto_link.specs.declared.target.Entity.TheVariants as link
 use Rattle.scip_document.specs.Chosen.{Chosen, IsKept}
-use Rattle.scip_document.specs.Named.{HasDeclaration, Names, text_of, package_at, declaration_at}
+use Rattle.scip_document.specs.Named.{HasDeclaration, NamesIn, text_of, package_at, declaration_at}
 
--- (`scip.proto`, SymbolRole)
+-- (`scip.proto`, SymbolRole: UnspecifiedSymbolRole, Definition and Import)
 abbrev pub no_role : ℤ
 no_role = pos 0
 
@@ -33,7 +30,7 @@ definition_role = pos 1
 abbrev pub import_role : ℤ
 import_role = pos 2
 
--- from where a span begins to where it ends
+-- from where a span begins to where it ends (`scip.proto`, Occurrence.range)
 abbrev pub range_over : Encoding → (text : List ℕ) → Span → RangeNumbers
 range_over encoding text span = record {
   start_line = (position_of encoding text span.start).line;
@@ -50,26 +47,24 @@ abbrev pub IsShown : Chosen → Entity → Type 0
 IsShown chosen (link.Package count) = Unit {0}
 IsShown chosen (link.Declared file declaration) = IsKept chosen file declaration
 
-module _ (files : List File) (chosen : Chosen) (id : Package) (encoding : Encoding) (source : ℕ) (text : List ℕ) where
-  abbrev pub occurrence : Span → symbols.Entity → ℤ → Occurrence
-  occurrence span entity roles = record { range = range_over encoding text span; symbol = text_of id entity; symbol_roles = roles }
+-- an entity's symbol over a span
+abbrev pub occurrence_over : Encoding → (text : List ℕ) → Package → Span → symbols.Entity → ℤ → Occurrence
+occurrence_over encoding text id span entity roles = record { range = range_over encoding text span; symbol = text_of id entity; symbol_roles = roles }
 
-  pub data Occurs : Occurrence → Type 0 where
-    -- the file itself
-    of_file : {file : File} → slice_get files source ≡ Some file
-        → Occurs (record { range = start_of_text; symbol = text_of id (OfFile file.path); symbol_roles = definition_role })
-    -- each file that it imports, over the literals
-    of_import : {facts : Facts} {imported : Imported} → HasFacts files source facts → Contains facts.imports imported
-        → Occurs (occurrence imported.span (OfFile imported.path) import_role)
-    -- each component of its package's name: the package up to it
-    of_package : {facts : Facts} (index : ℕ) {component : Component} → HasFacts files source facts → slice_get facts.package_name index ≡ Some component
-        → Occurs (occurrence component.span (package_at facts (index + 1)) definition_role)
-    -- each declaration that is kept, over its name
-    of_declaration : {facts : Facts} (index : ℕ) {declared : Declaration} → HasDeclaration files source index facts declared → IsKept chosen source index
-        → Occurs (occurrence declared.name (declaration_at facts declared) definition_role)
-    -- each component of a use that names a package, or a declaration that is kept
-    of_component : {facts : Facts} {type_use : Use} {target : Target} (index : ℕ) {component : Component} {part : Entity} {entity : symbols.Entity}
-        → HasFacts files source facts → Contains facts.uses type_use → IsTarget files source type_use target
-        → slice_get type_use.components index ≡ Some component → slice_get target.parts index ≡ Some part
-        → IsShown chosen part → Names files target.name part entity
-        → Occurs (occurrence component.span entity no_role)
+-- What occurs in the document of a source, which has this text.
+pub data Occurs (files : List File) (chosen : Chosen) (id : Package) (encoding : Encoding) (source : ℕ) (text : List ℕ) : Occurrence → Type 0 where
+  -- the file itself
+  of_file : {file : File} → slice_get files source ≡ Some file
+      → Occurs files chosen id encoding source text (record { range = start_of_text; symbol = text_of id (OfFile file.path); symbol_roles = definition_role })
+  -- each file that it imports, over the literals
+  of_import : {facts : Facts} {imported : Imported} → HasFacts files source facts → Contains facts.imports imported
+      → Occurs files chosen id encoding source text (occurrence_over encoding text id imported.span (OfFile imported.path) import_role)
+  -- each component of its package's name: the package up to it
+  of_package : {facts : Facts} (index : ℕ) {component : Component} → HasFacts files source facts → slice_get facts.package_name index ≡ Some component
+      → Occurs files chosen id encoding source text (occurrence_over encoding text id component.span (package_at facts (index + 1)) definition_role)
+  -- each declaration that is kept, over its name
+  of_declaration : {facts : Facts} (index : ℕ) {declared : Declaration} → HasDeclaration files source index facts declared → IsKept chosen source index
+      → Occurs files chosen id encoding source text (occurrence_over encoding text id declared.name (declaration_at facts declared) definition_role)
+  -- each component of a use that names a package, or a declaration that is kept
+  of_component : {component : Component} {part : Entity} {entity : symbols.Entity} → NamesIn files source component part entity → IsShown chosen part
+      → Occurs files chosen id encoding source text (occurrence_over encoding text id component.span entity no_role)

@@ -4,6 +4,8 @@
 mod choices;
 mod merging;
 mod occurrences;
+mod documentation;
+mod entries;
 mod symbol_texts;
 
 pub use choices::Choices;

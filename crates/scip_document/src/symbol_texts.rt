@@ -22,6 +22,7 @@ pub(crate) fn file_text(alloc: Global, id: &PackageId, path: &str) -> Result<Own
 }
 
 // Of the package that the first components of a file's package name make, so many.
+#[tactic(auto, unfolding(crate::specs::Named::text_of))]
 pub(crate) fn package_text(
     alloc: Global,
     id: &PackageId,

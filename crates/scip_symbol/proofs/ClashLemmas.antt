@@ -56,7 +56,7 @@ find (facts ∷ files) y h = either
     record { facts = of.facts; among = Contains-append_right (facts ∷ []) files of.facts of.among; found = of.found; listed = of.listed; same = of.same })
     (Contains-append_cases (map (declaration_in facts) facts.declarations) (declarations_of files) y h)
 
-put : (files : List Facts) (facts : Facts) (d : Declared) → Contains files facts → Contains facts.declarations d → Contains (declarations_of files) (declaration_in facts d)
+pub put : (files : List Facts) (facts : Facts) (d : Declared) → Contains files facts → Contains facts.declarations d → Contains (declarations_of files) (declaration_in facts d)
 put [] facts d h k = absurd (none facts h)
 put (first ∷ files) facts d h k = either
     (λ e. Contains-append_left (map (declaration_in first) first.declarations) (declarations_of files) (declaration_in facts d)

@@ -1,0 +1,57 @@
+//! The texts that document a declaration.
+
+ghost use Rattle.std.specs.Prelude.{◌≡◌, ◌++◌, IfOk, OnOk};
+ghost use Rattle.scip_document.specs.Chosen.{unless_empty, documentation_of};
+
+use index_hooks::DocChoice;
+use proto_decl::Declaration;
+use sequences::{OwnedText, Sequence};
+use std::alloc::{AllocError, Global};
+
+// Appends a text that isn't empty.
+fn push_text(alloc: Global, texts: &mut Sequence<OwnedText>, text: &str) -> Result<(), AllocError>
+    ensures { OnOk result (texts.new ≡ texts.old ++ unless_empty text.now) }
+{
+    if text.is_empty() {
+        return Ok(());
+    }
+    let text = OwnedText::copy_of(alloc, text)?;
+    texts.push(text)?;
+    Ok(())
+}
+
+fn one_text(alloc: Global, text: &str) -> Result<Sequence<OwnedText>, AllocError>
+    ensures { IfOk result (λ texts. texts ≡ unless_empty text.now) }
+{
+    let mut texts = Sequence::new(alloc);
+    push_text(alloc, &mut texts, text)?;
+    Ok(texts)
+}
+
+fn two_texts(alloc: Global, first: &str, second: &str) -> Result<Sequence<OwnedText>, AllocError>
+    ensures { IfOk result (λ texts. texts ≡ unless_empty first.now ++ unless_empty second.now) }
+{
+    let mut texts = Sequence::new(alloc);
+    push_text(alloc, &mut texts, first)?;
+    push_text(alloc, &mut texts, second)?;
+    Ok(texts)
+}
+
+// Those chosen of a declaration's texts, without empty ones.
+pub(crate) fn documentation_of(
+    alloc: Global,
+    choice: DocChoice,
+    declaration: &Declaration,
+) -> Result<Sequence<OwnedText>, AllocError>
+    ensures { IfOk result (λ texts. texts ≡ documentation_of choice declaration.now) }
+{
+    let leading = declaration.leading.as_str();
+    let trailing = declaration.trailing.as_str();
+    match choice {
+        DocChoice::Pass => Ok(Sequence::new(alloc)),
+        DocChoice::Nothing => Ok(Sequence::new(alloc)),
+        DocChoice::Leading => one_text(alloc, leading),
+        DocChoice::Trailing => one_text(alloc, trailing),
+        DocChoice::Both => two_texts(alloc, leading, trailing),
+    }
+}

@@ -2,6 +2,12 @@
 pub mod OrderLemmas
 pub mod MergeLemmas
 pub mod ListingLemmas
+pub mod NamedLemmas
+pub mod OccursLemmas
+pub mod DocumentLemmas
+pub mod TargetLemmas
+pub mod NameableLemmas
+pub mod ConditionLemmas
 -- Entities of facts
 pub mod EntityLemmas
 -- Lists of entries

@@ -1,5 +1,5 @@
 -- The lists that make up a document's occurrences have what they give, and ascend.
-use Rattle.std.proofs.Common.{◌≡◌, ◌∙◌, sym, ap, refl, subst, inl, inr, ℕ, zero, suc, ◌+◌, ◌<◌, ◌≤◌, Some, None, List, [], ◌∷◌, ◌++◌, length, arith}
+use Rattle.std.proofs.Common.{◌≡◌, ◌∙◌, sym, ap, refl, subst, inl, inr, ℕ, zero, suc, ◌+◌, ◌<◌, ◌≤◌, Some, None, List, [], ◌∷◌, ◌++◌, length, arith, drop}
 use Rattle.std.specs.List.{All, AllByRecursion, Contains, slice_get, flat_map}
 use Rattle.std.specs.declared.cmp.Ordering.{Ordering}
 use Rattle.std.specs.declared.cmp.Ordering.TheVariants.{Less}
@@ -17,9 +17,13 @@ use Rattle.scip_model.specs.declared.records.Occurrence.{Occurrence}
 use Rattle.scip_document.specs.Occurs.{range_over}
 use Rattle.scip_document.specs.Indexes.{occurrence_cmp}
 use Rattle.scip_document.specs.Listing.{each_from}
+use Rattle.std.proofs.lemmas.List.{append_assoc}
 use Rattle.std.proofs.lemmas.Bool.{cases_order}
 use Rattle.std.proofs.lemmas.Bool.Decides.{nat_tests}
 use Rattle.scip_document.proofs.MergeLemmas.{not_in_none, either}
+
+none_is_some : {Y : Type 0} {y : Y} → None ≡ Some y → ⊥
+none_is_some f = cc
 
 -- what a list gives, item by item
 
@@ -45,10 +49,7 @@ module _ {A B : Type 0} (gives : ℕ → A → List B) where
       (λ others. later index x xs o (given_by (index + 1) xs o others)) (Contains-append_cases (gives index x) (each_from gives (index + 1) xs) o h)
 
   pub gives_it : (index : ℕ) (xs : List A) (o : B) (at : ℕ) (item : A) → slice_get xs at ≡ Some item → Contains (gives (index + at) item) o → Contains (each_from gives index xs) o
-  gives_it index [] o at item e h = absurd (none_some e)
-    where
-      none_some : {Y : Type 0} {y : Y} → None ≡ Some y → ⊥
-      none_some f = cc
+  gives_it index [] o at item e h = absurd (none_is_some e)
   gives_it index (x ∷ xs) o zero item e h =
       let same : x ≡ item = cc in
       let first : index + 0 ≡ index = omega arith in
@@ -56,6 +57,19 @@ module _ {A B : Type 0} (gives : ℕ → A → List B) where
   gives_it index (x ∷ xs) o (suc at) item e h =
       let next : index + suc at ≡ index + 1 + at = omega arith in
       Contains-append_right (gives index x) (each_from gives (index + 1) xs) o (gives_it (index + 1) xs o at item e (subst (λ (n : ℕ). Contains (gives n item) o) next h))
+
+-- what an item adds to what those before it gave
+module _ {A B : Type 0} (gives : ℕ → A → List B) where
+  each_more : (from : ℕ) (xs : List A) (k : ℕ) (x : A) → slice_get xs k ≡ Some x → each_from gives from (drop k xs) ≡ gives from x ++ each_from gives (from + 1) (drop (k + 1) xs)
+  each_more from [] k x e = absurd (none_is_some e)
+  each_more from (y ∷ ys) zero x e = let same : y ≡ x = cc in ap (λ z. gives from z ++ each_from gives (from + 1) ys) same
+  each_more from (y ∷ ys) (suc k) x e = let next : suc k + 1 ≡ suc (k + 1) = omega arith in rw next (each_more from ys k x e)
+
+  pub each_added : (xs : List A) (k : ℕ) (x : A) (old new whole : List B) → slice_get xs k ≡ Some x → new ≡ old ++ gives k x → old ++ each_from gives k (drop k xs) ≡ whole
+      → new ++ each_from gives (k + 1) (drop (k + 1) xs) ≡ whole
+  each_added xs k x old new whole e added before =
+      ap (λ (front : List B). front ++ each_from gives (k + 1) (drop (k + 1) xs)) added ∙ (append_assoc old (gives k x) (each_from gives (k + 1) (drop (k + 1) xs))
+      ∙ (ap (λ (rest : List B). old ++ rest) (sym (each_more k xs k x e)) ∙ before))
 
 -- occurrences stand at some of the spans, in their order
 pub data StandAt (encoding : Encoding) (text : List ℕ) : List Span → List Occurrence → Type 0 where

@@ -6,6 +6,7 @@ pub mod Occurs
 pub mod Entries
 -- what is asked of files, and why a document is refused
 pub mod Conditions
+pub mod Texts
 -- the lists by which the code finds entries
 pub mod EntryLists
 -- documents, external entries, and the index of a tree

@@ -1,5 +1,5 @@
 -- The occurrences of a document, list by list: each list is in order of place.
-use Rattle.std.specs.Prelude.{ℕ, ◌+◌, Bool, true, false, ℤ, if◌then◌else◌, Option, Some, None, List, [], ◌∷◌, ◌++◌, take}
+use Rattle.std.specs.Prelude.{◌≡◌, ℕ, ◌+◌, Bool, true, false, if◌then◌else◌, Option, Some, None, List, [], ◌∷◌, ◌++◌, take}
 use Rattle.std.specs.List.{slice_get}
 use Rattle.std.specs.Option.{option_and_then, option_map}
 use Rattle.proto_lex.specs.declared.span.Span.{Span}
@@ -20,8 +20,8 @@ use Rattle.proto_link.specs.declared.target.Target.{Target}
 use Rattle.proto_link.specs.declared.target.Entity.{Entity}
 use Rattle.proto_link.specs.declared.target.Entity.TheVariants as link
 use Rattle.scip_document.specs.Chosen.{Chosen}
-use Rattle.scip_document.specs.Named.{text_of, package_at, declaration_at}
-use Rattle.scip_document.specs.Occurs.{range_over, no_role, definition_role, import_role}
+use Rattle.scip_document.specs.Named.{HasDeclaration, text_of, package_at, declaration_at}
+use Rattle.scip_document.specs.Occurs.{occurrence_over, start_of_text, no_role, definition_role, import_role}
 
 -- What each item of a list gives, by its index, one after the other.
 abbrev pub each_from : {A B : Type 0} → (ℕ → A → List B) → (index : ℕ) → List A → List B
@@ -43,28 +43,40 @@ is_shown chosen (link.Declared file index) = keeps chosen file index
 abbrev pub declared_in : Facts → (index : ℕ) → Option symbols.Entity
 declared_in facts index = option_map (declaration_at facts) (slice_get facts.declarations index)
 
+abbrev pub declared_by : List File → (file index : ℕ) → Option symbols.Entity
+declared_by files file index = option_and_then (λ (f : File). option_and_then (λ (facts : Facts). declared_in facts index) f.facts) (slice_get files file)
+
 -- what a part of a full name names
 abbrev pub entity_of : List File → (name : List ℕ) → Entity → Option symbols.Entity
 entity_of files name (link.Package count) = Some (OfPackage (take count (components_of name)))
-entity_of files name (link.Declared file index) = option_and_then (λ (f : File). option_and_then (λ (facts : Facts). declared_in facts index) f.facts) (slice_get files file)
+entity_of files name (link.Declared file index) = declared_by files file index
+
+-- it has a symbol
+abbrev pub IsNameable : List File → (name : List ℕ) → Entity → Type 0
+IsNameable files name (link.Package count) = symbols.IsEntity (OfPackage (take count (components_of name)))
+IsNameable files name (link.Declared file index) = (facts : Facts) × (declared : Declaration) × HasDeclaration files file index facts declared
+
+abbrev pub AreNameable : List File → Target → Type 0
+AreNameable files target = (index : ℕ) (part : Entity) → slice_get target.parts index ≡ Some part → IsNameable files target.name part
+
+-- the file's own
+abbrev pub own_occurrence : Package → (path : List ℕ) → Occurrence
+own_occurrence id path = record { range = start_of_text; symbol = text_of id (OfFile path); symbol_roles = definition_role }
 
 module _ (id : Package) (encoding : Encoding) (text : List ℕ) where
-  abbrev pub occurrence_at : Span → symbols.Entity → ℤ → Occurrence
-  occurrence_at span entity roles = record { range = range_over encoding text span; symbol = text_of id entity; symbol_roles = roles }
-
   abbrev pub at_import : ℕ → Imported → List Occurrence
-  at_import index imported = occurrence_at imported.span (OfFile imported.path) import_role ∷ []
+  at_import index imported = occurrence_over encoding text id imported.span (OfFile imported.path) import_role ∷ []
 
   abbrev pub at_package : Facts → ℕ → Component → List Occurrence
-  at_package facts index component = occurrence_at component.span (package_at facts (index + 1)) definition_role ∷ []
+  at_package facts index component = occurrence_over encoding text id component.span (package_at facts (index + 1)) definition_role ∷ []
 
   abbrev pub at_declaration : Chosen → (file : ℕ) → Facts → ℕ → Declaration → List Occurrence
   at_declaration chosen file facts index declared =
-      if keeps chosen file index then occurrence_at declared.name (declaration_at facts declared) definition_role ∷ [] else []
+      if keeps chosen file index then occurrence_over encoding text id declared.name (declaration_at facts declared) definition_role ∷ [] else []
 
   abbrev pub at_entity : Span → Option symbols.Entity → List Occurrence
   at_entity span None = []
-  at_entity span (Some entity) = occurrence_at span entity no_role ∷ []
+  at_entity span (Some entity) = occurrence_over encoding text id span entity no_role ∷ []
 
   module _ (files : List File) (chosen : Chosen) where
     abbrev pub at_part : (name : List ℕ) → Span → Option Entity → List Occurrence

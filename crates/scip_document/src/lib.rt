@@ -2,10 +2,14 @@
 #![tactic(auto)]
 
 mod choices;
-mod merging;
-mod occurrences;
 mod documentation;
 mod entries;
+mod merging;
+mod occurrences;
+mod source_document;
 mod symbol_texts;
+mod targets;
+mod use_occurrences;
 
 pub use choices::Choices;
+pub use source_document::document;

@@ -16,3 +16,5 @@ pub mod ApartLemmas
 pub mod LinkedLemmas
 pub mod SortLemmas
 pub mod SourceEntryLemmas
+-- Pieces of an index
+pub mod PieceLemmas

@@ -1,13 +1,13 @@
 -- The ascending list of a set: what a sort leaves of elements that differ.
-use Rattle.std.proofs.Common.{◌≡◌, ◌+◌, ◌↔◌, Bool, false, List, [], ◌∷◌, ◌++◌, get_or, refl, arith}
+use Rattle.std.proofs.Common.{◌≡◌, ◌+◌, ◌↔◌, Bool, false, List, [], ◌∷◌, ◌++◌, get_or, refl, arith, ◌⊎◌, inl, inr, ap, subst, map, sym, ◌∙◌}
 use Rattle.std.specs.declared.cmp.Ordering.{Ordering}
 use Rattle.std.specs.declared.cmp.Ordering.TheVariants.{Less, Equal, Greater}
-use Rattle.std.specs.Ordering.{is_lt, is_eq, eq_by_cmp, ordering_reverse}
+use Rattle.std.specs.Ordering.{is_lt, is_eq, eq_by_cmp, ordering_reverse, on}
 use Rattle.std.specs.Cmp.{IsTotalOrder}
 use Rattle.std.specs.List.{AllByRecursion, Contains, IsDistinct}
 use Rattle.std.specs.List.Sorted.{IsSorted, IsPermutation, IsStrictlySortedBy}
 use Rattle.std.proofs.lemmas.Cmp.{eq_by_cmp_equiv}
-use Rattle.std.proofs.lemmas.List.Elements.{recursion_from_All, Contains-get_or, Contains-append_left, Contains-append_right, Contains-push}
+use Rattle.std.proofs.lemmas.List.Elements.{recursion_from_All, All-from_recursion, All-contains, Contains-get_or, Contains-append_left, Contains-append_right, Contains-append_cases, Contains-push, Contains-push_cases}
 use Rattle.std.proofs.lemmas.List.Sorted.{Contains-permutation, IsPermutation-sym}
 use Rattle.std.proofs.lemmas.Map.Keys.{IsDistinct-head, IsDistinct-tail, IsDistinct-cons, IsDistinct-IsPermutation, apart_from_distinct, sorted_from_all_adjacent}
 use Rattle.scip_document.specs.Indexes.{IsAscendingListOf}
@@ -20,8 +20,14 @@ below Greater Less e p q = cc
 below Greater Equal e p q = cc
 below Greater Greater e p q = cc
 
+nothing : {A : Type 0} (x : A) → Contains [] x → ⊥
+nothing x there = omega (arith, there.1)
+
+only : {A : Type 0} (x y : A) → Contains (x ∷ []) y → x ≡ y
+only x y there = elim (Contains-push_cases [] x y there) [ inl none ↦ absurd (nothing y none) | inr same ↦ same ]
+
 module _ {X : Type 0} {cmp : X → X → Ordering} (total : IsTotalOrder cmp) where
-  rises : (xs : List X) → IsSorted cmp xs → IsDistinct (eq_by_cmp cmp) xs → IsStrictlySortedBy cmp xs
+  pub rises : (xs : List X) → IsSorted cmp xs → IsDistinct (eq_by_cmp cmp) xs → IsStrictlySortedBy cmp xs
   unfolding IsStrictlySortedBy
   rises [] up differ = tt
   rises (x ∷ xs) up differ =
@@ -39,6 +45,57 @@ module _ {X : Type 0} {cmp : X → X → Ordering} (total : IsTotalOrder cmp) wh
     );
     ascends = rises list up (IsDistinct-IsPermutation (eq_by_cmp cmp) (eq_by_cmp_equiv total).symm made list moved differ);
   }
+
+  -- nothing is behind itself
+  not-below : (x : X) → cmp x x ≡ Less → ⊥
+  not-below x less = turned (cmp x x) (cmp x x) (total.antisymm x x) less less
+    where
+      turned : (there back : Ordering) → there ≡ ordering_reverse back → there ≡ Less → back ≡ Less → ⊥
+      turned there Less e p q = let bad : Greater ≡ Less = sym e ∙ p in cc
+      turned there Equal e p q = cc
+      turned there Greater e p q = cc
+
+  not-both : (x y : X) → cmp x y ≡ Less → cmp y x ≡ Less → ⊥
+  not-both x y less more = let bad : Greater ≡ Less = sym (total.antisymm x y ∙ ap ordering_reverse more) ∙ less in cc
+
+  tail-in : (x y : X) (xs ys : List X) → x ≡ y → AllByRecursion (λ z. cmp x z ≡ Less) xs → (z : X) → Contains xs z → Contains (y ∷ ys) z → Contains ys z
+  tail-in x y xs ys same up z there also = elim (Contains-append_cases (y ∷ []) ys z also) [
+    | inr behind ↦ behind
+    | inl first ↦ (
+        let one : x ≡ z = same ∙ only y z first in
+        absurd (not-below x (subst (λ w. cmp x w ≡ Less) (sym one) (All-contains (λ w. cmp x w ≡ Less) xs z (All-from_recursion (λ w. cmp x w ≡ Less) xs up) there))))
+  ]
+
+  -- a set has one ascending list at most
+  pub one-ascending : (xs ys : List X) → IsStrictlySortedBy cmp xs → IsStrictlySortedBy cmp ys → ((z : X) → Contains xs z → Contains ys z) → ((z : X) → Contains ys z → Contains xs z) → xs ≡ ys
+  unfolding IsStrictlySortedBy
+  one-ascending [] [] up also into back = refl
+  one-ascending [] (y ∷ ys) up also into back = absurd (nothing y (back y (Contains-append_left (y ∷ []) ys y (Contains-push [] y))))
+  one-ascending (x ∷ xs) [] up also into back = absurd (nothing x (into x (Contains-append_left (x ∷ []) xs x (Contains-push [] x))))
+  one-ascending (x ∷ xs) (y ∷ ys) up also into back =
+      let same : x ≡ y = heads (Contains-append_cases (y ∷ []) ys x (into x (Contains-append_left (x ∷ []) xs x (Contains-push [] x))))
+      (Contains-append_cases (x ∷ []) xs y (back y (Contains-append_left (y ∷ []) ys y (Contains-push [] y)))) in
+      let rest = one-ascending xs ys up.1 also.1
+      (λ z there. tail-in x y xs ys same up.0 z there (into z (Contains-append_right (x ∷ []) xs z there)))
+      (λ z there. tail-in y x ys xs (sym same) also.0 z there (back z (Contains-append_right (y ∷ []) ys z there))) in
+      cc
+    where
+      heads : (Contains (y ∷ []) x ⊎ Contains ys x) → (Contains (x ∷ []) y ⊎ Contains xs y) → x ≡ y
+      heads (inl first) other = sym (only y x first)
+      heads (inr behind) (inl first) = only x y first
+      heads (inr behind) (inr later) =
+          absurd (not-both x y (All-contains (λ w. cmp x w ≡ Less) xs y (All-from_recursion (λ w. cmp x w ≡ Less) xs up.0) later)
+          (All-contains (λ w. cmp y w ≡ Less) ys x (All-from_recursion (λ w. cmp y w ≡ Less) ys also.0) behind))
+
+-- what ascends by a key has keys that ascend
+pub keys-ascend : {X K : Type 0} (key : X → K) (cmp : K → K → Ordering) (xs : List X) → IsStrictlySortedBy (on key cmp) xs → IsStrictlySortedBy cmp (map key xs)
+unfolding IsStrictlySortedBy
+keys-ascend key cmp [] up = tt
+keys-ascend {X} {K} key cmp (x ∷ xs) up = (keys xs up.0, keys-ascend key cmp xs up.1)
+  where
+    keys : (ys : List X) → AllByRecursion (λ y. cmp (key x) (key y) ≡ Less) ys → AllByRecursion (λ k. cmp (key x) k ≡ Less) (map key ys)
+    keys [] all = tt
+    keys (y ∷ ys) all = (all.0, keys ys all.1)
 
 -- lists without doubles
 module _ {X : Type 0} (same : X → X → Bool) where

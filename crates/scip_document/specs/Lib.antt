@@ -15,3 +15,6 @@ pub mod Indexes
 pub mod Listing
 -- two lists in order made one
 pub mod Merges
+-- documents put together
+pub mod Pieces
+pub mod TakenPaths

@@ -15,6 +15,7 @@ pub mod OrderLemmas
 pub mod FactLemmas
 pub mod NameLemmas
 pub mod FilledLemmas
+pub mod PartLemmas
 pub mod ScopeLemmas
 pub mod MarkLemmas
 pub mod ScopedLemmas

@@ -8,8 +8,9 @@ use Rattle.proto_parse.specs.Derives.{Derives}
 use Rattle.proto_decl.specs.Names.{qualified, IsSimple, dotted, components_of, front_of, scopes_of}
 use Rattle.proto_decl.specs.Comments.{IsLeadingText, IsTrailingText}
 use Rattle.proto_decl.specs.Declares.{simple_name}
-use Rattle.proto_decl.specs.Facts.{Facts, AreFactsOf}
+use Rattle.proto_decl.specs.Facts.{Facts, AreFactsOf, AreOfSomeFile, component_spans, name_spans, use_spans}
 use Rattle.proto_decl.specs.declared.declaration.Declaration.{Declaration}
+use Rattle.proto_decl.specs.declared.imported.Imported.{Imported}
 
 -- A token leads one text and trails one, in a text with the tokens and comments of its lexing.
 abbrev pub OneLeadingText : Type 0
@@ -62,3 +63,13 @@ FrontsAreEntities facts =
 -- The scopes of a full name are that name and the scopes of the scope around it.
 abbrev pub ScopesNest : Type 0
 ScopesNest = (scope name : List ℕ) → IsSimple name → scopes_of (qualified scope name) ≡ qualified scope name ∷ scopes_of scope
+
+-- The components of the package's name and of uses, the imports and the declared names are parts of the text.
+pub record StandInText (text : List ℕ) (facts : Facts) : Type 0 where
+  pub package_name : All (IsPart text) (component_spans facts.package_name)
+  pub imports : All (IsPart text) (map (λ (imported : Imported). imported.span) facts.imports)
+  pub names : All (IsPart text) (name_spans facts.declarations)
+  pub uses : All (IsPart text) (use_spans facts.uses)
+
+abbrev pub FactsStandInText : Type 0
+FactsStandInText = (facts : Facts) → (origin : AreOfSomeFile facts) → StandInText origin.lexed.text facts

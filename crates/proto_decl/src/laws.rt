@@ -3,7 +3,7 @@
 ghost use Rattle.std.specs.Prelude.{All};
 ghost use Rattle.proto_decl.specs.Facts.{Facts, AreOfSomeFile, NamesInOrder, UsesInOrder, ImportsInOrder, PackageInOrder, NamesAreFilled, UsesAreFilled};
 ghost use Rattle.proto_decl.specs.Names.{IsSimple};
-ghost use Rattle.proto_decl.specs.Laws.{OneLeadingText, OneTrailingText, OneFacts, NamesAreSpelled, StandsInScope, FrontsAreEntities, ScopesNest};
+ghost use Rattle.proto_decl.specs.Laws.{OneLeadingText, OneTrailingText, OneFacts, NamesAreSpelled, StandsInScope, FrontsAreEntities, FactsStandInText, ScopesNest};
 
 use proto_parse::{names_have_components, spans_in_order, spans_of_tokens};
 
@@ -29,6 +29,16 @@ pub fn facts_in_order()
     spans_of_tokens();
     spans_in_order();
     names_have_components();
+}
+
+/// The places of a file's facts are parts of its text.
+pub fn facts_stand_in_text()
+    ensures { FactsStandInText }
+{
+    spans_of_tokens();
+    names_have_components();
+    names_are_spelled();
+    facts_in_order();
 }
 
 /// Each use has a component at least, and no declared name is empty.

@@ -1,3 +1,13 @@
+-- occurrences in order, and two lists of them made one
+pub mod OrderLemmas
+pub mod MergeLemmas
+pub mod ListingLemmas
+pub mod NamedLemmas
+pub mod OccursLemmas
+pub mod DocumentLemmas
+pub mod TargetLemmas
+pub mod NameableLemmas
+pub mod ConditionLemmas
 -- Entities of facts
 pub mod EntityLemmas
 -- Lists of entries

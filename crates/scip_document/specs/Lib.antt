@@ -6,10 +6,15 @@ pub mod Occurs
 pub mod Entries
 -- what is asked of files, and why a document is refused
 pub mod Conditions
+pub mod Texts
 -- the lists by which the code finds entries
 pub mod EntryLists
 -- documents, external entries, and the index of a tree
 pub mod Indexes
+-- the lists that make up those occurrences
+pub mod Listing
+-- two lists in order made one
+pub mod Merges
 -- documents put together
 pub mod Pieces
 pub mod TakenPaths

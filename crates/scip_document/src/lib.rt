@@ -5,9 +5,15 @@ mod choices;
 mod documentation;
 mod entries;
 mod merge_fault;
+mod merging;
+mod occurrences;
 mod pieces;
+mod source_document;
 mod symbol_texts;
+mod targets;
+mod use_occurrences;
 
 pub use choices::Choices;
 pub use merge_fault::{MergeFault, Unmerged};
 pub use pieces::merge;
+pub use source_document::document;

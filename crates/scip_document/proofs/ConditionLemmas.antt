@@ -1,0 +1,101 @@
+-- What the facts of a source give to the functions that list its occurrences.
+use Rattle.std.proofs.Common.{◌≡◌, ◌∙◌, sym, refl, subst, ◌⊎◌, inl, inr, ℕ, zero, suc, ◌<◌, true, false, Some, List, [], ◌∷◌, ◌++◌, length, map}
+use Rattle.std.specs.List.{All, Contains, slice_get}
+use Rattle.std.specs.Str.{bytes_eq}
+use Rattle.std.proofs.lemmas.Bool.{cases_Bool}
+use Rattle.std.proofs.lemmas.Slice.Eq.{bytes_eq-Decides}
+use Rattle.std.proofs.lemmas.List.Elements.{All-nil, All-cons, All-head, All-tail, Contains-get_or}
+use Rattle.proto_lex.specs.Lexed.{IsPart}
+use Rattle.proto_decl.specs.Facts.{Facts, component_spans, use_spans}
+use Rattle.proto_decl.specs.Laws.{StandInText, FactsStandInText}
+use Rattle.proto_decl.specs.declared.imported.Imported.{Imported}
+use Rattle.proto_decl.specs.declared.type_use.Component.{Component}
+use Rattle.proto_decl.specs.declared.type_use.Use.{Use}
+use Rattle.scip_symbol.specs.Path.{IsGoodPath}
+use Rattle.proto_link.specs.Files.{File, HasFacts, IsSource, HasPath}
+use Rattle.proto_link.specs.Absences.{NoAbsent}
+use Rattle.proto_link.specs.Absences.IsNeeded.{of_source}
+use Rattle.scip_document.specs.Chosen.{Chosen, HasChoice, HaveChoices}
+use Rattle.scip_document.specs.Conditions.{HaveGoodPaths}
+use Rattle.scip_document.specs.Texts.{AreOfText}
+use Rattle.scip_model.specs.declared.records.Occurrence.{Occurrence}
+use Rattle.scip_document.specs.Indexes.{occurrence_cmp}
+use Rattle.scip_document.specs.Merges.{IsMerged}
+use Rattle.scip_document.proofs.MergeLemmas.{either, at_head, in_tail, head_or_tail, not_in_none}
+use Rattle.scip_document.proofs.EntryLemmas.{at-index}
+
+pub all_of_map : {X Y : Type 0} (P : Y → Type 0) (f : X → Y) (xs : List X) → All P (map f xs) → All (λ x. P (f x)) xs
+all_of_map P f [] all = All-nil (λ x. P (f x))
+all_of_map P f (x ∷ xs) all = All-cons (λ y. P (f y)) x xs (All-head P (f x) (map f xs) all) (all_of_map P f xs (All-tail P (f x) (map f xs) all))
+
+all_left : {X : Type 0} (P : X → Type 0) (xs ys : List X) → All P (xs ++ ys) → All P xs
+all_left P [] ys all = All-nil P
+all_left P (x ∷ xs) ys all = All-cons P x xs (All-head P x (xs ++ ys) all) (all_left P xs ys (All-tail P x (xs ++ ys) all))
+
+all_right : {X : Type 0} (P : X → Type 0) (xs ys : List X) → All P (xs ++ ys) → All P ys
+all_right P [] ys all = all
+all_right P (x ∷ xs) ys all = all_right P xs ys (All-tail P x (xs ++ ys) all)
+
+module _ (text : List ℕ) where
+  abbrev ComponentStands : Component → Type 0
+  ComponentStands component = IsPart text component.span
+
+  abbrev UseStands : Use → Type 0
+  UseStands used = All ComponentStands used.components
+
+  pub uses_stand_there : (uses : List Use) → All (IsPart text) (use_spans uses) → All UseStands uses
+  uses_stand_there [] all = All-nil UseStands
+  uses_stand_there (u ∷ us) all =
+      All-cons UseStands u us
+      (all_of_map (IsPart text) (λ (component : Component). component.span) u.components (all_left (IsPart text) (component_spans u.components) (use_spans us) all))
+      (uses_stand_there us (all_right (IsPart text) (component_spans u.components) (use_spans us) all))
+
+  pub stand_there : (facts : Facts) → AreOfText text facts → FactsStandInText → StandInText text facts
+  stand_there facts is law = subst (λ (t : List ℕ). StandInText t facts) is.text_is (law facts is.origin)
+
+pub choices_there : (files : List File) (chosen : Chosen) (source : ℕ) (facts : Facts) → HaveChoices files chosen → HasFacts files source facts → (index : ℕ) → index < length facts.declarations
+    → HasChoice chosen source index
+choices_there files chosen source facts have known index within =
+    let declared = at-index facts.declarations index within in
+    have source index facts declared.0 (record { has_facts = known; numbered = declared.1 })
+
+-- an import of a source is of a file that is there
+
+decide_path : (paths : List (List ℕ)) (p : List ℕ) → Contains paths p ⊎ (Contains paths p → ⊥)
+decide_path [] p = inr (not_in_none p)
+decide_path (q ∷ qs) p = elim (cases_Bool (bytes_eq q p)) [
+  | inl e ↦ inl (at_head p q qs ((bytes_eq-Decides q p).0 e))
+  | inr e ↦ elim (decide_path qs p) [
+    | inl there ↦ inl (in_tail p q qs there)
+    | inr none ↦ inr (λ h. either (λ same. let bad : true ≡ false = sym ((bytes_eq-Decides q p).1 same) ∙ e in cc) none (head_or_tail p q qs h))
+  ]
+]
+
+record IsAtPath (files : List File) (p : List ℕ) : Type 0 where
+  number : ℕ
+  file : File
+  numbered : slice_get files number ≡ Some file
+  path : file.path ≡ p
+
+at_path : (files : List File) (p : List ℕ) → HasPath files p → IsAtPath files p
+at_path [] p h = absurd (not_in_none p h)
+at_path (f ∷ fs) p h = either (λ same. record { number = zero; file = f; numbered = refl; path = same }) (λ others. next (at_path fs p others)) (head_or_tail p f.path (map (λ (file : File). file.path) fs) h)
+  where
+    next : IsAtPath fs p → IsAtPath (f ∷ fs) p
+    next r = record { number = suc r.number; file = r.file; numbered = r.numbered; path = r.path }
+
+good_import : (files : List File) (source : ℕ) (facts : Facts) → IsSource files source → HasFacts files source facts → NoAbsent files → HaveGoodPaths files
+    → (imported : Imported) → Contains facts.imports imported → IsGoodPath imported.path
+good_import files source facts is known complete good imported listed = elim (decide_path (map (λ (file : File). file.path) files) imported.path) [
+  | inl there ↦ let r = at_path files imported.path there in subst IsGoodPath r.path (good r.number r.file r.numbered)
+  | inr missing ↦ absurd (complete (record { file = source; span = imported.span }) (record { import = imported; needed = of_source is known listed; stands = refl; missing = missing }))
+]
+
+pub good_imports : (files : List File) (source : ℕ) (facts : Facts) → IsSource files source → HasFacts files source facts → NoAbsent files → HaveGoodPaths files
+    → All (λ (imported : Imported). IsGoodPath imported.path) facts.imports
+good_imports files source facts is known complete good = λ k d h. good_import files source facts is known complete good _ (Contains-get_or facts.imports k d h)
+
+-- what is merged is so by other names of the lists
+pub merged_of : {first second a b both : List Occurrence} → first ≡ a → second ≡ b → IsMerged occurrence_cmp first second both → IsMerged occurrence_cmp a b both
+merged_of {first} {second} {a} {b} {both} e f m =
+    subst (λ (xs : List Occurrence). IsMerged occurrence_cmp xs b both) e (subst (λ (ys : List Occurrence). IsMerged occurrence_cmp first ys both) f m)

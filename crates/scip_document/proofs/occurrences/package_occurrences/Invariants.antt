@@ -1,0 +1,7 @@
+use Rattle.std.proofs.Common.{◌≡◌, ◌++◌, drop}
+use Rattle.scip_document.specs.Listing.{each_from, at_package}
+use Rattle.scip_document.proofs.occurrences.package_occurrences.Given as goal
+
+abbrev pub invariant-loop-index : goal.invariant-loop-index
+invariant-loop-index l =
+    l.list.items ++ each_from (at_package l.id l.encoding l.text l.facts) l.index (drop l.index l.component-items) ≡ each_from (at_package l.id l.encoding l.text l.facts) 0 l.component-items

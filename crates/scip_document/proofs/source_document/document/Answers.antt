@@ -1,0 +1,13 @@
+use Rattle.scip_document.proofs.LinkedLemmas.{source-facts}
+use Rattle.scip_document.proofs.NamedLemmas.{some_facts, given_facts}
+use Rattle.scip_document.proofs.source_document.document.Goals as goal
+
+pub unwrap-facts-requires : goal.unwrap-facts-requires
+unwrap-facts-requires c =
+    let facts = source-facts c.args.linker.now c.args.source c.linked.ensures.can_be.read c.requires.source in
+    some_facts c.args.linker.now c.args.source facts.0 c.facts_of.result facts.1 c.facts_of.ensures
+
+pub document_with-requires-clause-text : goal.document_with-requires-clause-text
+document_with-requires-clause-text c =
+    let facts = c.unwrap-facts.result.now in
+    c.requires.text facts (given_facts c.args.linker.now c.args.source c.facts_of.result c.unwrap-facts.result c.unwrap-facts.ensures c.facts_of.ensures)

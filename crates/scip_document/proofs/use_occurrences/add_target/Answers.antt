@@ -1,0 +1,26 @@
+use Rattle.std.proofs.Common.{◌≡◌, ◌∙◌, ap, refl, List, ℕ, Option, Some, ◌++◌, length}
+use Rattle.std.specs.List.{slice_get}
+use Rattle.std.proofs.lemmas.Option.{slice_get_read}
+use Rattle.proto_link.specs.declared.target.Entity.{Entity}
+use Rattle.scip_document.specs.Listing.{each_from, at_part, at_component}
+use Rattle.scip_document.proofs.ListingLemmas.{each_added}
+use Rattle.scip_document.proofs.use_occurrences.add_target.Goals as goal
+
+pub loop-index-preserved : goal.loop-index-preserved
+loop-index-preserved c =
+    let id = c.args.id.now in
+    let encoding = c.args.encoding in
+    let text = c.args.text.now in
+    let files = c.args.linker.now in
+    let chosen = c.args.choices.now in
+    let target = c.args.target.now in
+    let xs = c.as_slice-component-items.result.now in
+    let index = c.loop-index.index in
+    let component = c.component-item.result in
+    let old = c.loop-index.list.items in
+    let there : slice_get xs index ≡ Some component = slice_get_read xs (length xs) index component refl c.loop-index-test.true c.component-item.is in
+    let added = c.in_ok-add_part.ensures
+    ∙ (ap (λ (name : List ℕ). old ++ at_part id encoding text files chosen name component.span c.part_of-part.result) c.as_str-name.ensures
+    ∙ ap (λ (part : Option Entity). old ++ at_part id encoding text files chosen target.name component.span part) c.part_of-part.ensures) in
+    each_added (at_component id encoding text files chosen target) xs index component old c.add_part.new.list.items
+    (c.args.list.now.items ++ each_from (at_component id encoding text files chosen target) 0 xs) there added c.loop-index.invariant

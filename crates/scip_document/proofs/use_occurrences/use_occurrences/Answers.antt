@@ -1,0 +1,27 @@
+use Rattle.std.proofs.Common.{◌≡◌, ◌∙◌, ap, sym, refl, Option, Some, ◌++◌, ◌<◌, length, subst, ℕ}
+use Rattle.std.specs.List.{slice_get}
+use Rattle.std.proofs.lemmas.Option.{slice_get_read}
+use Rattle.proto_link.specs.declared.target.Target.{Target}
+use Rattle.scip_document.specs.Listing.{each_from, at_target, at_use}
+use Rattle.scip_document.proofs.ListingLemmas.{each_added}
+use Rattle.scip_document.proofs.use_occurrences.use_occurrences.Goals as goal
+
+pub loop-index-preserved : goal.loop-index-preserved
+loop-index-preserved c =
+    let id = c.args.id.now in
+    let encoding = c.args.encoding in
+    let text = c.args.text.now in
+    let files = c.args.linker.now in
+    let chosen = c.args.choices.now in
+    let targets = c.args.targets.now in
+    let uses = c.args.uses.now in
+    let index = c.loop-index.index in
+    let type_use = c.index-uses-index.result in
+    let target = c.index-targets-index.result in
+    let old = c.loop-index.list.items in
+    let there : slice_get uses index ≡ Some type_use = slice_get_read uses (length uses) index type_use refl c.loop-index-test.true c.index-uses-index.is in
+    let within : index < length targets = subst (λ (n : ℕ). index < n) (sym c.requires.one_each) c.loop-index-test.true in
+    let known : slice_get targets index ≡ Some target = slice_get_read targets (length targets) index target refl within c.index-targets-index.is in
+    let added = c.in_ok-add_target.ensures ∙ ap (λ (o : Option Target). old ++ at_target id encoding text files chosen o type_use) (sym known) in
+    each_added (at_use id encoding text files chosen targets) uses index type_use old c.add_target.new.list.items
+    (each_from (at_use id encoding text files chosen targets) 0 uses) there added c.loop-index.invariant

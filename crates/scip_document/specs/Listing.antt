@@ -1,0 +1,94 @@
+-- The occurrences of a document, list by list: each list is in order of place.
+use Rattle.std.specs.Prelude.{◌≡◌, ℕ, ◌+◌, Bool, true, false, if◌then◌else◌, Option, Some, None, List, [], ◌∷◌, ◌++◌, take}
+use Rattle.std.specs.List.{slice_get}
+use Rattle.std.specs.Option.{option_and_then, option_map}
+use Rattle.proto_lex.specs.declared.span.Span.{Span}
+use Rattle.proto_lex.specs.declared.position.Encoding.{Encoding}
+use Rattle.scip_model.specs.declared.records.Occurrence.{Occurrence}
+use Rattle.index_hooks.specs.declared.choice.Choice.{Choice}
+use Rattle.proto_decl.specs.Names.{components_of}
+use Rattle.proto_decl.specs.Facts.{Facts}
+use Rattle.proto_decl.specs.declared.imported.Imported.{Imported}
+use Rattle.proto_decl.specs.declared.declaration.Declaration.{Declaration}
+use Rattle.proto_decl.specs.declared.type_use.Component.{Component}
+use Rattle.proto_decl.specs.declared.type_use.Use.{Use}
+use Rattle.scip_symbol.specs.Entities.{OfFile, OfPackage}
+use Rattle.scip_symbol.specs.Entities as symbols
+use Rattle.scip_symbol.specs.Package.{Package}
+use Rattle.proto_link.specs.Files.{File}
+use Rattle.proto_link.specs.declared.target.Target.{Target}
+use Rattle.proto_link.specs.declared.target.Entity.{Entity}
+use Rattle.proto_link.specs.declared.target.Entity.TheVariants as link
+use Rattle.scip_document.specs.Chosen.{Chosen}
+use Rattle.scip_document.specs.Named.{HasDeclaration, text_of, package_at, declaration_at}
+use Rattle.scip_document.specs.Occurs.{occurrence_over, start_of_text, no_role, definition_role, import_role}
+
+-- What each item of a list gives, by its index, one after the other.
+abbrev pub each_from : {A B : Type 0} → (ℕ → A → List B) → (index : ℕ) → List A → List B
+each_from gives index [] = []
+each_from gives index (x ∷ xs) = gives index x ++ each_from gives (index + 1) xs
+
+-- whether the choice keeps a declaration
+abbrev pub keeps_by : Option Choice → Bool
+keeps_by None = false
+keeps_by (Some choice) = choice.keep
+
+abbrev pub keeps : Chosen → (file index : ℕ) → Bool
+keeps chosen file index = keeps_by (option_and_then (λ (of_file : List Choice). slice_get of_file index) (slice_get chosen file))
+
+abbrev pub is_shown : Chosen → Entity → Bool
+is_shown chosen (link.Package count) = true
+is_shown chosen (link.Declared file index) = keeps chosen file index
+
+abbrev pub declared_in : Facts → (index : ℕ) → Option symbols.Entity
+declared_in facts index = option_map (declaration_at facts) (slice_get facts.declarations index)
+
+abbrev pub declared_by : List File → (file index : ℕ) → Option symbols.Entity
+declared_by files file index = option_and_then (λ (f : File). option_and_then (λ (facts : Facts). declared_in facts index) f.facts) (slice_get files file)
+
+-- what a part of a full name names
+abbrev pub entity_of : List File → (name : List ℕ) → Entity → Option symbols.Entity
+entity_of files name (link.Package count) = Some (OfPackage (take count (components_of name)))
+entity_of files name (link.Declared file index) = declared_by files file index
+
+-- it has a symbol
+abbrev pub IsNameable : List File → (name : List ℕ) → Entity → Type 0
+IsNameable files name (link.Package count) = symbols.IsEntity (OfPackage (take count (components_of name)))
+IsNameable files name (link.Declared file index) = (facts : Facts) × (declared : Declaration) × HasDeclaration files file index facts declared
+
+abbrev pub AreNameable : List File → Target → Type 0
+AreNameable files target = (index : ℕ) (part : Entity) → slice_get target.parts index ≡ Some part → IsNameable files target.name part
+
+-- the file's own
+abbrev pub own_occurrence : Package → (path : List ℕ) → Occurrence
+own_occurrence id path = record { range = start_of_text; symbol = text_of id (OfFile path); symbol_roles = definition_role }
+
+module _ (id : Package) (encoding : Encoding) (text : List ℕ) where
+  abbrev pub at_import : ℕ → Imported → List Occurrence
+  at_import index imported = occurrence_over encoding text id imported.span (OfFile imported.path) import_role ∷ []
+
+  abbrev pub at_package : Facts → ℕ → Component → List Occurrence
+  at_package facts index component = occurrence_over encoding text id component.span (package_at facts (index + 1)) definition_role ∷ []
+
+  abbrev pub at_declaration : Chosen → (file : ℕ) → Facts → ℕ → Declaration → List Occurrence
+  at_declaration chosen file facts index declared =
+      if keeps chosen file index then occurrence_over encoding text id declared.name (declaration_at facts declared) definition_role ∷ [] else []
+
+  abbrev pub at_entity : Span → Option symbols.Entity → List Occurrence
+  at_entity span None = []
+  at_entity span (Some entity) = occurrence_over encoding text id span entity no_role ∷ []
+
+  module _ (files : List File) (chosen : Chosen) where
+    abbrev pub at_part : (name : List ℕ) → Span → Option Entity → List Occurrence
+    at_part name span None = []
+    at_part name span (Some part) = if is_shown chosen part then at_entity span (entity_of files name part) else []
+
+    abbrev pub at_component : Target → ℕ → Component → List Occurrence
+    at_component target index component = at_part target.name component.span (slice_get target.parts index)
+
+    abbrev pub at_target : Option Target → Use → List Occurrence
+    at_target None type_use = []
+    at_target (Some target) type_use = each_from (at_component target) 0 type_use.components
+
+    abbrev pub at_use : List Target → ℕ → Use → List Occurrence
+    at_use targets index type_use = at_target (slice_get targets index) type_use

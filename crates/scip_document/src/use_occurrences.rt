@@ -1,0 +1,243 @@
+//! The occurrences of a document that come of its uses.
+
+ghost use Rattle.std.specs.Prelude.{◌≡◌, ◌<◌, ◌≤◌, ◌++◌, ℕ, Some, List, All, IfOk, OnOk, length, map, take};
+ghost use Rattle.std.specs.List.{slice_get};
+ghost use Rattle.std.specs.Option.{option_map};
+ghost use denote.Ref.{Bor};
+ghost use Rattle.proto_lex.specs.Lexed.{IsPart};
+ghost use Rattle.proto_decl.specs.Names.{components_of};
+ghost use Rattle.proto_decl.specs.Facts.{Facts};
+ghost use Rattle.proto_decl.specs.Ways.{component_names};
+ghost use Rattle.proto_decl.specs.declared.declaration.Declaration.{Declaration};
+ghost use Rattle.proto_decl.specs.declared.type_use.Component.{Component};
+ghost use Rattle.proto_decl.specs.declared.type_use.Use.{Use};
+ghost use Rattle.proto_link.specs.declared.target.Target.{Target};
+ghost use Rattle.proto_link.specs.declared.target.Entity.{Entity};
+ghost use Rattle.scip_symbol.specs.Entities.{OfPackage, IsEntity};
+ghost use Rattle.scip_document.specs.Chosen.{HaveChoices};
+ghost use Rattle.scip_document.specs.Named.{HasDeclaration, text_of};
+ghost use Rattle.scip_document.specs.Listing.{each_from, declared_by, entity_of, is_shown, IsNameable, AreNameable, at_part, at_component, at_target, at_use};
+
+use crate::choices::Choices;
+use crate::occurrences::occurrence_over;
+use crate::symbol_texts::declaration_text;
+use proto_decl::{Component, Declaration, FileFacts, Use};
+use proto_lex::{Encoding, Span, Text};
+use proto_link::{Entity, Linker, Target};
+use scip_model::Occurrence;
+use scip_symbol::{PackageId, package_symbol, print};
+use sequences::OwnedText;
+use std::alloc::{AllocError, Global};
+
+/// The role of what is neither a definition nor an import.
+const NO_ROLE: i32 = 0;
+
+/// The components of a full name.
+fn components_in(alloc: Global, name: &str) -> Result<Vec<&str>, AllocError>
+    ensures { IfOk result (λ parts. map (λ (part : Bor (List ℕ)). part.now) parts.items ≡ components_of name.now) }
+{
+    name.split('.').collect(alloc)
+}
+
+/// So many of them, or all where there are fewer.
+fn at_most(count: usize, parts: &[&str]) -> usize
+    ensures within { result ≤ length parts.now }
+    ensures same { (texts : List (List ℕ)) → length texts ≡ length parts.now → take result texts ≡ take count texts }
+{
+    if count < parts.len() {
+        count
+    } else {
+        parts.len()
+    }
+}
+
+/// Components with these names. They stand nowhere.
+fn components_with(alloc: Global, names: &[&str]) -> Result<Vec<Component>, AllocError>
+    ensures { IfOk result (λ components. component_names components.items ≡ map (λ (name : Bor (List ℕ)). name.now) names.now) }
+{
+    let mut components = Vec::new(alloc);
+    for name in names {
+        components.push(Component {
+            name: OwnedText::copy_of(alloc, name)?,
+            span: Span { start: 0, end: 0 },
+        })?;
+    }
+    Ok(components)
+}
+
+/// The first components of a full name, at most so many.
+fn first_components(alloc: Global, name: &str, count: usize) -> Result<Vec<Component>, AllocError>
+    ensures { IfOk result (λ components. component_names components.items ≡ take count (components_of name.now)) }
+{
+    let parts = components_in(alloc, name)?;
+    let few = at_most(count, parts.as_slice());
+    let (front, _) = parts.as_slice().split_at(few);
+    let components = components_with(alloc, front)?;
+    Ok(components)
+}
+
+/// The symbol's text of the package that a full name's first components make.
+#[tactic(auto, unfolding(crate::specs::Named::text_of))]
+fn named_package_text(
+    alloc: Global,
+    id: &PackageId,
+    name: &str,
+    count: usize,
+) -> Result<OwnedText, AllocError>
+    requires { IsEntity (OfPackage (take count (components_of name.now))) }
+    ensures { IfOk result (λ text. text ≡ text_of id.now (OfPackage (take count (components_of name.now)))) }
+{
+    let components = first_components(alloc, name, count)?;
+    let symbol = package_symbol(alloc, id, components.as_slice())?;
+    let text = print(alloc, &symbol)?;
+    Ok(OwnedText::from_string(text))
+}
+
+/// A declaration of a file, by its number.
+fn declaration_of(facts: &FileFacts, index: usize) -> &Declaration
+    requires { index < length facts.now.declarations }
+    ensures { slice_get facts.now.declarations index ≡ Some result.now }
+{
+    &facts.declarations()[index]
+}
+
+/// The symbol's text of a declaration, by its file's number and its own.
+fn declared_text(
+    alloc: Global,
+    id: &PackageId,
+    linker: &Linker<'_>,
+    file: usize,
+    index: usize,
+) -> Result<OwnedText, AllocError>
+    requires { (facts : Facts) × (declared : Declaration) × HasDeclaration linker.now file index facts declared }
+    ensures { IfOk result (λ text. option_map (text_of id.now) (declared_by linker.now file index) ≡ Some text) }
+{
+    let facts = linker.facts_of(file).unwrap();
+    let declaration = declaration_of(facts, index);
+    declaration_text(alloc, id, facts, declaration)
+}
+
+/// The symbol's text of what a part of a full name names.
+fn entity_text(
+    alloc: Global,
+    id: &PackageId,
+    linker: &Linker<'_>,
+    name: &str,
+    part: Entity,
+) -> Result<OwnedText, AllocError>
+    requires { IsNameable linker.now name.now part }
+    ensures { IfOk result (λ text. option_map (text_of id.now) (entity_of linker.now name.now part) ≡ Some text) }
+{
+    match part {
+        Entity::Package(count) => named_package_text(alloc, id, name, count),
+        Entity::Declared(file, index) => declared_text(alloc, id, linker, file, index),
+    }
+}
+
+/// Whether a part of a full name occurs: a package does, and a declaration where it is kept.
+fn is_shown(linker: &Linker<'_>, choices: &Choices, name: &str, part: Entity) -> bool
+    requires chosen { HaveChoices linker.now choices.now }
+    requires nameable { IsNameable linker.now name.now part }
+    ensures { result ≡ is_shown choices.now part }
+{
+    match part {
+        Entity::Package(_) => true,
+        Entity::Declared(file, index) => choices.of(file, index).keep,
+    }
+}
+
+/// Adds the occurrence of a part of a full name over a component, where there is a part and it
+/// occurs.
+fn add_part(
+    list: &mut Vec<Occurrence>,
+    id: &PackageId,
+    text: &Text<'_>,
+    encoding: Encoding,
+    choices: &Choices,
+    linker: &Linker<'_>,
+    name: &str,
+    span: Span,
+    part: Option<Entity>,
+) -> Result<(), AllocError>
+    requires stands { IsPart text.now span }
+    requires chosen { HaveChoices linker.now choices.now }
+    requires nameable { (entity : Entity) → part ≡ Some entity → IsNameable linker.now name.now entity }
+    ensures { OnOk result (list.new.items ≡ list.old.items ++ at_part id.now encoding text.now linker.now choices.now name.now span part) }
+{
+    if let Some(part) = part {
+        if is_shown(linker, choices, name, part) {
+            let symbol = entity_text(*list.allocator(), id, linker, name, part)?;
+            list.push(occurrence_over(text, encoding, span, symbol, NO_ROLE))?;
+        }
+    }
+    Ok(())
+}
+
+/// What a component of a use with this target names.
+fn part_of(target: &Target, index: usize) -> Option<Entity>
+    ensures { result ≡ slice_get target.now.parts index }
+{
+    target.parts.as_slice().get(index).copied()
+}
+
+/// Adds the occurrences of a use with this target, over its components.
+fn add_target(
+    list: &mut Vec<Occurrence>,
+    id: &PackageId,
+    text: &Text<'_>,
+    encoding: Encoding,
+    choices: &Choices,
+    linker: &Linker<'_>,
+    target: &Target,
+    type_use: &Use,
+) -> Result<(), AllocError>
+    requires stand { All (λ (component : Component). IsPart text.now component.span) type_use.now.components }
+    requires chosen { HaveChoices linker.now choices.now }
+    requires nameable { AreNameable linker.now target.now }
+    ensures { OnOk result (list.new.items ≡ list.old.items ++ each_from (at_component id.now encoding text.now linker.now choices.now target.now) 0 type_use.now.components) }
+{
+    for (index, component) in type_use.components.as_slice().iter().enumerate() {
+        let part = part_of(target, index);
+        let name = target.name.as_str();
+        add_part(
+            list,
+            id,
+            text,
+            encoding,
+            choices,
+            linker,
+            name,
+            component.span,
+            part,
+        )?;
+    }
+    Ok(())
+}
+
+/// Each component of a use that names a package, or a declaration that is kept; the uses have these
+/// targets.
+pub(crate) fn use_occurrences(
+    alloc: Global,
+    id: &PackageId,
+    text: &Text<'_>,
+    encoding: Encoding,
+    choices: &Choices,
+    linker: &Linker<'_>,
+    targets: &[Target],
+    uses: &[Use],
+) -> Result<Vec<Occurrence>, AllocError>
+    requires stand { All (λ (used : Use). All (λ (component : Component). IsPart text.now component.span) used.components) uses.now }
+    requires chosen { HaveChoices linker.now choices.now }
+    requires one_each { length targets.now ≡ length uses.now }
+    requires nameable { All (AreNameable linker.now) targets.now }
+    ensures { IfOk result (λ list. list.items ≡ each_from (at_use id.now encoding text.now linker.now choices.now targets.now) 0 uses.now) }
+{
+    let mut list = Vec::new(alloc);
+    for (index, type_use) in uses.iter().enumerate() {
+        let target = &targets[index];
+        add_target(
+            &mut list, id, text, encoding, choices, linker, target, type_use,
+        )?;
+    }
+    Ok(list)
+}

@@ -3,7 +3,7 @@ use Rattle.std.specs.Prelude.{◌≡◌, ℕ, ⊤, Option, Some, None, Result, O
 use Rattle.std.specs.List.{slice_get}
 use Rattle.proto_decl.specs.Facts.{Facts}
 use Rattle.proto_link.specs.declared.fault.LinkFault.TheVariants as link
-use Rattle.proto_link.specs.Files.{File, HaveOwnPaths}
+use Rattle.proto_link.specs.Files.{File}
 use Rattle.proto_link.specs.Absences.{Broken}
 use Rattle.proto_link.specs.Linked.{CanBeLinked, MayRefuse}
 use Rattle.index_hooks.specs.declared.choice.Choice.{Choice}

@@ -1,6 +1,6 @@
 //! From files that were read to a linker.
 
-ghost use Rattle.std.specs.Prelude.{◌≡◌, ◌<◌, length, IfOk, MatchResult};
+ghost use Rattle.std.specs.Prelude.{◌≡◌, IfOk, MatchResult};
 ghost use Rattle.proto_link.specs.Files.{HaveOwnPaths};
 ghost use Rattle.proto_link.specs.Absences.{IsUnread};
 ghost use Rattle.proto_link.specs.Linked.{MayRefuse};

@@ -5,8 +5,8 @@ use index_hooks::{AnyAnswer, Choice, DocAlways, DocChoice, Filter, FilterCallbac
 use index_pool::Workers;
 use proto_decl::{DeclView, DeclarationKind};
 use scip_build::{
-    Reading, chosen_lists, faults_exclude_facts, one_first_faulty, one_list_of_facts_a_file,
-    readings_exclude_faults, readings_have_own_paths,
+    Reading, chosen_lists, faults_exclude_facts, one_first_faulty, one_linking,
+    one_list_of_facts_a_file, readings_exclude_faults, readings_have_own_paths,
 };
 use source_tree::Tree;
 use std::alloc::{AllocError, Global};
@@ -116,6 +116,7 @@ fn choices_are_listed_by_file(rt: HostRuntime) -> Result<(), Fail> {
     faults_exclude_facts();
     one_first_faulty();
     one_list_of_facts_a_file();
+    one_linking(&chooser, &chooser);
     match read(&rt, alloc, &tree, &chooser, workers(&rt, 2)) {
         Ok(readings) => {
             let listed = are_listed(alloc, &readings)?;

@@ -4,6 +4,7 @@ pub mod EntityLemmas
 pub mod EntryLemmas
 pub mod ApartLemmas
 pub mod LinkedLemmas
+pub mod ExternalLemmas
 pub mod SortLemmas
 pub mod SourceEntryLemmas
 -- Pieces of an index

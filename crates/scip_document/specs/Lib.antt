@@ -8,6 +8,7 @@ pub mod Entries
 pub mod Conditions
 -- the lists by which the code finds entries
 pub mod EntryLists
+pub mod ExternalLists
 -- documents, external entries, and the index of a tree
 pub mod Indexes
 -- documents put together

@@ -4,6 +4,7 @@
 mod choices;
 mod documentation;
 mod entries;
+mod externals;
 mod merge_fault;
 mod pieces;
 mod symbol_texts;

@@ -1,11 +1,11 @@
 -- Which declarations of included files the uses in sources name.
-use Rattle.std.proofs.Common.{◌≡◌, ◌∙◌, ◌⊎◌, ◌↔◌, inl, inr, ℕ, ◌+◌, ◌<◌, ◌≤◌, Some, List, [], length, get_or, sym, ap, subst, arith}
-use Rattle.std.specs.List.{slice_get, Contains, All}
+use Rattle.std.proofs.Common.{◌≡◌, ◌∙◌, inl, inr, ℕ, ◌+◌, ◌<◌, ◌≤◌, Some, List, [], length, get_or, sym, ap, subst, arith}
+use Rattle.std.specs.List.{slice_get, All}
 use Rattle.std.proofs.lemmas.Bool.{cases_lt}
 use Rattle.std.proofs.lemmas.Option.{same_Some, slice_get-get_or, slice_get_within}
 use Rattle.proto_decl.specs.Facts.{Facts}
 use Rattle.proto_decl.specs.declared.type_use.Use.{Use}
-use Rattle.proto_link.specs.Files.{File, HasFacts, IsSource, HaveOrigins, IsIncludedAt}
+use Rattle.proto_link.specs.Files.{File, HasFacts, IsSource, HaveOrigins}
 use Rattle.proto_link.specs.Clashes.{NoClash}
 use Rattle.proto_link.specs.Laws.{OneTargetAUse}
 use Rattle.proto_link.specs.Targets.{IsNamed, IsTarget}

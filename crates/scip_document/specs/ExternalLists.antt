@@ -1,5 +1,7 @@
 -- The declarations of included files that uses in sources name, as the code gathers them: each by its file's number and its own.
 use Rattle.std.specs.Prelude.{◌≡◌, ◌<◌, ◌⊎◌, ◌↔◌, ⊤, ℕ, true, Some, List, length, Contains}
+use Rattle.std.specs.declared.cmp.Ordering.{Ordering}
+use Rattle.std.specs.Ordering.{nat_cmp, ordering_then}
 use Rattle.std.specs.List.{slice_get}
 use Rattle.proto_decl.specs.Facts.{Facts}
 use Rattle.proto_decl.specs.declared.type_use.Use.{Use}
@@ -12,6 +14,10 @@ use Rattle.scip_document.specs.Chosen.{Chosen, HasChoice, IsKept}
 
 abbrev pub Pair : Type 0
 Pair = ℕ × ℕ
+
+-- by file, then by place there
+abbrev pub pair_cmp : Pair → Pair → Ordering
+pair_cmp x y = ordering_then (nat_cmp x.0 y.0) (nat_cmp x.1 y.1)
 
 -- the list has what it had, and besides just these
 abbrev pub Adds : (Pair → Type 0) → (old new : List Pair) → Type 0

@@ -1,11 +1,12 @@
 //! The symbol entries of declarations of included files that sources name.
 
-ghost use Rattle.std.specs.Prelude.{◌<◌, [], OnOk, IfOk, All, length};
+ghost use Rattle.std.specs.Prelude.{◌<◌, ◌↔◌, [], OnOk, IfOk, All, Contains, length};
+ghost use Rattle.std.specs.List.Sorted.{IsStrictlySortedBy};
 ghost use Rattle.proto_link.specs.Files.{IsSource};
 ghost use Rattle.proto_link.specs.declared.target.Entity.TheVariants.{Declared};
 ghost use Rattle.scip_document.specs.Chosen.{HasChoice, HaveChoices};
 ghost use Rattle.scip_document.specs.Conditions.{IsResolved, AllResolve};
-ghost use Rattle.scip_document.specs.ExternalLists.{Adds, FromFront, IsKnownPart, IsOfPart, IsOfUse, IsOfSource, IsExternal};
+ghost use Rattle.scip_document.specs.ExternalLists.{Pair, pair_cmp, Adds, FromFront, IsKnownPart, IsOfPart, IsOfUse, IsOfSource, IsExternal};
 
 use crate::choices::Choices;
 use proto_decl::Use;
@@ -143,5 +144,16 @@ fn named_externals(
     for source in 0..linker.count() {
         push_source(alloc, &mut named, linker, choices, source)?;
     }
+    Ok(named)
+}
+
+// The same, rising and each once.
+fn without_doubles(named: Vec<(usize, usize)>) -> Result<Vec<(usize, usize)>, AllocError>
+    ensures same { IfOk result (λ once. (x : Pair) → Contains once.items x ↔ Contains named.items x) }
+    ensures rising { IfOk result (λ once. IsStrictlySortedBy pair_cmp once.items) }
+{
+    let mut named = named;
+    named.sort()?;
+    named.dedup();
     Ok(named)
 }

@@ -4,13 +4,18 @@ use Rattle.std.specs.declared.cmp.Ordering.{Ordering}
 use Rattle.std.specs.Ordering.{nat_cmp, ordering_then}
 use Rattle.std.specs.List.{slice_get}
 use Rattle.proto_decl.specs.Facts.{Facts}
+use Rattle.proto_decl.specs.declared.declaration.Declaration.{Declaration}
 use Rattle.proto_decl.specs.declared.type_use.Use.{Use}
+use Rattle.index_hooks.specs.declared.choice.Choice.{Choice}
+use Rattle.scip_model.specs.declared.records.Info.{Info}
+use Rattle.scip_symbol.specs.Package.{Package}
 use Rattle.proto_link.specs.Files.{File, HasFacts, IsSource}
 use Rattle.proto_link.specs.Targets.{IsTarget}
 use Rattle.proto_link.specs.declared.target.Entity.{Entity}
 use Rattle.proto_link.specs.declared.target.Entity.TheVariants as link
 use Rattle.proto_link.specs.declared.target.Target.{Target}
-use Rattle.scip_document.specs.Chosen.{Chosen, HasChoice, IsKept}
+use Rattle.scip_document.specs.Chosen.{Chosen, HasChoice, IsChosen, IsKept}
+use Rattle.scip_document.specs.Entries.{declaration_entry}
 
 abbrev pub Pair : Type 0
 Pair = ℕ × ℕ
@@ -61,3 +66,11 @@ module _ (files : List File) (chosen : Chosen) where
     pub source : ℕ
     pub within : source < count
     pub of_source : IsOfSource source x
+
+-- the entry of a declaration of these facts, with the choice for it
+pub record IsEntryAt (chosen : Chosen) (id : Package) (facts : Facts) (file index : ℕ) (entry : Info) : Type 0 where
+  pub declaration : Declaration
+  pub choice : Choice
+  pub stands : slice_get facts.declarations index ≡ Some declaration
+  pub is_chosen : IsChosen chosen file index choice
+  pub is : entry ≡ declaration_entry id facts declaration choice

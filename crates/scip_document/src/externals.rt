@@ -6,11 +6,14 @@ ghost use Rattle.proto_link.specs.Files.{IsSource};
 ghost use Rattle.proto_link.specs.declared.target.Entity.TheVariants.{Declared};
 ghost use Rattle.scip_document.specs.Chosen.{HasChoice, HaveChoices};
 ghost use Rattle.scip_document.specs.Conditions.{IsResolved, AllResolve};
-ghost use Rattle.scip_document.specs.ExternalLists.{Pair, pair_cmp, Adds, FromFront, IsKnownPart, IsOfPart, IsOfUse, IsOfSource, IsExternal};
+ghost use Rattle.scip_document.specs.ExternalLists.{Pair, pair_cmp, IsEntryAt, Adds, FromFront, IsKnownPart, IsOfPart, IsOfUse, IsOfSource, IsExternal};
 
 use crate::choices::Choices;
-use proto_decl::Use;
+use crate::entries::declaration_entry;
+use proto_decl::{FileFacts, Use};
 use proto_link::{Entity, LinkFault, Linker, one_target_a_use};
+use scip_model::Info;
+use scip_symbol::PackageId;
 use std::alloc::{AllocError, Global};
 
 // Adds a declaration, where its file is included and it is kept.
@@ -156,4 +159,23 @@ fn without_doubles(named: Vec<(usize, usize)>) -> Result<Vec<(usize, usize)>, Al
     named.sort()?;
     named.dedup();
     Ok(named)
+}
+
+// The entry of a declaration that is kept.
+fn external_entry(
+    alloc: Global,
+    id: &PackageId,
+    choices: &Choices,
+    facts: &FileFacts,
+    file: usize,
+    index: usize,
+) -> Result<Info, AllocError>
+    requires within { index < length facts.now.declarations }
+    requires chosen { HasChoice choices.now file index }
+    ensures { IfOk result (λ entry. IsEntryAt choices.now id.now facts.now file index entry) }
+{
+    let declarations = facts.declarations();
+    let declaration = &declarations[index];
+    let choice = choices.of(file, index);
+    declaration_entry(alloc, id, facts, declaration, choice)
 }

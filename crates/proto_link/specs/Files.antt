@@ -28,6 +28,10 @@ pub record IsSource (files : List File) (number : ℕ) : Type 0 where
   pub numbered : slice_get files number ≡ Some file
   pub source : file.is_included ≡ false
 
+-- whether the file with this number is included
+abbrev pub IsIncludedAt : List File → (number : ℕ) → Bool → Type 0
+IsIncludedAt files number included = (file : File) × (slice_get files number ≡ Some file) × (included ≡ file.is_included)
+
 -- some file has this path
 abbrev pub HasPath : List File → List ℕ → Type 0
 HasPath files path = Contains (map (λ file. file.path) files) path

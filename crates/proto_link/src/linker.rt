@@ -2,7 +2,7 @@
 
 ghost use Rattle.std.specs.Prelude.{ℕ, ◌≡◌, ◌<◌, ◌↔◌, IsTrue, IfOk, IfErr, MatchOption, Contains, length};
 ghost use Rattle.proto_decl.specs.Facts.{Facts};
-ghost use Rattle.proto_link.specs.Files.{HaveOwnPaths, HaveOrigins, HasFacts};
+ghost use Rattle.proto_link.specs.Files.{HaveOwnPaths, HaveOrigins, HasFacts, IsIncludedAt};
 ghost use Rattle.proto_link.specs.Sees.{Sees, Counts};
 ghost use Rattle.proto_link.specs.Clashes.{Clash, NoClash};
 ghost use Rattle.proto_link.specs.FileItems.{AreAllFronts};
@@ -126,6 +126,23 @@ impl<'a> Linker<'a> {
         let files = self.files;
         let file = &files[number];
         file.facts
+    }
+
+    /// How many files there are. Takes no memory.
+    pub fn count(&self) -> usize
+        ensures { result ≡ length self.now }
+    {
+        self.files.len()
+    }
+
+    /// Whether a file is included, and so no source. Takes no memory.
+    pub fn is_included(&self, number: usize) -> bool
+        requires { number < length self.now }
+        ensures { IsIncludedAt self.now number result }
+    {
+        let files = self.files;
+        let file = &files[number];
+        file.is_included()
     }
 
     /// The path of a file. Takes no memory.

@@ -9,6 +9,7 @@ pub mod Conditions
 pub mod Texts
 -- the lists by which the code finds entries
 pub mod EntryLists
+pub mod ExternalLists
 -- documents, external entries, and the index of a tree
 pub mod Indexes
 -- the lists that make up those occurrences

@@ -1,5 +1,5 @@
 -- Documents, which are pieces of an index, put in the order of paths, of which each has one; and why they can't be.
-use Rattle.std.specs.Prelude.{◌≡◌, ◌<◌, ⊤, ℕ, Some, List, length, map, Contains}
+use Rattle.std.specs.Prelude.{◌≡◌, ◌≢◌, ◌<◌, ⊤, ℕ, Some, List, length, map, Contains}
 use Rattle.std.specs.List.{slice_get}
 use Rattle.std.specs.Ordering.{nat_cmp}
 use Rattle.std.specs.Cmp.Lexicographic.{slice_cmp}
@@ -57,3 +57,8 @@ MayRefuseMerge paths pieces (Stranger piece) = AreFine paths pieces piece × IsS
 MayRefuseMerge paths pieces (Twice piece) = AreFine paths pieces piece × IsTwice pieces piece
 MayRefuseMerge paths pieces (Missing number) = AreFine paths pieces (length pieces) × IsFirstMissing paths pieces number
 MayRefuseMerge paths pieces Memory = ⊤
+
+-- so there is one reason
+abbrev pub OneMergeRefusal : Type 0
+OneMergeRefusal = (paths : List (List ℕ)) (pieces : List Document) (fault other : MergeFault) → MayRefuseMerge paths pieces fault → MayRefuseMerge paths pieces other
+    → fault ≢ Memory → other ≢ Memory → fault ≡ other

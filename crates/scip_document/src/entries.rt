@@ -53,10 +53,11 @@ fn file_entry(alloc: Global, id: &PackageId, path: &str) -> Result<Info, AllocEr
     ensures { IfOk result (λ entry. entry ≡ file_entry id.now path.now) }
 {
     let symbol = file_text(alloc, id, path)?;
+    let documentation = Sequence::new(alloc);
     let display_name = OwnedText::copy_of(alloc, path)?;
     Ok(Info {
         symbol,
-        documentation: Sequence::new(alloc),
+        documentation,
         display_name,
     })
 }

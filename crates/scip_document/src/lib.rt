@@ -4,6 +4,8 @@
 mod choices;
 mod documentation;
 mod entries;
+mod externals;
+mod laws;
 mod merge_fault;
 mod merging;
 mod occurrences;
@@ -14,6 +16,7 @@ mod targets;
 mod use_occurrences;
 
 pub use choices::Choices;
+pub use laws::one_merge_refusal;
 pub use merge_fault::{MergeFault, Unmerged};
 pub use pieces::merge;
 pub use source_document::document;

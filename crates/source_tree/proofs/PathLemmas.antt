@@ -59,9 +59,6 @@ pub repeats_from : (files : List SourceFile) (number : ℕ) (a b : SourceFile) �
 repeats_from files number a b at_a at_b same =
     record { earlier = number; before = omega arith; first = a; second = b; numbered_first = at_a; numbered_second = at_b; same = same }
 
-pub first_never_repeats : (files : List SourceFile) → RepeatsAPath files 0 → ⊥
-first_never_repeats files again = omega (arith, again.before)
-
 pub repeats_within : (files : List SourceFile) (number : ℕ) → RepeatsAPath files number → number < length files
 repeats_within files number again = slice_get_within files number again.second again.numbered_second
 

@@ -10,10 +10,6 @@ use Rattle.source_tree.specs.Files.{SourceFile, TreeFile, in_tree}
 use Rattle.source_tree.specs.Trees.{IsSourceCount}
 use Rattle.source_tree.specs.Marks.{files_of}
 
--- a file of a tree as it was handed in
-abbrev pub handed_in : TreeFile → SourceFile
-handed_in file = record { path = file.path; bytes = file.bytes }
-
 pub length-files : (sources included : List SourceFile) → length (files_of sources included) ≡ length sources + length included
 length-files sources included =
     omega (arith, length-append (map (in_tree false) sources) (map (in_tree true) included), length-map sources (in_tree false), length-map included (in_tree true))

@@ -1,5 +1,5 @@
 -- The laws: one tree, and one fault.
-use Rattle.std.proofs.Common.{◌≡◌, ◌⊎◌, inl, inr, ℕ, ◌+◌, ◌<◌, ◌≤◌, true, false, zero, suc, List, [], ◌∷◌, ◌++◌, length, take, Some, refl, ap, sym, ◌∙◌, subst, arith}
+use Rattle.std.proofs.Common.{◌≡◌, inl, inr, ℕ, ◌<◌, zero, suc, List, [], ◌∷◌, ◌++◌, take, Some, refl, ap, subst, arith}
 use Rattle.std.specs.List.{All, slice_get}
 use Rattle.std.proofs.lemmas.Bool.{cases_order}
 use Rattle.std.proofs.lemmas.Slice.Eq.{bytes_eq-Decides}
@@ -7,11 +7,10 @@ use Rattle.std.proofs.lemmas.Option.{slice_get_within, get_or_from_slice_get}
 use Rattle.std.proofs.lemmas.Map.Made.{IsDistinct-from_AllPairs}
 use Rattle.std.proofs.lemmas.List.Elements.{All-head, All-tail}
 use Rattle.scip_symbol.specs.Path.{IsGoodPath}
-use Rattle.source_tree.specs.declared.fault.TreeFault.{TreeFault}
 use Rattle.source_tree.specs.declared.fault.TreeFault.TheVariants.{TooMany, BadPath, SamePath, Memory}
-use Rattle.source_tree.specs.Files.{SourceFile, TreeFile, paths_of, IsByPath, RepeatsAPath}
-use Rattle.source_tree.specs.Trees.{max_files, HaveGoodPaths, IsTreeOf}
-use Rattle.source_tree.specs.Refusals.{IsFirstBad, IsFirstRepeat, HaveBadPath, HaveSamePath, MayRefuse}
+use Rattle.source_tree.specs.Files.{SourceFile, paths_of}
+use Rattle.source_tree.specs.Trees.{HaveGoodPaths}
+use Rattle.source_tree.specs.Refusals.{IsFirstBad, IsFirstRepeat, HaveSamePath}
 use Rattle.source_tree.specs.Laws.{OneTree, OneSortingByPath, RefusalsExcludeEachOther, TreesAreNotRefused}
 use Rattle.source_tree.proofs.OrderLemmas.{rising_one}
 use Rattle.source_tree.proofs.PathLemmas.{one_sorting, distinct_permutation, distinct_none}

@@ -1,15 +1,15 @@
 -- Lists that rise strictly, and lists sorted stably: each is told by its elements.
-use Rattle.std.proofs.Common.{◌≡◌, ◌↔◌, ◌⊎◌, inl, inr, ℕ, ◌+◌, ◌<◌, ◌≤◌, Bool, true, false, zero, suc, List, [], ◌∷◌, ◌++◌, length, get_or, refl, ap, sym, ◌∙◌, subst, cond, not, arith}
+use Rattle.std.proofs.Common.{◌≡◌, ◌⊎◌, inl, inr, ℕ, ◌+◌, Bool, true, false, zero, suc, List, [], ◌∷◌, get_or, refl, ap, sym, ◌∙◌, subst, arith}
 use Rattle.std.specs.declared.cmp.Ordering.{Ordering}
 use Rattle.std.specs.declared.cmp.Ordering.TheVariants.{Less, Equal, Greater}
 use Rattle.std.specs.Ordering.{is_lt, ordering_reverse}
 use Rattle.std.specs.Cmp.{IsTotalOrder, IsStrictWeakOrder}
 use Rattle.std.specs.List.{All, AllByRecursion, Contains, filter}
-use Rattle.std.specs.List.Sorted.{IsSorted, IsSortedBy, IsStrictlySortedBy, ties}
+use Rattle.std.specs.List.Sorted.{IsSortedBy, IsStrictlySortedBy, ties}
 use Rattle.std.proofs.lemmas.Bool.{cases_Bool, cond-true, cond-false}
 use Rattle.std.proofs.lemmas.Cmp.{tied_itself}
 use Rattle.std.proofs.lemmas.List.Elements.{All-from_recursion, recursion_from_All, All-contains, All-filter, All-head, Contains-append_left, Contains-append_right, Contains-append_cases, Contains-push}
-use Rattle.std.proofs.lemmas.List.Sorted.{sorted_far, ranks_by}
+use Rattle.std.proofs.lemmas.List.Sorted.{sorted_far}
 
 -- ---- membership
 

@@ -1,21 +1,20 @@
 -- Lists of files sorted by path: a file with the path of an earlier one stands next to it.
-use Rattle.std.proofs.Common.{◌≡◌, ◌≢◌, ◌⊎◌, inl, inr, ℕ, ◌+◌, ◌-◌, ◌<◌, ◌≤◌, Bool, true, false, zero, suc, List, [], ◌∷◌, ◌++◌, map, length, get_or, Some, refl, ap, sym, ◌∙◌, subst, arith}
+use Rattle.std.proofs.Common.{◌≡◌, ℕ, ◌+◌, ◌<◌, ◌≤◌, Bool, true, false, zero, suc, List, [], ◌∷◌, length, get_or, Some, refl, ap, sym, ◌∙◌, subst, arith}
 use Rattle.std.specs.declared.cmp.Ordering.{Ordering}
 use Rattle.std.specs.declared.cmp.Ordering.TheVariants.{Less, Equal, Greater}
-use Rattle.std.specs.Ordering.{is_lt, nat_cmp, ordering_reverse, bool_cmp}
+use Rattle.std.specs.Ordering.{is_lt, nat_cmp, ordering_reverse}
 use Rattle.std.specs.Cmp.{IsTotalOrder, IsStrictWeakOrder}
 use Rattle.std.specs.Cmp.Lexicographic.{slice_cmp}
 use Rattle.std.specs.Str.{bytes_eq}
-use Rattle.std.specs.List.{All, AllByRecursion, Contains, slice_get, IsDistinct}
+use Rattle.std.specs.List.{AllByRecursion, slice_get, IsDistinct}
 use Rattle.std.specs.List.Sorted.{IsSorted, IsStrictlySortedBy, IsPermutation}
 use Rattle.std.proofs.lemmas.Bool.{false_from_ne_true}
-use Rattle.std.proofs.lemmas.Cmp.{tied_itself, on_total, nat_list_cmp_total, nat_list_eq_equiv}
+use Rattle.std.proofs.lemmas.Cmp.{on_total, nat_list_cmp_total, nat_list_eq_equiv}
 use Rattle.std.proofs.lemmas.Slice.Eq.{bytes_eq-Decides}
-use Rattle.std.proofs.lemmas.Option.{slice_get-get_or, slice_get_within, get_or_from_slice_get}
+use Rattle.std.proofs.lemmas.Option.{slice_get_within, get_or_from_slice_get}
 use Rattle.std.proofs.lemmas.Map.Lookups.{exact_bytes}
 use Rattle.std.proofs.lemmas.Map.Keys.{IsDistinct-IsPermutation}
 use Rattle.std.proofs.lemmas.List.Sorted.{sorted_far, ranks_by, IsPermutation-map}
-use Rattle.std.proofs.lemmas.List.Elements.{All-from_recursion, recursion_from_All, All-get_or}
 use Rattle.source_tree.specs.Files.{SourceFile, path_cmp, paths_of, IsByPath, RepeatsAPath}
 use Rattle.source_tree.proofs.OrderLemmas.{Ascends, ascends_from, neither_less, sorted_one}
 
@@ -59,9 +58,6 @@ repeats_next files up number a b at_a at_b again =
 pub repeats_from : (files : List SourceFile) (number : ℕ) (a b : SourceFile) → slice_get files number ≡ Some a → slice_get files (number + 1) ≡ Some b → a.path ≡ b.path → RepeatsAPath files (number + 1)
 repeats_from files number a b at_a at_b same =
     record { earlier = number; before = omega arith; first = a; second = b; numbered_first = at_a; numbered_second = at_b; same = same }
-
-pub first_never_repeats : (files : List SourceFile) → RepeatsAPath files 0 → ⊥
-first_never_repeats files again = omega (arith, again.before)
 
 pub repeats_within : (files : List SourceFile) (number : ℕ) → RepeatsAPath files number → number < length files
 repeats_within files number again = slice_get_within files number again.second again.numbered_second

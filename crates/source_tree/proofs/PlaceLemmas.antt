@@ -1,5 +1,5 @@
 -- The files of a tree by their numbers.
-use Rattle.std.proofs.Common.{◌≡◌, ◌↔◌, ℕ, ◌+◌, ◌-◌, ◌<◌, ◌≤◌, Bool, true, false, zero, suc, List, [], ◌∷◌, ◌++◌, map, length, Option, Some, refl, ap, sym, ◌∙◌, subst, arith, length-append}
+use Rattle.std.proofs.Common.{◌≡◌, ◌↔◌, ℕ, ◌+◌, ◌<◌, Bool, true, false, zero, suc, List, [], ◌∷◌, map, length, Some, refl, ap, sym, ◌∙◌, arith, length-append}
 use Rattle.std.specs.List.{slice_get}
 use Rattle.std.specs.Option.{option_map}
 use Rattle.std.proofs.lemmas.List.{length-map}
@@ -9,10 +9,6 @@ use lib.Dec.{leb}
 use Rattle.source_tree.specs.Files.{SourceFile, TreeFile, in_tree}
 use Rattle.source_tree.specs.Trees.{IsSourceCount}
 use Rattle.source_tree.specs.Marks.{files_of}
-
--- a file of a tree as it was handed in
-abbrev pub handed_in : TreeFile → SourceFile
-handed_in file = record { path = file.path; bytes = file.bytes }
 
 pub length-files : (sources included : List SourceFile) → length (files_of sources included) ≡ length sources + length included
 length-files sources included =

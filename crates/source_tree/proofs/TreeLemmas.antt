@@ -1,27 +1,25 @@
 -- The sorted sources and the sorted included files that count are the tree.
-use Rattle.std.proofs.Common.{◌≡◌, ◌≢◌, ◌⊎◌, inl, inr, ℕ, ◌+◌, ◌<◌, ◌≤◌, Bool, true, false, zero, suc, List, [], ◌∷◌, ◌++◌, map, length, Some, refl, ap, sym, ◌∙◌, subst, arith, length-append}
-use Rattle.std.specs.declared.cmp.Ordering.{Ordering}
+use Rattle.std.proofs.Common.{◌≡◌, inl, inr, ℕ, ◌+◌, ◌<◌, ◌≤◌, Bool, true, false, zero, suc, List, [], ◌∷◌, ◌++◌, map, length, Some, refl, ap, sym, ◌∙◌, subst, arith, length-append}
 use Rattle.std.specs.declared.cmp.Ordering.TheVariants.{Less}
-use Rattle.std.specs.Ordering.{nat_cmp, bool_cmp}
+use Rattle.std.specs.Ordering.{nat_cmp}
 use Rattle.std.specs.Prelude.{Result, Ok, Err, OnOk}
 use Rattle.std.specs.Result.{is_err}
 use Rattle.std.proofs.lemmas.Bool.{cases_lt}
 use Rattle.std.specs.Cmp.{IsTotalOrder, bool_cmp_total}
 use Rattle.std.specs.Cmp.Lexicographic.{slice_cmp}
-use Rattle.std.specs.Str.{bytes_eq}
-use Rattle.std.specs.List.{All, AllPairs, AllByRecursion, Contains, slice_get, IsDistinct}
+use Rattle.std.specs.List.{All, AllByRecursion, Contains, slice_get}
 use Rattle.std.specs.List.Sorted.{IsSorted, IsStrictlySortedBy, IsPermutation}
 use Rattle.std.proofs.lemmas.List.{length-map}
-use Rattle.std.proofs.lemmas.Cmp.{tied_itself, on_total, then_total, nat_list_cmp_total}
+use Rattle.std.proofs.lemmas.Cmp.{on_total, then_total, nat_list_cmp_total}
 use Rattle.std.proofs.lemmas.Slice.Eq.{bytes_eq-Decides}
-use Rattle.std.proofs.lemmas.Map.Made.{AllPairs-from_IsDistinct, IsDistinct-from_AllPairs}
+use Rattle.std.proofs.lemmas.Map.Made.{AllPairs-from_IsDistinct}
 use Rattle.std.proofs.lemmas.List.Sorted.{IsPermutation-sym, length_permutation, All-permutation, Contains-permutation}
-use Rattle.std.proofs.lemmas.List.Elements.{All-cons, All-head, All-tail, All-map, All-append, All-contains, All-from_recursion, recursion_from_All, Contains-append_left, Contains-append_right, Contains-append_cases}
+use Rattle.std.proofs.lemmas.List.Elements.{All-cons, All-head, All-tail, All-map, All-append, All-from_recursion, recursion_from_All, Contains-append_left, Contains-append_right, Contains-append_cases}
 use Rattle.scip_symbol.specs.Path.{IsGoodPath}
 use Rattle.source_tree.specs.Files.{SourceFile, TreeFile, in_tree, path_cmp, paths_of, HasPath, file_cmp, IsByPath, RepeatsAPath}
 use Rattle.source_tree.specs.Trees.{max_files, HaveOwnPaths, IsTree, Counts, IsFileOf, of_source, of_included, HaveGoodPaths, IsTreeOf}
 use Rattle.source_tree.specs.Marks.{marks_of, marked, files_of}
-use Rattle.source_tree.proofs.OrderLemmas.{in_front, behind_it, in_nothing, in_either, of_each, rising_one, ascends_from, not_below_itself}
+use Rattle.source_tree.proofs.OrderLemmas.{in_front, behind_it, in_nothing, in_either, ascends_from, not_below_itself}
 use Rattle.source_tree.proofs.PathLemmas.{before, paths_total, paths_rank, AreDistinct, distinct_permutation, distinct_from, rises_from}
 use Rattle.source_tree.proofs.CountingLemmas.{counts_found, counts_marked, length-marked, All-marked, distinct_marked}
 

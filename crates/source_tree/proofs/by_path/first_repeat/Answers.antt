@@ -1,4 +1,4 @@
-use Rattle.std.proofs.Common.{◌≡◌, ◌-◌, ◌+◌, ◌<◌, length, true, false, refl, sym, ◌∙◌, arith}
+use Rattle.std.proofs.Common.{◌-◌, refl, arith}
 use Rattle.std.proofs.lemmas.Bool.{false≢true}
 use Rattle.source_tree.proofs.RefusalLemmas.{repeat_here, none_more, none_of_all}
 use Rattle.source_tree.proofs.by_path.first_repeat.Goals as goal

@@ -1,4 +1,4 @@
-use Rattle.std.proofs.Common.{◌≡◌, ◌<◌, ◌≤◌, ℕ, List, [], true, take, length, cond, ap, subst, sym, ◌∙◌, arith}
+use Rattle.std.proofs.Common.{[], true, cond, ap, sym, ◌∙◌, arith}
 use Rattle.std.specs.Str.{bytes_eq}
 use Rattle.std.proofs.lemmas.List.{take_all}
 use Rattle.source_tree.specs.Files.{paths_of}

@@ -1,6 +1,6 @@
-use Rattle.std.proofs.Common.{◌≡◌, ℕ, ◌≤◌, ◌+◌, ◌++◌, ◌∙◌, false, length, ap, sym, subst, refl, arith}
+use Rattle.std.proofs.Common.{ℕ, ◌≤◌, ◌+◌, ◌++◌, ◌∙◌, length, ap, sym, subst, arith}
 use Rattle.std.proofs.lemmas.Bool.{false≢true}
-use Rattle.source_tree.specs.Files.{SourceFile, paths_of, IsByPath, RepeatsAPath}
+use Rattle.source_tree.specs.Files.{paths_of, IsByPath, RepeatsAPath}
 use Rattle.source_tree.specs.Trees.{max_files, HaveGoodPaths}
 use Rattle.source_tree.specs.Marks.{marks_of}
 use Rattle.source_tree.proofs.CountingLemmas.{length-marks}

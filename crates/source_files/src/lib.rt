@@ -1,0 +1,10 @@
+//! The files of a run: the sources below a root, and the file that an index is written to.
+#![tactic(auto)]
+
+mod file_fault;
+mod out_file;
+mod walk;
+
+pub use file_fault::FileFault;
+pub use out_file::OutFile;
+pub use walk::{list_sources, read_sources};

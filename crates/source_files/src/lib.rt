@@ -4,9 +4,10 @@
 mod file_fault;
 mod out_file;
 mod root;
+mod system_files;
 mod walk;
 
 pub use file_fault::FileFault;
 pub use out_file::OutFile;
 pub use root::{ReadTree, RootFault, read_root};
-pub use walk::{list_sources, read_sources};
+pub use system_files::SystemFiles;

@@ -1,7 +1,6 @@
 //! The sources below a root.
 
 use crate::file_fault::FileFault;
-use source_tree::Source;
 use std::alloc::{AllocError, Global};
 use std::fs;
 use std::fs::DirEntry;
@@ -29,16 +28,6 @@ fn joined(alloc: Global, front: &str, name: &str) -> Result<String, AllocError> 
     let mut path = String::from_str(alloc, front)?;
     path.push_str(name)?;
     Ok(path)
-}
-
-// A path below a root, for the system.
-fn path_below(alloc: Global, root: &str, path: &str) -> Result<String, AllocError> {
-    let mut below = String::from_str(alloc, root)?;
-    if !root.ends_with('/') {
-        below.push('/')?;
-    }
-    below.push_str(path)?;
-    Ok(below)
 }
 
 impl Walk {
@@ -88,9 +77,9 @@ impl Walk {
     }
 }
 
-/// The paths below a root of the regular files there whose names end in `.proto`, by their bytes.
-/// The root may be a link; below it links aren't followed.
-pub fn list_sources<S: Files + AllocGlobal + Clone + Drop>(
+// The paths below a root of the regular files there whose names end in `.proto`, by their bytes.
+// The root may be a link; below it links aren't followed.
+pub(crate) fn list_sources<S: Files + AllocGlobal + Clone + Drop>(
     system: &S,
     root: &str,
 ) -> Result<Vec<String>, FileFault> {
@@ -105,45 +94,4 @@ pub fn list_sources<S: Files + AllocGlobal + Clone + Drop>(
     let mut paths = walk.paths;
     paths.sort()?;
     Ok(paths)
-}
-
-/// The sources below a root, with what they hold, by path. Of those that can't be read the first is
-/// handed back by its path below the root; where the root itself can't be listed, it is the root.
-pub fn read_sources<S: Files + AllocGlobal + Clone + Drop>(
-    system: &S,
-    root: &str,
-) -> Result<Vec<Source>, (String, FileFault)> {
-    let alloc = system.alloc();
-    let mut sources = Vec::new(alloc);
-    let paths = match list_sources(system, root) {
-        Ok(paths) => paths,
-        Err(fault) => return Err(named(alloc, root, fault)),
-    };
-    for path in paths {
-        match read_source(system, root, path.as_str()) {
-            Ok(bytes) => {
-                if sources.push(Source { path, bytes }).is_err() {
-                    return Err((String::new(alloc), FileFault::Memory));
-                }
-            }
-            Err(fault) => return Err((path, fault)),
-        }
-    }
-    Ok(sources)
-}
-
-fn named(alloc: Global, root: &str, fault: FileFault) -> (String, FileFault) {
-    match String::from_str(alloc, root) {
-        Ok(name) => (name, fault),
-        Err(_) => (String::new(alloc), FileFault::Memory),
-    }
-}
-
-fn read_source<S: Files + AllocGlobal>(
-    system: &S,
-    root: &str,
-    path: &str,
-) -> Result<Vec<u8>, FileFault> {
-    let below = path_below(system.alloc(), root, path)?;
-    Ok(fs::read(system, below.as_str())?)
 }

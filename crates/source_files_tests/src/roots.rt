@@ -1,6 +1,6 @@
 //! The sources below a root.
 
-use source_files::{FileFault, list_sources, read_sources};
+use source_files::{FileFault, ReadTree, SystemFiles, read_root};
 use std::alloc::{AllocError, Global};
 use std::fs;
 use std::process::Abort;
@@ -52,8 +52,9 @@ fn regular_files_by_path(rt: HostRuntime) -> Result<(), Fail> {
     rt.symlink("deep", "walk/link")?;
     rt.symlink("nowhere", "walk/dangling.proto")?;
     rt.symlink("walk", "root")?;
+    let files = SystemFiles::new(&rt);
     for root in ["walk", "walk/", "./walk", "root"] {
-        let found = text_of(rt.alloc(), list_sources(&rt, root))?;
+        let found = text_of(rt.alloc(), files.list_sources(rt.alloc(), root))?;
         see_text(
             &rt,
             found.as_str(),
@@ -61,10 +62,10 @@ fn regular_files_by_path(rt: HostRuntime) -> Result<(), Fail> {
         );
     }
     for root in ["walk/a.proto", "nowhere", "", "walk/link.proto"] {
-        let found = text_of(rt.alloc(), list_sources(&rt, root))?;
+        let found = text_of(rt.alloc(), files.list_sources(rt.alloc(), root))?;
         see_text(&rt, found.as_str(), "Unreadable");
     }
-    match read_sources(&rt, "walk") {
+    match read_root(rt.alloc(), &files, "walk") {
         Ok(sources) => {
             for source in &sources {
                 let held = String::from_utf8(source.bytes.clone()?);

@@ -1,0 +1,3 @@
+-- what the sources below a root are, and which can't be read
+pub mod Roots
+pub mod RootFaults

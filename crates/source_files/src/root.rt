@@ -1,0 +1,118 @@
+//! The sources below a root, with what they hold.
+
+ghost use Rattle.std.specs.Prelude.{◌≡◌, ℕ, List, Result, Ok, Err, map, IfOk, IfErr, string_bytes};
+ghost use Rattle.std.specs.Result.{result_map_both};
+ghost use Rattle.source_files.specs.declared.file_fault.FileFault.TheVariants.{Unreadable};
+ghost use Rattle.source_files.specs.Roots.{path_below, AreBelow, IsUnreadable};
+ghost use Rattle.source_files.specs.RootFaults.{MayName, MayStop};
+
+use crate::file_fault::FileFault;
+use source_tree::Source;
+use std::alloc::{AllocError, AllocFailed, Global};
+
+/// Lists the sources below roots, and reads them.
+pub trait ReadTree {
+    ghost use Rattle.source_files.specs.declared.file_fault.FileFault.{FileFault};
+
+    // What listing a root may give: the paths below it.
+    ghost lists: { Self → List ℕ → Result (List (List ℕ)) FileFault → Type 0 };
+
+    // What reading the file with a path may give.
+    ghost gives: { Self → List ℕ → Result (List ℕ) FileFault → Type 0 };
+
+    /// The paths below a root of the regular files there whose names end in `.proto`, by their bytes.
+    fn list_sources(&self, alloc: Global, root: &str) -> Result<Vec<String>, FileFault>
+        ensures { lists self.now root.now (result_map_both (λ paths. map string_bytes paths.items) (λ fault. fault) result) };
+
+    /// The bytes of the file with a path.
+    fn read_file(&self, alloc: Global, path: &str) -> Result<Vec<u8>, FileFault>
+        ensures { gives self.now path.now (result_map_both (λ bytes. bytes.items) (λ fault. fault) result) };
+}
+
+/// Why the sources below a root aren't read.
+#[derive(Debug, Drop)]
+pub enum RootFault {
+    /// The root can't be listed, and this is the root; or of its sources that can't be read this is
+    /// the first one's path below the root.
+    Unreadable(String),
+    /// Memory ran out.
+    Memory,
+}
+
+impl<T: Drop> From<AllocFailed<T>> for RootFault {
+    ghost use Rattle.std.specs.Prelude.{◌≡◌};
+    ghost use Rattle.source_files.specs.declared.root.RootFault.TheVariants.{Memory};
+
+    ghost from_gives = { λ _ e. e ≡ Memory };
+
+    fn from(_refused: AllocFailed<T>) -> RootFault {
+        RootFault::Memory
+    }
+}
+
+// A path below a root, for the system.
+fn path_below(alloc: Global, root: &str, path: &str) -> Result<String, AllocError>
+    ensures { IfOk result (λ below. string_bytes below ≡ path_below root.now path.now) }
+{
+    let mut below = String::from_str(alloc, root)?;
+    below.push('/')?;
+    below.push_str(path)?;
+    Ok(below)
+}
+
+// The bytes of a file below a root.
+fn read_below<F: ReadTree>(
+    alloc: Global,
+    files: &F,
+    root: &str,
+    path: &str,
+) -> Result<Vec<u8>, FileFault>
+    ensures ok { IfOk result (λ bytes. F.gives files.now (path_below root.now path.now) (Ok bytes.items)) }
+    ensures err { result ≡ Err Unreadable → F.gives files.now (path_below root.now path.now) (Err Unreadable) }
+{
+    let below = path_below(alloc, root, path)?;
+    files.read_file(alloc, below.as_str())
+}
+
+fn stop_at(name: String, fault: FileFault) -> RootFault
+    ensures { MayName (string_bytes name) fault result }
+{
+    match fault {
+        FileFault::Unreadable => RootFault::Unreadable(name),
+        FileFault::Memory => RootFault::Memory,
+    }
+}
+
+// Why a root isn't listed.
+fn stop_at_root(alloc: Global, root: &str, fault: FileFault) -> RootFault
+    ensures { MayName root.now fault result }
+{
+    match String::from_str(alloc, root) {
+        Ok(name) => stop_at(name, fault),
+        Err(_) => RootFault::Memory,
+    }
+}
+
+/// The sources below a root, by path.
+pub fn read_root<F: ReadTree>(
+    alloc: Global,
+    files: &F,
+    root: &str,
+) -> Result<Vec<Source>, RootFault>
+    ensures ok { IfOk result (λ sources. AreBelow (F.lists files.now) (F.gives files.now) root.now sources.items) }
+    ensures err { IfErr result (MayStop (F.lists files.now) (F.gives files.now) root.now) }
+{
+    let paths = match files.list_sources(alloc, root) {
+        Ok(paths) => paths,
+        Err(fault) => return Err(stop_at_root(alloc, root, fault)),
+    };
+    let mut sources = Vec::new(alloc);
+    for path in paths {
+        let bytes = match read_below(alloc, files, root, path.as_str()) {
+            Ok(bytes) => bytes,
+            Err(fault) => return Err(stop_at(path, fault)),
+        };
+        sources.push(Source { path, bytes })?;
+    }
+    Ok(sources)
+}

@@ -1,0 +1,37 @@
+//! The system's files.
+
+use crate::file_fault::FileFault;
+use crate::root::ReadTree;
+use crate::walk;
+use std::alloc::Global;
+use std::fs;
+use std::rt::Files;
+
+/// The system's files. Nothing is known of what they hold.
+#[derive(Drop)]
+pub struct SystemFiles<'a, S: Files + AllocGlobal + Clone + Drop> {
+    system: &'a S,
+}
+
+impl<'a, S: Files + AllocGlobal + Clone + Drop> SystemFiles<'a, S> {
+    /// Those that the system opens.
+    pub fn new(system: &'a S) -> SystemFiles<'a, S> {
+        SystemFiles { system }
+    }
+}
+
+impl<'a, S: Files + AllocGlobal + Clone + Drop> ReadTree for SystemFiles<'a, S> {
+    ghost use Rattle.std.specs.Prelude.{⊤};
+
+    ghost lists = { λ _ _ _. ⊤ };
+
+    ghost gives = { λ _ _ _. ⊤ };
+
+    fn list_sources(&self, _alloc: Global, root: &str) -> Result<Vec<String>, FileFault> {
+        walk::list_sources(self.system, root)
+    }
+
+    fn read_file(&self, _alloc: Global, path: &str) -> Result<Vec<u8>, FileFault> {
+        Ok(fs::read(self.system, path)?)
+    }
+}

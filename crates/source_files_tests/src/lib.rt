@@ -1,0 +1,7 @@
+//! Tests of `source_files`, by its public calls, on files of the folder that they run in.
+#![tactic(auto)]
+
+#[cfg(test)]
+mod outputs;
+#[cfg(test)]
+mod roots;

@@ -1,0 +1,83 @@
+//! The sources below a root.
+
+use source_files::{FileFault, ReadTree, SystemFiles, read_root};
+use std::alloc::{AllocError, Global};
+use std::fs;
+use std::process::Abort;
+use std::rt::Files;
+use std::test::Fail;
+
+fn see_text(rt: &impl Abort, found: &str, due: &str) {
+    assert!(rt; found == due, "{found} in place of {due}");
+}
+
+/// The paths, each with a space behind it.
+fn listing(alloc: Global, paths: &[String]) -> Result<String, AllocError> {
+    let mut text = String::new(alloc);
+    for path in paths {
+        text.push_str(path.as_str())?;
+        text.push(' ')?;
+    }
+    Ok(text)
+}
+
+fn text_of(alloc: Global, answer: Result<Vec<String>, FileFault>) -> Result<String, AllocError> {
+    match answer {
+        Ok(paths) => listing(alloc, &paths),
+        Err(fault) => format!(in alloc; "{fault:?}"),
+    }
+}
+
+#[test]
+fn regular_files_by_path(rt: HostRuntime) -> Result<(), Fail> {
+    // What an earlier run has left that didn't come to its end.
+    let _ = fs::remove_file(&rt, "root");
+    let _ = fs::remove_dir_all(&rt, "walk");
+    fs::create_dir(&rt, "walk")?;
+    fs::create_dir(&rt, "walk/x.proto")?;
+    fs::create_dir(&rt, "walk/deep")?;
+    fs::create_dir(&rt, "walk/deep/er")?;
+    for path in [
+        "walk/z.proto",
+        "walk/a.proto",
+        "walk/a.txt",
+        "walk/.proto",
+        "walk/x.proto/b.proto",
+        "walk/x.proto/proto",
+        "walk/deep/er/c.proto",
+    ] {
+        fs::write(&rt, path, path)?;
+    }
+    rt.symlink("a.proto", "walk/link.proto")?;
+    rt.symlink("deep", "walk/link")?;
+    rt.symlink("nowhere", "walk/dangling.proto")?;
+    rt.symlink("walk", "root")?;
+    let files = SystemFiles::new(&rt);
+    for root in ["walk", "walk/", "./walk", "root"] {
+        let found = text_of(rt.alloc(), files.list_sources(rt.alloc(), root))?;
+        see_text(
+            &rt,
+            found.as_str(),
+            ".proto a.proto deep/er/c.proto x.proto/b.proto z.proto ",
+        );
+    }
+    for root in ["walk/a.proto", "nowhere", "", "walk/link.proto"] {
+        let found = text_of(rt.alloc(), files.list_sources(rt.alloc(), root))?;
+        see_text(&rt, found.as_str(), "Unreadable");
+    }
+    match read_root(rt.alloc(), &files, "walk") {
+        Ok(sources) => {
+            for source in &sources {
+                let held = String::from_utf8(source.bytes.clone()?);
+                if let Ok(held) = held {
+                    assert!(&rt; held.as_str().ends_with(source.path.as_str()), "{held:?}");
+                }
+            }
+            see_text(&rt, if sources.len() == 5 { "5" } else { "?" }, "5");
+        }
+        Err(_) => see_text(&rt, "refused", "5"),
+    }
+    fs::remove_file(&rt, "root")?;
+    fs::remove_dir_all(&rt, "walk")?;
+    Ok(())
+}

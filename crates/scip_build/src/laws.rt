@@ -1,11 +1,14 @@
 //! Laws: what the definitions say of readings and faults, whatever the code does.
 
+ghost use Rattle.scip_build.specs.BuildLaws.{BuiltHasNoFault, OneBuildFault, OneBuilt};
 ghost use Rattle.scip_build.specs.Laws.{OneListOfFacts, NoFactsWhereUnreadable, LexedWhereUnparsed, OneFirstFaulty, NoReadingsWhereFaulty, ReadingsHaveOwnPaths, OneLinking};
 
 use index_hooks::Chooses;
 use proto_decl::one_list_of_facts;
 use proto_lex::{one_first_fault, one_lexing};
+use proto_link::one_refusal;
 use proto_parse::one_tree;
+use scip_document::one_index;
 
 /// A file has one list of facts at most.
 pub fn one_list_of_facts_a_file()
@@ -50,4 +53,35 @@ pub fn one_linking<C: Chooses, D: Chooses>(chooser: &C, other: &D)
 {
     one_list_of_facts_a_file();
     faults_exclude_facts();
+}
+
+/// A tree that is built has no fault of its files, whatever was chosen.
+pub fn built_has_no_fault<C: Chooses, D: Chooses>(chooser: &C, other: &D)
+    ensures { BuiltHasNoFault (C.allows chooser.now) (D.allows other.now) }
+{
+    one_linking(chooser, other);
+    readings_exclude_faults(chooser);
+    readings_exclude_faults(other);
+}
+
+/// The files of a tree have one fault at most, whatever was chosen; but which fault of a
+/// file that can't be read is left to tests.
+pub fn one_build_fault<C: Chooses, D: Chooses>(chooser: &C, other: &D)
+    ensures { OneBuildFault (C.allows chooser.now) (D.allows other.now) }
+{
+    one_linking(chooser, other);
+    readings_exclude_faults(chooser);
+    readings_exclude_faults(other);
+    one_first_faulty();
+    one_refusal();
+}
+
+/// Where for what is seen of a declaration one choice alone may come, a tree has one index and one
+/// list of choices by its settings, whatever the workers. The two choosers may be one.
+pub fn one_built<C: Chooses, D: Chooses>(chooser: &C, other: &D)
+    ensures { OneBuilt (C.allows chooser.now) (D.allows other.now) }
+{
+    one_list_of_facts_a_file();
+    faults_exclude_facts();
+    one_index();
 }

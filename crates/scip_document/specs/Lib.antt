@@ -12,6 +12,8 @@ pub mod EntryLists
 pub mod ExternalLists
 -- documents, external entries, and the index of a tree
 pub mod Indexes
+-- no two of what occurs in a document tie
+pub mod Ties
 -- the lists that make up those occurrences
 pub mod Listing
 -- two lists in order made one

@@ -16,7 +16,7 @@ mod targets;
 mod use_occurrences;
 
 pub use choices::Choices;
-pub use laws::one_merge_refusal;
+pub use laws::{no_two_occurrences_tie, one_merge_refusal};
 pub use merge_fault::{MergeFault, Unmerged};
 pub use pieces::merge;
 pub use source_document::document;

@@ -7,13 +7,12 @@ pub mod Entries
 -- what is asked of files, and why a document is refused
 pub mod Conditions
 pub mod Texts
+pub mod Uses
 -- the lists by which the code finds entries
 pub mod EntryLists
 pub mod ExternalLists
 -- documents, external entries, and the index of a tree
 pub mod Indexes
--- no two of what occurs in a document tie
-pub mod Ties
 -- the lists that make up those occurrences
 pub mod Listing
 -- two lists in order made one
@@ -21,3 +20,5 @@ pub mod Merges
 -- documents put together
 pub mod Pieces
 pub mod TakenPaths
+-- what is law of them
+pub mod Laws

@@ -1,6 +1,6 @@
 use Rattle.scip_document.specs.ExternalLists.{IsOfPart}
 use Rattle.scip_document.proofs.ExternalLemmas.{adds-more-at, adds-all}
-use Rattle.scip_document.proofs.externals.push_parts.Goals as goal
+use Rattle.scip_document.proofs.external_symbols.push_parts.Goals as goal
 
 pub loop-part-preserved : goal.loop-part-preserved
 loop-part-preserved c =

@@ -3,7 +3,7 @@ use Rattle.std.proofs.lemmas.Option.{slice_get_read}
 use Rattle.scip_document.specs.Conditions.{IsResolved}
 use Rattle.scip_document.specs.ExternalLists.{IsOfUse}
 use Rattle.scip_document.proofs.ExternalLemmas.{adds-more, adds-all}
-use Rattle.scip_document.proofs.externals.push_uses.Goals as goal
+use Rattle.scip_document.proofs.external_symbols.push_uses.Goals as goal
 
 pub push_use-requires-clause-resolved : goal.push_use-requires-clause-resolved
 push_use-requires-clause-resolved c =

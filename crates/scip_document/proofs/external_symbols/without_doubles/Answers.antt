@@ -6,7 +6,7 @@ use Rattle.std.proofs.lemmas.List.Kept.{Contains-dedup, Contains-from_dedup, IsS
 use Rattle.std.proofs.lemmas.List.Sorted.{Contains-permutation, IsPermutation-sym}
 use Rattle.scip_document.specs.ExternalLists.{Pair, pair_cmp}
 use Rattle.scip_document.proofs.PairLemmas.{pairs_total, same, ties, equivalence, exact}
-use Rattle.scip_document.proofs.externals.without_doubles.Goals as goal
+use Rattle.scip_document.proofs.external_symbols.without_doubles.Goals as goal
 
 pub returns-clause-same : goal.returns-clause-same
 returns-clause-same c = λ x.

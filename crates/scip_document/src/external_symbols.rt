@@ -1,19 +1,23 @@
 //! The symbol entries of declarations of included files that sources name.
 
-ghost use Rattle.std.specs.Prelude.{◌<◌, ◌↔◌, [], OnOk, IfOk, All, Contains, length};
+ghost use Rattle.std.specs.Prelude.{◌<◌, ◌↔◌, [], OnOk, IfOk, MatchBool, All, Contains, length};
+ghost use Rattle.std.specs.List.{AllZip};
 ghost use Rattle.std.specs.List.Sorted.{IsStrictlySortedBy};
 ghost use Rattle.proto_link.specs.Files.{IsSource};
 ghost use Rattle.proto_link.specs.declared.target.Entity.TheVariants.{Declared};
 ghost use Rattle.scip_document.specs.Chosen.{HasChoice, HaveChoices};
 ghost use Rattle.scip_document.specs.Conditions.{IsResolved, AllResolve};
-ghost use Rattle.scip_document.specs.ExternalLists.{Pair, pair_cmp, IsEntryAt, Adds, FromFront, IsKnownPart, IsOfPart, IsOfUse, IsOfSource, IsExternal};
+ghost use Rattle.scip_document.specs.Entries.{IsKeptEntry};
+ghost use Rattle.scip_document.specs.ExternalLists.{Pair, pair_cmp, IsEntryAt, IsEntryOf, Adds, FromFront, IsKnownPart, IsOfPart, IsOfUse, IsOfSource, IsExternal, HasIncluded, NoneIncluded};
+ghost use Rattle.scip_document.specs.Indexes.{AreExternals};
 
 use crate::choices::Choices;
-use crate::entries::declaration_entry;
-use proto_decl::{FileFacts, Use};
-use proto_link::{Entity, LinkFault, Linker, one_target_a_use};
+use crate::entries::{compare_symbols, declaration_entry};
+use proto_decl::{FileFacts, Use, names_are_identifiers};
+use proto_link::{Entity, LinkFault, Linker, one_declaration_a_name, one_target_a_use};
 use scip_model::Info;
-use scip_symbol::PackageId;
+use scip_symbol::{PackageId, files_are_without_clash, symbols_name_one_entity};
+use sequences::Sequence;
 use std::alloc::{AllocError, Global};
 
 // Adds a declaration, where its file is included and it is kept.
@@ -178,4 +182,83 @@ fn external_entry(
     let declaration = &declarations[index];
     let choice = choices.of(file, index);
     declaration_entry(alloc, id, facts, declaration, choice)
+}
+
+// The entry of a declaration that a use in a source names, of an included file, and that is kept.
+fn entry_of(
+    alloc: Global,
+    linker: &Linker<'_>,
+    choices: &Choices,
+    id: &PackageId,
+    pair: (usize, usize),
+) -> Result<Info, AllocError>
+    requires choices { HaveChoices linker.now choices.now }
+    requires named { IsExternal linker.now choices.now (length linker.now) pair }
+    ensures { IfOk result (IsKeptEntry linker.now choices.now id.now pair.0 pair.1) }
+{
+    let facts = linker.facts_of(pair.0).unwrap();
+    external_entry(alloc, id, choices, facts, pair.0, pair.1)
+}
+
+// The entry of each such declaration, in their order.
+fn external_entries(
+    alloc: Global,
+    linker: &Linker<'_>,
+    choices: &Choices,
+    id: &PackageId,
+    pairs: &[(usize, usize)],
+) -> Result<Vec<Info>, AllocError>
+    requires choices { HaveChoices linker.now choices.now }
+    requires named { All (IsExternal linker.now choices.now (length linker.now)) pairs.now }
+    ensures { IfOk result (λ entries. AllZip (IsEntryOf linker.now choices.now id.now) pairs.now entries.items) }
+{
+    let mut entries = Vec::new(alloc);
+    for pair in pairs {
+        let entry = entry_of(alloc, linker, choices, id, *pair)?;
+        entries.push(entry)?;
+    }
+    Ok(entries)
+}
+
+// Whether a file is included.
+fn has_included(linker: &Linker<'_>) -> bool
+    ensures { MatchBool result (HasIncluded linker.now) (NoneIncluded linker.now (length linker.now)) }
+{
+    for number in 0..linker.count() {
+        if linker.is_included(number) {
+            return true;
+        }
+    }
+    false
+}
+
+/// The external symbol entries of linked files, by symbol: one for each declaration of an included
+/// file that is kept by these choices and that a component of a use in a source names.
+///
+/// Each use of each source has to name a type. Where no file is included, no use is looked at, and
+/// no memory is taken.
+pub fn externals(
+    alloc: Global,
+    linker: &Linker<'_>,
+    choices: &Choices,
+    id: &PackageId,
+) -> Result<Sequence<Info>, AllocError>
+    requires choices { HaveChoices linker.now choices.now }
+    requires resolve { AllResolve linker.now }
+    ensures { IfOk result (AreExternals linker.now choices.now id.now) }
+{
+    if !has_included(linker) {
+        return Ok(Sequence::new(alloc));
+    }
+    linker.linked();
+    one_declaration_a_name();
+    names_are_identifiers();
+    symbols_name_one_entity();
+    files_are_without_clash();
+    let _manager = id.manager();
+    let named = named_externals(alloc, linker, choices)?;
+    let once = without_doubles(named)?;
+    let mut entries = external_entries(alloc, linker, choices, id, once.as_slice())?;
+    entries.sort_by(|a, b| compare_symbols(a, b))?;
+    Ok(Sequence::from_vec(entries))
 }

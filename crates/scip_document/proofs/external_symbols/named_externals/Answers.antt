@@ -1,7 +1,7 @@
 use Rattle.std.proofs.Common.{◌≡◌, [], length, subst, arith}
 use Rattle.scip_document.specs.ExternalLists.{Adds, IsExternal}
 use Rattle.scip_document.proofs.ExternalLemmas.{external-more}
-use Rattle.scip_document.proofs.externals.named_externals.Goals as goal
+use Rattle.scip_document.proofs.external_symbols.named_externals.Goals as goal
 
 pub loop-source-preserved : goal.loop-source-preserved
 loop-source-preserved c =

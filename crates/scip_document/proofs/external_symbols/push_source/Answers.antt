@@ -11,7 +11,7 @@ use Rattle.scip_document.specs.Conditions.{IsResolved}
 use Rattle.scip_document.specs.ExternalLists.{Adds, FromFront, IsOfUse}
 use Rattle.scip_document.proofs.LinkedLemmas.{source-facts}
 use Rattle.scip_document.proofs.ExternalLemmas.{of-source}
-use Rattle.scip_document.proofs.externals.push_source.Goals as goal
+use Rattle.scip_document.proofs.external_symbols.push_source.Goals as goal
 
 pub unwrap-facts-requires : goal.unwrap-facts-requires
 unwrap-facts-requires c =

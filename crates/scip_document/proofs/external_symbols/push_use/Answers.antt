@@ -4,7 +4,7 @@ use Rattle.std.proofs.lemmas.Result.{on_ok_weaker}
 use Rattle.proto_link.specs.declared.target.Entity.{Entity}
 use Rattle.scip_document.specs.ExternalLists.{Adds, FromFront, IsKnownPart, IsOfPart}
 use Rattle.scip_document.proofs.ExternalLemmas.{known-parts, of-use}
-use Rattle.scip_document.proofs.externals.push_use.Goals as goal
+use Rattle.scip_document.proofs.external_symbols.push_use.Goals as goal
 
 pub push_parts-requires : goal.push_parts-requires
 push_parts-requires c =

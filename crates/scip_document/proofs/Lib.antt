@@ -5,6 +5,7 @@ pub mod ListingLemmas
 pub mod NamedLemmas
 pub mod OccursLemmas
 pub mod DocumentLemmas
+pub mod TieLemmas
 pub mod UseLemmas
 pub mod TargetLemmas
 pub mod NameableLemmas

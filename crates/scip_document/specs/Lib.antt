@@ -20,5 +20,5 @@ pub mod Merges
 -- documents put together
 pub mod Pieces
 pub mod TakenPaths
--- what there is one of
+-- what is law of them
 pub mod Laws

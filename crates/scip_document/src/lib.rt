@@ -17,7 +17,9 @@ mod use_occurrences;
 
 pub use choices::Choices;
 pub use external_symbols::externals;
-pub use laws::{one_document_a_source, one_index, one_merge_refusal, one_merged_list};
+pub use laws::{
+    no_two_occurrences_tie, one_document_a_source, one_index, one_merge_refusal, one_merged_list,
+};
 pub use merge_fault::{MergeFault, Unmerged};
 pub use pieces::merge;
 pub use source_document::document;

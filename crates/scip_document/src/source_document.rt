@@ -15,6 +15,7 @@ ghost use Rattle.scip_document.specs.Listing.{own_occurrence};
 
 use crate::choices::Choices;
 use crate::entries::entries;
+use crate::laws::no_two_occurrences_tie;
 use crate::merging::merged;
 use crate::occurrences::{
     declaration_occurrences, file_occurrence, import_occurrences, package_occurrences,
@@ -72,6 +73,7 @@ fn occurrences(
     linker.linked();
     facts_in_order();
     facts_stand_in_text();
+    no_two_occurrences_tie();
     names_are_identifiers();
     one_target_a_use();
     positions_rise();

@@ -14,7 +14,7 @@ pub data NameKind : Type 0 where
   OfPackage : NameKind
   OfDeclaration : DeclarationKind → NameKind
 
--- The declarations of the files that a file sees, and each package that a file which it sees has or that has a part of it below.
+-- The declarations of the files that a file sees, and the packages of these files with those above them.
 pub data Knows (files : List File) (file : ℕ) : List ℕ → NameKind → Type 0 where
   declared : {seen : ℕ} {facts : Facts} {declaration : Declaration}
       → Sees files file seen → HasFacts files seen facts → Contains facts.declarations declaration

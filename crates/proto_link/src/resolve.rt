@@ -19,6 +19,9 @@ use std::alloc::{AllocError, Global};
 impl Linker<'_> {
     /// What a use names, in a file's scopes: by the names of the files that it sees. `Unresolved`,
     /// at the place of the whole use, where it names no type.
+    ///
+    /// For a source the answer is the only one. An included file may see files that don't count,
+    /// whose names may clash: there a part may be any declaration of its name.
     pub fn resolve(&self, alloc: Global, file: usize, type_use: &Use) -> Result<Target, LinkFault>
         requires { file < length self.now }
         ensures target { IfOk result (IsTarget self.now file type_use.now) }

@@ -13,7 +13,8 @@ use Rattle.proto_decl.specs.Declares.{IsDeclaration}
 use Rattle.proto_decl.specs.Facts.{Facts, AreFactsOf, name_spans, component_spans, PackageInOrder}
 use Rattle.proto_decl.specs.declared.declaration.Declaration.{Declaration}
 use Rattle.proto_decl.specs.declared.declaration.Outline.{Outline}
-use Rattle.proto_decl.proofs.OrderLemmas.{heading_names, package_in_order, spans_of_components}
+use Rattle.proto_decl.proofs.PickLemmas.{heading_names, spans_of_components}
+use Rattle.proto_decl.proofs.OrderLemmas.{package_in_order}
 
 -- one more of each
 pub AllZip-push : {A B : Type 0} (R : A → B → Type 0) (xs : List A) (ys : List B) (x : A) (y : B) → AllZip R xs ys → R x y → AllZip R (xs ++ x ∷ []) (ys ++ y ∷ [])

@@ -10,9 +10,11 @@ pub mod CommentTextLemmas
 -- Spans and literals of a tree
 pub mod SpanLemmas
 pub mod LiteralLemmas
+pub mod PickLemmas
 pub mod OrderLemmas
 -- Facts, and what is law of them
 pub mod FactLemmas
+pub mod PlaceLemmas
 pub mod NameLemmas
 pub mod FilledLemmas
 pub mod PartLemmas

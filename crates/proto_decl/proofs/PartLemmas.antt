@@ -29,7 +29,7 @@ use Rattle.proto_decl.specs.Laws.{IsNamedAt}
 use Rattle.proto_decl.specs.declared.declaration.Declaration.{Declaration}
 use Rattle.proto_decl.specs.declared.type_use.Use.{Use}
 use Rattle.proto_decl.specs.declared.imported.Imported.{Imported}
-use Rattle.proto_decl.proofs.OrderLemmas.{spans_of_components}
+use Rattle.proto_decl.proofs.PickLemmas.{spans_of_components}
 
 module _ (text : List ℕ) where
   -- each component of the use is a part of the text

@@ -14,6 +14,7 @@ pub mod Uses
 pub mod Facts
 -- what is law of it
 pub mod Laws
+pub mod Places
 -- what a callback sees of a declaration
 pub mod Seen
 -- the ways to declarations

@@ -3,6 +3,7 @@
 ghost use Rattle.std.specs.Prelude.{All};
 ghost use Rattle.proto_decl.specs.Facts.{Facts, AreOfSomeFile, NamesInOrder, UsesInOrder, ImportsInOrder, PackageInOrder, NamesAreFilled, UsesAreFilled};
 ghost use Rattle.proto_decl.specs.Names.{IsSimple};
+ghost use Rattle.proto_decl.specs.Places.{StandApart};
 ghost use Rattle.proto_decl.specs.Laws.{OneLeadingText, OneTrailingText, OneFacts, NamesAreSpelled, StandsInScope, FrontsAreEntities, FactsStandInText, ScopesNest};
 
 use proto_parse::{names_have_components, spans_in_order, spans_of_tokens};
@@ -25,6 +26,16 @@ pub fn facts_in_order()
     ensures uses { (facts : Facts) → AreOfSomeFile facts → UsesInOrder facts.uses }
     ensures imports { (facts : Facts) → AreOfSomeFile facts → ImportsInOrder facts.imports }
     ensures package_name { (facts : Facts) → AreOfSomeFile facts → PackageInOrder facts }
+{
+    spans_of_tokens();
+    spans_in_order();
+    names_have_components();
+}
+
+/// The components of uses stand apart from declared names and from the package's name, and an import
+/// begins where none of these does.
+pub fn facts_stand_apart()
+    ensures { (facts : Facts) → AreOfSomeFile facts → StandApart facts }
 {
     spans_of_tokens();
     spans_in_order();

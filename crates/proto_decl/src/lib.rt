@@ -27,8 +27,8 @@ pub use facts::FileFacts;
 pub use imported::Imported;
 pub use kind::DeclarationKind;
 pub use laws::{
-    facts_are_filled, facts_in_order, facts_stand_in_text, fronts_are_entities, names_are_spelled,
-    one_comment_text, one_list_of_facts, scopes_are_known, scopes_nest,
+    facts_are_filled, facts_in_order, facts_stand_apart, facts_stand_in_text, fronts_are_entities,
+    names_are_spelled, one_comment_text, one_list_of_facts, scopes_are_known, scopes_nest,
 };
 pub use scopes::scope_around;
 pub use type_use::{Component, Use};

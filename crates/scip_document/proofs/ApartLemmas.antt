@@ -41,7 +41,7 @@ pub record AreCounted (files : List File) (number : ℕ) (facts : Facts) : Type 
   pub counts : Counts files number
   pub known : HasFacts files number facts
 
-find : {A : Type 0} (xs : List A) (x : A) → Contains xs x → (i : ℕ) × (slice_get xs i ≡ Some x)
+pub find : {A : Type 0} (xs : List A) (x : A) → Contains xs x → (i : ℕ) × (slice_get xs i ≡ Some x)
 find xs x there = (there.0, slice_get-get_or xs there.0 x there.1 ∙ ap Some there.2)
 
 module _ (files : List File) (origins : HaveOrigins files) (clear : NoClash files) (one_name : OneDeclarationAName) (spelled : AreIdentifiers)

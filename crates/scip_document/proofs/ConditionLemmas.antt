@@ -20,7 +20,7 @@ use Rattle.scip_document.specs.Conditions.{HaveGoodPaths}
 use Rattle.scip_document.specs.Texts.{AreOfText}
 use Rattle.scip_model.specs.declared.records.Occurrence.{Occurrence}
 use Rattle.scip_document.specs.Indexes.{occurrence_cmp}
-use Rattle.scip_document.specs.Merges.{IsMerged}
+use Rattle.scip_document.specs.Merges.{IsMerged, AreUntied}
 use Rattle.scip_document.proofs.MergeLemmas.{either, at_head, in_tail, head_or_tail, not_in_none}
 use Rattle.scip_document.proofs.EntryLemmas.{at-index}
 
@@ -95,7 +95,9 @@ pub good_imports : (files : List File) (source : ℕ) (facts : Facts) → IsSour
     → All (λ (imported : Imported). IsGoodPath imported.path) facts.imports
 good_imports files source facts is known complete good = λ k d h. good_import files source facts is known complete good _ (Contains-get_or facts.imports k d h)
 
--- what is merged is so by other names of the lists
-pub merged_of : {first second a b both : List Occurrence} → first ≡ a → second ≡ b → IsMerged occurrence_cmp first second both → IsMerged occurrence_cmp a b both
-merged_of {first} {second} {a} {b} {both} e f m =
-    subst (λ (xs : List Occurrence). IsMerged occurrence_cmp xs b both) e (subst (λ (ys : List Occurrence). IsMerged occurrence_cmp first ys both) f m)
+-- what is merged where nothing is tied is so by other names of the lists
+abbrev pub Merges : (first second both : List Occurrence) → Type 0
+Merges first second both = AreUntied occurrence_cmp first second → IsMerged occurrence_cmp first second both
+
+pub merged_of : {first second a b both : List Occurrence} → first ≡ a → second ≡ b → Merges first second both → Merges a b both
+merged_of {first} {second} {a} {b} {both} e f m = subst (λ (xs : List Occurrence). Merges xs b both) e (subst (λ (ys : List Occurrence). Merges first ys both) f m)

@@ -1,7 +1,8 @@
 -- Of a source's facts: its lists of occurrences ascend, and merged they are the list of what occurs.
 use Rattle.std.proofs.Common.{◌≡◌, ap, refl, subst, inl, inr, ℕ, ◌≤◌, Bool, true, false, Option, Some, None, List, [], ◌∷◌, ◌++◌, map, arith}
 use Rattle.std.specs.Prelude.{if◌then◌else◌}
-use Rattle.std.specs.List.{AllZip, slice_get, flat_map}
+use Rattle.std.specs.List.{AllZip, Contains, slice_get, flat_map}
+use Rattle.std.specs.declared.cmp.Ordering.TheVariants.{Equal}
 use Rattle.std.specs.List.Sorted.{IsStrictlySortedBy}
 use Rattle.proto_lex.specs.declared.span.Span.{Span}
 use Rattle.proto_lex.specs.declared.position.Encoding.{Encoding}
@@ -23,12 +24,12 @@ use Rattle.proto_link.specs.declared.target.Entity.{Entity}
 use Rattle.scip_document.specs.Chosen.{Chosen}
 use Rattle.scip_document.specs.Occurs.{Occurs}
 use Rattle.scip_document.specs.Indexes.{IsAscendingListOf, occurrence_cmp}
-use Rattle.scip_document.specs.Merges.{IsMerged}
+use Rattle.scip_document.specs.Merges.{IsMerged, AreUntied}
 use Rattle.scip_document.specs.Listing.{own_occurrence, each_from, keeps, is_shown, entity_of, at_import, at_package, at_declaration, at_entity, at_part, at_component, at_target, at_use}
 use Rattle.scip_document.proofs.MergeLemmas.{either}
 use Rattle.scip_document.proofs.ListingLemmas.{StandAt, each_stand, ascends}
 use Rattle.scip_document.proofs.ListingLemmas.StandAt.{none as stands_none, skip as stands_skip, here as stands_here}
-use Rattle.scip_document.proofs.OccursLemmas.{lists_occur, occurs_listed}
+use Rattle.scip_document.proofs.OccursLemmas.{InLists, lists_occur, occurs_listed}
 
 -- spans in order
 
@@ -103,6 +104,9 @@ module _ (id : Package) (encoding : Encoding) (text : List ℕ) where
       (known : HasFacts files source facts) (stands : StandInText text facts) (names : NamesInOrder facts.declarations) (uses : UsesInOrder facts.uses) (imports : ImportsInOrder facts.imports)
       (package_name : PackageInOrder facts) (targets : List Target) (are_targets : AllZip (IsTarget files source) facts.uses targets)
       (one_target : (type_use : Use) (a b : Target) → IsTarget files source type_use a → IsTarget files source type_use b → a ≡ b) where
+    abbrev Wanted : Occurrence → Type 0
+    Wanted o = Occurs files chosen id encoding source text o
+
     abbrev own_list : List Occurrence
     own_list = own_occurrence id file.path ∷ []
 
@@ -118,20 +122,47 @@ module _ (id : Package) (encoding : Encoding) (text : List ℕ) where
     abbrev use_list : List Occurrence
     use_list = each_from (at_use id encoding text files chosen targets) 0 facts.uses
 
-    pub merged_lists : (a b c d : List Occurrence) → IsMerged occurrence_cmp own_list import_list a → IsMerged occurrence_cmp a package_list b → IsMerged occurrence_cmp b name_list c
-        → IsMerged occurrence_cmp c use_list d → IsAscendingListOf occurrence_cmp (Occurs files chosen id encoding source text) d
-    merged_lists a b c d first second third fourth = record {
-      exact = λ x. (
-        λ h. lists_occur files chosen id encoding source text file at facts known targets are_targets one_target x
-            (either (λ l. inl (either (λ k. inl (either (λ j. inl ((first.all x).0 j)) inr ((second.all x).0 k))) inr ((third.all x).0 l))) inr ((fourth.all x).0 h)),
-        λ wanted. (fourth.all x).1
-            (either (λ l. inl ((third.all x).1 (either (λ k. inl ((second.all x).1 (either (λ j. inl ((first.all x).1 j)) inr k))) inr l))) inr
-            (occurs_listed files chosen id encoding source text file at facts known targets are_targets one_target x wanted)),
-      );
-      ascends =
-          let by_imports = ascends encoding text rise 0 (map (λ (imported : Imported). imported.span) facts.imports) import_list imports stands.imports (imports_stand facts.imports) in
-          let by_package = ascends encoding text rise 0 (component_spans facts.package_name) package_list (package_order facts package_name) stands.package_name (package_stands facts) in
-          let by_names = ascends encoding text rise 0 (name_spans facts.declarations) name_list names stands.names (names_stand chosen source facts) in
-          let by_uses = ascends encoding text rise 0 (use_spans facts.uses) use_list uses stands.uses (uses_stand files chosen targets facts.uses) in
-          fourth.ascends (third.ascends (second.ascends (first.ascends (one_ascends _) by_imports) by_package) by_names) by_uses;
-    }
+    abbrev Merges : (first second both : List Occurrence) → Type 0
+    Merges first second both = AreUntied occurrence_cmp first second → IsMerged occurrence_cmp first second both
+
+    listed : (o : Occurrence) → InLists files chosen id encoding source text file at facts known targets are_targets one_target o → Wanted o
+    listed o h = lists_occur files chosen id encoding source text file at facts known targets are_targets one_target o h
+
+    -- of what occurs, only what is equal is tied
+    module _ (untied : (x y : Occurrence) → Wanted x → Wanted y → occurrence_cmp x y ≡ Equal → x ≡ y) where
+      apart : (first second : List Occurrence) → ((x : Occurrence) → Contains first x → Wanted x) → ((x : Occurrence) → Contains second x → Wanted x) → AreUntied occurrence_cmp first second
+      apart first second from_first from_second x y h k = untied x y (from_first x h) (from_second y k)
+
+      both : (first second whole : List Occurrence) → IsMerged occurrence_cmp first second whole → ((x : Occurrence) → Contains first x → Wanted x) → ((x : Occurrence) → Contains second x → Wanted x)
+          → (x : Occurrence) → Contains whole x → Wanted x
+      both first second whole m from_first from_second x h = either (from_first x) (from_second x) ((m.all x).0 h)
+
+      pub merged_lists : (a b c d : List Occurrence) → Merges own_list import_list a → Merges a package_list b → Merges b name_list c → Merges c use_list d
+          → IsAscendingListOf occurrence_cmp Wanted d
+      merged_lists a b c d merge_first merge_second merge_third merge_fourth =
+          let of_own : (x : Occurrence) → Contains own_list x → Wanted x = λ x h. listed x (inl (inl (inl (inl h)))) in
+          let of_imports : (x : Occurrence) → Contains import_list x → Wanted x = λ x h. listed x (inl (inl (inl (inr h)))) in
+          let of_packages : (x : Occurrence) → Contains package_list x → Wanted x = λ x h. listed x (inl (inl (inr h))) in
+          let of_names : (x : Occurrence) → Contains name_list x → Wanted x = λ x h. listed x (inl (inr h)) in
+          let of_uses : (x : Occurrence) → Contains use_list x → Wanted x = λ x h. listed x (inr h) in
+          let first = merge_first (apart own_list import_list of_own of_imports) in
+          let of_a = both own_list import_list a first of_own of_imports in
+          let second = merge_second (apart a package_list of_a of_packages) in
+          let of_b = both a package_list b second of_a of_packages in
+          let third = merge_third (apart b name_list of_b of_names) in
+          let of_c = both b name_list c third of_b of_names in
+          let fourth = merge_fourth (apart c use_list of_c of_uses) in
+          record {
+            exact = λ x. (
+              both c use_list d fourth of_c of_uses x,
+              λ wanted. (fourth.all x).1
+                  (either (λ l. inl ((third.all x).1 (either (λ k. inl ((second.all x).1 (either (λ j. inl ((first.all x).1 j)) inr k))) inr l))) inr
+                  (occurs_listed files chosen id encoding source text file at facts known targets are_targets one_target x wanted)),
+            );
+            ascends =
+                let by_imports = ascends encoding text rise 0 (map (λ (imported : Imported). imported.span) facts.imports) import_list imports stands.imports (imports_stand facts.imports) in
+                let by_package = ascends encoding text rise 0 (component_spans facts.package_name) package_list (package_order facts package_name) stands.package_name (package_stands facts) in
+                let by_names = ascends encoding text rise 0 (name_spans facts.declarations) name_list names stands.names (names_stand chosen source facts) in
+                let by_uses = ascends encoding text rise 0 (use_spans facts.uses) use_list uses stands.uses (uses_stand files chosen targets facts.uses) in
+                fourth.ascends (third.ascends (second.ascends (first.ascends (one_ascends _) by_imports) by_package) by_names) by_uses;
+          }

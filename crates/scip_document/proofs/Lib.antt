@@ -5,6 +5,8 @@ pub mod ListingLemmas
 pub mod NamedLemmas
 pub mod OccursLemmas
 pub mod DocumentLemmas
+pub mod TieLemmas
+pub mod UseLemmas
 pub mod TargetLemmas
 pub mod NameableLemmas
 pub mod ConditionLemmas
@@ -18,6 +20,9 @@ pub mod ExternalLemmas
 pub mod PairLemmas
 pub mod SortLemmas
 pub mod SourceEntryLemmas
+pub mod ExternalEntryLemmas
 -- Pieces of an index
 pub mod PieceLemmas
 pub mod RefusalLemmas
+-- What there is one of
+pub mod OneListLemmas

@@ -3,7 +3,7 @@ use Rattle.std.proofs.Common.{◌≡◌, ◌∙◌, sym, ap, refl, subst, inl, i
 use Rattle.std.specs.List.{All, AllByRecursion, Contains, slice_get, flat_map}
 use Rattle.std.specs.declared.cmp.Ordering.{Ordering}
 use Rattle.std.specs.declared.cmp.Ordering.TheVariants.{Less}
-use Rattle.std.specs.Ordering.{nat_cmp, int_cmp, ordering_then}
+use Rattle.std.specs.Ordering.{nat_cmp, ordering_then}
 use Rattle.std.specs.Cmp.Lexicographic.{slice_cmp}
 use Rattle.std.specs.List.Sorted.{IsStrictlySortedBy}
 use Rattle.std.proofs.lemmas.List.Elements.{All-head, All-tail, Contains-append_left, Contains-append_right, Contains-append_cases}
@@ -92,8 +92,7 @@ module _ (encoding : Encoding) (text : List ℕ) where
     -- what comes after the start's line and column
     abbrev on_ends : Occurrence → Occurrence → Ordering
     on_ends o p =
-        ordering_then (nat_cmp o.range.end_line p.range.end_line)
-        (ordering_then (nat_cmp o.range.end_column p.range.end_column) (ordering_then (slice_cmp nat_cmp o.symbol p.symbol) (int_cmp o.symbol_roles p.symbol_roles)))
+        ordering_then (nat_cmp o.range.end_line p.range.end_line) (ordering_then (nat_cmp o.range.end_column p.range.end_column) (slice_cmp nat_cmp o.symbol p.symbol))
 
     abbrev on_rest : Occurrence → Occurrence → Ordering
     on_rest o p = ordering_then (nat_cmp o.range.start_column p.range.start_column) (on_ends o p)

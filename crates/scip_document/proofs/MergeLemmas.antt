@@ -8,9 +8,8 @@ use Rattle.std.specs.Ordering.{ordering_reverse}
 use Rattle.std.specs.List.Sorted.{IsStrictlySortedBy}
 use Rattle.std.proofs.lemmas.List.{append_assoc, append-nil}
 use Rattle.std.proofs.lemmas.List.Elements.{Contains-append_left, Contains-append_right, Contains-append_cases, Contains-push, Contains-push_cases}
-use Rattle.std.proofs.lemmas.Map.Lookups.{CmpEqualImpliesEq}
 use Rattle.std.proofs.lemmas.Map.Keys.{sorted_head}
-use Rattle.scip_document.specs.Merges.{IsMerged, fronts_cmp, TakesLeast}
+use Rattle.scip_document.specs.Merges.{IsMerged, AreUntied, fronts_cmp, TakesLeast}
 
 none_is_some : {Y : Type 0} {y : Y} → None ≡ Some y → ⊥
 none_is_some h = cc
@@ -102,11 +101,15 @@ module _ {X : Type 0} (cmp : X → X → Ordering) where
   pub record IsMerging (first second taken first_left second_left : List X) : Type 0 where
     pub all : (x : X) → In3 x taken first_left second_left ↔ (Contains first x ⊎ Contains second x)
     pub ascends : IsStrictlySortedBy cmp first → IsStrictlySortedBy cmp second → IsStrictlySortedBy cmp (taken ++ first_left) × IsStrictlySortedBy cmp (taken ++ second_left)
+    pub of_first : (x : X) → Contains first_left x → Contains first x
+    pub of_second : (x : X) → Contains second_left x → Contains second x
 
   pub begins : (first second : List X) → IsMerging first second [] first second
   begins first second = record {
     all = λ x. (either (λ none. absurd (not_in_none x none)) (λ h. h), λ h. inr h);
     ascends = λ p q. (p, q);
+    of_first = λ x h. h;
+    of_second = λ x h. h;
   }
 
   step_first : (f s t : List X) (z : X) (a b : List X) → IsMerging f s t (z ∷ a) b → (Sorted b → Below z b) → IsMerging f s (t ++ z ∷ []) a b
@@ -115,6 +118,8 @@ module _ {X : Type 0} (cmp : X → X → Ordering) where
     ascends = λ p q.
         let both = m.ascends p q in
         (subst Sorted (sym (append_assoc t (z ∷ []) a)) both.0, subst Sorted (sym (append_assoc t (z ∷ []) b)) (insert t z a b both.0 both.1 (below (suffix t b both.1))));
+    of_first = λ x h. m.of_first x (in_tail x z a h);
+    of_second = m.of_second;
   }
 
   step_second : (f s t : List X) (z : X) (a b : List X) → IsMerging f s t a (z ∷ b) → (Sorted a → Below z a) → IsMerging f s (t ++ z ∷ []) a b
@@ -123,6 +128,8 @@ module _ {X : Type 0} (cmp : X → X → Ordering) where
     ascends = λ p q.
         let both = m.ascends p q in
         (subst Sorted (sym (append_assoc t (z ∷ []) a)) (insert t z b a both.1 both.0 (below (suffix t a both.0))), subst Sorted (sym (append_assoc t (z ∷ []) b)) both.1);
+    of_first = m.of_first;
+    of_second = λ x h. m.of_second x (in_tail x z b h);
   }
 
   step_both : (f s t : List X) (z y : X) (a b : List X) → IsMerging f s t (z ∷ a) (y ∷ b) → z ≡ y → IsMerging f s (t ++ z ∷ []) a b
@@ -131,9 +138,11 @@ module _ {X : Type 0} (cmp : X → X → Ordering) where
     ascends = λ p q.
         let both = m.ascends p q in
         (subst Sorted (sym (append_assoc t (z ∷ []) a)) both.0, subst Sorted (sym (append_assoc t (z ∷ []) b)) (subst (λ (w : X). Sorted (t ++ w ∷ b)) (sym same) both.1));
+    of_first = λ x h. m.of_first x (in_tail x z a h);
+    of_second = λ x h. m.of_second x (in_tail x y b h);
   }
 
-  module _ (order : IsTotalOrder cmp) (exact : CmpEqualImpliesEq cmp) where
+  module _ (order : IsTotalOrder cmp) where
     all_below : (x y : X) (ys : List X) → cmp x y ≡ Less → Below y ys → Below x ys
     all_below x y [] less below = tt
     all_below x y (z ∷ ys) less below = (order.trans x y z less below.0, all_below x y ys less below.1)
@@ -142,15 +151,15 @@ module _ {X : Type 0} (cmp : X → X → Ordering) where
     below_all x y ys less s = (less, all_below x y ys less (sorted_head cmp y ys s))
 
     pub step : (f s t a b a_left b_left : List X) (next : Option X) (z : X) → TakesLeast (fronts_cmp cmp a b) a b next a_left b_left → next ≡ Some z
-        → IsMerging f s t a b → IsMerging f s (t ++ z ∷ []) a_left b_left
-    step f s t [] [] a_left b_left next z k e m = absurd (none_is_some (sym k.0 ∙ e))
-    step f s t [] (y ∷ ys) a_left b_left next z k e m = rw (same_some (sym e ∙ k.0), k.1, k.2) (step_second f s t y [] ys m (λ _. tt))
-    step f s t (x ∷ xs) [] a_left b_left next z k e m = rw (same_some (sym e ∙ k.0), k.1, k.2) (step_first f s t x xs [] m (λ _. tt))
-    step f s t (x ∷ xs) (y ∷ ys) a_left b_left next z k e m = by (cmp x y) refl k
+        → AreUntied cmp f s → IsMerging f s t a b → IsMerging f s (t ++ z ∷ []) a_left b_left
+    step f s t [] [] a_left b_left next z k e untied m = absurd (none_is_some (sym k.0 ∙ e))
+    step f s t [] (y ∷ ys) a_left b_left next z k e untied m = rw (same_some (sym e ∙ k.0), k.1, k.2) (step_second f s t y [] ys m (λ _. tt))
+    step f s t (x ∷ xs) [] a_left b_left next z k e untied m = rw (same_some (sym e ∙ k.0), k.1, k.2) (step_first f s t x xs [] m (λ _. tt))
+    step f s t (x ∷ xs) (y ∷ ys) a_left b_left next z k e untied m = by (cmp x y) refl k
       where
         by : (o : Ordering) → cmp x y ≡ o → TakesLeast o (x ∷ xs) (y ∷ ys) next a_left b_left → IsMerging f s (t ++ z ∷ []) a_left b_left
         by Less h u = rw (same_some (sym e ∙ u.0), u.1, u.2) (step_first f s t x xs (y ∷ ys) m (below_all x y ys h))
-        by Equal h u = rw (same_some (sym e ∙ u.0), u.1, u.2) (step_both f s t x y xs ys m (exact x y h))
+        by Equal h u = rw (same_some (sym e ∙ u.0), u.1, u.2) (step_both f s t x y xs ys m (untied x y (m.of_first x (at_head x x xs refl)) (m.of_second y (at_head y y ys refl)) h))
         by Greater h u = rw (same_some (sym e ∙ u.0), u.1, u.2) (step_second f s t y (x ∷ xs) ys m (below_all y x xs (order.antisymm y x ∙ ap ordering_reverse h)))
 
   all_taken : (f s t : List X) → IsMerging f s t [] [] → IsMerged cmp f s t

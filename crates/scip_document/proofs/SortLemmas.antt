@@ -47,7 +47,7 @@ module _ {X : Type 0} {cmp : X → X → Ordering} (total : IsTotalOrder cmp) wh
   }
 
   -- nothing is behind itself
-  not-below : (x : X) → cmp x x ≡ Less → ⊥
+  pub not-below : (x : X) → cmp x x ≡ Less → ⊥
   not-below x less = turned (cmp x x) (cmp x x) (total.antisymm x x) less less
     where
       turned : (there back : Ordering) → there ≡ ordering_reverse back → there ≡ Less → back ≡ Less → ⊥
@@ -96,6 +96,16 @@ keys-ascend {X} {K} key cmp (x ∷ xs) up = (keys xs up.0, keys-ascend key cmp x
     keys : (ys : List X) → AllByRecursion (λ y. cmp (key x) (key y) ≡ Less) ys → AllByRecursion (λ k. cmp (key x) k ≡ Less) (map key ys)
     keys [] all = tt
     keys (y ∷ ys) all = (all.0, keys ys all.1)
+
+-- what has keys that ascend ascends by the key
+pub ascends-by : {X K : Type 0} (key : X → K) (cmp : K → K → Ordering) (xs : List X) → IsStrictlySortedBy cmp (map key xs) → IsStrictlySortedBy (on key cmp) xs
+unfolding IsStrictlySortedBy
+ascends-by key cmp [] up = tt
+ascends-by {X} {K} key cmp (x ∷ xs) up = (elements xs up.0, ascends-by key cmp xs up.1)
+  where
+    elements : (ys : List X) → AllByRecursion (λ k. cmp (key x) k ≡ Less) (map key ys) → AllByRecursion (λ y. cmp (key x) (key y) ≡ Less) ys
+    elements [] all = tt
+    elements (y ∷ ys) all = (all.0, elements ys all.1)
 
 -- lists without doubles
 module _ {X : Type 0} (same : X → X → Bool) where

@@ -1,7 +1,8 @@
 -- The targets of uses, and the first use that has none.
-use Rattle.std.proofs.Common.{◌≡◌, ◌∙◌, sym, ap, refl, subst, ℕ, zero, suc, ◌+◌, Some, None, List, [], ◌∷◌, ◌++◌, length, take, drop, arith}
+use Rattle.std.proofs.Common.{◌≡◌, ◌∙◌, sym, ap, refl, subst, ℕ, zero, suc, ◌+◌, ◌<◌, Some, None, List, [], ◌∷◌, ◌++◌, length, get_or, take, drop, arith}
 use Rattle.std.specs.List.{All, AllZip, slice_get}
 use Rattle.std.proofs.lemmas.List.Elements.{All-nil, All-cons}
+use Rattle.std.proofs.lemmas.Option.{slice_get-get_or}
 use Rattle.proto_decl.specs.Facts.{Facts}
 use Rattle.proto_decl.specs.declared.type_use.Use.{Use}
 use Rattle.proto_link.specs.Files.{File, HasFacts}
@@ -38,10 +39,18 @@ split_there [] k x e = absurd (none_is_some e)
 split_there (y ∷ ys) zero x e = let same : y ≡ x = cc in ap (λ z. z ∷ ys) same
 split_there (y ∷ ys) (suc k) x e = let next : suc k + 1 ≡ suc (k + 1) = omega arith in rw next (ap (λ zs. y ∷ zs) (split_there ys k x e))
 
+-- one element more on each side
+pub zip_more : {X Y : Type 0} (R : X → Y → Type 0) (xs : List X) (k : ℕ) (x : X) (ys : List Y) (y : Y) → slice_get xs k ≡ Some x → AllZip R (take k xs) ys → R x y
+    → AllZip R (take (k + 1) xs) (ys ++ y ∷ [])
+zip_more {X} {Y} R xs k x ys y e all r = subst (λ (front : List X). AllZip R front (ys ++ y ∷ [])) (sym (take_more xs k x e)) (zip_push R (take k xs) ys x y all r)
+
+pub zip_more_at : {X Y : Type 0} (R : X → Y → Type 0) (xs : List X) (k : ℕ) (d : X) (ys : List Y) (y : Y) → k < length xs → AllZip R (take k xs) ys → R (get_or xs k d) y
+    → AllZip R (take (k + 1) xs) (ys ++ y ∷ [])
+zip_more_at R xs k d ys y within all r = zip_more R xs k (get_or xs k d) ys y (slice_get-get_or xs k d within) all r
+
 pub targets_more : (files : List File) (source : ℕ) (uses : List Use) (k : ℕ) (u : Use) (ts : List Target) (t : Target) → slice_get uses k ≡ Some u → AllZip (IsTarget files source) (take k uses) ts
     → IsTarget files source u t → AllZip (IsTarget files source) (take (k + 1) uses) (ts ++ t ∷ [])
-targets_more files source uses k u ts t e all is =
-    subst (λ (front : List Use). AllZip (IsTarget files source) front (ts ++ t ∷ [])) (sym (take_more uses k u e)) (zip_push (IsTarget files source) (take k uses) ts u t all is)
+targets_more files source uses k u ts t e all is = zip_more (IsTarget files source) uses k u ts t e all is
 
 resolved_front : (files : List File) (source : ℕ) (uses : List Use) (ts : List Target) → AllZip (IsTarget files source) uses ts → All (IsResolved files source) uses
 resolved_front files source [] ts all = All-nil (IsResolved files source)

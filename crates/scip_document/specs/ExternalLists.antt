@@ -1,5 +1,5 @@
 -- The declarations of included files that uses in sources name, as the code gathers them: each by its file's number and its own.
-use Rattle.std.specs.Prelude.{◌≡◌, ◌<◌, ◌⊎◌, ◌↔◌, ⊤, ℕ, true, Some, List, length, Contains}
+use Rattle.std.specs.Prelude.{◌≡◌, ◌<◌, ◌⊎◌, ◌↔◌, ⊤, ℕ, true, false, Some, List, length, Contains}
 use Rattle.std.specs.declared.cmp.Ordering.{Ordering}
 use Rattle.std.specs.Ordering.{nat_cmp, ordering_then}
 use Rattle.std.specs.List.{slice_get}
@@ -9,13 +9,13 @@ use Rattle.proto_decl.specs.declared.type_use.Use.{Use}
 use Rattle.index_hooks.specs.declared.choice.Choice.{Choice}
 use Rattle.scip_model.specs.declared.records.Info.{Info}
 use Rattle.scip_symbol.specs.Package.{Package}
-use Rattle.proto_link.specs.Files.{File, HasFacts, IsSource}
+use Rattle.proto_link.specs.Files.{File, HasFacts, IsSource, IsIncludedAt}
 use Rattle.proto_link.specs.Targets.{IsTarget}
 use Rattle.proto_link.specs.declared.target.Entity.{Entity}
 use Rattle.proto_link.specs.declared.target.Entity.TheVariants as link
 use Rattle.proto_link.specs.declared.target.Target.{Target}
 use Rattle.scip_document.specs.Chosen.{Chosen, HasChoice, IsChosen, IsKept}
-use Rattle.scip_document.specs.Entries.{declaration_entry}
+use Rattle.scip_document.specs.Entries.{declaration_entry, IsKeptEntry}
 
 abbrev pub Pair : Type 0
 Pair = ℕ × ℕ
@@ -74,3 +74,15 @@ pub record IsEntryAt (chosen : Chosen) (id : Package) (facts : Facts) (file inde
   pub stands : slice_get facts.declarations index ≡ Some declaration
   pub is_chosen : IsChosen chosen file index choice
   pub is : entry ≡ declaration_entry id facts declaration choice
+
+-- the entry of a declaration that is kept
+abbrev pub IsEntryOf : List File → Chosen → Package → Pair → Info → Type 0
+IsEntryOf files chosen id x = IsKeptEntry files chosen id x.0 x.1
+
+-- some file is included
+abbrev pub HasIncluded : List File → Type 0
+HasIncluded files = (number : ℕ) × IsIncludedAt files number true
+
+-- none of the first so many is
+abbrev pub NoneIncluded : List File → (count : ℕ) → Type 0
+NoneIncluded files count = (number : ℕ) → number < count → IsIncludedAt files number false

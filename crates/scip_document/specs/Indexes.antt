@@ -1,7 +1,7 @@
 -- The index of a tree: a document for each source, in order of path, and the external entries (`scip.proto`, Index, Document, Metadata).
 use Rattle.std.specs.Prelude.{◌≡◌, ◌↔◌, ℕ, ℤ, pos, false, Some, List, [], codes, length, Contains}
 use Rattle.std.specs.declared.cmp.Ordering.{Ordering}
-use Rattle.std.specs.Ordering.{nat_cmp, int_cmp, on, then_cmp}
+use Rattle.std.specs.Ordering.{nat_cmp, on, then_cmp}
 use Rattle.std.specs.Cmp.Lexicographic.{slice_cmp}
 use Rattle.std.specs.List.{slice_get}
 use Rattle.std.specs.List.Sorted.{IsStrictlySortedBy}
@@ -23,15 +23,14 @@ pub record IsAscendingListOf {X : Type 0} (cmp : X → X → Ordering) (IsWanted
   pub exact : (x : X) → Contains list x ↔ IsWanted x
   pub ascends : IsStrictlySortedBy cmp list
 
--- by start, then end, then symbol; the roles come last, so that any set of occurrences has one such list
+-- by start, then end, then symbol
 abbrev pub occurrence_cmp : Occurrence → Occurrence → Ordering
 occurrence_cmp =
     then_cmp (on (λ (o : Occurrence). o.range.start_line) nat_cmp)
     (then_cmp (on (λ (o : Occurrence). o.range.start_column) nat_cmp)
     (then_cmp (on (λ (o : Occurrence). o.range.end_line) nat_cmp)
     (then_cmp (on (λ (o : Occurrence). o.range.end_column) nat_cmp)
-    (then_cmp (on (λ (o : Occurrence). o.symbol) (slice_cmp nat_cmp))
-    (on (λ (o : Occurrence). o.symbol_roles) int_cmp)))))
+    (on (λ (o : Occurrence). o.symbol) (slice_cmp nat_cmp)))))
 
 -- by symbol
 abbrev pub info_cmp : Info → Info → Ordering

@@ -7,6 +7,7 @@ pub mod Entries
 -- what is asked of files, and why a document is refused
 pub mod Conditions
 pub mod Texts
+pub mod Uses
 -- the lists by which the code finds entries
 pub mod EntryLists
 pub mod ExternalLists
@@ -19,3 +20,5 @@ pub mod Merges
 -- documents put together
 pub mod Pieces
 pub mod TakenPaths
+-- what is law of them
+pub mod Laws

@@ -4,6 +4,10 @@ use Rattle.std.specs.declared.cmp.Ordering.{Ordering}
 use Rattle.std.specs.declared.cmp.Ordering.TheVariants.{Less, Equal, Greater}
 use Rattle.std.specs.List.Sorted.{IsStrictlySortedBy}
 
+-- of items of the two lists, only equal ones are tied
+abbrev pub AreUntied : {X : Type 0} → (X → X → Ordering) → (first second : List X) → Type 0
+AreUntied cmp first second = (x y : _) → Contains first x → Contains second y → cmp x y ≡ Equal → x ≡ y
+
 -- It has the items of both and no others, and ascends where both do.
 pub record IsMerged {X : Type 0} (cmp : X → X → Ordering) (first second both : List X) : Type 0 where
   pub all : (x : X) → Contains both x ↔ (Contains first x ⊎ Contains second x)
@@ -19,7 +23,7 @@ fronts_cmp cmp [] ys = Greater
 fronts_cmp cmp (x ∷ xs) [] = Less
 fronts_cmp cmp (x ∷ xs) (y ∷ ys) = cmp x y
 
--- The lesser of the two first items leaves; of two that are equal both leave.
+-- The lesser of the two first items leaves; of two that are tied both leave.
 abbrev pub TakesLeast : {X : Type 0} → Ordering → (first second : List X) → Option X → (first_left second_left : List X) → Type 0
 TakesLeast Less first second next first_left second_left = (next ≡ first_of first) × (first_left ≡ drop 1 first) × (second_left ≡ second)
 TakesLeast Equal first second next first_left second_left = (next ≡ first_of first) × (first_left ≡ drop 1 first) × (second_left ≡ drop 1 second)

@@ -62,3 +62,7 @@ MayRefuseMerge paths pieces Memory = ⊤
 abbrev pub OneMergeRefusal : Type 0
 OneMergeRefusal = (paths : List (List ℕ)) (pieces : List Document) (fault other : MergeFault) → MayRefuseMerge paths pieces fault → MayRefuseMerge paths pieces other
     → fault ≢ Memory → other ≢ Memory → fault ≡ other
+
+-- and pieces have one list in order at most
+abbrev pub OneMergedList : Type 0
+OneMergedList = (paths : List (List ℕ)) (pieces documents others : List Document) → IsRising paths → AreMerged paths pieces documents → AreMerged paths pieces others → documents ≡ others

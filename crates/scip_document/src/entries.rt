@@ -180,7 +180,8 @@ fn listed_entries(
     Ok(entries)
 }
 
-fn compare_symbols(a: &Info, b: &Info) -> Ordering
+/// By symbol.
+pub(crate) fn compare_symbols(a: &Info, b: &Info) -> Ordering
     ensures { result ≡ info_cmp a.now b.now }
 {
     a.symbol.as_str().cmp(b.symbol.as_str())

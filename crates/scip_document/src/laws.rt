@@ -1,8 +1,38 @@
 //! Laws of documents and indexes, each the contract of an empty function.
 
-ghost use Rattle.scip_document.specs.Pieces.{OneMergeRefusal};
+ghost use Rattle.scip_document.specs.Laws.{NoTies, OneDocument, OneListOfExternals, OneIndex};
+ghost use Rattle.scip_document.specs.Pieces.{OneMergeRefusal, OneMergedList};
+
+use proto_decl::{facts_stand_apart, facts_stand_in_text};
+use proto_lex::positions_rise;
 
 /// Pieces are refused for one reason, unless memory is refused.
 pub fn one_merge_refusal()
     ensures { OneMergeRefusal }
 {}
+
+/// Pieces that are put together make one list.
+pub fn one_merged_list()
+    ensures { OneMergedList }
+{}
+
+/// A source has one document at most, by its text and what was chosen.
+pub fn one_document_a_source()
+    ensures { OneDocument }
+{}
+
+/// Files have one list of external entries and one index at most, by what was chosen.
+pub fn one_index()
+    ensures externals { OneListOfExternals }
+    ensures indexes { OneIndex }
+{}
+
+/// No two occurrences of a document tie in the order of its list: of two with one range and one symbol
+/// the roles are the same too.
+pub fn no_two_occurrences_tie()
+    ensures { NoTies }
+{
+    facts_stand_apart();
+    facts_stand_in_text();
+    positions_rise();
+}

@@ -4,7 +4,7 @@
 mod choices;
 mod documentation;
 mod entries;
-mod externals;
+mod external_symbols;
 mod laws;
 mod merge_fault;
 mod merging;
@@ -16,7 +16,10 @@ mod targets;
 mod use_occurrences;
 
 pub use choices::Choices;
-pub use laws::one_merge_refusal;
+pub use external_symbols::externals;
+pub use laws::{
+    no_two_occurrences_tie, one_document_a_source, one_index, one_merge_refusal, one_merged_list,
+};
 pub use merge_fault::{MergeFault, Unmerged};
 pub use pieces::merge;
 pub use source_document::document;

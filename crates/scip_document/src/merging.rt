@@ -2,14 +2,14 @@
 
 ghost use Rattle.std.specs.Prelude.{◌≡◌, IfOk};
 ghost use Rattle.scip_document.specs.Indexes.{occurrence_cmp};
-ghost use Rattle.scip_document.specs.Merges.{IsMerged, TakesLeast, fronts_cmp};
+ghost use Rattle.scip_document.specs.Merges.{IsMerged, AreUntied, TakesLeast, fronts_cmp};
 
 use scip_model::Occurrence;
 use std::alloc::{AllocError, Global};
 use std::cmp::Ordering;
 use std::collections::VecDeque;
 
-/// By start, end and symbol; then by roles, so that only equal occurrences are tied.
+/// By start, then end, then symbol.
 fn compare_occurrences(a: &Occurrence, b: &Occurrence) -> Ordering
     ensures { result ≡ occurrence_cmp a.now b.now }
 {
@@ -18,8 +18,7 @@ fn compare_occurrences(a: &Occurrence, b: &Occurrence) -> Ordering
     let end = a.range.end_line().cmp(&b.range.end_line());
     let end = end.then(a.range.end_column().cmp(&b.range.end_column()));
     let symbol = a.symbol.as_str().cmp(b.symbol.as_str());
-    let rest = symbol.then(a.symbol_roles.cmp(&b.symbol_roles));
-    start.then(end.then(rest))
+    start.then(end.then(symbol))
 }
 
 /// How the first of one list stands to that of another. Nothing stands behind everything.
@@ -33,7 +32,7 @@ fn compare_fronts(first: &VecDeque<Occurrence>, second: &VecDeque<Occurrence>) -
     }
 }
 
-/// Takes the least occurrence of two lists in order; of two that are equal, one is let go.
+/// Takes the least occurrence of two lists in order; of two that are tied, one is let go.
 fn take_least(
     first: &mut VecDeque<Occurrence>,
     second: &mut VecDeque<Occurrence>,
@@ -50,13 +49,14 @@ fn take_least(
     }
 }
 
-/// Two lists in order as one, in linear time: the occurrences are moved.
+/// Two lists in order as one, in linear time: the occurrences are moved. It is for lists of which only
+/// equal occurrences are tied: of two that are, one is let go.
 pub(crate) fn merged(
     alloc: Global,
     first: Vec<Occurrence>,
     second: Vec<Occurrence>,
 ) -> Result<Vec<Occurrence>, AllocError>
-    ensures { IfOk result (λ both. IsMerged occurrence_cmp first.items second.items both.items) }
+    ensures { IfOk result (λ both. AreUntied occurrence_cmp first.items second.items → IsMerged occurrence_cmp first.items second.items both.items) }
 {
     let mut first_left = VecDeque::from_vec(first);
     let mut second_left = VecDeque::from_vec(second);

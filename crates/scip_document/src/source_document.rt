@@ -7,6 +7,7 @@ ghost use Rattle.proto_link.specs.Targets.{IsTarget};
 ghost use Rattle.scip_symbol.specs.Path.{IsGoodPath};
 ghost use Rattle.scip_document.specs.Chosen.{HaveChoices};
 ghost use Rattle.scip_document.specs.Conditions.{HaveGoodPaths};
+ghost use Rattle.scip_document.specs.Uses.{UsesResolve};
 ghost use Rattle.scip_document.specs.Texts.{AreOfText, HasText, MayRefuseDocument};
 ghost use Rattle.scip_document.specs.Occurs.{Occurs};
 ghost use Rattle.scip_document.specs.Indexes.{IsAscendingListOf, IsDocumentOf, occurrence_cmp, encoding_number};
@@ -14,6 +15,7 @@ ghost use Rattle.scip_document.specs.Listing.{own_occurrence};
 
 use crate::choices::Choices;
 use crate::entries::entries;
+use crate::laws::no_two_occurrences_tie;
 use crate::merging::merged;
 use crate::occurrences::{
     declaration_occurrences, file_occurrence, import_occurrences, package_occurrences,
@@ -71,6 +73,7 @@ fn occurrences(
     linker.linked();
     facts_in_order();
     facts_stand_in_text();
+    no_two_occurrences_tie();
     names_are_identifiers();
     one_target_a_use();
     positions_rise();
@@ -98,7 +101,8 @@ fn occurrences(
 /// The document of a source of linked files, which has this text, by what was chosen for each
 /// declaration: what occurs in it and its symbol entries, in order.
 ///
-/// `Unresolved` at the first use that names no type, kept or not.
+/// `Unresolved` at the first use that names no type, kept or not: there is a document only where all
+/// do.
 pub fn document(
     alloc: Global,
     linker: &Linker<'_>,
@@ -113,11 +117,13 @@ pub fn document(
     requires paths { HaveGoodPaths linker.now }
     requires choices { HaveChoices linker.now choices.now }
     ensures document { IfOk result (IsDocumentOf linker.now choices.now id.now encoding source text.now) }
+    ensures resolved { IfOk result (λ _. UsesResolve linker.now source) }
     ensures refused { IfErr result (MayRefuseDocument linker.now source) }
 {
     linker.linked();
     let facts = linker.facts_of(source).unwrap();
     let targets = targets_of(alloc, linker, source, facts)?;
+    uses_resolve(linker, source, facts, targets.as_slice());
     let document = document_with(
         alloc,
         linker,
@@ -131,6 +137,13 @@ pub fn document(
     )?;
     Ok(document)
 }
+
+/// Where each use of a file has a target, each names a type.
+fn uses_resolve(linker: &Linker<'_>, source: usize, facts: &FileFacts, targets: &[Target])
+    requires known { HasFacts linker.now source facts.now }
+    requires targets { AllZip (IsTarget linker.now source) facts.now.uses targets.now }
+    ensures { UsesResolve linker.now source }
+{}
 
 /// The document of a source, of which the uses have these targets.
 fn document_with(

@@ -1,4 +1,4 @@
-use Rattle.std.proofs.Common.{◌∙◌, ap, sym, subst, refl, List, ℕ, [], ◌∷◌}
+use Rattle.std.proofs.Common.{◌≡◌, ◌∙◌, ap, sym, subst, refl, List, ℕ, [], ◌∷◌}
 use Rattle.std.specs.List.{All, AllZip}
 use Rattle.proto_lex.specs.Lexed.{IsPart}
 use Rattle.proto_decl.specs.declared.imported.Imported.{Imported}
@@ -12,6 +12,13 @@ use Rattle.scip_document.proofs.TargetLemmas.{zip_length}
 use Rattle.scip_document.proofs.NameableLemmas.{targets_nameable}
 use Rattle.scip_document.proofs.ConditionLemmas.{all_of_map, uses_stand_there, stand_there, choices_there, good_imports, merged_of}
 use Rattle.scip_document.proofs.DocumentLemmas.{merged_lists}
+use Rattle.scip_document.proofs.NamedLemmas.{same_facts}
+use Rattle.scip_document.proofs.OrderLemmas.{tied}
+use Rattle.scip_document.specs.Indexes.{occurrence_cmp}
+use Rattle.scip_document.specs.Occurs.{Occurs}
+use Rattle.scip_document.specs.Texts.{AreOfText}
+use Rattle.scip_model.specs.declared.records.Occurrence.{Occurrence}
+use Rattle.std.specs.declared.cmp.Ordering.TheVariants.{Equal}
 use Rattle.proto_link.specs.Targets.{IsTarget}
 use Rattle.scip_document.proofs.source_document.occurrences.Goals as goal
 
@@ -76,11 +83,14 @@ returns c =
     let origin = c.requires.text.origin in
     let own = c.in_ok-own.ensures ∙ ap (λ (p : List ℕ). own_occurrence id p ∷ []) (sym path.2) in
     let imports = c.in_ok-imports.ensures ∙ ap (λ (xs : List Imported). each_from (at_import id encoding text) 0 xs) c.imports.ensures in
+    let untied : (x y : Occurrence) → Occurs files chosen id encoding source text x → Occurs files chosen id encoding source text y → occurrence_cmp x y ≡ Equal → x ≡ y =
+    λ x y first second e. c.no_two_occurrences_tie.ensures files chosen id encoding source text
+    (λ other known. subst (AreOfText text) (same_facts files source facts other c.requires.known known) c.requires.text) x y first second (tied x y e).0 (tied x y e).1 in
     let uses = c.in_ok-uses.ensures ∙ ap (λ (xs : List Use). each_from (at_use id encoding text files chosen targets) 0 xs) c.uses.ensures in
     merged_lists id encoding text c.positions_rise.ensures.characters files chosen source path.0 path.1 facts c.requires.known
     (stand_there text facts c.requires.text c.facts_stand_in_text.ensures) (c.facts_in_order.ensures.names facts origin) (c.facts_in_order.ensures.uses facts origin)
     (c.facts_in_order.ensures.imports facts origin) (c.facts_in_order.ensures.package_name facts origin) targets c.requires.targets
-    (c.one_target_a_use.ensures.targets files c.linked.ensures.origins c.linked.ensures.can_be.clear source c.requires.source)
+    (c.one_target_a_use.ensures.targets files c.linked.ensures.origins c.linked.ensures.can_be.clear source c.requires.source) untied
     c.in_ok-with_imports.with_imports.items c.in_ok-with_packages.with_packages.items c.in_ok-with_names.with_names.items c.in_ok-list.list.items
     (merged_of own imports c.in_ok-with_imports.ensures)
     (merged_of refl c.in_ok-packages.ensures c.in_ok-with_packages.ensures)

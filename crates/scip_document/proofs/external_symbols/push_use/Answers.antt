@@ -1,0 +1,23 @@
+use Rattle.std.proofs.Common.{List, length, sym, subst}
+use Rattle.std.specs.List.{All}
+use Rattle.std.proofs.lemmas.Result.{on_ok_weaker}
+use Rattle.proto_link.specs.declared.target.Entity.{Entity}
+use Rattle.scip_document.specs.ExternalLists.{Adds, FromFront, IsKnownPart, IsOfPart}
+use Rattle.scip_document.proofs.ExternalLemmas.{known-parts, of-use}
+use Rattle.scip_document.proofs.external_symbols.push_use.Goals as goal
+
+pub push_parts-requires : goal.push_parts-requires
+push_parts-requires c =
+    subst (λ (parts : List Entity). All (IsKnownPart c.args.linker.now c.args.choices.now) parts) (sym c.as_slice.ensures)
+    (known-parts c.args.linker.now c.args.choices.now c.args.source c.args.type_use.now c.in-Ok.target c.requires.choices c.in-Ok.ensures.target)
+
+pub returns-in-Ok : goal.returns-in-Ok
+returns-in-Ok c =
+    let files = c.args.linker.now in
+    let chosen = c.args.choices.now in
+    let old = c.args.named.now.items in
+    let new = c.push_parts.new.named.items in
+    on_ok_weaker c.push_parts.result
+    (λ adds. of-use files chosen c.one_target_a_use.ensures.targets c.linked.ensures.origins c.linked.ensures.can_be.clear c.args.source c.args.type_use.now c.in-Ok.target old new c.requires.source c.in-Ok.ensures.target
+    (subst (λ (parts : List Entity). Adds (FromFront (IsOfPart files chosen) parts (length parts)) old new) c.as_slice.ensures adds))
+    c.push_parts.ensures

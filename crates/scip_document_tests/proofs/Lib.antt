@@ -1,0 +1,3 @@
+pub mod PathLemmas
+pub mod ReadingLemmas
+pub mod RisingLemmas

@@ -1,0 +1,2 @@
+-- what the sources of tests are read as
+pub mod Reads

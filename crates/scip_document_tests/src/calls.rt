@@ -1,0 +1,51 @@
+//! The calls that may want for memory, and how a test tells what it saw.
+
+ghost use Rattle.proto_link.specs.Files.{IsSource};
+ghost use Rattle.scip_document.specs.Chosen.{HaveChoices};
+ghost use Rattle.scip_document.specs.Conditions.{HaveGoodPaths};
+ghost use Rattle.scip_document.specs.Texts.{HasText};
+
+use proto_lex::{Encoding, Text};
+use proto_link::{LinkFault, Linker};
+use scip_document::{Choices, document};
+use scip_model::Document;
+use scip_symbol::PackageId;
+use std::alloc::{AllocError, Global};
+use std::process::Abort;
+
+/// Ends the test where this isn't so.
+pub(crate) fn see(rt: &impl Abort, so: bool, what: &str) {
+    assert!(rt; so, "{what}");
+}
+
+/// The package of these parts, which are good ones.
+pub(crate) fn package_of(alloc: Global, parts: [&str; 3]) -> Result<PackageId, AllocError> {
+    let manager = String::from_str(alloc, parts[0])?;
+    let name = String::from_str(alloc, parts[1])?;
+    let version = String::from_str(alloc, parts[2])?;
+    match PackageId::new([manager, name, version]) {
+        Ok(id) => Ok(id),
+        Err(_) => Err(AllocError),
+    }
+}
+
+/// What `document` answers. After want of memory it is called again, and the second answer counts.
+pub(crate) fn document_again(
+    alloc: Global,
+    linker: &Linker<'_>,
+    source: usize,
+    text: &Text<'_>,
+    choices: &Choices,
+    id: &PackageId,
+    encoding: Encoding,
+) -> Result<Document, LinkFault>
+    requires source { IsSource linker.now source }
+    requires text { HasText linker.now source text.now }
+    requires paths { HaveGoodPaths linker.now }
+    requires choices { HaveChoices linker.now choices.now }
+{
+    match document(alloc, linker, source, text, choices, id, encoding) {
+        Err(LinkFault::Memory) => document(alloc, linker, source, text, choices, id, encoding),
+        answer => answer,
+    }
+}

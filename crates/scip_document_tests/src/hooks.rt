@@ -1,0 +1,180 @@
+//! Documents of what callbacks choose.
+
+use crate::calls::see;
+use crate::documents::{Case, Due, PLAIN, see_chosen};
+use index_hooks::{
+    AnyAnswer, DocAlways, DocChoice, Filter, FilterCallback, KindIn, Kinds, NamePrefix, Registry,
+};
+use proto_decl::{DeclView, DeclarationKind};
+use std::sync::atomic::{AtomicU64, Ordering};
+use std::test::Fail;
+
+/// All kinds but that of enums.
+const KINDS: [DeclarationKind; 6] = [
+    DeclarationKind::Message,
+    DeclarationKind::Field,
+    DeclarationKind::Oneof,
+    DeclarationKind::Value,
+    DeclarationKind::Service,
+    DeclarationKind::Method,
+];
+
+/// Keeps what is of these kinds.
+#[derive(Drop)]
+struct OfKinds(Kinds);
+
+impl FilterCallback for OfKinds {
+    ghost use Rattle.std.specs.Prelude.{◌↔◌, IsTrue};
+    ghost use Rattle.index_hooks.specs.HasKind.{HasKind};
+
+    ghost gives = { λ callback seen keep. IsTrue keep ↔ HasKind callback.0 seen.kind };
+
+    fn call(&self, view: &DeclView<'_>) -> bool {
+        self.0.contains(view.kind())
+    }
+}
+
+/// Keeps each second declaration that it is asked about, from the first.
+#[derive(Drop)]
+struct EachSecond {
+    asked: AtomicU64,
+}
+
+impl FilterCallback for EachSecond {
+    fn call(&self, _view: &DeclView<'_>) -> bool {
+        self.asked.fetch_add(1, Ordering::SeqCst) % 2 == 0
+    }
+}
+
+const ENUM: [(&str, &str, bool); 1] = [(
+    "a.proto",
+    "syntax = \"proto3\";\nenum E { ZERO = 0; }\nmessage M { E e = 1; }\n",
+    false,
+)];
+
+const WITHOUT_ENUMS: Case<'static> = Case {
+    name: "all kinds but enums",
+    settings: PLAIN,
+    sources: &ENUM,
+    due: &[Due {
+        source: 0,
+        rows: &[
+            ([0, 0, 0, 0], "`a.proto`/", 1),
+            ([1, 9, 1, 13], "E#ZERO.", 1),
+            ([2, 8, 2, 9], "M#", 1),
+            ([2, 14, 2, 15], "M#e.", 1),
+        ],
+        entries: &[
+            ("E#ZERO.", "ZERO", &[]),
+            ("M#", "M", &[]),
+            ("M#e.", "e", &[]),
+            ("`a.proto`/", "a.proto", &[]),
+        ],
+    }],
+};
+
+const UNDER_E: Case<'static> = Case {
+    name: "what is under E",
+    settings: PLAIN,
+    sources: &ENUM,
+    due: &[Due {
+        source: 0,
+        rows: &[
+            ([0, 0, 0, 0], "`a.proto`/", 1),
+            ([1, 5, 1, 6], "E#", 1),
+            ([2, 12, 2, 13], "E#", 0),
+        ],
+        entries: &[("E#", "E", &[]), ("`a.proto`/", "a.proto", &[])],
+    }],
+};
+
+const SECOND_ONES: Case<'static> = Case {
+    name: "each second declaration",
+    settings: PLAIN,
+    sources: &ENUM,
+    due: &[Due {
+        source: 0,
+        rows: &[
+            ([0, 0, 0, 0], "`a.proto`/", 1),
+            ([1, 5, 1, 6], "E#", 1),
+            ([2, 8, 2, 9], "M#", 1),
+            ([2, 12, 2, 13], "E#", 0),
+        ],
+        entries: &[
+            ("E#", "E", &[]),
+            ("M#", "M", &[]),
+            ("`a.proto`/", "a.proto", &[]),
+        ],
+    }],
+};
+
+const BOTH_TEXTS: Case<'static> = Case {
+    name: "both texts, by a rule",
+    settings: PLAIN,
+    sources: &[(
+        "a.proto",
+        "syntax = \"proto3\";\n// One.\n// Two.\nmessage A { // tail\n  int32 x = 1; /* unit */\n}\n",
+        false,
+    )],
+    due: &[Due {
+        source: 0,
+        rows: &[
+            ([0, 0, 0, 0], "`a.proto`/", 1),
+            ([3, 8, 3, 9], "A#", 1),
+            ([4, 8, 4, 9], "A#x.", 1),
+        ],
+        entries: &[
+            ("A#", "A", &["One.\nTwo.", "tail"]),
+            ("A#x.", "x", &[" unit "]),
+            ("`a.proto`/", "a.proto", &[]),
+        ],
+    }],
+};
+
+#[test]
+fn a_filter_by_kind(rt: HostRuntime) -> Result<(), Fail> {
+    let mut registry = Registry::new(rt.alloc());
+    let kinds = Kinds::of(&KINDS);
+    let filter = Box::new(rt.alloc(), Filter::new(KindIn(kinds), OfKinds(kinds)))?;
+    if let Err((filter, _)) = registry.add_filter(filter) {
+        see(&rt, registry.add_filter(filter).is_ok(), "added again");
+    }
+    see_chosen(&rt, rt.alloc(), &registry, &WITHOUT_ENUMS)?;
+    Ok(())
+}
+
+#[test]
+fn a_filter_by_name(rt: HostRuntime) -> Result<(), Fail> {
+    let mut registry = Registry::new(rt.alloc());
+    let filter = Box::new(rt.alloc(), NamePrefix::filter(rt.alloc(), "E")?)?;
+    if let Err((filter, _)) = registry.add_filter(filter) {
+        see(&rt, registry.add_filter(filter).is_ok(), "added again");
+    }
+    see_chosen(&rt, rt.alloc(), &registry, &UNDER_E)?;
+    Ok(())
+}
+
+#[test]
+fn a_filter_that_alternates(rt: HostRuntime) -> Result<(), Fail> {
+    let mut registry = Registry::new(rt.alloc());
+    let callback = EachSecond {
+        asked: AtomicU64::new(0),
+    };
+    let filter = Box::new(rt.alloc(), Filter::new(AnyAnswer, callback))?;
+    if let Err((filter, _)) = registry.add_filter(filter) {
+        see(&rt, registry.add_filter(filter).is_ok(), "added again");
+    }
+    see_chosen(&rt, rt.alloc(), &registry, &SECOND_ONES)?;
+    Ok(())
+}
+
+#[test]
+fn a_documentation_rule(rt: HostRuntime) -> Result<(), Fail> {
+    let mut registry = Registry::new(rt.alloc());
+    let rule = Box::new(rt.alloc(), DocAlways(DocChoice::Both).rule())?;
+    if let Err((rule, _)) = registry.add_doc(rule) {
+        see(&rt, registry.add_doc(rule).is_ok(), "added again");
+    }
+    see_chosen(&rt, rt.alloc(), &registry, &BOTH_TEXTS)?;
+    Ok(())
+}

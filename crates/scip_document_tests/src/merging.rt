@@ -1,0 +1,179 @@
+//! Pieces put together.
+
+ghost use Rattle.scip_document.specs.Pieces.{IsRising};
+
+use crate::calls::see;
+use scip_document::{MergeFault, Unmerged, merge, one_merge_refusal};
+use scip_model::{Document, Index, Info, Metadata};
+use sequences::{OwnedText, Sequence};
+use std::alloc::{AllocError, Global};
+use std::process::Abort;
+use std::test::Fail;
+
+/// Paths of pieces, each with a mark of its own, and what is due: a fault, or the marks in the order
+/// of the paths a.proto and b.proto.
+const CASES: [(&[(&str, i32)], Option<MergeFault>, &[i32]); 11] = [
+    (&[("b.proto", 7), ("a.proto", 8)], None, &[8, 7]),
+    (&[("a.proto", 7), ("b.proto", 8)], None, &[7, 8]),
+    (
+        &[("a.proto", 7), ("a.proto", 8)],
+        Some(MergeFault::Twice(1)),
+        &[7, 8],
+    ),
+    (&[("a.proto", 7)], Some(MergeFault::Missing(1)), &[7]),
+    (&[("b.proto", 7)], Some(MergeFault::Missing(0)), &[7]),
+    (&[], Some(MergeFault::Missing(0)), &[]),
+    (
+        &[("a.proto", 7), ("c.proto", 8)],
+        Some(MergeFault::Stranger(1)),
+        &[7, 8],
+    ),
+    (
+        &[("c.proto", 7), ("b.proto", 8), ("b.proto", 9)],
+        Some(MergeFault::Stranger(0)),
+        &[7, 8, 9],
+    ),
+    (
+        &[("b.proto", 7), ("b.proto", 8), ("c.proto", 9)],
+        Some(MergeFault::Twice(1)),
+        &[7, 8, 9],
+    ),
+    (
+        &[("b.proto", 7), ("a.proto", 8), ("", 9)],
+        Some(MergeFault::Stranger(2)),
+        &[7, 8, 9],
+    ),
+    (
+        &[("b.proto", 7), ("a.proto", 8), ("a.proto", 9)],
+        Some(MergeFault::Twice(2)),
+        &[7, 8, 9],
+    ),
+];
+
+/// A document with this path, and this number as its mark.
+fn piece(alloc: Global, path: &str, mark: i32) -> Result<Document, AllocError> {
+    Ok(Document {
+        relative_path: OwnedText::copy_of(alloc, path)?,
+        occurrences: Sequence::new(alloc),
+        symbols: Sequence::new(alloc),
+        language: OwnedText::new(alloc),
+        position_encoding: mark,
+    })
+}
+
+fn pieces_of(alloc: Global, paths: &[(&str, i32)]) -> Result<Vec<Document>, AllocError> {
+    let mut pieces = Vec::with_capacity(alloc, paths.len())?;
+    for (path, mark) in paths {
+        let piece = piece(alloc, *path, *mark)?;
+        pieces.push(piece)?;
+    }
+    Ok(pieces)
+}
+
+/// One entry.
+fn externals_of(alloc: Global) -> Result<Sequence<Info>, AllocError> {
+    let mut externals = Sequence::new(alloc);
+    externals.push(Info {
+        symbol: OwnedText::copy_of(alloc, "local x")?,
+        documentation: Sequence::new(alloc),
+        display_name: OwnedText::new(alloc),
+    })?;
+    Ok(externals)
+}
+
+fn metadata_of(alloc: Global) -> Metadata {
+    Metadata {
+        version: 5,
+        tool_info: None,
+        project_root: OwnedText::new(alloc),
+        text_document_encoding: 6,
+    }
+}
+
+/// What `merge` answers for the paths a.proto and b.proto.
+fn merged(
+    alloc: Global,
+    pieces: Vec<Document>,
+    externals: Sequence<Info>,
+) -> Result<Index, Unmerged> {
+    let paths = ["a.proto", "b.proto"];
+    merge(alloc, &paths, pieces, metadata_of(alloc), externals)
+}
+
+/// The same. After want of memory it is called again with what came back, and the second answer
+/// counts.
+fn merged_again(
+    alloc: Global,
+    pieces: Vec<Document>,
+    externals: Sequence<Info>,
+) -> Result<Index, Unmerged> {
+    match merged(alloc, pieces, externals) {
+        Ok(index) => Ok(index),
+        Err(unmerged) => match unmerged.fault {
+            MergeFault::Memory => merged(alloc, unmerged.pieces, unmerged.externals),
+            _ => Err(unmerged),
+        },
+    }
+}
+
+fn have_marks(pieces: &[Document], marks: &[i32]) -> bool {
+    for (index, mark) in marks.iter().enumerate() {
+        match pieces.get(index) {
+            Some(piece) if piece.position_encoding == *mark => {}
+            _ => return false,
+        }
+    }
+    pieces.len() == marks.len()
+}
+
+fn is_the_entry(externals: &[Info]) -> bool {
+    match externals {
+        [info] => info.symbol.as_str() == "local x",
+        _ => false,
+    }
+}
+
+fn has_metadata(index: &Index) -> bool {
+    match &index.metadata {
+        Some(metadata) => metadata.version == 5 && metadata.text_document_encoding == 6,
+        None => false,
+    }
+}
+
+fn see_case(
+    rt: &impl Abort,
+    alloc: Global,
+    paths: &[(&str, i32)],
+    fault: Option<MergeFault>,
+    marks: &[i32],
+) -> Result<(), AllocError> {
+    let externals = externals_of(alloc)?;
+    let pieces = pieces_of(alloc, paths)?;
+    match merged_again(alloc, pieces, externals) {
+        Ok(index) => {
+            see(rt, fault.is_none(), "put together");
+            see(rt, has_metadata(&index), "the metadata");
+            see(
+                rt,
+                have_marks(index.documents.as_slice(), marks),
+                "in order",
+            );
+            see(rt, is_the_entry(index.external_symbols.as_slice()), "kept");
+        }
+        Err(unmerged) => {
+            see(rt, Some(unmerged.fault) == fault, "refused");
+            see(rt, have_marks(&unmerged.pieces, marks), "as they were");
+            see(rt, is_the_entry(unmerged.externals.as_slice()), "kept");
+        }
+    }
+    Ok(())
+}
+
+#[test]
+fn pieces_in_any_order(rt: HostRuntime) -> Result<(), Fail> {
+    one_merge_refusal();
+    for (paths, fault, marks) in CASES {
+        see_case(&rt, rt.alloc(), paths, fault, marks)?;
+    }
+    Ok(())
+}

@@ -1,8 +1,8 @@
 -- A tree is built, or has one fault of its files.
-use Rattle.std.proofs.Common.{◌≡◌, ◌≢◌, ◌∙◌, ◌⊎◌, sym, ap, refl, subst, inl, inr, ℕ, zero, ◌<◌, Some, List, [], ◌∷◌, ◌++◌}
+use Rattle.std.proofs.Common.{◌≡◌, ◌≢◌, ◌∙◌, ◌⊎◌, sym, ap, refl, subst, inl, inr, ℕ, ◌<◌, Some, Result, List, [], ◌∷◌, ◌++◌, length}
 use Rattle.std.specs.List.{All, Contains, slice_get}
 use Rattle.std.proofs.lemmas.Bool.{cases_order}
-use Rattle.std.proofs.lemmas.Option.{same_Some}
+use Rattle.std.proofs.lemmas.Option.{same_Some, slice_get_within}
 use Rattle.std.proofs.lemmas.List.Elements.{All-head, All-tail, Contains-push, Contains-append_left, Contains-append_right}
 use Rattle.proto_grammar.specs.declared.tree.CustomOptions.{CustomOptions}
 use Rattle.proto_lex.specs.declared.span.Span.{Span}
@@ -10,10 +10,9 @@ use Rattle.proto_decl.specs.Facts.{Facts}
 use Rattle.proto_decl.specs.Seen.{Seen}
 use Rattle.proto_decl.specs.declared.type_use.Use.{Use}
 use Rattle.index_hooks.specs.declared.choice.Choice.{Choice}
-use Rattle.proto_link.specs.Files.{File, HasFacts, HaveOrigins}
+use Rattle.proto_link.specs.Files.{File, HaveOrigins}
 use Rattle.proto_link.specs.Laws.{OneRefusal}
 use Rattle.proto_link.specs.Linked.{CanBeLinked, MayRefuse}
-use Rattle.proto_link.specs.Targets.{IsUnresolved}
 use Rattle.proto_link.specs.declared.place.FilePlace.{FilePlace}
 use Rattle.proto_link.specs.declared.fault.LinkFault.{LinkFault}
 use Rattle.proto_link.specs.declared.fault.LinkFault.TheVariants as link
@@ -23,13 +22,15 @@ use Rattle.source_tree.specs.Files.{TreeFile}
 use Rattle.scip_build.specs.declared.fault.FileFault.{FileFault}
 use Rattle.scip_build.specs.declared.fault.BuildFault.{BuildFault}
 use Rattle.scip_build.specs.declared.fault.BuildFault.TheVariants as build
-use Rattle.scip_build.specs.Files.{ReadFile}
-use Rattle.scip_build.specs.Readings.{AreReadingsOf, IsFirstFaulty}
+use Rattle.scip_build.specs.Parsed.{IsUnreadable}
+use Rattle.scip_build.specs.Files.{FileContents}
+use Rattle.scip_build.specs.Readings.{HasContents, IsFirstFaulty}
 use Rattle.scip_build.specs.Linking.{linked_files}
 use Rattle.scip_build.specs.Documents.{IsLeastUnresolved}
-use Rattle.scip_build.specs.Builds.{OfReadings, IsBuilt, IsBuildFault}
-use Rattle.scip_build.specs.Laws.{OneFirstFaulty, OneLinking, NoReadingsWhereFaulty}
-use Rattle.scip_build.specs.BuildLaws.{cause_of, BuiltHasNoFault, OneBuildFault}
+use Rattle.scip_build.specs.Builds.{OfReadings, IsBuildFault}
+use Rattle.scip_build.specs.Laws.{FaultsAreAlike, OneFirstFaulty, OneLinking, NoReadingsWhereFaulty}
+use Rattle.scip_build.specs.BuildLaws.{cause_of, BuiltHasNoFault, OneBuildFault, FileFaultsAreAlike}
+use Rattle.scip_build.proofs.ReadingLemmas.{at_number}
 use Rattle.scip_build.proofs.ReadyLemmas.{have_origins}
 
 in_middle : {X : Type 0} (before : List X) (x : X) (behind : List X) → Contains (before ++ x ∷ behind) x
@@ -150,3 +151,28 @@ module _ (allows others : Seen → Choice → Type 0) (one_linking : OneLinking 
           let Here : List File → Type 0 = λ files. Refuses files (cause_of other) in
           let here = subst Here (sym (one_linking custom tree a.0 b.0 a.1 b.1)) b.2 in
           one_cause (linked_files a.0) one_refusal (have_origins custom allows tree a.0 a.1) (cause_of fault) (cause_of other) a.2 here not nor
+
+-- the file that is named can't be read, for the fault that is told
+record IsNamed (custom : CustomOptions) (tree : List TreeFile) (number : ℕ) (fault : FileFault) : Type 0 where
+  file : TreeFile
+  numbered : slice_get tree number ≡ Some file
+  unreadable : IsUnreadable custom file.bytes fault
+
+named : (custom : CustomOptions) (allows : Seen → Choice → Type 0) (tree : List TreeFile) (workers number : ℕ) (fault : FileFault)
+    → IsBuildFault allows custom tree workers (build.File number fault) → IsNamed custom tree number fault
+named custom allows tree workers number fault (inl first) = record { file = first.file; numbered = first.numbered; unreadable = first.faulty.unreadable }
+named custom allows tree workers number fault (inr later) =
+    let has = later.2.1 in
+    let within : number < length tree = rw (sym later.1.one_each) (slice_get_within later.0 number has.reading has.numbered) in
+    let there = at_number tree number within in
+    let Contents : Result FileContents FileFault → Type 0 = HasContents custom allows number there.0 in
+    let contents = subst Contents has.unread (later.1.each number there.0 has.reading there.1 has.numbered).contents in
+    record { file = there.0; numbered = there.1; unreadable = contents.1 }
+
+pub file_faults_are_alike : FaultsAreAlike → (allows others : Seen → Choice → Type 0) → FileFaultsAreAlike allows others
+file_faults_are_alike alike allows others custom tree workers more number fault other is also =
+    let first = named custom allows tree workers number fault is in
+    let second = named custom others tree more number other also in
+    let same : first.file ≡ second.file = same_Some first.file second.file (sym first.numbered ∙ second.numbered) in
+    let Of : TreeFile → Type 0 = λ file. IsUnreadable custom file.bytes other in
+    alike custom first.file.bytes fault other first.unreadable (subst Of (sym same) second.unreadable)

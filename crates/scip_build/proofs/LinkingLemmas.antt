@@ -13,7 +13,7 @@ use Rattle.source_tree.specs.Trees.{HaveOwnPaths}
 use Rattle.scip_build.specs.declared.fault.FileFault.{FileFault}
 use Rattle.scip_build.specs.Files.{FileContents, ReadFile}
 use Rattle.scip_build.specs.Readings.{HasContents, IsReadingOf, AreReadingsOf}
-use Rattle.scip_build.specs.Laws.{OneListOfFacts, NoFactsWhereUnreadable, OneLinking}
+use Rattle.scip_build.specs.Laws.{OneListOfFacts, NoFactsWhereUnreadable}
 use Rattle.scip_build.specs.Linking.{facts_in, linked_file, linked_files}
 use Rattle.scip_build.proofs.ReadingLemmas.{at_number}
 

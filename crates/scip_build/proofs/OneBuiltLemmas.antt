@@ -1,5 +1,5 @@
 -- Where one choice alone may come for what is seen, what is built is one.
-use Rattle.std.proofs.Common.{◌≡◌, ◌∙◌, ℕ, ◌<◌, List, [], ◌∷◌, length, map, Some, Result, Ok, Err, ap, sym, refl, subst}
+use Rattle.std.proofs.Common.{◌≡◌, ◌∙◌, ℕ, ◌<◌, List, [], ◌∷◌, length, map, Some, Result, Ok, Err, sym, refl, subst}
 use Rattle.std.specs.List.{slice_get}
 use Rattle.std.proofs.lemmas.Option.{slice_get_within}
 use Rattle.proto_grammar.specs.declared.tree.CustomOptions.{CustomOptions}
@@ -8,7 +8,6 @@ use Rattle.proto_decl.specs.Seen.{Seen}
 use Rattle.proto_decl.specs.declared.declaration.Declaration.{Declaration}
 use Rattle.proto_link.specs.Files.{File}
 use Rattle.index_hooks.specs.declared.choice.Choice.{Choice}
-use Rattle.scip_model.specs.declared.records.Index.{Index}
 use Rattle.scip_document.specs.Chosen.{Chosen}
 use Rattle.scip_document.specs.Indexes.{IsIndexOf}
 use Rattle.scip_document.specs.Laws.{OneIndex}

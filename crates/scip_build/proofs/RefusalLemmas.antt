@@ -1,5 +1,5 @@
 -- A refusal of a stage is one of the whole.
-use Rattle.std.proofs.Common.{ℕ, ◌<◌, List, inl, inr}
+use Rattle.std.proofs.Common.{ℕ, List, inl, inr}
 use Rattle.proto_grammar.specs.declared.tree.CustomOptions.{CustomOptions}
 use Rattle.proto_decl.specs.Seen.{Seen}
 use Rattle.index_hooks.specs.declared.choice.Choice.{Choice}

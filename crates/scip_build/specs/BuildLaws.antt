@@ -8,8 +8,10 @@ use Rattle.index_hooks.specs.declared.choice.Choice.{Choice}
 use Rattle.source_tree.specs.Files.{TreeFile}
 use Rattle.scip_build.specs.declared.settings.Settings.{Settings}
 use Rattle.scip_build.specs.declared.built.Built.{Built}
+use Rattle.scip_build.specs.declared.fault.FileFault.{FileFault}
 use Rattle.scip_build.specs.declared.fault.BuildFault.{BuildFault}
 use Rattle.scip_build.specs.declared.fault.BuildFault.TheVariants.{Spawn, Memory, File, Duplicate, MissingImport, Unresolved}
+use Rattle.scip_build.specs.Laws.{AreAlike}
 use Rattle.scip_build.specs.Builds.{IsBuilt, IsBuildFault}
 
 -- What a fault names, as the linker would: of a file that can't be read its number. Want of memory or of a thread names nothing.
@@ -33,6 +35,12 @@ OneBuildFault allows others =
     (custom : CustomOptions) (tree : List TreeFile) (workers more : ℕ) (fault other : BuildFault)
     → IsBuildFault allows custom tree workers fault → IsBuildFault others custom tree more other → cause_of fault ≢ link.Memory → cause_of other ≢ link.Memory
     → cause_of fault ≡ cause_of other
+
+-- The faults of the file that is named are alike.
+abbrev pub FileFaultsAreAlike : (allows others : Seen → Choice → Type 0) → Type 0
+FileFaultsAreAlike allows others =
+    (custom : CustomOptions) (tree : List TreeFile) (workers more number : ℕ) (fault other : FileFault)
+    → IsBuildFault allows custom tree workers (File number fault) → IsBuildFault others custom tree more (File number other) → AreAlike fault other
 
 -- Where for what is seen of a declaration one choice alone may come, whichever of the two is asked, what is built is one: a function of
 -- the tree, of what is allowed, and of the settings, whatever the workers.

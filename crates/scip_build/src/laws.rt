@@ -1,7 +1,7 @@
 //! Laws: what the definitions say of readings and faults, whatever the code does.
 
-ghost use Rattle.scip_build.specs.BuildLaws.{BuiltHasNoFault, OneBuildFault, OneBuilt};
-ghost use Rattle.scip_build.specs.Laws.{OneListOfFacts, NoFactsWhereUnreadable, LexedWhereUnparsed, OneFirstFaulty, NoReadingsWhereFaulty, ReadingsHaveOwnPaths, OneLinking};
+ghost use Rattle.scip_build.specs.BuildLaws.{BuiltHasNoFault, OneBuildFault, FileFaultsAreAlike, OneBuilt};
+ghost use Rattle.scip_build.specs.Laws.{OneListOfFacts, NoFactsWhereUnreadable, LexedWhereUnparsed, FaultsAreAlike, OneFirstFaulty, NoReadingsWhereFaulty, ReadingsHaveOwnPaths, OneLinking};
 
 use index_hooks::Chooses;
 use proto_decl::one_list_of_facts;
@@ -26,6 +26,15 @@ pub fn faults_exclude_facts()
 {
     one_lexing();
     one_first_fault();
+}
+
+/// Two faults of one file are alike: both of lexing, and then one; or both of syntax, of which tests
+/// show which comes.
+pub fn faults_are_alike()
+    ensures { FaultsAreAlike }
+{
+    one_first_fault();
+    faults_exclude_facts();
 }
 
 /// Of the sources that can't be read one is the first.
@@ -65,7 +74,7 @@ pub fn built_has_no_fault<C: Chooses, D: Chooses>(chooser: &C, other: &D)
 }
 
 /// The files of a tree have one fault at most, whatever was chosen; but which fault of a
-/// file that can't be read is left to tests.
+/// file that can't be read says `file_faults_are_alike`.
 pub fn one_build_fault<C: Chooses, D: Chooses>(chooser: &C, other: &D)
     ensures { OneBuildFault (C.allows chooser.now) (D.allows other.now) }
 {
@@ -74,6 +83,13 @@ pub fn one_build_fault<C: Chooses, D: Chooses>(chooser: &C, other: &D)
     readings_exclude_faults(other);
     one_first_faulty();
     one_refusal();
+}
+
+/// Two faults of the file of a tree that is named are alike, whatever was chosen.
+pub fn file_faults_are_alike<C: Chooses, D: Chooses>(chooser: &C, other: &D)
+    ensures { FileFaultsAreAlike (C.allows chooser.now) (D.allows other.now) }
+{
+    faults_are_alike();
 }
 
 /// Where for what is seen of a declaration one choice alone may come, a tree has one index and one

@@ -21,8 +21,9 @@ pub use built::Built;
 pub use chosen::chosen_lists;
 pub use fault::{BuildFault, FileFault, ReadFault};
 pub use laws::{
-    built_has_no_fault, faults_exclude_facts, one_build_fault, one_built, one_first_faulty,
-    one_linking, one_list_of_facts_a_file, readings_exclude_faults, readings_have_own_paths,
+    built_has_no_fault, faults_are_alike, faults_exclude_facts, file_faults_are_alike,
+    one_build_fault, one_built, one_first_faulty, one_linking, one_list_of_facts_a_file,
+    readings_exclude_faults, readings_have_own_paths,
 };
 pub use linking::{link, linked_files};
 pub use phase_one::read_files;

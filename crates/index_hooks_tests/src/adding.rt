@@ -1,8 +1,8 @@
 //! Filters and rules that are added: the room of a registry, and what comes back.
 
-use crate::shared::{message, see};
+use crate::shared::{chooses, message, see};
 use index_hooks::{
-    AnyAnswer, Choice, Chooses, DocAlways, DocCallback, DocChoice, DocHook, Filter, FilterCallback,
+    AnyAnswer, BoxedFilter, BoxedRule, DocAlways, DocChoice, DocHook, Filter, FilterCallback,
     FilterHook, HookFault, MAX_HOOKS, Registry,
 };
 use proto_decl::DeclView;
@@ -21,11 +21,15 @@ impl FilterCallback for Fixed {
 #[test]
 fn a_new_registry_keeps_all_with_the_leading_text(rt: HostRuntime) {
     let registry = Registry::new(rt.alloc());
-    let choice = Choice {
-        keep: true,
-        doc: DocChoice::Leading,
-    };
-    see(&rt, registry.choose(&message()) == choice, "new");
+    see(&rt, chooses(&registry, true, DocChoice::Leading, 1), "new");
+}
+
+/// Whether a filter came back that keeps nothing, since the registry is full.
+fn is_dropping_filter(answer: Result<(), (BoxedFilter, HookFault)>) -> bool {
+    match answer {
+        Err((filter, HookFault::Full)) => !filter.ask(&message()),
+        _ => false,
+    }
 }
 
 #[test]
@@ -39,25 +43,29 @@ fn seventeenth_filter_comes_back(rt: HostRuntime) -> Result<(), Fail> {
         }
     }
     let filter = Box::new(alloc, Filter::new(AnyAnswer, Fixed(false)))?;
-    let came_back = match registry.add_filter(filter) {
-        Err((filter, HookFault::Full)) => !filter.ask(&message()),
-        _ => false,
-    };
-    see(&rt, came_back, "the filter that came back");
+    see(
+        &rt,
+        is_dropping_filter(registry.add_filter(filter)),
+        "the filter that came back",
+    );
     let rule = Box::new(alloc, DocAlways(DocChoice::Both).rule())?;
     if let Err((rule, _)) = registry.add_doc(rule) {
         see(&rt, registry.add_doc(rule).is_ok(), "added again");
     }
-    let choice = Choice {
-        keep: true,
-        doc: DocChoice::Both,
-    };
     see(
         &rt,
-        registry.choose(&message()) == choice,
+        chooses(&registry, true, DocChoice::Both, 1),
         "the 16 filters and the rule",
     );
     Ok(())
+}
+
+/// Whether a rule came back that always answers `Both`, since the registry is full.
+fn is_rule_of_both(answer: Result<(), (BoxedRule, HookFault)>) -> bool {
+    match answer {
+        Err((rule, HookFault::Full)) => rule.ask(&message()) == DocChoice::Both,
+        _ => false,
+    }
 }
 
 #[test]
@@ -71,22 +79,18 @@ fn seventeenth_rule_comes_back(rt: HostRuntime) -> Result<(), Fail> {
         }
     }
     let rule = Box::new(alloc, DocAlways(DocChoice::Both).rule())?;
-    let came_back = match registry.add_doc(rule) {
-        Err((rule, HookFault::Full)) => rule.ask(&message()) == DocChoice::Both,
-        _ => false,
-    };
-    see(&rt, came_back, "the rule that came back");
+    see(
+        &rt,
+        is_rule_of_both(registry.add_doc(rule)),
+        "the rule that came back",
+    );
     let filter = Box::new(alloc, Filter::new(AnyAnswer, Fixed(false)))?;
     if let Err((filter, _)) = registry.add_filter(filter) {
         see(&rt, registry.add_filter(filter).is_ok(), "added again");
     }
-    let choice = Choice {
-        keep: false,
-        doc: DocChoice::Leading,
-    };
     see(
         &rt,
-        registry.choose(&message()) == choice,
+        chooses(&registry, false, DocChoice::Leading, 1),
         "the 16 rules and the filter",
     );
     Ok(())

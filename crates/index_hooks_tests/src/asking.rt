@@ -1,9 +1,7 @@
 //! What a registry asks, in which order and how often.
 
-use crate::shared::{Counting, message, see};
-use index_hooks::{
-    AnyAnswer, Choice, Chooses, DocChoice, DocRule, Filter, FilterCallback, Registry,
-};
+use crate::shared::{chooses, counting_filter, counting_rule, message, see};
+use index_hooks::{AnyAnswer, Chooses, DocChoice, Filter, FilterCallback, Registry};
 use proto_decl::DeclView;
 use std::alloc::{AllocError, Global};
 use std::sync::Arc;
@@ -13,16 +11,18 @@ use std::thread::join;
 
 type Calls = Arc<AtomicU64>;
 
-/// Three counts of calls.
-fn three(alloc: Global) -> Result<[Calls; 3], AllocError> {
+/// Four counts of calls.
+fn four(alloc: Global) -> Result<[Calls; 4], AllocError> {
     Ok([
+        Arc::new(alloc, AtomicU64::new(0))?,
         Arc::new(alloc, AtomicU64::new(0))?,
         Arc::new(alloc, AtomicU64::new(0))?,
         Arc::new(alloc, AtomicU64::new(0))?,
     ])
 }
 
-fn counts(calls: &[Calls; 3]) -> [u64; 3] {
+/// The first three counts.
+fn counts(calls: &[Calls; 4]) -> [u64; 3] {
     [
         calls[0].load(Ordering::SeqCst),
         calls[1].load(Ordering::SeqCst),
@@ -30,25 +30,24 @@ fn counts(calls: &[Calls; 3]) -> [u64; 3] {
     ]
 }
 
+const FILTERED: [bool; 3] = [true, false, true];
+
 #[test]
 fn the_first_false_ends_the_asking(rt: HostRuntime) -> Result<(), Fail> {
     let alloc = rt.alloc();
-    let calls = three(alloc)?;
+    let calls = four(alloc)?;
     let mut registry = Registry::new(alloc);
-    for (at, answer) in [true, false, true].iter().enumerate() {
-        let calls = Arc::try_clone(&calls[at])?;
-        let callback = Counting {
-            answer: *answer,
-            calls,
-        };
-        let filter = Box::new(alloc, Filter::new(AnyAnswer, callback))?;
+    for (at, answer) in FILTERED.iter().enumerate() {
+        let filter = counting_filter(alloc, *answer, &calls[at])?;
         if let Err((filter, _)) = registry.add_filter(filter) {
             see(&rt, registry.add_filter(filter).is_ok(), "added again");
         }
     }
-    for _ in 0..4 {
-        see(&rt, !registry.choose(&message()).keep, "not kept");
-    }
+    see(
+        &rt,
+        chooses(&registry, false, DocChoice::Leading, 4),
+        "not kept",
+    );
     see(
         &rt,
         counts(&calls) == [4, 4, 0],
@@ -57,42 +56,28 @@ fn the_first_false_ends_the_asking(rt: HostRuntime) -> Result<(), Fail> {
     Ok(())
 }
 
+const DOCUMENTED: [DocChoice; 3] = [DocChoice::Pass, DocChoice::Trailing, DocChoice::Both];
+
 #[test]
 fn the_first_answer_of_a_rule_counts_also_for_what_is_dropped(rt: HostRuntime) -> Result<(), Fail> {
     let alloc = rt.alloc();
-    let calls = three(alloc)?;
+    let calls = four(alloc)?;
     let mut registry = Registry::new(alloc);
-    let callback = Counting {
-        answer: false,
-        calls: Arc::new(alloc, AtomicU64::new(0))?,
-    };
-    let filter = Box::new(alloc, Filter::new(AnyAnswer, callback))?;
+    let filter = counting_filter(alloc, false, &calls[3])?;
     if let Err((filter, _)) = registry.add_filter(filter) {
         see(&rt, registry.add_filter(filter).is_ok(), "added again");
     }
-    let answers = [DocChoice::Pass, DocChoice::Trailing, DocChoice::Both];
-    for (at, answer) in answers.iter().enumerate() {
-        let calls = Arc::try_clone(&calls[at])?;
-        let callback = Counting {
-            answer: *answer,
-            calls,
-        };
-        let rule = Box::new(alloc, DocRule::new(AnyAnswer, callback))?;
+    for (at, answer) in DOCUMENTED.iter().enumerate() {
+        let rule = counting_rule(alloc, *answer, &calls[at])?;
         if let Err((rule, _)) = registry.add_doc(rule) {
             see(&rt, registry.add_doc(rule).is_ok(), "added again");
         }
     }
-    let choice = Choice {
-        keep: false,
-        doc: DocChoice::Trailing,
-    };
-    for _ in 0..4 {
-        see(
-            &rt,
-            registry.choose(&message()) == choice,
-            "the second rule's",
-        );
-    }
+    see(
+        &rt,
+        chooses(&registry, false, DocChoice::Trailing, 4),
+        "the second rule's",
+    );
     see(
         &rt,
         counts(&calls) == [4, 4, 0],
@@ -135,11 +120,7 @@ fn threads_share_a_registry(rt: HostRuntime) -> Result<(), Fail> {
     let alloc = rt.alloc();
     let calls = Arc::new(alloc, AtomicU64::new(0))?;
     let mut registry = Registry::new(alloc);
-    let callback = Counting {
-        answer: false,
-        calls: Arc::try_clone(&calls)?,
-    };
-    let filter = Box::new(alloc, Filter::new(AnyAnswer, callback))?;
+    let filter = counting_filter(alloc, false, &calls)?;
     if let Err((filter, _)) = registry.add_filter(filter) {
         see(&rt, registry.add_filter(filter).is_ok(), "added again");
     }

@@ -59,6 +59,18 @@ const CASES: [(DeclarationKind, &str, bool, DocChoice); 4] = [
     (DeclarationKind::Enum, "", false, DocChoice::Leading),
 ];
 
+/// Whether the registry chooses for each declaration as the list says.
+fn chooses_as_listed(registry: &Registry) -> bool {
+    for (kind, leading, keep, doc) in CASES.iter() {
+        let view = DeclView::new(*kind, "A", "a.A", leading, "");
+        let (keep, doc) = (*keep, *doc);
+        if registry.choose(&view) != (Choice { keep, doc }) {
+            return false;
+        }
+    }
+    true
+}
+
 #[test]
 fn a_filter_and_a_rule_of_ones_own(rt: HostRuntime) -> Result<(), Fail> {
     let alloc = rt.alloc();
@@ -71,11 +83,30 @@ fn a_filter_and_a_rule_of_ones_own(rt: HostRuntime) -> Result<(), Fail> {
     if let Err((rule, _)) = registry.add_doc(rule) {
         see(&rt, registry.add_doc(rule).is_ok(), "added again");
     }
-    for (kind, leading, keep, doc) in CASES {
-        let view = DeclView::new(kind, "A", "a.A", leading, "");
-        see(&rt, registry.choose(&view) == Choice { keep, doc }, leading);
-    }
+    see(&rt, chooses_as_listed(&registry), "the choices listed");
     Ok(())
+}
+
+/// Whether the registry keeps each declaration where the list says so.
+fn keeps_as_listed(registry: &Registry) -> bool {
+    for (kind, leading, keep, _) in CASES.iter() {
+        let view = DeclView::new(*kind, "A", "a.A", leading, "");
+        if registry.choose(&view).keep != *keep {
+            return false;
+        }
+    }
+    true
+}
+
+/// Whether the promise allows the answer of the list, and not the other one.
+fn allows_as_listed() -> bool {
+    for (kind, leading, keep, _) in CASES.iter() {
+        let view = DeclView::new(*kind, "A", "a.A", leading, "");
+        if !OnlyCommented.allows(&view, *keep) || OnlyCommented.allows(&view, !*keep) {
+            return false;
+        }
+    }
+    true
 }
 
 #[test]
@@ -86,11 +117,7 @@ fn a_promise_of_ones_own(rt: HostRuntime) -> Result<(), Fail> {
     if let Err((filter, _)) = registry.add_filter(filter) {
         see(&rt, registry.add_filter(filter).is_ok(), "added again");
     }
-    for (kind, leading, keep, _) in CASES {
-        let view = DeclView::new(kind, "A", "a.A", leading, "");
-        see(&rt, registry.choose(&view).keep == keep, leading);
-        see(&rt, OnlyCommented.allows(&view, keep), leading);
-        see(&rt, !OnlyCommented.allows(&view, !keep), leading);
-    }
+    see(&rt, keeps_as_listed(&registry), "the answers listed");
+    see(&rt, allows_as_listed(), "what is promised");
     Ok(())
 }

@@ -62,15 +62,31 @@ const NAMES: [(&str, &str, bool); 12] = [
     ("", "a", false),
 ];
 
+/// Whether the promise of a prefix allows this answer for a view, and not the other one.
+fn is_promised(
+    alloc: Global,
+    prefix: &str,
+    view: &DeclView<'_>,
+    keep: bool,
+) -> Result<bool, AllocError> {
+    let promise = NamePrefix(String::from_str(alloc, prefix)?);
+    Ok(promise.allows(view, keep) && !promise.allows(view, !keep))
+}
+
+/// Whether the filter of a prefix keeps a view.
+fn is_kept(alloc: Global, prefix: &str, view: &DeclView<'_>) -> Result<bool, AllocError> {
+    let filter = NamePrefix::filter(alloc, prefix)?;
+    Ok(filter.ask(view))
+}
+
 #[test]
 fn a_name_is_the_prefix_or_goes_on_with_a_dot(rt: HostRuntime) -> Result<(), Fail> {
-    for (prefix, name, keep) in NAMES {
+    for (prefix, name, keep) in NAMES.iter() {
         let view = DeclView::new(DeclarationKind::Message, "M", name, "", "");
-        let promise = NamePrefix(String::from_str(rt.alloc(), prefix)?);
-        see(&rt, promise.allows(&view, keep), prefix);
-        see(&rt, !promise.allows(&view, !keep), prefix);
-        let filter = NamePrefix::filter(rt.alloc(), prefix)?;
-        see(&rt, filter.ask(&view) == keep, prefix);
+        let promised = is_promised(rt.alloc(), prefix, &view, *keep)?;
+        see(&rt, promised, prefix);
+        let kept = is_kept(rt.alloc(), prefix, &view)?;
+        see(&rt, kept == *keep, prefix);
     }
     Ok(())
 }

@@ -1,38 +1,40 @@
 //! Why a text is refused.
 
 use std::alloc::{AllocError, AllocFailed};
-use thiserror::Error;
+use std::error::Error;
+use std::fmt;
 
 /// Why bytes are no text, or a text has no lexing.
 ///
 /// Offsets are byte offsets from the text's start.
-#[derive(Clone, Copy, Debug, Drop, PartialEq, Eq, Error)]
+#[derive(Clone, Copy, Debug, Drop, PartialEq, Eq)]
 pub enum LexFault {
     /// The bytes are more than `MAX_TEXT_LENGTH`.
-    #[error("TooLong")]
     TooLong,
     /// The bytes are not UTF-8: the first byte of the first sequence that is ill-formed.
-    #[error("NotUtf8({0})")]
     NotUtf8(usize),
     /// A character that no token, blank or comment has at its place, or a NUL inside a string.
-    #[error("BadByte({0})")]
     BadByte(usize),
     /// A string that a `\n` or the text's end cuts off: its opening quote.
-    #[error("OpenString({0})")]
     OpenString(usize),
     /// A block comment without its `*/`: its `/*`.
-    #[error("OpenComment({0})")]
     OpenComment(usize),
     /// A `\` in a string that begins no escape.
-    #[error("BadEscape({0})")]
     BadEscape(usize),
     /// A number's run that has none of the forms of numbers: its start.
-    #[error("BadNumber({0})")]
     BadNumber(usize),
     /// Memory ran out.
-    #[error("Memory")]
     Memory,
 }
+
+/// The variant's name, and its number in parentheses where it has one.
+impl fmt::Display for LexFault {
+    fn fmt<W: fmt::Write>(&self, f: &mut fmt::Formatter<W>) -> fmt::Result {
+        fmt::Debug::fmt(self, f)
+    }
+}
+
+impl Error for LexFault {}
 
 impl From<AllocError> for LexFault {
     ghost use Rattle.std.specs.Prelude.{◌≡◌};

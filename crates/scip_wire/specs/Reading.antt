@@ -122,6 +122,14 @@ only_column read = column add_only (message_in read)
 abbrev pub only_after : {A : Type 0} → (List ℕ → Option A) → Option A → List ℕ → Option (Option A)
 only_after read earlier bytes = message_in read (Delimited bytes) >>= add_only earlier
 
+-- the messages with one more behind them
+unfoldable pub more_after : {A : Type 0} → (List ℕ → Option A) → List A → List ℕ → Option (List A)
+more_after read messages bytes = read bytes >>= λ x. add_more messages (x ∷ [])
+
+-- the texts with one more behind them
+abbrev pub text_after : List (List ℕ) → List ℕ → Option (List (List ℕ))
+text_after = more_after text_at
+
 abbrev pub messages_column : {A : Type 0} → (List ℕ → Option A) → ℕ → List A → Field → Option (List A)
 messages_column read = column add_more (message_in read)
 

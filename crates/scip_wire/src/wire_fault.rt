@@ -1,7 +1,8 @@
 //! Why bytes are no index.
 
 use std::alloc::{AllocError, AllocFailed};
-use thiserror::Error;
+use std::error::Error;
+use std::fmt;
 
 /// Why bytes decode to no index.
 ///
@@ -9,38 +10,38 @@ use thiserror::Error;
 /// whole input. A record's length is checked before its content is read. Within one tag the order
 /// is `Truncated`, `Varint`, `FieldZero`, `Group`, `WireType`. Which fault comes, and its offset, is
 /// shown by tests; the contract of `read_index` says only that no index decodes.
-#[derive(Clone, Copy, Debug, Drop, PartialEq, Eq, Error)]
+#[derive(Clone, Copy, Debug, Drop, PartialEq, Eq)]
 pub enum WireFault {
     /// A tag, a varint or a payload runs past the end of the input, or of the message or packed
     /// range that holds it.
-    #[error("Truncated({0})")]
     Truncated(usize),
     /// A varint's tenth byte is over 1, or a tag is 4,294,967,296 or more.
-    #[error("Varint({0})")]
     Varint(usize),
     /// A field's number is 0.
-    #[error("FieldZero({0})")]
     FieldZero(usize),
     /// A record is a group: wire type 3 or 4.
-    #[error("Group({0})")]
     Group(usize),
     /// A record's wire type is 6 or 7.
-    #[error("WireType({0})")]
     WireType(usize),
     /// A second metadata or a second tool information.
-    #[error("Repeated({0})")]
     Repeated(usize),
     /// A known text isn't UTF-8.
-    #[error("Utf8({0})")]
     Utf8(usize),
     /// An occurrence with one, two or more than four range numbers, or with a negative one: the
     /// offset of the occurrence's record. It comes once all its records were read.
-    #[error("BadRange({0})")]
     BadRange(usize),
     /// Memory ran out.
-    #[error("Memory")]
     Memory,
 }
+
+/// The variant's name, and its number in parentheses where it has one.
+impl fmt::Display for WireFault {
+    fn fmt<W: fmt::Write>(&self, f: &mut fmt::Formatter<W>) -> fmt::Result {
+        fmt::Debug::fmt(self, f)
+    }
+}
+
+impl Error for WireFault {}
 
 impl From<AllocError> for WireFault {
     ghost use Rattle.std.specs.Prelude.{◌≡◌};

@@ -3,9 +3,9 @@
 ghost use Rattle.scip_wire.specs.Reading.{no_document, document_step};
 
 use crate::read::field::{Field, Payload};
-use crate::read::message::{Decode, read_message};
+use crate::read::message::{Decode, add_message};
 use crate::read::occurrence::add_occurrence;
-use crate::read::text::{number_of, text_of};
+use crate::read::text::{number_of, take_text};
 use crate::wire_fault::WireFault;
 use scip_model::{Document, OwnedText, Sequence};
 use std::alloc::Global;
@@ -25,7 +25,7 @@ impl Decode for Document {
         }
     }
 
-    #[tactic(auto, unfolding(crate::specs::Reading::document_step, crate::specs::Reading::info_at, crate::specs::Reading::parted, crate::specs::Reading::both, crate::specs::Reading::column))]
+    #[tactic(auto, unfolding(crate::specs::Reading::document_step, crate::specs::Reading::info_at, crate::specs::Reading::parted, crate::specs::Reading::both, crate::specs::Reading::column, crate::specs::Reading::more_after))]
     fn merge_field(
         &mut self,
         alloc: Global,
@@ -34,17 +34,26 @@ impl Decode for Document {
         end: usize,
     ) -> Result<(), WireFault> {
         match (field.number, field.payload) {
-            (1, Payload::Delimited(bytes)) => self.relative_path = text_of(alloc, bytes, start)?,
-            (2, Payload::Delimited(bytes)) => {
-                add_occurrence(alloc, &mut self.occurrences, bytes, start, end)?;
+            (1, Payload::Delimited(bytes)) => take_text(
+                alloc,
+                &mut self.relative_path,
+                bytes,
+                start,
+            ),
+            (2, Payload::Delimited(bytes)) => add_occurrence(
+                alloc,
+                &mut self.occurrences,
+                bytes,
+                start,
+                end,
+            ),
+            (3, Payload::Delimited(bytes)) => add_message(alloc, &mut self.symbols, bytes, end),
+            (4, Payload::Delimited(bytes)) => take_text(alloc, &mut self.language, bytes, start),
+            (6, Payload::Varint(value)) => {
+                self.position_encoding = number_of(value);
+                Ok(())
             }
-            (3, Payload::Delimited(bytes)) => {
-                self.symbols.push(read_message(alloc, bytes, end)?)?;
-            }
-            (4, Payload::Delimited(bytes)) => self.language = text_of(alloc, bytes, start)?,
-            (6, Payload::Varint(value)) => self.position_encoding = number_of(value),
-            _ => {}
+            _ => Ok(()),
         }
-        Ok(())
     }
 }

@@ -3,7 +3,7 @@
 ghost use Rattle.scip_wire.specs.Reading.{no_index, index_step};
 
 use crate::read::field::{Field, Payload};
-use crate::read::message::{Decode, read_message, read_only};
+use crate::read::message::{Decode, add_message, take_only};
 use crate::wire_fault::WireFault;
 use scip_model::{Index, Sequence};
 use std::alloc::Global;
@@ -21,7 +21,7 @@ impl Decode for Index {
         }
     }
 
-    #[tactic(auto, unfolding(crate::specs::Reading::index_step, crate::specs::Reading::metadata_at, crate::specs::Reading::document_at, crate::specs::Reading::info_at, crate::specs::Reading::parted, crate::specs::Reading::both, crate::specs::Reading::column))]
+    #[tactic(auto, unfolding(crate::specs::Reading::index_step, crate::specs::Reading::metadata_at, crate::specs::Reading::document_at, crate::specs::Reading::info_at, crate::specs::Reading::parted, crate::specs::Reading::both, crate::specs::Reading::column, crate::specs::Reading::more_after))]
     fn merge_field(
         &mut self,
         alloc: Global,
@@ -30,18 +30,21 @@ impl Decode for Index {
         end: usize,
     ) -> Result<(), WireFault> {
         match (field.number, field.payload) {
-            (1, Payload::Delimited(bytes)) => {
-                self.metadata = read_only(alloc, &self.metadata, bytes, start, end)?;
-            }
-            (2, Payload::Delimited(bytes)) => {
-                self.documents.push(read_message(alloc, bytes, end)?)?;
-            }
-            (3, Payload::Delimited(bytes)) => {
-                self.external_symbols
-                    .push(read_message(alloc, bytes, end)?)?;
-            }
-            _ => {}
+            (1, Payload::Delimited(bytes)) => take_only(
+                alloc,
+                &mut self.metadata,
+                bytes,
+                start,
+                end,
+            ),
+            (2, Payload::Delimited(bytes)) => add_message(alloc, &mut self.documents, bytes, end),
+            (3, Payload::Delimited(bytes)) => add_message(
+                alloc,
+                &mut self.external_symbols,
+                bytes,
+                end,
+            ),
+            _ => Ok(()),
         }
-        Ok(())
     }
 }

@@ -4,7 +4,7 @@ ghost use Rattle.scip_wire.specs.Reading.{no_info, info_step};
 
 use crate::read::field::{Field, Payload};
 use crate::read::message::Decode;
-use crate::read::text::text_of;
+use crate::read::text::{add_text, take_text};
 use crate::wire_fault::WireFault;
 use scip_model::{Info, OwnedText, Sequence};
 use std::alloc::Global;
@@ -22,7 +22,7 @@ impl Decode for Info {
         }
     }
 
-    #[tactic(auto, unfolding(crate::specs::Reading::info_step, crate::specs::Reading::parted, crate::specs::Reading::both, crate::specs::Reading::column))]
+    #[tactic(auto, unfolding(crate::specs::Reading::info_step, crate::specs::Reading::parted, crate::specs::Reading::both, crate::specs::Reading::column, crate::specs::Reading::more_after))]
     fn merge_field(
         &mut self,
         alloc: Global,
@@ -31,13 +31,20 @@ impl Decode for Info {
         _end: usize,
     ) -> Result<(), WireFault> {
         match (field.number, field.payload) {
-            (1, Payload::Delimited(bytes)) => self.symbol = text_of(alloc, bytes, start)?,
-            (3, Payload::Delimited(bytes)) => {
-                self.documentation.push(text_of(alloc, bytes, start)?)?;
-            }
-            (6, Payload::Delimited(bytes)) => self.display_name = text_of(alloc, bytes, start)?,
-            _ => {}
+            (1, Payload::Delimited(bytes)) => take_text(alloc, &mut self.symbol, bytes, start),
+            (3, Payload::Delimited(bytes)) => add_text(
+                alloc,
+                &mut self.documentation,
+                bytes,
+                start,
+            ),
+            (6, Payload::Delimited(bytes)) => take_text(
+                alloc,
+                &mut self.display_name,
+                bytes,
+                start,
+            ),
+            _ => Ok(()),
         }
-        Ok(())
     }
 }

@@ -2,10 +2,11 @@
 
 ghost use Rattle.std.specs.Prelude.{◌≡◌, ◌≤◌, length};
 ghost use Rattle.scip_wire.specs.Gives.{Gives};
-ghost use Rattle.scip_wire.specs.Reading.{fold_at, field_at, only_after};
+ghost use Rattle.scip_wire.specs.Reading.{fold_at, field_at, only_after, more_after};
 
 use crate::read::field::{Field, read_field};
 use crate::wire_fault::WireFault;
+use scip_model::Sequence;
 use std::alloc::Global;
 
 /// A message that is made of its records: one without fields, into which they are merged in turn.
@@ -53,23 +54,40 @@ pub fn read_message<M: Decode>(alloc: Global, bytes: &[u8], end: usize) -> Resul
     Ok(message)
 }
 
-/// The message of a field that comes at most once, of which `earlier` is what came before. The
-/// bytes end at `end` in the input, and their record is at `start`.
+/// Puts the message of a field that comes at most once in its place. The bytes end at `end` in the
+/// input, and their record is at `start`.
 ///
 /// `Repeated` where there is an earlier one, whatever the bytes hold.
 #[tactic(auto, using(crate::proofs::ColumnLemmas::only_taken, crate::proofs::ColumnLemmas::only_first))]
-pub fn read_only<M: Decode>(
+pub fn take_only<M: Decode>(
     alloc: Global,
-    earlier: &Option<M>,
+    place: &mut Option<M>,
     bytes: &[u8],
     start: usize,
     end: usize,
-) -> Result<Option<M>, WireFault>
+) -> Result<(), WireFault>
     requires { length bytes.now ≤ end }
-    ensures { Gives (λ o. o) result (only_after (λ b. fold_at field_at M.step b M.none) earlier.now bytes.now) }
+    ensures { Gives (λ _. place.new) result (only_after (λ b. fold_at field_at M.step b M.none) place.old bytes.now) }
 {
-    if earlier.is_some() {
+    if place.is_some() {
         return Err(WireFault::Repeated(start));
     }
-    Ok(Some(read_message(alloc, bytes, end)?))
+    *place = Some(read_message(alloc, bytes, end)?);
+    Ok(())
+}
+
+/// Adds the message that the bytes hold, which end at `end` in the input. After an error the
+/// messages are of no use.
+#[tactic(auto, unfolding(crate::specs::Reading::more_after))]
+pub fn add_message<M: Decode>(
+    alloc: Global,
+    messages: &mut Sequence<M>,
+    bytes: &[u8],
+    end: usize,
+) -> Result<(), WireFault>
+    requires { length bytes.now ≤ end }
+    ensures { Gives (λ _. messages.new) result (more_after (λ b. fold_at field_at M.step b M.none) messages.old bytes.now) }
+{
+    messages.push(read_message(alloc, bytes, end)?)?;
+    Ok(())
 }

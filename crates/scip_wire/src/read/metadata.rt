@@ -3,8 +3,8 @@
 ghost use Rattle.scip_wire.specs.Reading.{no_metadata, metadata_step};
 
 use crate::read::field::{Field, Payload};
-use crate::read::message::{Decode, read_only};
-use crate::read::text::{number_of, text_of};
+use crate::read::message::{Decode, take_only};
+use crate::read::text::{number_of, take_text};
 use crate::wire_fault::WireFault;
 use scip_model::{Metadata, OwnedText};
 use std::alloc::Global;
@@ -32,14 +32,28 @@ impl Decode for Metadata {
         end: usize,
     ) -> Result<(), WireFault> {
         match (field.number, field.payload) {
-            (1, Payload::Varint(value)) => self.version = number_of(value),
-            (2, Payload::Delimited(bytes)) => {
-                self.tool_info = read_only(alloc, &self.tool_info, bytes, start, end)?;
+            (1, Payload::Varint(value)) => {
+                self.version = number_of(value);
+                Ok(())
             }
-            (3, Payload::Delimited(bytes)) => self.project_root = text_of(alloc, bytes, start)?,
-            (4, Payload::Varint(value)) => self.text_document_encoding = number_of(value),
-            _ => {}
+            (2, Payload::Delimited(bytes)) => take_only(
+                alloc,
+                &mut self.tool_info,
+                bytes,
+                start,
+                end,
+            ),
+            (3, Payload::Delimited(bytes)) => take_text(
+                alloc,
+                &mut self.project_root,
+                bytes,
+                start,
+            ),
+            (4, Payload::Varint(value)) => {
+                self.text_document_encoding = number_of(value);
+                Ok(())
+            }
+            _ => Ok(()),
         }
-        Ok(())
     }
 }

@@ -7,7 +7,7 @@ ghost use Rattle.scip_wire.specs.Reading.{occurrence_after};
 use crate::read::field::{Field, Payload};
 use crate::read::message::{Decode, read_message};
 use crate::read::range::{add_packed, range_of};
-use crate::read::text::{low_bits, number_of, text_of};
+use crate::read::text::{low_bits, number_of, take_text};
 use crate::wire_fault::WireFault;
 use scip_model::{Occurrence, OwnedText, Sequence};
 use std::alloc::Global;
@@ -44,13 +44,15 @@ impl Decode for OccurrenceParts {
         _end: usize,
     ) -> Result<(), WireFault> {
         match (field.number, field.payload) {
-            (1, Payload::Varint(value)) => self.numbers.push(low_bits(value))?,
-            (1, Payload::Delimited(bytes)) => add_packed(&mut self.numbers, bytes, start)?,
-            (2, Payload::Delimited(bytes)) => self.symbol = text_of(alloc, bytes, start)?,
-            (3, Payload::Varint(value)) => self.symbol_roles = number_of(value),
-            _ => {}
+            (1, Payload::Varint(value)) => Ok(self.numbers.push(low_bits(value))?),
+            (1, Payload::Delimited(bytes)) => add_packed(&mut self.numbers, bytes, start),
+            (2, Payload::Delimited(bytes)) => take_text(alloc, &mut self.symbol, bytes, start),
+            (3, Payload::Varint(value)) => {
+                self.symbol_roles = number_of(value);
+                Ok(())
+            }
+            _ => Ok(()),
         }
-        Ok(())
     }
 }
 

@@ -3,10 +3,10 @@
 ghost use Rattle.std.specs.Prelude.{◌≡◌};
 ghost use Rattle.scip_wire.specs.Gives.{Gives};
 ghost use Rattle.scip_wire.specs.Decodes.{low_32_bits};
-ghost use Rattle.scip_wire.specs.Reading.{text_at, number_at};
+ghost use Rattle.scip_wire.specs.Reading.{text_at, text_after, number_at};
 
 use crate::wire_fault::WireFault;
-use scip_model::OwnedText;
+use scip_model::{OwnedText, Sequence};
 use std::alloc::Global;
 use std::str;
 
@@ -19,6 +19,35 @@ pub fn text_of(alloc: Global, bytes: &[u8], start: usize) -> Result<OwnedText, W
         Ok(text) => Ok(OwnedText::from_string(String::from_str(alloc, text)?)),
         Err(_) => Err(WireFault::Utf8(start)),
     }
+}
+
+/// Puts the text of a field, whose record is at `start` in the input, in the place of an earlier one.
+#[tactic(auto)]
+pub fn take_text(
+    alloc: Global,
+    text: &mut OwnedText,
+    bytes: &[u8],
+    start: usize,
+) -> Result<(), WireFault>
+    ensures { Gives (λ _. text.new) result (text_at bytes.now) }
+{
+    *text = text_of(alloc, bytes, start)?;
+    Ok(())
+}
+
+/// Adds the text of a field, whose record is at `start` in the input. After an error the texts are
+/// of no use.
+#[tactic(auto, unfolding(crate::specs::Reading::more_after))]
+pub fn add_text(
+    alloc: Global,
+    texts: &mut Sequence<OwnedText>,
+    bytes: &[u8],
+    start: usize,
+) -> Result<(), WireFault>
+    ensures { Gives (λ _. texts.new) result (text_after texts.old bytes.now) }
+{
+    texts.push(text_of(alloc, bytes, start)?)?;
+    Ok(())
 }
 
 /// The low 32 bits of a varint.

@@ -4,7 +4,7 @@ ghost use Rattle.scip_wire.specs.Reading.{no_tool_info, tool_info_step};
 
 use crate::read::field::{Field, Payload};
 use crate::read::message::Decode;
-use crate::read::text::text_of;
+use crate::read::text::{add_text, take_text};
 use crate::wire_fault::WireFault;
 use scip_model::{OwnedText, Sequence, ToolInfo};
 use std::alloc::Global;
@@ -22,7 +22,7 @@ impl Decode for ToolInfo {
         }
     }
 
-    #[tactic(auto, unfolding(crate::specs::Reading::tool_info_step, crate::specs::Reading::parted, crate::specs::Reading::both, crate::specs::Reading::column))]
+    #[tactic(auto, unfolding(crate::specs::Reading::tool_info_step, crate::specs::Reading::parted, crate::specs::Reading::both, crate::specs::Reading::column, crate::specs::Reading::more_after))]
     fn merge_field(
         &mut self,
         alloc: Global,
@@ -31,13 +31,10 @@ impl Decode for ToolInfo {
         _end: usize,
     ) -> Result<(), WireFault> {
         match (field.number, field.payload) {
-            (1, Payload::Delimited(bytes)) => self.name = text_of(alloc, bytes, start)?,
-            (2, Payload::Delimited(bytes)) => self.version = text_of(alloc, bytes, start)?,
-            (3, Payload::Delimited(bytes)) => {
-                self.arguments.push(text_of(alloc, bytes, start)?)?;
-            }
-            _ => {}
+            (1, Payload::Delimited(bytes)) => take_text(alloc, &mut self.name, bytes, start),
+            (2, Payload::Delimited(bytes)) => take_text(alloc, &mut self.version, bytes, start),
+            (3, Payload::Delimited(bytes)) => add_text(alloc, &mut self.arguments, bytes, start),
+            _ => Ok(()),
         }
-        Ok(())
     }
 }

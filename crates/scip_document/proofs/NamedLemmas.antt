@@ -20,12 +20,12 @@ same_some : {Y : Type 0} {x y : Y} → Some x ≡ Some y → x ≡ y
 same_some h = cc
 
 -- the names of a list's front
-pub front_names : (parts front : List (Bor (List ℕ))) (components : List Component) (texts : List (List ℕ)) (few count : ℕ)
-    → component_names components ≡ map (λ (part : Bor (List ℕ)). part.now) front → front ≡ take few parts → map (λ (part : Bor (List ℕ)). part.now) parts ≡ texts
-    → ((found : List (List ℕ)) → length found ≡ length parts → take few found ≡ take count found) → component_names components ≡ take count texts
-front_names parts front components texts few count names front_is whole same =
+pub front_names : (parts front : List (Bor (List ℕ))) (texts : List (List ℕ)) (few count : ℕ)
+    → front ≡ take few parts → map (λ (part : Bor (List ℕ)). part.now) parts ≡ texts
+    → ((found : List (List ℕ)) → length found ≡ length parts → take few found ≡ take count found) → map (λ (part : Bor (List ℕ)). part.now) front ≡ take count texts
+front_names parts front texts few count front_is whole same =
     let now : Bor (List ℕ) → List ℕ = λ part. part.now in
-    names ∙ (ap (map now) front_is ∙ (sym (take-map now few parts) ∙ (ap (take few) whole ∙ same texts (ap length (sym whole) ∙ length-map parts now))))
+    ap (map now) front_is ∙ (sym (take-map now few parts) ∙ (ap (take few) whole ∙ same texts (ap length (sym whole) ∙ length-map parts now)))
 
 -- the facts of a file
 

@@ -5,8 +5,8 @@ ghost use Rattle.scip_symbol.specs.Entities.{OfFile};
 ghost use Rattle.scip_symbol.specs.Path.{IsGoodPath};
 ghost use Rattle.scip_document.specs.Named.{text_of, package_at, declaration_at};
 
-use proto_decl::{Declaration, FileFacts, names_are_identifiers};
-use scip_symbol::{PackageId, file_symbol, package_symbol, print, symbol_of};
+use proto_decl::{Declaration, FileFacts};
+use scip_symbol::{PackageId, print_declaration, print_file, print_package};
 use sequences::OwnedText;
 use std::alloc::{AllocError, Global};
 
@@ -16,8 +16,7 @@ pub(crate) fn file_text(alloc: Global, id: &PackageId, path: &str) -> Result<Own
     requires { IsGoodPath path.now }
     ensures { IfOk result (λ text. text ≡ text_of id.now (OfFile path.now)) }
 {
-    let symbol = file_symbol(alloc, id, path)?;
-    let text = print(alloc, &symbol)?;
+    let text = print_file(alloc, id, path)?;
     Ok(OwnedText::from_string(text))
 }
 
@@ -33,11 +32,8 @@ pub(crate) fn package_text(
     requires within { count ≤ length facts.now.package_name }
     ensures { IfOk result (λ text. text ≡ text_of id.now (package_at facts.now count)) }
 {
-    facts.origin();
-    names_are_identifiers();
     let (front, _) = facts.package_name().split_at(count);
-    let symbol = package_symbol(alloc, id, front)?;
-    let text = print(alloc, &symbol)?;
+    let text = print_package(alloc, id, front)?;
     Ok(OwnedText::from_string(text))
 }
 
@@ -52,9 +48,6 @@ pub(crate) fn declaration_text(
     requires { Contains facts.now.declarations declaration.now }
     ensures { IfOk result (λ text. text ≡ text_of id.now (declaration_at facts.now declaration.now)) }
 {
-    facts.origin();
-    names_are_identifiers();
-    let symbol = symbol_of(alloc, id, facts.package_name(), declaration.path.as_slice())?;
-    let text = print(alloc, &symbol)?;
+    let text = print_declaration(alloc, id, facts.package_name(), declaration.path.as_slice())?;
     Ok(OwnedText::from_string(text))
 }

@@ -25,7 +25,7 @@ use proto_decl::{Component, Declaration, FileFacts, Use};
 use proto_lex::{Encoding, Span, Text};
 use proto_link::{Entity, Linker, Target};
 use scip_model::Occurrence;
-use scip_symbol::{PackageId, package_symbol, print};
+use scip_symbol::{PackageId, print_package_named};
 use sequences::OwnedText;
 use std::alloc::{AllocError, Global};
 
@@ -51,33 +51,7 @@ fn at_most(count: usize, parts: &[&str]) -> usize
     }
 }
 
-/// Components with these names. They stand nowhere.
-fn components_with(alloc: Global, names: &[&str]) -> Result<Vec<Component>, AllocError>
-    ensures { IfOk result (λ components. component_names components.items ≡ map (λ (name : Bor (List ℕ)). name.now) names.now) }
-{
-    let mut components = Vec::new(alloc);
-    for name in names {
-        components.push(Component {
-            name: OwnedText::copy_of(alloc, name)?,
-            span: Span { start: 0, end: 0 },
-        })?;
-    }
-    Ok(components)
-}
-
-/// The first components of a full name, at most so many.
-fn first_components(alloc: Global, name: &str, count: usize) -> Result<Vec<Component>, AllocError>
-    ensures { IfOk result (λ components. component_names components.items ≡ take count (components_of name.now)) }
-{
-    let parts = components_in(alloc, name)?;
-    let few = at_most(count, parts.as_slice());
-    let (front, _) = parts.as_slice().split_at(few);
-    let components = components_with(alloc, front)?;
-    Ok(components)
-}
-
 /// The symbol's text of the package that a full name's first components make.
-#[tactic(auto, unfolding(crate::specs::Named::text_of))]
 fn named_package_text(
     alloc: Global,
     id: &PackageId,
@@ -87,9 +61,10 @@ fn named_package_text(
     requires { IsEntity (OfPackage (take count (components_of name.now))) }
     ensures { IfOk result (λ text. text ≡ text_of id.now (OfPackage (take count (components_of name.now)))) }
 {
-    let components = first_components(alloc, name, count)?;
-    let symbol = package_symbol(alloc, id, components.as_slice())?;
-    let text = print(alloc, &symbol)?;
+    let parts = components_in(alloc, name)?;
+    let few = at_most(count, parts.as_slice());
+    let (front, _) = parts.as_slice().split_at(few);
+    let text = print_package_named(alloc, id, front)?;
     Ok(OwnedText::from_string(text))
 }
 

@@ -8,6 +8,7 @@ pub mod SymbolText
 pub mod Path
 pub mod Package
 pub mod Entities
+pub mod EntityTexts
 pub mod OneEntity
 -- where a text that spells none stops
 pub mod LongestFront

@@ -15,7 +15,7 @@ use std::alloc::{AllocError, Global};
 pub const SCHEME: &str = "scip-protobuf";
 
 /// What a declaration's name is the name of. Takes no memory.
-fn suffix_of(alloc: Global, kind: DeclarationKind) -> Suffix
+pub(crate) fn suffix_of(alloc: Global, kind: DeclarationKind) -> Suffix
     ensures { result ≡ suffix_of kind }
 {
     match kind {

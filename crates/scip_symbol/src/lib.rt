@@ -2,6 +2,7 @@
 #![tactic(auto)]
 
 mod entity;
+mod entity_text;
 mod fault;
 mod laws;
 mod package;
@@ -10,6 +11,7 @@ mod reader;
 mod symbol;
 
 pub use entity::{SCHEME, file_symbol, package_symbol, symbol_of};
+pub use entity_text::{print_declaration, print_file, print_package, print_package_named};
 pub use fault::SymbolFault;
 pub use laws::{
     files_are_without_clash, symbols_have_spellings, symbols_name_one_entity,

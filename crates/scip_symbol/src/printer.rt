@@ -31,7 +31,7 @@ fn is_simple_identifier(name: &str) -> bool
 }
 
 /// Appends a text with each `mark`, an ASCII character, doubled.
-fn push_doubled(out: &mut String, text: &str, mark: char) -> Result<(), AllocError>
+pub(crate) fn push_doubled(out: &mut String, text: &str, mark: char) -> Result<(), AllocError>
     requires { mark < 128 }
     ensures { OnOk result (string_bytes out.new ≡ string_bytes out.old ++ doubled mark text.now) }
 {
@@ -46,7 +46,7 @@ fn push_doubled(out: &mut String, text: &str, mark: char) -> Result<(), AllocErr
 }
 
 /// Appends a name as a descriptor spells it.
-fn push_name(out: &mut String, name: &str) -> Result<(), AllocError>
+pub(crate) fn push_name(out: &mut String, name: &str) -> Result<(), AllocError>
     ensures { OnOk result (string_bytes out.new ≡ string_bytes out.old ++ name_text name.now) }
 {
     if is_simple_identifier(name) {
@@ -59,7 +59,7 @@ fn push_name(out: &mut String, name: &str) -> Result<(), AllocError>
 }
 
 /// What stands before a descriptor's name.
-fn front_text(suffix: &Suffix) -> &'static str
+pub(crate) fn front_text(suffix: &Suffix) -> &'static str
     ensures { result.now ≡ front_text suffix.now }
 {
     match suffix {
@@ -70,7 +70,7 @@ fn front_text(suffix: &Suffix) -> &'static str
 }
 
 /// Appends what stands behind a descriptor's name.
-fn push_suffix(out: &mut String, suffix: &Suffix) -> Result<(), AllocError>
+pub(crate) fn push_suffix(out: &mut String, suffix: &Suffix) -> Result<(), AllocError>
     ensures { OnOk result (string_bytes out.new ≡ string_bytes out.old ++ suffix_text suffix.now) }
 {
     match suffix {
@@ -107,7 +107,7 @@ fn push_descriptors(out: &mut String, descriptors: &[Descriptor]) -> Result<(), 
 }
 
 /// Appends a manager, a name or a version and the space behind it.
-fn push_part(out: &mut String, part: &str) -> Result<(), AllocError>
+pub(crate) fn push_part(out: &mut String, part: &str) -> Result<(), AllocError>
     ensures { OnOk result (string_bytes out.new ≡ string_bytes out.old ++ (part_text part.now ++ space ∷ [])) }
 {
     if part.is_empty() {

@@ -1,0 +1,136 @@
+//! The texts of the symbols of files, packages and declarations, made without the symbols.
+
+ghost use Rattle.std.specs.Prelude.{◌≡◌, ◌++◌, ℕ, List, map, OnOk, IfOk};
+ghost use denote.Ref.{Bor};
+ghost use Rattle.std.specs.String.{string_bytes};
+ghost use Rattle.proto_decl.specs.Ways.{component_names};
+ghost use Rattle.scip_symbol.specs.SymbolText.{descriptor_text, symbol_text};
+ghost use Rattle.scip_symbol.specs.Entities.{OfFile, OfPackage, OfDeclaration, namespace_of, step_descriptor, symbol_in};
+ghost use Rattle.scip_symbol.specs.EntityTexts.{front_with, front_in, namespaces_text, steps_text};
+
+use crate::entity::{SCHEME, suffix_of};
+use crate::package::PackageId;
+use crate::printer::{front_text, push_doubled, push_name, push_part, push_suffix};
+use proto_decl::{Component, DeclarationStep};
+use std::alloc::{AllocError, Global};
+
+/// The bytes that a text has room for before it grows: most need no more.
+const ROOM: usize = 64;
+
+/// Appends the scheme and these parts of a package.
+fn push_parts(out: &mut String, manager: &str, name: &str, version: &str) -> Result<(), AllocError>
+    ensures { OnOk result (string_bytes out.new ≡ string_bytes out.old ++ front_with manager.now name.now version.now) }
+{
+    push_doubled(out, SCHEME, ' ')?;
+    out.push_str(" ")?;
+    push_part(out, manager)?;
+    push_part(out, name)?;
+    push_part(out, version)
+}
+
+/// Appends what stands before the descriptors.
+fn push_front(out: &mut String, id: &PackageId) -> Result<(), AllocError>
+    ensures { OnOk result (string_bytes out.new ≡ string_bytes out.old ++ front_in id.now) }
+{
+    push_parts(out, id.manager(), id.name(), id.version())
+}
+
+/// Appends a namespace's descriptor.
+fn push_namespace(out: &mut String, name: &str) -> Result<(), AllocError>
+    ensures { OnOk result (string_bytes out.new ≡ string_bytes out.old ++ descriptor_text (namespace_of name.now)) }
+{
+    push_name(out, name)?;
+    out.push_str("/")
+}
+
+/// Appends a declaration's own descriptor.
+fn push_step(out: &mut String, step: &DeclarationStep) -> Result<(), AllocError>
+    ensures { OnOk result (string_bytes out.new ≡ string_bytes out.old ++ descriptor_text (step_descriptor step.now)) }
+{
+    let suffix = suffix_of(*out.allocator(), step.kind);
+    out.push_str(front_text(&suffix))?;
+    push_name(out, step.name.as_str())?;
+    push_suffix(out, &suffix)
+}
+
+fn push_namespaces(out: &mut String, components: &[Component]) -> Result<(), AllocError>
+    ensures { OnOk result (string_bytes out.new ≡ string_bytes out.old ++ namespaces_text (component_names components.now)) }
+{
+    for component in components {
+        push_namespace(out, component.name.as_str())?;
+    }
+    Ok(())
+}
+
+fn push_names(out: &mut String, names: &[&str]) -> Result<(), AllocError>
+    ensures { OnOk result (string_bytes out.new ≡ string_bytes out.old ++ namespaces_text (map (λ (name : Bor (List ℕ)). name.now) names.now)) }
+{
+    for name in names {
+        push_namespace(out, name)?;
+    }
+    Ok(())
+}
+
+fn push_steps(out: &mut String, way: &[DeclarationStep]) -> Result<(), AllocError>
+    ensures { OnOk result (string_bytes out.new ≡ string_bytes out.old ++ steps_text way.now) }
+{
+    for step in way {
+        push_step(out, step)?;
+    }
+    Ok(())
+}
+
+/// The text of the symbol of the file with a path, as `print` gives it.
+pub fn print_file(alloc: Global, id: &PackageId, path: &str) -> Result<String, AllocError>
+    ensures { IfOk result (λ text. string_bytes text ≡ symbol_text (symbol_in id.now (OfFile path.now))) }
+{
+    let mut text = String::with_capacity(alloc, ROOM)?;
+    push_front(&mut text, id)?;
+    push_namespace(&mut text, path)?;
+    Ok(text)
+}
+
+/// The text of the symbol of the package with these components.
+pub fn print_package(
+    alloc: Global,
+    id: &PackageId,
+    components: &[Component],
+) -> Result<String, AllocError>
+    ensures { IfOk result (λ text. string_bytes text ≡ symbol_text (symbol_in id.now (OfPackage (component_names components.now)))) }
+{
+    let mut text = String::with_capacity(alloc, ROOM)?;
+    push_front(&mut text, id)?;
+    push_namespaces(&mut text, components)?;
+    Ok(text)
+}
+
+/// The text of the symbol of the package with components of these names.
+pub fn print_package_named(
+    alloc: Global,
+    id: &PackageId,
+    names: &[&str],
+) -> Result<String, AllocError>
+    ensures { IfOk result (λ text. string_bytes text ≡ symbol_text (symbol_in id.now (OfPackage (map (λ (name : Bor (List ℕ)). name.now) names.now)))) }
+{
+    let mut text = String::with_capacity(alloc, ROOM)?;
+    push_front(&mut text, id)?;
+    push_names(&mut text, names)?;
+    Ok(text)
+}
+
+/// The text of the symbol of a declaration, of the components of its file's package and of the way
+/// from the package to it.
+pub fn print_declaration(
+    alloc: Global,
+    id: &PackageId,
+    components: &[Component],
+    way: &[DeclarationStep],
+) -> Result<String, AllocError>
+    ensures { IfOk result (λ text. string_bytes text ≡ symbol_text (symbol_in id.now (OfDeclaration (component_names components.now) way.now))) }
+{
+    let mut text = String::with_capacity(alloc, ROOM)?;
+    push_front(&mut text, id)?;
+    push_namespaces(&mut text, components)?;
+    push_steps(&mut text, way)?;
+    Ok(text)
+}

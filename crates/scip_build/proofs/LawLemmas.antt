@@ -1,12 +1,12 @@
 -- Proofs of the laws.
-use Rattle.std.proofs.Common.{◌≡◌, ◌∙◌, inl, inr, ℕ, ◌<◌, ◌≤◌, List, length, take, sym, subst, arith}
-use Rattle.std.specs.Str.{IsUtf8}
+use Rattle.std.proofs.Common.{◌≡◌, ◌∙◌, ◌⊎◌, inl, inr, ℕ, ◌<◌, ◌≤◌, List, length, ap, refl, sym, subst, arith}
+use Rattle.std.specs.Str.{IsUtf8, IsValidUpTo}
 use Rattle.std.proofs.lemmas.List.{take_all}
 use Rattle.std.proofs.lemmas.Bool.{cases_order}
-use Rattle.proto_lex.specs.Text.{IsText, IsNoText}
+use Rattle.proto_lex.specs.Text.{IsText, IsNoText, max_text_length}
 use Rattle.proto_lex.specs.Lexed.{Lexed}
 use Rattle.proto_lex.specs.Lexes.{Lexes}
-use Rattle.proto_lex.specs.LexLaws.{OneTokens, OneComments, NoFaultWhereItLexes}
+use Rattle.proto_lex.specs.LexLaws.{OneTokens, OneComments, OneFirstFault, NoFaultWhereItLexes}
 use Rattle.proto_lex.specs.declared.fault.LexFault.{LexFault}
 use Rattle.proto_lex.specs.declared.fault.LexFault.TheVariants.{TooLong, NotUtf8, BadByte, OpenString, OpenComment, BadEscape, BadNumber, Memory}
 use Rattle.proto_lex.specs.declared.token.Token.{Token}
@@ -21,7 +21,7 @@ use Rattle.scip_build.specs.declared.fault.FileFault.TheVariants.{Lex, Syntax}
 use Rattle.scip_build.specs.Parsed.{HasLexing, AreFactsIn, IsUnlexed, IsUnparsed}
 use Rattle.source_tree.specs.Files.{TreeFile}
 use Rattle.scip_build.specs.Readings.{IsFirstFaulty}
-use Rattle.scip_build.specs.Laws.{OneListOfFacts, NoFactsWhereUnreadable, LexedWhereUnparsed, OneFirstFaulty}
+use Rattle.scip_build.specs.Laws.{OneListOfFacts, NoFactsWhereUnreadable, LexedWhereUnparsed, FaultsAreAlike, OneFirstFaulty}
 
 abbrev pub OneTree : Type 0
 OneTree = (custom : CustomOptions) (text : List ℕ) (tokens : List Token) (file other : File) → Derives custom text tokens file → Derives custom text tokens other → file ≡ other
@@ -36,6 +36,49 @@ text_is_text bytes (OpenComment offset) text wrong = absurd wrong
 text_is_text bytes (BadEscape offset) text wrong = absurd wrong
 text_is_text bytes (BadNumber offset) text wrong = absurd wrong
 text_is_text bytes Memory text wrong = absurd wrong
+
+-- of the fronts of bytes that are UTF-8 one is the longest
+one_offset : (bytes : List ℕ) (a b : ℕ) → IsValidUpTo bytes a → IsValidUpTo bytes b → a ≡ b
+one_offset bytes a b first second = elim (cases_order a b) [
+  | inl same ↦ same
+  | inr apart ↦ elim apart [
+    | inl less ↦ absurd (first.longest b less second.front)
+    | inr more ↦ absurd (second.longest a more first.front)
+  ]
+]
+
+-- bytes are no text for one reason
+abbrev IsReason : List ℕ → LexFault → Type 0
+IsReason bytes fault = ((fault ≡ TooLong) × (max_text_length < length bytes)) ⊎ ((offset : ℕ) × (fault ≡ NotUtf8 offset) × (length bytes ≤ max_text_length) × IsValidUpTo bytes offset)
+
+reason : (bytes : List ℕ) (fault : LexFault) → IsNoText bytes fault → IsReason bytes fault
+reason bytes TooLong is = inl (refl, is)
+reason bytes (NotUtf8 offset) is = inr (offset, refl, is.0, is.1)
+reason bytes (BadByte offset) is = absurd is
+reason bytes (OpenString offset) is = absurd is
+reason bytes (OpenComment offset) is = absurd is
+reason bytes (BadEscape offset) is = absurd is
+reason bytes (BadNumber offset) is = absurd is
+reason bytes Memory is = absurd is
+
+one_reason : (bytes : List ℕ) (fault other : LexFault) → IsReason bytes fault → IsReason bytes other → fault ≡ other
+one_reason bytes fault other (inl a) (inl b) = a.0 ∙ sym b.0
+one_reason bytes fault other (inl a) (inr b) = absurd (omega (arith, a.1, b.2))
+one_reason bytes fault other (inr a) (inl b) = absurd (omega (arith, b.1, a.2))
+one_reason bytes fault other (inr a) (inr b) = a.1 ∙ (ap NotUtf8 (one_offset bytes a.0 b.0 a.3 b.3) ∙ sym b.1)
+
+one_unlexed : OneFirstFault → (bytes : List ℕ) (fault other : LexFault) → IsUnlexed bytes fault → IsUnlexed bytes other → fault ≡ other
+one_unlexed one bytes fault other (inl a) (inl b) = one_reason bytes fault other (reason bytes fault a) (reason bytes other b)
+one_unlexed one bytes fault other (inl a) (inr b) = absurd (text_is_text bytes fault b.0 a)
+one_unlexed one bytes fault other (inr a) (inl b) = absurd (text_is_text bytes other a.0 b)
+one_unlexed one bytes fault other (inr a) (inr b) = one bytes fault other a.1 b.1
+
+-- so two faults of one file are alike
+pub faults_are_alike : OneFirstFault → LexedWhereUnparsed → FaultsAreAlike
+faults_are_alike one apart custom bytes (Lex fault) (Lex other) is also = one_unlexed one bytes fault other is also
+faults_are_alike one apart custom bytes (Lex fault) (Syntax other) is also = absurd (apart custom bytes fault other also is)
+faults_are_alike one apart custom bytes (Syntax fault) (Lex other) is also = absurd (apart custom bytes other fault is also)
+faults_are_alike one apart custom bytes (Syntax fault) (Syntax other) is also = tt
 
 module _ (one_tokens : OneTokens) (one_comments : OneComments) where
   -- a file has one lexing

@@ -6,3 +6,12 @@ mod LinkingLemmas
 mod LawLemmas
 -- what the phase answers, file by file
 mod ReadingLemmas
+-- the second phase: lists by their places, what it stands on, and what it answers
+mod PlaceLemmas
+mod ReadyLemmas
+mod DocumentLemmas
+-- a refusal of a stage is one of the whole
+mod RefusalLemmas
+-- the laws of what is built
+mod BuildLawLemmas
+mod OneBuiltLemmas

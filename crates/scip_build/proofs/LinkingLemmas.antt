@@ -13,7 +13,7 @@ use Rattle.source_tree.specs.Trees.{HaveOwnPaths}
 use Rattle.scip_build.specs.declared.fault.FileFault.{FileFault}
 use Rattle.scip_build.specs.Files.{FileContents, ReadFile}
 use Rattle.scip_build.specs.Readings.{HasContents, IsReadingOf, AreReadingsOf}
-use Rattle.scip_build.specs.Laws.{OneListOfFacts, NoFactsWhereUnreadable, OneLinking}
+use Rattle.scip_build.specs.Laws.{OneListOfFacts, NoFactsWhereUnreadable}
 use Rattle.scip_build.specs.Linking.{facts_in, linked_file, linked_files}
 use Rattle.scip_build.proofs.ReadingLemmas.{at_number}
 
@@ -21,14 +21,14 @@ same_some : {A : Type 0} (a b : A) → Some a ≡ Some b → a ≡ b
 same_some {A} a b e = ap (λ (o : Option A). unwrap_or o a) e
 
 -- what a mapped list has at a number
-mapped_at : {A B : Type 0} (f : A → B) (xs : List A) (k : ℕ) (y : B) → slice_get (map f xs) k ≡ Some y → (x : A) × (slice_get xs k ≡ Some x) × (y ≡ f x)
+pub mapped_at : {A B : Type 0} (f : A → B) (xs : List A) (k : ℕ) (y : B) → slice_get (map f xs) k ≡ Some y → (x : A) × (slice_get xs k ≡ Some x) × (y ≡ f x)
 mapped_at f [] k y at = absurd (none-some y at)
 mapped_at f (x ∷ xs) zero y at = (x, refl, sym (same_some (f x) y at))
 mapped_at f (x ∷ xs) (suc k) y at = mapped_at f xs k y at
 
 module _ (custom : CustomOptions) (allows : Seen → Choice → Type 0) (files : List TreeFile) (readings : List ReadFile) (are : AreReadingsOf custom allows files readings) where
   -- the file of the tree that a linked file is
-  in_tree : (number : ℕ) (file : File) → slice_get (linked_files readings) number ≡ Some file → (of : TreeFile) × (slice_get files number ≡ Some of) × (file.path ≡ of.path)
+  pub in_tree : (number : ℕ) (file : File) → slice_get (linked_files readings) number ≡ Some file → (of : TreeFile) × (slice_get files number ≡ Some of) × (file.path ≡ of.path)
   in_tree number file at =
       let read = mapped_at linked_file readings number file at in
       let within : number < length files = rw (sym are.one_each) (slice_get_within readings number read.0 read.1) in
@@ -42,7 +42,7 @@ module _ (custom : CustomOptions) (allows : Seen → Choice → Type 0) (files :
       own i j first.0 second.0 first.1 second.1 (sym first.2 ∙ (same ∙ second.2))
 
 -- lists whose items are mapped to the same
-same_mapped : {A B : Type 0} (f : A → B) (xs ys : List A) → length xs ≡ length ys
+pub same_mapped : {A B : Type 0} (f : A → B) (xs ys : List A) → length xs ≡ length ys
     → ((k : ℕ) (x y : A) → slice_get xs k ≡ Some x → slice_get ys k ≡ Some y → f x ≡ f y) → map f xs ≡ map f ys
 same_mapped f [] [] few each = refl
 same_mapped f [] (y ∷ ys) few each = absurd (omega (arith, few))
@@ -54,7 +54,7 @@ same_mapped f (x ∷ xs) (y ∷ ys) few each =
 
 module _ (one : OneListOfFacts) (apart : NoFactsWhereUnreadable) (custom : CustomOptions) (allows others : Seen → Choice → Type 0) where
   -- two readings of a file have the same facts, or both none
-  same_facts : (number : ℕ) (file : TreeFile) (a b : Result FileContents FileFault) → HasContents custom allows number file a → HasContents custom others number file b → facts_in a ≡ facts_in b
+  pub same_facts : (number : ℕ) (file : TreeFile) (a b : Result FileContents FileFault) → HasContents custom allows number file a → HasContents custom others number file b → facts_in a ≡ facts_in b
   same_facts number file (Ok a) (Ok b) has also = ap Some (one custom number file.bytes a.facts b.facts has.1.facts_in also.1.facts_in)
   same_facts number file (Ok a) (Err f) has also = absurd (apart custom number file.bytes a.facts f has.1.facts_in also.1)
   same_facts number file (Err f) (Ok b) has also = absurd (apart custom number file.bytes b.facts f also.1.facts_in has.1)

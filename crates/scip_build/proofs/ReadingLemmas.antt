@@ -1,11 +1,10 @@
 -- What the phase answers, file by file.
-use Rattle.std.proofs.Common.{◌≡◌, ◌∙◌, ℕ, zero, suc, ◌<◌, false, true≢false, List, [], ◌∷◌, length, Option, Some, Result, Ok, Err, sym, refl, subst, arith}
+use Rattle.std.proofs.Common.{◌≡◌, ◌∙◌, ℕ, zero, suc, ◌<◌, true≢false, List, [], ◌∷◌, length, Option, Some, Result, Ok, Err, sym, refl, subst, arith}
 use Rattle.std.specs.List.{slice_get}
 use Rattle.std.specs.Option.{IfSome}
 use Rattle.std.proofs.lemmas.Option.{slice_get_within}
 use Rattle.proto_grammar.specs.declared.tree.CustomOptions.{CustomOptions}
 use Rattle.proto_decl.specs.Seen.{Seen}
-use Rattle.proto_decl.specs.Facts.{Facts}
 use Rattle.index_hooks.specs.declared.choice.Choice.{Choice}
 use Rattle.index_pool.specs.Phase.{AnswersEach, IsLeastFault}
 use Rattle.scip_build.specs.declared.fault.FileFault.{FileFault}

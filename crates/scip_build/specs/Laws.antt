@@ -1,5 +1,5 @@
 -- What the definitions say of readings and faults, whatever the code does.
-use Rattle.std.specs.Prelude.{◌≡◌, ℕ, List}
+use Rattle.std.specs.Prelude.{◌≡◌, ℕ, ⊤, List}
 use Rattle.proto_lex.specs.declared.fault.LexFault.{LexFault}
 use Rattle.proto_grammar.specs.declared.tree.CustomOptions.{CustomOptions}
 use Rattle.proto_grammar.specs.declared.fault.SyntaxFault.{SyntaxFault}
@@ -7,6 +7,7 @@ use Rattle.proto_decl.specs.Facts.{Facts}
 use Rattle.proto_decl.specs.Seen.{Seen}
 use Rattle.index_hooks.specs.declared.choice.Choice.{Choice}
 use Rattle.scip_build.specs.declared.fault.FileFault.{FileFault}
+use Rattle.scip_build.specs.declared.fault.FileFault.TheVariants.{Lex, Syntax}
 use Rattle.scip_build.specs.Parsed.{AreFactsIn, IsUnlexed, IsUnparsed, IsUnreadable}
 use Rattle.proto_link.specs.Files as link
 use Rattle.source_tree.specs.Files.{TreeFile}
@@ -28,6 +29,16 @@ NoFactsWhereUnreadable =
 -- which it can't be for one kind of fault.
 abbrev pub LexedWhereUnparsed : Type 0
 LexedWhereUnparsed = (custom : CustomOptions) (bytes : List ℕ) (lexing : LexFault) (parsing : SyntaxFault) → IsUnparsed custom bytes parsing → IsUnlexed bytes lexing → ⊥
+
+-- Two faults of one file are alike: of lexing they are one fault; of syntax they may be two, of which tests show the one that comes.
+abbrev pub AreAlike : FileFault → FileFault → Type 0
+AreAlike (Lex fault) (Lex other) = fault ≡ other
+AreAlike (Lex fault) (Syntax other) = ⊥
+AreAlike (Syntax fault) (Lex other) = ⊥
+AreAlike (Syntax fault) (Syntax other) = ⊤
+
+abbrev pub FaultsAreAlike : Type 0
+FaultsAreAlike = (custom : CustomOptions) (bytes : List ℕ) (fault other : FileFault) → IsUnreadable custom bytes fault → IsUnreadable custom bytes other → AreAlike fault other
 
 -- Of the sources that can't be read one is the first.
 abbrev pub OneFirstFaulty : Type 0

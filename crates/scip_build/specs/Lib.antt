@@ -8,5 +8,12 @@ pub mod Readings
 pub mod Stops
 -- what is linked of files that were read
 pub mod Linking
+-- the documents of sources that were read
+pub mod Documents
+-- what is built from a tree, and why nothing is
+pub mod Builds
+-- the same of files that were read
+pub mod Making
 -- the laws
 pub mod Laws
+pub mod BuildLaws

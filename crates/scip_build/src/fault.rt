@@ -51,6 +51,32 @@ pub enum BuildFault {
     Unresolved(FilePlace),
 }
 
+impl From<ReadFault> for BuildFault {
+    ghost use Rattle.std.specs.Prelude.{◌≡◌};
+    ghost use Rattle.scip_build.specs.Making.{fault_of_reading};
+
+    ghost from_gives = { λ fault e. e ≡ fault_of_reading fault };
+
+    fn from(fault: ReadFault) -> BuildFault {
+        match fault {
+            ReadFault::Spawn => BuildFault::Spawn,
+            ReadFault::Memory => BuildFault::Memory,
+            ReadFault::File(number, fault) => BuildFault::File(number, fault),
+        }
+    }
+}
+
+impl From<AllocError> for BuildFault {
+    ghost use Rattle.std.specs.Prelude.{◌≡◌};
+    ghost use Rattle.scip_build.specs.declared.fault.BuildFault.TheVariants.{Memory};
+
+    ghost from_gives = { λ _ e. e ≡ Memory };
+
+    fn from(_refused: AllocError) -> BuildFault {
+        BuildFault::Memory
+    }
+}
+
 /// Why the reading of a file ends without contents.
 #[derive(Clone, Copy, Debug, Drop, PartialEq, Eq)]
 pub(crate) enum Stop {

@@ -1,7 +1,9 @@
-//! From the files of a tree to its index. What stands is the first phase, in which each file is read,
-//! and the linking of what was read.
+//! From the files of a tree to its index: each file is read, what was read is linked, and the document
+//! of each source is made.
 #![tactic(auto)]
 
+mod building;
+mod built;
 mod choosing;
 mod chosen;
 mod fault;
@@ -9,14 +11,21 @@ mod file_reading;
 mod laws;
 mod linking;
 mod phase_one;
+mod phase_two;
 mod reading;
+mod settings;
+mod source_document;
 
+pub use building::build;
+pub use built::Built;
 pub use chosen::chosen_lists;
 pub use fault::{BuildFault, FileFault, ReadFault};
 pub use laws::{
-    faults_exclude_facts, one_first_faulty, one_linking, one_list_of_facts_a_file,
+    built_has_no_fault, faults_are_alike, faults_exclude_facts, file_faults_are_alike,
+    one_build_fault, one_built, one_first_faulty, one_linking, one_list_of_facts_a_file,
     readings_exclude_faults, readings_have_own_paths,
 };
 pub use linking::{link, linked_files};
 pub use phase_one::read_files;
 pub use reading::{Contents, Reading};
+pub use settings::Settings;

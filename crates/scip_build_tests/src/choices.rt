@@ -2,11 +2,12 @@
 
 use crate::calls::{Counting, Given, included, read, see, source, tree, workers};
 use index_hooks::{AnyAnswer, Choice, DocAlways, DocChoice, Filter, FilterCallback, Registry};
-use index_pool::Workers;
+use index_pool::{NoGate, Workers};
 use proto_decl::{DeclView, DeclarationKind};
+use proto_parse::CustomOptions;
 use scip_build::{
     Reading, chosen_lists, faults_exclude_facts, one_first_faulty, one_linking,
-    one_list_of_facts_a_file, readings_exclude_faults, readings_have_own_paths,
+    one_list_of_facts_a_file, read_files, readings_exclude_faults, readings_have_own_paths,
 };
 use source_tree::Tree;
 use std::alloc::{AllocError, Global};
@@ -52,16 +53,41 @@ fn keeps(reading: &Reading<'_>, kept: &[bool]) -> bool {
     }
 }
 
+/// How often a chooser is asked while a tree is read; none after want of memory or of a thread.
+fn asked_while_read<R: Threads + Wait>(
+    rt: &R,
+    alloc: Global,
+    tree: &Tree,
+    workers: Workers,
+) -> Option<u64> {
+    let chooser = Counting::new();
+    match read_files(
+        rt,
+        alloc,
+        tree,
+        &chooser,
+        workers,
+        CustomOptions::Refuse,
+        &NoGate,
+    ) {
+        Ok(_) => Some(chooser.asked()),
+        Err(_) => None,
+    }
+}
+
 #[test]
 fn each_declaration_is_asked_about_once(rt: HostRuntime) -> Result<(), Fail> {
-    let tree = tree(&rt, rt.alloc(), &files())?;
+    let alloc = rt.alloc();
+    let tree = tree(&rt, alloc, &files())?;
     for count in [1, 2, 16] {
-        let chooser = Counting::new();
-        let answer = read(&rt, rt.alloc(), &tree, &chooser, workers(&rt, count));
-        see(&rt, answer.is_ok(), "read");
+        let workers = workers(&rt, count);
+        let asked = match asked_while_read(&rt, alloc, &tree, workers) {
+            None => asked_while_read(&rt, alloc, &tree, workers),
+            asked => asked,
+        };
         see(
             &rt,
-            chooser.asked() == 6,
+            asked == Some(6),
             "four declarations of the source, two of the shared file",
         );
     }
@@ -133,9 +159,13 @@ fn choices_stand_with_their_declarations(rt: HostRuntime) -> Result<(), Fail> {
     let tree = tree(&rt, alloc, &files())?;
     let mut registry = Registry::new(alloc);
     let filter = Box::new(alloc, Filter::new(AnyAnswer, NoEnums))?;
-    see(&rt, registry.add_filter(filter).is_ok(), "the filter");
+    if let Err((filter, _)) = registry.add_filter(filter) {
+        see(&rt, registry.add_filter(filter).is_ok(), "the filter");
+    }
     let rule = Box::new(alloc, DocAlways(DocChoice::Both).rule())?;
-    see(&rt, registry.add_doc(rule).is_ok(), "the rule");
+    if let Err((rule, _)) = registry.add_doc(rule) {
+        see(&rt, registry.add_doc(rule).is_ok(), "the rule");
+    }
     for count in [1, 2, 16] {
         let as_told = chooses_as_told(&rt, alloc, &tree, &registry, workers(&rt, count));
         see(&rt, as_told, "choices");

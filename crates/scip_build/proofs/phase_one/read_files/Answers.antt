@@ -1,4 +1,4 @@
-use Rattle.std.proofs.Common.{ℕ, length, subst}
+use Rattle.std.proofs.Common.{ℕ, subst}
 use Rattle.index_pool.specs.Phase.{AnswersEach, MayRefuse, IsLeastFault}
 use Rattle.index_pool.specs.declared.phase.fault.PoolFault.{PoolFault}
 use Rattle.scip_build.specs.declared.fault.Stop.{Stop}

@@ -1,0 +1,143 @@
+//! From a tree to its index.
+
+ghost use Rattle.std.specs.Prelude.{◌≡◌, ◌≤◌, IfOk, IfErr, MatchResult};
+ghost use Rattle.index_pool.specs.declared.workers.TheConstants.{MAX_INPUTS};
+ghost use Rattle.proto_link.specs.Files.{HaveOwnPaths};
+ghost use Rattle.scip_document.specs.Indexes.{metadata_of};
+ghost use Rattle.scip_build.specs.Linking.{linked_files};
+ghost use Rattle.scip_build.specs.Documents.{AreReady, MayRefuseDocuments};
+ghost use Rattle.scip_build.specs.Making.{IsMade, IsLinkedAndMade, MayRefuseMaking};
+ghost use Rattle.scip_build.specs.Builds.{IsBuilt, IsBuildFault};
+
+use crate::built::Built;
+use crate::chosen::chosen_lists;
+use crate::fault::BuildFault;
+use crate::laws::readings_have_own_paths;
+use crate::linking::{link, linked_files};
+use crate::phase_one::read_files;
+use crate::phase_two::make_documents;
+use crate::reading::Reading;
+use crate::settings::Settings;
+use index_hooks::Chooses;
+use index_pool::{Gate, Workers};
+use proto_link::Linker;
+use scip_document::{Choices, externals};
+use scip_model::{Index, Metadata, ToolInfo};
+use sequences::{OwnedText, Sequence};
+use source_tree::Tree;
+use std::alloc::{AllocError, Global};
+use std::sync::Wait;
+use std::thread::Threads;
+
+/// What the index says of itself.
+fn metadata(alloc: Global, project_root: &OwnedText) -> Result<Metadata, AllocError>
+    ensures { IfOk result (λ made. made ≡ metadata_of project_root.now) }
+{
+    let tool_info = ToolInfo {
+        name: OwnedText::copy_of(alloc, "protoscip")?,
+        version: OwnedText::copy_of(alloc, "1")?,
+        arguments: Sequence::new(alloc),
+    };
+    Ok(Metadata {
+        version: 0,
+        tool_info: Some(tool_info),
+        project_root: OwnedText::copy_of(alloc, project_root.as_str())?,
+        text_document_encoding: 1,
+    })
+}
+
+/// The index of linked files: the documents come by path, so none is looked for.
+fn make_index<R: Threads + Wait, G: Gate>(
+    rt: &R,
+    alloc: Global,
+    linker: &Linker<'_>,
+    readings: &[Reading<'_>],
+    choices: &Choices,
+    settings: &Settings,
+    count: usize,
+    workers: Workers,
+    gate: &G,
+) -> Result<Index, BuildFault>
+    requires few { count ≤ MAX_INPUTS }
+    requires ready { AreReady readings.now linker.now choices.now count }
+    ensures { MatchResult result (IsMade readings.now linker.now choices.now settings.now) (MayRefuseDocuments linker.now workers) }
+{
+    let documents = make_documents(
+        rt, alloc, linker, readings, choices, settings, count, workers, gate,
+    )?;
+    let external_symbols = externals(alloc, linker, choices, &settings.package)?;
+    let metadata = metadata(alloc, &settings.project_root)?;
+    Ok(Index {
+        metadata: Some(metadata),
+        documents: Sequence::from_vec(documents),
+        external_symbols,
+    })
+}
+
+/// The index of files that were read, of which so many are sources.
+fn link_and_make<R: Threads + Wait, G: Gate>(
+    rt: &R,
+    alloc: Global,
+    readings: &[Reading<'_>],
+    choices: &Choices,
+    settings: &Settings,
+    count: usize,
+    workers: Workers,
+    gate: &G,
+) -> Result<Index, BuildFault>
+    requires few { count ≤ MAX_INPUTS }
+    requires own { HaveOwnPaths (linked_files readings.now) }
+    requires ready { AreReady readings.now (linked_files readings.now) choices.now count }
+    ensures { MatchResult result (IsLinkedAndMade readings.now choices.now settings.now) (MayRefuseMaking readings.now workers) }
+{
+    let files = linked_files(alloc, readings)?;
+    let linker = link(alloc, readings, files.as_slice())?;
+    make_index(
+        rt, alloc, &linker, readings, choices, settings, count, workers, gate,
+    )
+}
+
+/// Builds the index of a tree's sources, by what the chooser chooses for each declaration and by the
+/// settings, on so many workers. The gate's calls come round each file as it is read, and then round
+/// each source as its document is made.
+///
+/// Of the refusals the first is answered: `Spawn`, `Memory`, or the first source that can't be read;
+/// then the first included file that some source sees and that can't be read; then `Duplicate`,
+/// `MissingImport`; then `Spawn`, `Memory`, or the first use of the first source in which one names
+/// no type. A refused growth ends the step that it is in with `Memory`.
+pub fn build<R: Threads + Wait, C: Chooses + Sync, G: Gate>(
+    rt: &R,
+    alloc: Global,
+    tree: &Tree,
+    chooser: &C,
+    workers: Workers,
+    settings: &Settings,
+    gate: &G,
+) -> Result<Built, BuildFault>
+    ensures built { IfOk result (IsBuilt (C.allows chooser.now) settings.now tree.now) }
+    ensures refused { IfErr result (IsBuildFault (C.allows chooser.now) settings.now.custom_options tree.now workers) }
+{
+    readings_have_own_paths(chooser);
+    let _files = tree.file_count();
+    let readings = read_files(
+        rt,
+        alloc,
+        tree,
+        chooser,
+        workers,
+        settings.custom_options,
+        gate,
+    )?;
+    let choices = Choices::new(chosen_lists(alloc, readings.as_slice())?);
+    let index = link_and_make(
+        rt,
+        alloc,
+        readings.as_slice(),
+        &choices,
+        settings,
+        tree.source_count(),
+        workers,
+        gate,
+    )?;
+    Ok(Built { index, choices })
+}

@@ -1,0 +1,280 @@
+//! What callbacks choose for an index, and how often they are asked.
+
+use crate::calls::{see, workers};
+use crate::expected::{Case, Due, PLAIN, is_due_index, settings_of, tree_of};
+use index_hooks::{
+    Choice, Chooses, DocAlways, DocChoice, Filter, FilterCallback, KindIn, Kinds, Registry,
+};
+use index_pool::{NoGate, Workers};
+use proto_decl::{DeclView, DeclarationKind};
+use scip_build::{
+    Settings, build, built_has_no_fault, faults_are_alike, file_faults_are_alike, one_build_fault,
+    one_built,
+};
+use source_tree::Tree;
+use std::alloc::{AllocError, Global};
+use std::process::Abort;
+use std::sync::Wait;
+use std::sync::atomic::{AtomicU64, Ordering};
+use std::test::Fail;
+use std::thread::Threads;
+
+/// All kinds but that of enums.
+const KINDS: [DeclarationKind; 6] = [
+    DeclarationKind::Message,
+    DeclarationKind::Field,
+    DeclarationKind::Oneof,
+    DeclarationKind::Value,
+    DeclarationKind::Service,
+    DeclarationKind::Method,
+];
+
+/// Keeps what is of these kinds.
+#[derive(Drop)]
+struct OfKinds(Kinds);
+
+impl FilterCallback for OfKinds {
+    ghost use Rattle.std.specs.Prelude.{◌↔◌, IsTrue};
+    ghost use Rattle.index_hooks.specs.HasKind.{HasKind};
+
+    ghost gives = { λ callback seen keep. IsTrue keep ↔ HasKind callback.0 seen.kind };
+
+    fn call(&self, view: &DeclView<'_>) -> bool {
+        self.0.contains(view.kind())
+    }
+}
+
+/// Keeps each second declaration that it is asked about, from the second.
+#[derive(Drop)]
+struct EachSecond {
+    asked: AtomicU64,
+}
+
+impl Chooses for EachSecond {
+    ghost allows = { λ _ _ _. Unit {0} };
+
+    fn choose(&self, _view: &DeclView<'_>) -> Choice {
+        Choice {
+            keep: self.asked.fetch_add(1, Ordering::SeqCst) % 2 == 1,
+            doc: DocChoice::Leading,
+        }
+    }
+}
+
+/// Asks a registry, and counts how often.
+#[derive(Drop)]
+struct Asking<'a> {
+    registry: &'a Registry,
+    asked: AtomicU64,
+}
+
+impl<'a> Chooses for Asking<'a> {
+    ghost allows = { λ _ _ _. Unit {0} };
+
+    fn choose(&self, view: &DeclView<'_>) -> Choice {
+        self.asked.fetch_add(1, Ordering::SeqCst);
+        self.registry.choose(view)
+    }
+}
+
+/// How often a registry is asked for an index, where it is the one that is due.
+fn asked_for<R: Threads + Wait>(
+    rt: &R,
+    alloc: Global,
+    tree: &Tree,
+    registry: &Registry,
+    workers: Workers,
+    settings: &Settings,
+    case: &Case,
+) -> Option<u64> {
+    let asking = Asking {
+        registry,
+        asked: AtomicU64::new(0),
+    };
+    match build(rt, alloc, tree, &asking, workers, settings, &NoGate) {
+        Ok(built) if is_due_index(&built.index, case) => {
+            Some(asking.asked.load(Ordering::SeqCst))
+        }
+        _ => None,
+    }
+}
+
+/// Sees that a registry gives the index that is due, and is asked so often, on 1, 2 and 16 workers. After
+/// want of memory or of a thread it is asked again.
+fn see_asked<R: Threads + Wait + Abort>(
+    rt: &R,
+    alloc: Global,
+    registry: &Registry,
+    case: &Case,
+    times: u64,
+) -> Result<(), AllocError> {
+    let tree = tree_of(rt, alloc, case.files)?;
+    let settings = settings_of(alloc, &case.set)?;
+    for count in [1, 2, 16] {
+        let workers = workers(rt, count);
+        let asked = match asked_for(rt, alloc, &tree, registry, workers, &settings, case) {
+            None => asked_for(rt, alloc, &tree, registry, workers, &settings, case),
+            asked => asked,
+        };
+        see(rt, asked == Some(times), case.name);
+    }
+    Ok(())
+}
+
+const WITHOUT_ENUMS: Case<'static> = Case {
+    name: "all kinds but enums",
+    set: PLAIN,
+    files: &[(
+        "a.proto",
+        "syntax = \"proto3\";\nenum E { ZERO = 0; }\nmessage M { E e = 1; }\n",
+        false,
+    )],
+    due: Due::Index(
+        &[(
+            "a.proto",
+            &[
+                ([0, 0, 0, 0], "`a.proto`/", 1),
+                ([1, 9, 1, 13], "E#ZERO.", 1),
+                ([2, 8, 2, 9], "M#", 1),
+                ([2, 14, 2, 15], "M#e.", 1),
+            ],
+            &[
+                ("E#ZERO.", "ZERO", &[]),
+                ("M#", "M", &[]),
+                ("M#e.", "e", &[]),
+                ("`a.proto`/", "a.proto", &[]),
+            ],
+        )],
+        &[],
+    ),
+};
+
+const SECOND_ONES: Case<'static> = Case {
+    name: "each second declaration, of both files",
+    set: PLAIN,
+    files: &[
+        (
+            "a.proto",
+            "syntax = \"proto3\";\nmessage A {}\nmessage B {}\n",
+            false,
+        ),
+        (
+            "b.proto",
+            "syntax = \"proto3\";\nimport \"a.proto\";\nmessage C { A a = 1; B b = 2; }\n",
+            false,
+        ),
+    ],
+    due: Due::Index(
+        &[
+            (
+                "a.proto",
+                &[([0, 0, 0, 0], "`a.proto`/", 1), ([2, 8, 2, 9], "B#", 1)],
+                &[("B#", "B", &[]), ("`a.proto`/", "a.proto", &[])],
+            ),
+            (
+                "b.proto",
+                &[
+                    ([0, 0, 0, 0], "`b.proto`/", 1),
+                    ([1, 7, 1, 16], "`a.proto`/", 2),
+                    ([2, 14, 2, 15], "C#a.", 1),
+                    ([2, 21, 2, 22], "B#", 0),
+                ],
+                &[("C#a.", "a", &[]), ("`b.proto`/", "b.proto", &[])],
+            ),
+        ],
+        &[],
+    ),
+};
+
+const BOTH_TEXTS: Case<'static> = Case {
+    name: "both texts, in a source and in an included file",
+    set: PLAIN,
+    files: &[
+        (
+            "a.proto",
+            "syntax = \"proto3\";\nimport \"t.proto\";\n// One.\n// Two.\nmessage A { // tail\n  T x = 1; /* unit */\n}\n",
+            false,
+        ),
+        (
+            "t.proto",
+            "syntax = \"proto3\";\n// A thing.\nmessage T { // of a kind\n}\n",
+            true,
+        ),
+    ],
+    due: Due::Index(
+        &[(
+            "a.proto",
+            &[
+                ([0, 0, 0, 0], "`a.proto`/", 1),
+                ([1, 7, 1, 16], "`t.proto`/", 2),
+                ([4, 8, 4, 9], "A#", 1),
+                ([5, 2, 5, 3], "T#", 0),
+                ([5, 4, 5, 5], "A#x.", 1),
+            ],
+            &[
+                ("A#", "A", &["One.\nTwo.", "tail"]),
+                ("A#x.", "x", &[" unit "]),
+                ("`a.proto`/", "a.proto", &[]),
+            ],
+        )],
+        &[("T#", "T", &["A thing.", "of a kind"])],
+    ),
+};
+
+#[test]
+fn a_filter_by_kind(rt: HostRuntime) -> Result<(), Fail> {
+    let mut registry = Registry::new(rt.alloc());
+    let kinds = Kinds::of(&KINDS);
+    let filter = Box::new(rt.alloc(), Filter::new(KindIn(kinds), OfKinds(kinds)))?;
+    if let Err((filter, _)) = registry.add_filter(filter) {
+        see(&rt, registry.add_filter(filter).is_ok(), "added again");
+    }
+    built_has_no_fault(&registry, &registry);
+    one_build_fault(&registry, &registry);
+    faults_are_alike();
+    file_faults_are_alike(&registry, &registry);
+    one_built(&registry, &registry);
+    see_asked(&rt, rt.alloc(), &registry, &WITHOUT_ENUMS, 4)?;
+    Ok(())
+}
+
+/// Whether what is chosen by turns serves both documents.
+fn is_alternated<R: Threads + Wait>(
+    rt: &R,
+    alloc: Global,
+    tree: &Tree,
+    workers: Workers,
+    settings: &Settings,
+) -> bool {
+    let chooser = EachSecond {
+        asked: AtomicU64::new(0),
+    };
+    let is_due = match build(rt, alloc, tree, &chooser, workers, settings, &NoGate) {
+        Ok(built) => is_due_index(&built.index, &SECOND_ONES),
+        Err(_) => false,
+    };
+    is_due && chooser.asked.load(Ordering::SeqCst) == 5
+}
+
+#[test]
+fn a_choice_serves_each_document(rt: HostRuntime) -> Result<(), Fail> {
+    let alloc = rt.alloc();
+    let tree = tree_of(&rt, alloc, SECOND_ONES.files)?;
+    let settings = settings_of(alloc, &SECOND_ONES.set)?;
+    let one = workers(&rt, 1);
+    let alternated = is_alternated(&rt, alloc, &tree, one, &settings)
+        || is_alternated(&rt, alloc, &tree, one, &settings);
+    see(&rt, alternated, SECOND_ONES.name);
+    Ok(())
+}
+
+#[test]
+fn a_documentation_rule(rt: HostRuntime) -> Result<(), Fail> {
+    let mut registry = Registry::new(rt.alloc());
+    let rule = Box::new(rt.alloc(), DocAlways(DocChoice::Both).rule())?;
+    if let Err((rule, _)) = registry.add_doc(rule) {
+        see(&rt, registry.add_doc(rule).is_ok(), "added again");
+    }
+    see_asked(&rt, rt.alloc(), &registry, &BOTH_TEXTS, 3)?;
+    Ok(())
+}

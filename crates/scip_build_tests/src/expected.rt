@@ -1,0 +1,353 @@
+//! What is due of a build.
+
+use crate::calls::{Given, see, tree};
+use index_hooks::{Choice, Chooses, DocChoice};
+use index_pool::{Gate, NoGate, Workers};
+use proto_decl::DeclView;
+use proto_lex::Encoding;
+use proto_link::FilePlace;
+use proto_parse::CustomOptions;
+use scip_build::{BuildFault, Built, FileFault, Settings, build};
+use scip_model::{Document, Index, Info, Metadata, Occurrence};
+use scip_symbol::PackageId;
+use sequences::OwnedText;
+use source_tree::Tree;
+use std::alloc::{AllocError, Global};
+use std::process::Abort;
+use std::sync::Wait;
+use std::sync::atomic::{AtomicU64, Ordering};
+use std::thread::Threads;
+
+/// A file: its path, its text, and whether it is included.
+pub(crate) type File<'a> = (&'a str, &'a str, bool);
+
+/// An occurrence: its range, its symbol's text without the front, and its role.
+pub(crate) type Row<'a> = ([u32; 4], &'a str, i32);
+
+/// A symbol entry: its symbol's text without the front, its display name, and its documentation.
+pub(crate) type Entry<'a> = (&'a str, &'a str, &'a [&'a str]);
+
+/// A document: its path, what occurs in it, and its symbol entries.
+pub(crate) type Page<'a> = (&'a str, &'a [Row<'a>], &'a [Entry<'a>]);
+
+/// A place: the file's number, the start and the end.
+pub(crate) type Spot = (usize, usize, usize);
+
+/// What is answered.
+#[derive(Clone, Copy)]
+pub(crate) enum Due<'a> {
+    Index(&'a [Page<'a>], &'a [Entry<'a>]),
+    File(usize, FileFault),
+    Duplicate(Spot, Spot),
+    MissingImport(Spot),
+    Unresolved(Spot),
+}
+
+/// What is set: the project's root, the parts of the package, the front that symbols have of it, the
+/// unit of columns, and what is done with custom options; and the full names of what is dropped.
+#[derive(Clone, Copy, Drop)]
+pub(crate) struct Set<'a> {
+    pub(crate) root: &'a str,
+    pub(crate) parts: [&'a str; 3],
+    pub(crate) front: &'a str,
+    pub(crate) encoding: Encoding,
+    pub(crate) custom: CustomOptions,
+    pub(crate) dropped: &'a [&'a str],
+}
+
+pub(crate) const PLAIN: Set<'static> = Set {
+    root: "file:///",
+    parts: ["", "", ""],
+    front: "scip-protobuf . . . ",
+    encoding: Encoding::Utf8,
+    custom: CustomOptions::Refuse,
+    dropped: &[],
+};
+
+/// Files, and what is answered to them.
+#[derive(Clone, Copy, Drop)]
+pub(crate) struct Case<'a> {
+    pub(crate) name: &'a str,
+    pub(crate) set: Set<'a>,
+    pub(crate) files: &'a [File<'a>],
+    pub(crate) due: Due<'a>,
+}
+
+fn is_symbol(symbol: &OwnedText, front: &str, rest: &str) -> bool {
+    symbol.as_str().strip_prefix(front) == Some(rest)
+}
+
+fn is_row(occurrence: &Occurrence, front: &str, row: &Row) -> bool {
+    let (range, symbol, role) = *row;
+    let found = &occurrence.range;
+    let start = [found.start_line(), found.start_column()];
+    let end = [found.end_line(), found.end_column()];
+    start == [range[0], range[1]]
+        && end == [range[2], range[3]]
+        && is_symbol(&occurrence.symbol, front, symbol)
+        && occurrence.symbol_roles == role
+}
+
+fn are_rows(occurrences: &[Occurrence], front: &str, rows: &[Row]) -> bool {
+    for (index, row) in rows.iter().enumerate() {
+        match occurrences.get(index) {
+            Some(occurrence) if is_row(occurrence, front, row) => {}
+            _ => return false,
+        }
+    }
+    occurrences.len() == rows.len()
+}
+
+fn are_texts(texts: &[OwnedText], due: &[&str]) -> bool {
+    for (index, text) in due.iter().enumerate() {
+        match texts.get(index) {
+            Some(found) if found.as_str() == *text => {}
+            _ => return false,
+        }
+    }
+    texts.len() == due.len()
+}
+
+fn is_entry(info: &Info, front: &str, entry: &Entry) -> bool {
+    let (symbol, display_name, documentation) = *entry;
+    is_symbol(&info.symbol, front, symbol)
+        && info.display_name.as_str() == display_name
+        && are_texts(info.documentation.as_slice(), documentation)
+}
+
+fn are_entries(infos: &[Info], front: &str, entries: &[Entry]) -> bool {
+    for (index, entry) in entries.iter().enumerate() {
+        match infos.get(index) {
+            Some(info) if is_entry(info, front, entry) => {}
+            _ => return false,
+        }
+    }
+    infos.len() == entries.len()
+}
+
+fn number_of(encoding: Encoding) -> i32 {
+    match encoding {
+        Encoding::Utf8 => 1,
+        Encoding::Utf16 => 2,
+    }
+}
+
+fn is_page(document: &Document, set: &Set, page: &Page) -> bool {
+    let (path, rows, entries) = *page;
+    document.relative_path.as_str() == path
+        && document.language.as_str() == "Protobuf"
+        && document.position_encoding == number_of(set.encoding)
+        && are_rows(document.occurrences.as_slice(), set.front, rows)
+        && are_entries(document.symbols.as_slice(), set.front, entries)
+}
+
+fn are_pages(documents: &[Document], set: &Set, pages: &[Page]) -> bool {
+    for (index, page) in pages.iter().enumerate() {
+        match documents.get(index) {
+            Some(document) if is_page(document, set, page) => {}
+            _ => return false,
+        }
+    }
+    documents.len() == pages.len()
+}
+
+fn is_metadata(metadata: &Metadata, root: &str) -> bool {
+    let by_tool = match &metadata.tool_info {
+        Some(tool) => {
+            tool.name.as_str() == "protoscip"
+                && tool.version.as_str() == "1"
+                && tool.arguments.as_slice().is_empty()
+        }
+        None => false,
+    };
+    by_tool
+        && metadata.version == 0
+        && metadata.project_root.as_str() == root
+        && metadata.text_document_encoding == 1
+}
+
+fn has_metadata(index: &Index, root: &str) -> bool {
+    match &index.metadata {
+        Some(metadata) => is_metadata(metadata, root),
+        None => false,
+    }
+}
+
+/// Whether an index is the one that is due.
+pub(crate) fn is_due_index(index: &Index, case: &Case) -> bool {
+    match case.due {
+        Due::Index(pages, externals) => {
+            has_metadata(index, case.set.root)
+                && are_pages(index.documents.as_slice(), &case.set, pages)
+                && are_entries(index.external_symbols.as_slice(), case.set.front, externals)
+        }
+        _ => false,
+    }
+}
+
+fn is_spot(place: FilePlace, spot: Spot) -> bool {
+    (place.file, place.span.start, place.span.end) == spot
+}
+
+/// Whether a refusal is the one that is due.
+fn is_due_fault(fault: BuildFault, due: Due) -> bool {
+    match (fault, due) {
+        (BuildFault::File(number, cause), Due::File(wanted, other)) => {
+            number == wanted && cause == other
+        }
+        (BuildFault::Duplicate(first, second), Due::Duplicate(one, two)) => {
+            is_spot(first, one) && is_spot(second, two)
+        }
+        (BuildFault::MissingImport(place), Due::MissingImport(spot)) => is_spot(place, spot),
+        (BuildFault::Unresolved(place), Due::Unresolved(spot)) => is_spot(place, spot),
+        _ => false,
+    }
+}
+
+/// Drops what has one of these full names, keeps the rest, and counts how often it was asked.
+#[derive(Drop)]
+pub(crate) struct Dropping<'a> {
+    names: &'a [&'a str],
+    asked: AtomicU64,
+}
+
+impl<'a> Dropping<'a> {
+    pub(crate) fn new(names: &'a [&'a str]) -> Dropping<'a> {
+        Dropping {
+            names,
+            asked: AtomicU64::new(0),
+        }
+    }
+
+    /// How often it was asked.
+    pub(crate) fn asked(&self) -> u64 {
+        self.asked.load(Ordering::SeqCst)
+    }
+}
+
+impl<'a> Chooses for Dropping<'a> {
+    ghost allows = { λ _ _ _. Unit {0} };
+
+    fn choose(&self, view: &DeclView<'_>) -> Choice {
+        self.asked.fetch_add(1, Ordering::SeqCst);
+        Choice {
+            keep: !self.names.contains(&view.full_name()),
+            doc: DocChoice::Leading,
+        }
+    }
+}
+
+/// The settings of a case.
+pub(crate) fn settings_of(alloc: Global, set: &Set<'_>) -> Result<Settings, AllocError> {
+    let [manager, name, version] = set.parts;
+    let manager = String::from_str(alloc, manager)?;
+    let name = String::from_str(alloc, name)?;
+    let version = String::from_str(alloc, version)?;
+    match PackageId::new([manager, name, version]) {
+        Ok(package) => Ok(Settings {
+            project_root: OwnedText::copy_of(alloc, set.root)?,
+            package,
+            encoding: set.encoding,
+            custom_options: set.custom,
+        }),
+        Err(_) => Err(AllocError),
+    }
+}
+
+/// The tree of these files.
+pub(crate) fn tree_of(
+    rt: &impl Abort,
+    alloc: Global,
+    files: &[File<'_>],
+) -> Result<Tree, AllocError> {
+    let mut given = Vec::with_capacity(alloc, files.len())?;
+    for (path, text, is_included) in files {
+        given.push(Given {
+            path,
+            bytes: text.as_bytes(),
+            is_included: *is_included,
+        })?;
+    }
+    tree(rt, alloc, &given)
+}
+
+/// What `build` answers. After want of memory or of a thread it is called again, and the second
+/// answer counts.
+fn build_again<R: Threads + Wait, C: Chooses + Sync, G: Gate>(
+    rt: &R,
+    alloc: Global,
+    tree: &Tree,
+    chooser: &C,
+    workers: Workers,
+    settings: &Settings,
+    gate: &G,
+) -> Result<Built, BuildFault> {
+    match build(rt, alloc, tree, chooser, workers, settings, gate) {
+        Err(BuildFault::Memory) | Err(BuildFault::Spawn) => {
+            build(rt, alloc, tree, chooser, workers, settings, gate)
+        }
+        answer => answer,
+    }
+}
+
+/// Whether what is built on so many workers is what is due.
+pub(crate) fn is_due<R: Threads + Wait, C: Chooses + Sync, G: Gate>(
+    rt: &R,
+    alloc: Global,
+    tree: &Tree,
+    chooser: &C,
+    workers: Workers,
+    settings: &Settings,
+    gate: &G,
+    case: &Case,
+) -> bool {
+    match build_again(rt, alloc, tree, chooser, workers, settings, gate) {
+        Ok(built) => is_due_index(&built.index, case),
+        Err(fault) => is_due_fault(fault, case.due),
+    }
+}
+
+/// Whether what is built is what is due, on 1, 2 and 16 workers.
+pub(crate) fn is_due_on_each<R: Threads + Wait, C: Chooses + Sync>(
+    rt: &R,
+    alloc: Global,
+    tree: &Tree,
+    chooser: &C,
+    settings: &Settings,
+    case: &Case,
+) -> bool {
+    for count in [1, 2, 16] {
+        match Workers::new(count) {
+            Some(workers) if is_due(rt, alloc, tree, chooser, workers, settings, &NoGate, case) =>
+                {}
+            _ => return false,
+        }
+    }
+    true
+}
+
+/// Sees that a case has the answer that is due, on 1, 2 and 16 workers.
+fn see_case<R: Threads + Wait + Abort>(
+    rt: &R,
+    alloc: Global,
+    case: &Case,
+) -> Result<(), AllocError> {
+    let tree = tree_of(rt, alloc, case.files)?;
+    let settings = settings_of(alloc, &case.set)?;
+    let chooser = Dropping::new(case.set.dropped);
+    let holds = is_due_on_each(rt, alloc, &tree, &chooser, &settings, case);
+    see(rt, holds, case.name);
+    Ok(())
+}
+
+/// Sees that cases have the answers that are due.
+pub(crate) fn see_cases<R: Threads + Wait + Abort>(
+    rt: &R,
+    alloc: Global,
+    cases: &[Case],
+) -> Result<(), AllocError> {
+    for case in cases {
+        see_case(rt, alloc, case)?;
+    }
+    Ok(())
+}

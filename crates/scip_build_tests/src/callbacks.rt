@@ -3,12 +3,14 @@
 use crate::calls::{see, workers};
 use crate::expected::{Case, Due, PLAIN, is_due_index, settings_of, tree_of};
 use index_hooks::{
-    AnyAnswer, Choice, Chooses, DocAlways, DocChoice, Filter, FilterCallback, KindIn, Kinds,
-    Registry,
+    Choice, Chooses, DocAlways, DocChoice, Filter, FilterCallback, KindIn, Kinds, Registry,
 };
 use index_pool::{NoGate, Workers};
 use proto_decl::{DeclView, DeclarationKind};
-use scip_build::{Settings, build, built_has_no_fault, one_build_fault, one_built};
+use scip_build::{
+    Settings, build, built_has_no_fault, faults_are_alike, file_faults_are_alike, one_build_fault,
+    one_built,
+};
 use source_tree::Tree;
 use std::alloc::{AllocError, Global};
 use std::process::Abort;
@@ -48,9 +50,14 @@ struct EachSecond {
     asked: AtomicU64,
 }
 
-impl FilterCallback for EachSecond {
-    fn call(&self, _view: &DeclView<'_>) -> bool {
-        self.asked.fetch_add(1, Ordering::SeqCst) % 2 == 1
+impl Chooses for EachSecond {
+    ghost allows = { λ _ _ _. Unit {0} };
+
+    fn choose(&self, _view: &DeclView<'_>) -> Choice {
+        Choice {
+            keep: self.asked.fetch_add(1, Ordering::SeqCst) % 2 == 1,
+            doc: DocChoice::Leading,
+        }
     }
 }
 
@@ -92,20 +99,19 @@ fn asked_for<R: Threads + Wait>(
     }
 }
 
-/// Sees that a registry gives the index that is due, and is asked so often, on so many workers. After
+/// Sees that a registry gives the index that is due, and is asked so often, on 1, 2 and 16 workers. After
 /// want of memory or of a thread it is asked again.
 fn see_asked<R: Threads + Wait + Abort>(
     rt: &R,
     alloc: Global,
     registry: &Registry,
-    counts: &[usize],
     case: &Case,
     times: u64,
 ) -> Result<(), AllocError> {
     let tree = tree_of(rt, alloc, case.files)?;
     let settings = settings_of(alloc, &case.set)?;
-    for count in counts {
-        let workers = workers(rt, *count);
+    for count in [1, 2, 16] {
+        let workers = workers(rt, count);
         let asked = match asked_for(rt, alloc, &tree, registry, workers, &settings, case) {
             None => asked_for(rt, alloc, &tree, registry, workers, &settings, case),
             asked => asked,
@@ -225,22 +231,40 @@ fn a_filter_by_kind(rt: HostRuntime) -> Result<(), Fail> {
     }
     built_has_no_fault(&registry, &registry);
     one_build_fault(&registry, &registry);
+    faults_are_alike();
+    file_faults_are_alike(&registry, &registry);
     one_built(&registry, &registry);
-    see_asked(&rt, rt.alloc(), &registry, &[1, 2, 16], &WITHOUT_ENUMS, 4)?;
+    see_asked(&rt, rt.alloc(), &registry, &WITHOUT_ENUMS, 4)?;
     Ok(())
 }
 
-#[test]
-fn a_filter_that_alternates(rt: HostRuntime) -> Result<(), Fail> {
-    let mut registry = Registry::new(rt.alloc());
-    let callback = EachSecond {
+/// Whether what is chosen by turns serves both documents.
+fn is_alternated<R: Threads + Wait>(
+    rt: &R,
+    alloc: Global,
+    tree: &Tree,
+    workers: Workers,
+    settings: &Settings,
+) -> bool {
+    let chooser = EachSecond {
         asked: AtomicU64::new(0),
     };
-    let filter = Box::new(rt.alloc(), Filter::new(AnyAnswer, callback))?;
-    if let Err((filter, _)) = registry.add_filter(filter) {
-        see(&rt, registry.add_filter(filter).is_ok(), "added again");
-    }
-    see_asked(&rt, rt.alloc(), &registry, &[1], &SECOND_ONES, 5)?;
+    let is_due = match build(rt, alloc, tree, &chooser, workers, settings, &NoGate) {
+        Ok(built) => is_due_index(&built.index, &SECOND_ONES),
+        Err(_) => false,
+    };
+    is_due && chooser.asked.load(Ordering::SeqCst) == 5
+}
+
+#[test]
+fn a_choice_serves_each_document(rt: HostRuntime) -> Result<(), Fail> {
+    let alloc = rt.alloc();
+    let tree = tree_of(&rt, alloc, SECOND_ONES.files)?;
+    let settings = settings_of(alloc, &SECOND_ONES.set)?;
+    let one = workers(&rt, 1);
+    let alternated = is_alternated(&rt, alloc, &tree, one, &settings)
+        || is_alternated(&rt, alloc, &tree, one, &settings);
+    see(&rt, alternated, SECOND_ONES.name);
     Ok(())
 }
 
@@ -251,6 +275,6 @@ fn a_documentation_rule(rt: HostRuntime) -> Result<(), Fail> {
     if let Err((rule, _)) = registry.add_doc(rule) {
         see(&rt, registry.add_doc(rule).is_ok(), "added again");
     }
-    see_asked(&rt, rt.alloc(), &registry, &[1, 2, 16], &BOTH_TEXTS, 3)?;
+    see_asked(&rt, rt.alloc(), &registry, &BOTH_TEXTS, 3)?;
     Ok(())
 }

@@ -42,7 +42,7 @@ fn parts_of_packages(rt: HostRuntime) -> Result<(), Fail> {
 }
 
 /// The package with these parts.
-fn package_of(alloc: Global, texts: [&str; 3]) -> Result<Option<PackageId>, Fail> {
+pub(crate) fn package_of(alloc: Global, texts: [&str; 3]) -> Result<Option<PackageId>, Fail> {
     let manager = String::from_str(alloc, texts[0])?;
     let name = String::from_str(alloc, texts[1])?;
     let version = String::from_str(alloc, texts[2])?;
@@ -111,7 +111,7 @@ fn symbols_of_files(rt: HostRuntime) -> Result<(), Fail> {
 }
 
 /// A component of a package's name, wherever it stands.
-fn component(alloc: Global, name: &str) -> Result<Component, AllocError>
+pub(crate) fn component(alloc: Global, name: &str) -> Result<Component, AllocError>
     ensures { IfOk result (λ component. component.name ≡ name.now) }
 {
     let name = OwnedText::copy_of(alloc, name)?;

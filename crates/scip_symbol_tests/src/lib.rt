@@ -11,3 +11,5 @@ mod fronts;
 mod laws;
 #[cfg(test)]
 mod symbols;
+#[cfg(test)]
+mod texts;

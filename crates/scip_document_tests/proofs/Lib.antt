@@ -1,3 +1,4 @@
 pub mod PathLemmas
 pub mod ReadingLemmas
+pub mod ResolveLemmas
 pub mod RisingLemmas

@@ -1,9 +1,9 @@
 -- What is known of files that are linked, and of choices for their declarations.
-use Rattle.std.proofs.Common.{◌≡◌, ◌∙◌, ◌≤◌, ◌<◌, ℕ, zero, suc, false, List, [], ◌∷◌, length, map, Option, Some, ap, sym, refl, subst, arith}
+use Rattle.std.proofs.Common.{◌≡◌, ◌∙◌, ◌<◌, ℕ, zero, suc, false, List, [], ◌∷◌, length, map, Option, Some, ap, sym, refl, subst, arith}
 use Rattle.std.specs.Prelude.{All}
 use Rattle.std.specs.List.{slice_get}
 use Rattle.std.specs.Option.{unwrap_or, option_map}
-use Rattle.std.proofs.lemmas.Option.{slice_get_within, slice_get-map, slice_get_cases, get_or_from_slice_get, none-some}
+use Rattle.std.proofs.lemmas.Option.{slice_get_within, slice_get-map, get_or_from_slice_get, none-some}
 use Rattle.std.proofs.lemmas.List.Elements.{All-get_or}
 use Rattle.index_hooks.specs.declared.choice.Choice.{Choice}
 use Rattle.proto_decl.specs.Facts.{Facts}
@@ -13,7 +13,7 @@ use Rattle.proto_link.specs.Files.{File, IsSource}
 use Rattle.scip_document.specs.Chosen.{Chosen, HaveChoices}
 use Rattle.scip_document.specs.Conditions.{HaveGoodPaths}
 use Rattle.scip_document.specs.Texts.{AreOfText, HasText}
-use Rattle.scip_document_tests.specs.Reads.{ReadFile, IsReadAs, IsFine, linked_file, linked_files, counts}
+use Rattle.scip_document_tests.specs.Reads.{ReadFile, IsFine, linked_file, linked_files, counts}
 
 same_some : {A : Type 0} (a b : A) → Some a ≡ Some b → a ≡ b
 same_some {A} a b e = ap (λ (o : Option A). unwrap_or o a) e

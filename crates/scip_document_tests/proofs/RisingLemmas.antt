@@ -1,5 +1,5 @@
 -- The paths of the tests of merging rise.
-use Rattle.std.proofs.Common.{◌≡◌, [], ◌∷◌, codes, refl}
+use Rattle.std.proofs.Common.{[], ◌∷◌, codes, refl}
 use Rattle.std.specs.List.Sorted.{IsStrictlySortedBy}
 use Rattle.scip_document.specs.Pieces.{IsRising}
 

@@ -1,12 +1,14 @@
 -- What the sources of tests are read as.
-use Rattle.std.specs.Prelude.{◌≡◌, ℕ, Bool, Some, List, map, length}
+use Rattle.std.specs.Prelude.{◌≡◌, ℕ, Bool, Some, List, map, length, Contains}
 use Rattle.proto_lex.specs.Lexed.{Lexed, IsLexed}
 use Rattle.proto_grammar.specs.declared.tree.CustomOptions.TheVariants.{Refuse}
 use Rattle.proto_grammar.specs.declared.tree.File as tree
 use Rattle.proto_parse.specs.Derives.{Derives}
 use Rattle.proto_decl.specs.Facts.{Facts, AreFactsOf}
+use Rattle.proto_decl.specs.declared.type_use.Use.{Use}
 use Rattle.scip_symbol.specs.Path.{IsGoodPath}
-use Rattle.proto_link.specs.Files.{File}
+use Rattle.proto_link.specs.Files.{File, HasFacts, IsSource}
+use Rattle.scip_document.specs.Conditions.{IsResolved}
 
 -- A source that was read.
 pub record ReadFile : Type 0 where
@@ -40,3 +42,7 @@ linked_files readings = map linked_file readings
 -- how many declarations each has
 abbrev pub counts : List ReadFile → List ℕ
 counts readings = map (λ reading. length reading.facts.declarations) readings
+
+-- each use of a file names a type, if it is a source
+abbrev pub ResolveAt : List File → (source : ℕ) → Type 0
+ResolveAt files source = (facts : Facts) (type_use : Use) → IsSource files source → HasFacts files source facts → Contains facts.uses type_use → IsResolved files source type_use

@@ -2,14 +2,15 @@
 
 ghost use Rattle.proto_link.specs.Files.{IsSource};
 ghost use Rattle.scip_document.specs.Chosen.{HaveChoices};
-ghost use Rattle.scip_document.specs.Conditions.{HaveGoodPaths};
+ghost use Rattle.scip_document.specs.Conditions.{AllResolve, HaveGoodPaths};
 ghost use Rattle.scip_document.specs.Texts.{HasText};
 
 use proto_lex::{Encoding, Text};
 use proto_link::{LinkFault, Linker};
-use scip_document::{Choices, document};
-use scip_model::Document;
+use scip_document::{Choices, document, externals};
+use scip_model::{Document, Info};
 use scip_symbol::PackageId;
+use sequences::Sequence;
 use std::alloc::{AllocError, Global};
 use std::process::Abort;
 
@@ -46,6 +47,22 @@ pub(crate) fn document_again(
 {
     match document(alloc, linker, source, text, choices, id, encoding) {
         Err(LinkFault::Memory) => document(alloc, linker, source, text, choices, id, encoding),
+        answer => answer,
+    }
+}
+
+/// What `externals` answers. After want of memory it is called again, and the second answer counts.
+pub(crate) fn externals_again(
+    alloc: Global,
+    linker: &Linker<'_>,
+    choices: &Choices,
+    id: &PackageId,
+) -> Result<Sequence<Info>, AllocError>
+    requires choices { HaveChoices linker.now choices.now }
+    requires resolve { AllResolve linker.now }
+{
+    match externals(alloc, linker, choices, id) {
+        Err(_) => externals(alloc, linker, choices, id),
         answer => answer,
     }
 }

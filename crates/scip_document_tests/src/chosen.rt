@@ -1,6 +1,7 @@
 //! Documents of what is chosen, and with the texts that are.
 
-use crate::documents::{Case, Due, PLAIN, Settings, see_cases};
+use crate::documents::Due::Document;
+use crate::documents::{Case, PLAIN, Settings, see_cases};
 use index_hooks::DocChoice;
 use std::test::Fail;
 
@@ -16,41 +17,41 @@ const CASES: [Case<'static>; 8] = [
             "syntax = \"proto3\";\npackage p;\nmessage A { message B { enum C { Z = 0; } } oneof o { A.B x = 1; B.C y = 2; } }\nmessage M { p.A.B.C c = 1; map<string, A.B> m = 2; repeated .p.A n = 3; }\n",
             false,
         )],
-        due: &[Due {
-            source: 0,
-            rows: &[
-                ([0, 0, 0, 0], "`a.proto`/", 1),
-                ([1, 8, 1, 9], "p/", 1),
-                ([2, 8, 2, 9], "p/A#", 1),
-                ([2, 29, 2, 30], "p/A#B#C#", 1),
-                ([2, 33, 2, 34], "p/A#B#C#Z.", 1),
-                ([2, 54, 2, 55], "p/A#", 0),
-                ([2, 58, 2, 59], "p/A#x.", 1),
-                ([2, 67, 2, 68], "p/A#B#C#", 0),
-                ([2, 69, 2, 70], "p/A#y.", 1),
-                ([3, 8, 3, 9], "p/M#", 1),
-                ([3, 12, 3, 13], "p/", 0),
-                ([3, 14, 3, 15], "p/A#", 0),
-                ([3, 18, 3, 19], "p/A#B#C#", 0),
-                ([3, 39, 3, 40], "p/A#", 0),
-                ([3, 44, 3, 45], "p/M#m.", 1),
-                ([3, 61, 3, 62], "p/", 0),
-                ([3, 63, 3, 64], "p/A#", 0),
-                ([3, 65, 3, 66], "p/M#n.", 1),
+        due: &[Document(
+            0,
+            &[
+                "0 0 0 0 1 `a.proto`/",
+                "1 8 1 9 1 p/",
+                "2 8 2 9 1 p/A#",
+                "2 29 2 30 1 p/A#B#C#",
+                "2 33 2 34 1 p/A#B#C#Z.",
+                "2 54 2 55 0 p/A#",
+                "2 58 2 59 1 p/A#x.",
+                "2 67 2 68 0 p/A#B#C#",
+                "2 69 2 70 1 p/A#y.",
+                "3 8 3 9 1 p/M#",
+                "3 12 3 13 0 p/",
+                "3 14 3 15 0 p/A#",
+                "3 18 3 19 0 p/A#B#C#",
+                "3 39 3 40 0 p/A#",
+                "3 44 3 45 1 p/M#m.",
+                "3 61 3 62 0 p/",
+                "3 63 3 64 0 p/A#",
+                "3 65 3 66 1 p/M#n.",
             ],
-            entries: &[
-                ("`a.proto`/", "a.proto", &[]),
-                ("p/", "p", &[]),
-                ("p/A#", "A", &[]),
-                ("p/A#B#C#", "C", &[]),
-                ("p/A#B#C#Z.", "Z", &[]),
-                ("p/A#x.", "x", &[]),
-                ("p/A#y.", "y", &[]),
-                ("p/M#", "M", &[]),
-                ("p/M#m.", "m", &[]),
-                ("p/M#n.", "n", &[]),
+            &[
+                "`a.proto`/|a.proto",
+                "p/|p",
+                "p/A#|A",
+                "p/A#B#C#|C",
+                "p/A#B#C#Z.|Z",
+                "p/A#x.|x",
+                "p/A#y.|y",
+                "p/M#|M",
+                "p/M#m.|m",
+                "p/M#n.|n",
             ],
-        }],
+        )],
     },
     Case {
         name: "a dropped message, whose uses stay",
@@ -63,15 +64,11 @@ const CASES: [Case<'static>; 8] = [
             "syntax = \"proto3\";\nmessage B {}\nmessage M { B b = 1; }\n",
             false,
         )],
-        due: &[Due {
-            source: 0,
-            rows: &[
-                ([0, 0, 0, 0], "`a.proto`/", 1),
-                ([1, 8, 1, 9], "B#", 1),
-                ([2, 12, 2, 13], "B#", 0),
-            ],
-            entries: &[("B#", "B", &[]), ("`a.proto`/", "a.proto", &[])],
-        }],
+        due: &[Document(
+            0,
+            &["0 0 0 0 1 `a.proto`/", "1 8 1 9 1 B#", "2 12 2 13 0 B#"],
+            &["B#|B", "`a.proto`/|a.proto"],
+        )],
     },
     Case {
         name: "a dropped type, whose uses go",
@@ -84,19 +81,11 @@ const CASES: [Case<'static>; 8] = [
             "syntax = \"proto3\";\nmessage B {}\nmessage M { B b = 1; }\n",
             false,
         )],
-        due: &[Due {
-            source: 0,
-            rows: &[
-                ([0, 0, 0, 0], "`a.proto`/", 1),
-                ([2, 8, 2, 9], "M#", 1),
-                ([2, 14, 2, 15], "M#b.", 1),
-            ],
-            entries: &[
-                ("M#", "M", &[]),
-                ("M#b.", "b", &[]),
-                ("`a.proto`/", "a.proto", &[]),
-            ],
-        }],
+        due: &[Document(
+            0,
+            &["0 0 0 0 1 `a.proto`/", "2 8 2 9 1 M#", "2 14 2 15 1 M#b."],
+            &["M#|M", "M#b.|b", "`a.proto`/|a.proto"],
+        )],
     },
     Case {
         name: "documentation: Leading",
@@ -109,19 +98,11 @@ const CASES: [Case<'static>; 8] = [
             "syntax = \"proto3\";\n// One.\n// Two.\nmessage A { // tail\n  int32 x = 1; /* unit */\n}\n",
             false,
         )],
-        due: &[Due {
-            source: 0,
-            rows: &[
-                ([0, 0, 0, 0], "`a.proto`/", 1),
-                ([3, 8, 3, 9], "A#", 1),
-                ([4, 8, 4, 9], "A#x.", 1),
-            ],
-            entries: &[
-                ("A#", "A", &["One.\nTwo."]),
-                ("A#x.", "x", &[]),
-                ("`a.proto`/", "a.proto", &[]),
-            ],
-        }],
+        due: &[Document(
+            0,
+            &["0 0 0 0 1 `a.proto`/", "3 8 3 9 1 A#", "4 8 4 9 1 A#x."],
+            &["A#|A|One.\nTwo.", "A#x.|x", "`a.proto`/|a.proto"],
+        )],
     },
     Case {
         name: "documentation: Trailing",
@@ -134,19 +115,11 @@ const CASES: [Case<'static>; 8] = [
             "syntax = \"proto3\";\n// One.\n// Two.\nmessage A { // tail\n  int32 x = 1; /* unit */\n}\n",
             false,
         )],
-        due: &[Due {
-            source: 0,
-            rows: &[
-                ([0, 0, 0, 0], "`a.proto`/", 1),
-                ([3, 8, 3, 9], "A#", 1),
-                ([4, 8, 4, 9], "A#x.", 1),
-            ],
-            entries: &[
-                ("A#", "A", &["tail"]),
-                ("A#x.", "x", &[" unit "]),
-                ("`a.proto`/", "a.proto", &[]),
-            ],
-        }],
+        due: &[Document(
+            0,
+            &["0 0 0 0 1 `a.proto`/", "3 8 3 9 1 A#", "4 8 4 9 1 A#x."],
+            &["A#|A|tail", "A#x.|x| unit ", "`a.proto`/|a.proto"],
+        )],
     },
     Case {
         name: "documentation: Both",
@@ -159,19 +132,15 @@ const CASES: [Case<'static>; 8] = [
             "syntax = \"proto3\";\n// One.\n// Two.\nmessage A { // tail\n  int32 x = 1; /* unit */\n}\n",
             false,
         )],
-        due: &[Due {
-            source: 0,
-            rows: &[
-                ([0, 0, 0, 0], "`a.proto`/", 1),
-                ([3, 8, 3, 9], "A#", 1),
-                ([4, 8, 4, 9], "A#x.", 1),
+        due: &[Document(
+            0,
+            &["0 0 0 0 1 `a.proto`/", "3 8 3 9 1 A#", "4 8 4 9 1 A#x."],
+            &[
+                "A#|A|One.\nTwo.|tail",
+                "A#x.|x| unit ",
+                "`a.proto`/|a.proto",
             ],
-            entries: &[
-                ("A#", "A", &["One.\nTwo.", "tail"]),
-                ("A#x.", "x", &[" unit "]),
-                ("`a.proto`/", "a.proto", &[]),
-            ],
-        }],
+        )],
     },
     Case {
         name: "documentation: Nothing",
@@ -184,19 +153,11 @@ const CASES: [Case<'static>; 8] = [
             "syntax = \"proto3\";\n// One.\n// Two.\nmessage A { // tail\n  int32 x = 1; /* unit */\n}\n",
             false,
         )],
-        due: &[Due {
-            source: 0,
-            rows: &[
-                ([0, 0, 0, 0], "`a.proto`/", 1),
-                ([3, 8, 3, 9], "A#", 1),
-                ([4, 8, 4, 9], "A#x.", 1),
-            ],
-            entries: &[
-                ("A#", "A", &[]),
-                ("A#x.", "x", &[]),
-                ("`a.proto`/", "a.proto", &[]),
-            ],
-        }],
+        due: &[Document(
+            0,
+            &["0 0 0 0 1 `a.proto`/", "3 8 3 9 1 A#", "4 8 4 9 1 A#x."],
+            &["A#|A", "A#x.|x", "`a.proto`/|a.proto"],
+        )],
     },
     Case {
         name: "documentation: Pass",
@@ -209,19 +170,11 @@ const CASES: [Case<'static>; 8] = [
             "syntax = \"proto3\";\n// One.\n// Two.\nmessage A { // tail\n  int32 x = 1; /* unit */\n}\n",
             false,
         )],
-        due: &[Due {
-            source: 0,
-            rows: &[
-                ([0, 0, 0, 0], "`a.proto`/", 1),
-                ([3, 8, 3, 9], "A#", 1),
-                ([4, 8, 4, 9], "A#x.", 1),
-            ],
-            entries: &[
-                ("A#", "A", &[]),
-                ("A#x.", "x", &[]),
-                ("`a.proto`/", "a.proto", &[]),
-            ],
-        }],
+        due: &[Document(
+            0,
+            &["0 0 0 0 1 `a.proto`/", "3 8 3 9 1 A#", "4 8 4 9 1 A#x."],
+            &["A#|A", "A#x.|x", "`a.proto`/|a.proto"],
+        )],
     },
 ];
 

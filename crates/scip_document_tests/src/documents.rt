@@ -1,34 +1,33 @@
-//! What is due of documents.
+//! What is due of sources: documents, refusals, and the entries of declarations of included files.
 
 ghost use Rattle.std.specs.Prelude.{◌≡◌, length, map, All};
 ghost use Rattle.scip_document_tests.specs.Reads.{IsFine, linked_files, counts};
 
 use crate::calls::{package_of, see};
 use crate::choosing::{Dropping, choices_of};
-use crate::linked::{document_at, files_of, link};
+use crate::linked::{answer_of, externals_of, files_of, link};
+use crate::listed::{are_entries, are_rows};
 use crate::reading::{Reading, Source, read_all};
 use index_hooks::{Chooses, DocChoice};
-use proto_lex::Encoding;
-use proto_link::{LinkFault, Linker};
+use proto_lex::{Encoding, Span};
+use proto_link::{FilePlace, LinkFault, Linker};
 use scip_document::Choices;
-use scip_model::{Document, Info, Occurrence};
+use scip_model::Document;
 use scip_symbol::PackageId;
-use sequences::OwnedText;
 use std::alloc::{AllocError, Global};
 use std::process::Abort;
 
-/// An occurrence: its range, its symbol's text without the front, and its role.
-pub(crate) type Row<'a> = ([u32; 4], &'a str, i32);
+/// What is due.
+#[derive(Clone, Copy, Drop)]
+pub(crate) enum Due<'a> {
+    /// Of the source with this number a document with these occurrences and these symbol entries.
+    Document(usize, &'a [&'a str], &'a [&'a str]),
 
-/// A symbol entry: its symbol's text without the front, its display name, and its documentation.
-pub(crate) type Entry<'a> = (&'a str, &'a str, &'a [&'a str]);
+    /// Of the source with this number none, for the use from the one place to the other.
+    Unresolved(usize, usize, usize),
 
-/// The document of the source with this number.
-#[derive(Drop)]
-pub(crate) struct Due<'a> {
-    pub(crate) source: usize,
-    pub(crate) rows: &'a [Row<'a>],
-    pub(crate) entries: &'a [Entry<'a>],
+    /// Of all sources these external entries.
+    Externals(&'a [&'a str]),
 }
 
 /// How documents are made: the parts of the package, the front that symbols have of it, the unit of
@@ -50,66 +49,13 @@ pub(crate) const PLAIN: Settings<'static> = Settings {
     doc: DocChoice::Leading,
 };
 
-/// Sources, and the documents that are due of some of them.
+/// Sources, and what is due of them.
 #[derive(Drop)]
 pub(crate) struct Case<'a> {
     pub(crate) name: &'a str,
     pub(crate) settings: Settings<'a>,
     pub(crate) sources: &'a [Source<'a>],
     pub(crate) due: &'a [Due<'a>],
-}
-
-fn is_symbol(symbol: &OwnedText, front: &str, rest: &str) -> bool {
-    symbol.as_str().strip_prefix(front) == Some(rest)
-}
-
-fn is_row(occurrence: &Occurrence, front: &str, row: &Row) -> bool {
-    let (range, symbol, role) = *row;
-    let found = &occurrence.range;
-    let start = [found.start_line(), found.start_column()];
-    let end = [found.end_line(), found.end_column()];
-    start == [range[0], range[1]]
-        && end == [range[2], range[3]]
-        && is_symbol(&occurrence.symbol, front, symbol)
-        && occurrence.symbol_roles == role
-}
-
-fn are_rows(occurrences: &[Occurrence], front: &str, rows: &[Row]) -> bool {
-    for (index, row) in rows.iter().enumerate() {
-        match occurrences.get(index) {
-            Some(occurrence) if is_row(occurrence, front, row) => {}
-            _ => return false,
-        }
-    }
-    occurrences.len() == rows.len()
-}
-
-fn are_texts(texts: &[OwnedText], due: &[&str]) -> bool {
-    for (index, text) in due.iter().enumerate() {
-        match texts.get(index) {
-            Some(found) if found.as_str() == *text => {}
-            _ => return false,
-        }
-    }
-    texts.len() == due.len()
-}
-
-fn is_entry(info: &Info, front: &str, entry: &Entry) -> bool {
-    let (symbol, display_name, documentation) = *entry;
-    is_symbol(&info.symbol, front, symbol)
-        && info.display_name.as_str() == display_name
-        && are_texts(info.documentation.as_slice(), documentation)
-}
-
-/// Whether these are the entries that are due, in order.
-pub(crate) fn are_entries(infos: &[Info], front: &str, entries: &[Entry]) -> bool {
-    for (index, entry) in entries.iter().enumerate() {
-        match infos.get(index) {
-            Some(info) if is_entry(info, front, entry) => {}
-            _ => return false,
-        }
-    }
-    infos.len() == entries.len()
 }
 
 fn number_of(encoding: Encoding) -> i32 {
@@ -125,26 +71,29 @@ fn has_head(document: &Document, path: &str, encoding: Encoding) -> bool {
         && document.position_encoding == number_of(encoding)
 }
 
-fn see_parts(rt: &impl Abort, document: &Document, path: &str, case: &Case, due: &Due) {
+/// Whether this is the document that is due.
+fn is_document(document: &Document, case: &Case, due: Due) -> bool {
+    let Due::Document(source, rows, entries) = due else {
+        return false;
+    };
+    let Some((path, _, _)) = case.sources.get(source) else {
+        return false;
+    };
     let front = case.settings.front;
-    see(
-        rt,
-        has_head(document, path, case.settings.encoding),
-        case.name,
-    );
-    see(
-        rt,
-        are_rows(document.occurrences.as_slice(), front, due.rows),
-        case.name,
-    );
-    see(
-        rt,
-        are_entries(document.symbols.as_slice(), front, due.entries),
-        case.name,
-    );
+    has_head(document, *path, case.settings.encoding)
+        && are_rows(document.occurrences.as_slice(), front, rows)
+        && are_entries(document.symbols.as_slice(), front, entries)
 }
 
-fn see_document(
+fn is_refusal(fault: LinkFault, due: Due) -> bool {
+    let Due::Unresolved(file, start, end) = due else {
+        return false;
+    };
+    let span = Span { start, end };
+    fault == LinkFault::Unresolved(FilePlace { file, span })
+}
+
+fn see_answer(
     rt: &impl Abort,
     alloc: Global,
     linker: &Linker<'_>,
@@ -152,30 +101,43 @@ fn see_document(
     choices: &Choices,
     id: &PackageId,
     case: &Case,
-    due: &Due,
+    source: usize,
+    due: Due,
 ) -> Result<(), AllocError>
     requires files { linker.now ≡ linked_files readings.now }
     requires fine { All IsFine readings.now }
     requires choices { map (λ list. length list) choices.now ≡ counts readings.now }
 {
-    let source = due.source;
-    if source >= readings.len() {
-        see(rt, false, case.name);
-        return Ok(());
-    }
     let encoding = case.settings.encoding;
-    match document_at(alloc, linker, readings, source, choices, id, encoding) {
-        Ok(document) => {
-            let reading = &readings[source];
-            see_parts(rt, &document, reading.path, case, due);
-            Ok(())
-        }
-        Err(LinkFault::Memory) => Err(AllocError),
-        Err(_) => {
-            see(rt, false, case.name);
-            Ok(())
-        }
+    match answer_of(alloc, linker, readings, source, choices, id, encoding) {
+        Ok(document) => see(rt, is_document(&document, case, due), case.name),
+        Err(LinkFault::Memory) => return Err(AllocError),
+        Err(fault) => see(rt, is_refusal(fault, due), case.name),
     }
+    Ok(())
+}
+
+fn see_externals(
+    rt: &impl Abort,
+    alloc: Global,
+    linker: &Linker<'_>,
+    readings: &[Reading<'_>],
+    choices: &Choices,
+    id: &PackageId,
+    case: &Case,
+    entries: &[&str],
+) -> Result<(), AllocError>
+    requires files { linker.now ≡ linked_files readings.now }
+    requires choices { map (λ list. length list) choices.now ≡ counts readings.now }
+{
+    let found = externals_of(alloc, linker, readings, choices, id)?;
+    let front = case.settings.front;
+    let holds = match &found {
+        Some(infos) => are_entries(infos.as_slice(), front, entries),
+        None => false,
+    };
+    see(rt, holds, case.name);
+    Ok(())
 }
 
 fn see_each(
@@ -192,7 +154,14 @@ fn see_each(
     requires choices { map (λ list. length list) choices.now ≡ counts readings.now }
 {
     for due in case.due {
-        see_document(rt, alloc, linker, readings, choices, id, case, due)?;
+        match *due {
+            Due::Document(source, _, _) | Due::Unresolved(source, _, _) => {
+                see_answer(rt, alloc, linker, readings, choices, id, case, source, *due)?;
+            }
+            Due::Externals(entries) => {
+                see_externals(rt, alloc, linker, readings, choices, id, case, entries)?;
+            }
+        }
     }
     Ok(())
 }
@@ -213,7 +182,7 @@ fn see_linked(
     see_each(rt, alloc, &linker, readings, choices, &id, case)
 }
 
-/// Sees that the documents of sources, by what is chosen so, are those that are due.
+/// Sees that of sources, by what is chosen so, that is found which is due.
 pub(crate) fn see_chosen<C: Chooses>(
     rt: &impl Abort,
     alloc: Global,
@@ -225,7 +194,7 @@ pub(crate) fn see_chosen<C: Chooses>(
     see_linked(rt, alloc, &readings, &choices, case)
 }
 
-/// Sees that cases have the documents that are due of them.
+/// Sees that of cases that is found which is due.
 pub(crate) fn see_cases(rt: &impl Abort, alloc: Global, cases: &[Case]) -> Result<(), AllocError> {
     for case in cases {
         let chooser = Dropping {

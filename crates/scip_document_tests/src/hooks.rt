@@ -1,11 +1,12 @@
 //! Documents of what callbacks choose.
 
-use crate::calls::see;
-use crate::documents::{Case, Due, PLAIN, see_chosen};
+use crate::documents::Due::Document;
+use crate::documents::{Case, PLAIN, see_chosen};
 use index_hooks::{
     AnyAnswer, DocAlways, DocChoice, Filter, FilterCallback, KindIn, Kinds, NamePrefix, Registry,
 };
 use proto_decl::{DeclView, DeclarationKind};
+use std::alloc::AllocError;
 use std::sync::atomic::{AtomicU64, Ordering};
 use std::test::Fail;
 
@@ -56,56 +57,43 @@ const WITHOUT_ENUMS: Case<'static> = Case {
     name: "all kinds but enums",
     settings: PLAIN,
     sources: &ENUM,
-    due: &[Due {
-        source: 0,
-        rows: &[
-            ([0, 0, 0, 0], "`a.proto`/", 1),
-            ([1, 9, 1, 13], "E#ZERO.", 1),
-            ([2, 8, 2, 9], "M#", 1),
-            ([2, 14, 2, 15], "M#e.", 1),
+    due: &[Document(
+        0,
+        &[
+            "0 0 0 0 1 `a.proto`/",
+            "1 9 1 13 1 E#ZERO.",
+            "2 8 2 9 1 M#",
+            "2 14 2 15 1 M#e.",
         ],
-        entries: &[
-            ("E#ZERO.", "ZERO", &[]),
-            ("M#", "M", &[]),
-            ("M#e.", "e", &[]),
-            ("`a.proto`/", "a.proto", &[]),
-        ],
-    }],
+        &["E#ZERO.|ZERO", "M#|M", "M#e.|e", "`a.proto`/|a.proto"],
+    )],
 };
 
 const UNDER_E: Case<'static> = Case {
     name: "what is under E",
     settings: PLAIN,
     sources: &ENUM,
-    due: &[Due {
-        source: 0,
-        rows: &[
-            ([0, 0, 0, 0], "`a.proto`/", 1),
-            ([1, 5, 1, 6], "E#", 1),
-            ([2, 12, 2, 13], "E#", 0),
-        ],
-        entries: &[("E#", "E", &[]), ("`a.proto`/", "a.proto", &[])],
-    }],
+    due: &[Document(
+        0,
+        &["0 0 0 0 1 `a.proto`/", "1 5 1 6 1 E#", "2 12 2 13 0 E#"],
+        &["E#|E", "`a.proto`/|a.proto"],
+    )],
 };
 
 const SECOND_ONES: Case<'static> = Case {
     name: "each second declaration",
     settings: PLAIN,
     sources: &ENUM,
-    due: &[Due {
-        source: 0,
-        rows: &[
-            ([0, 0, 0, 0], "`a.proto`/", 1),
-            ([1, 5, 1, 6], "E#", 1),
-            ([2, 8, 2, 9], "M#", 1),
-            ([2, 12, 2, 13], "E#", 0),
+    due: &[Document(
+        0,
+        &[
+            "0 0 0 0 1 `a.proto`/",
+            "1 5 1 6 1 E#",
+            "2 8 2 9 1 M#",
+            "2 12 2 13 0 E#",
         ],
-        entries: &[
-            ("E#", "E", &[]),
-            ("M#", "M", &[]),
-            ("`a.proto`/", "a.proto", &[]),
-        ],
-    }],
+        &["E#|E", "M#|M", "`a.proto`/|a.proto"],
+    )],
 };
 
 const BOTH_TEXTS: Case<'static> = Case {
@@ -116,19 +104,15 @@ const BOTH_TEXTS: Case<'static> = Case {
         "syntax = \"proto3\";\n// One.\n// Two.\nmessage A { // tail\n  int32 x = 1; /* unit */\n}\n",
         false,
     )],
-    due: &[Due {
-        source: 0,
-        rows: &[
-            ([0, 0, 0, 0], "`a.proto`/", 1),
-            ([3, 8, 3, 9], "A#", 1),
-            ([4, 8, 4, 9], "A#x.", 1),
+    due: &[Document(
+        0,
+        &["0 0 0 0 1 `a.proto`/", "3 8 3 9 1 A#", "4 8 4 9 1 A#x."],
+        &[
+            "A#|A|One.\nTwo.|tail",
+            "A#x.|x| unit ",
+            "`a.proto`/|a.proto",
         ],
-        entries: &[
-            ("A#", "A", &["One.\nTwo.", "tail"]),
-            ("A#x.", "x", &[" unit "]),
-            ("`a.proto`/", "a.proto", &[]),
-        ],
-    }],
+    )],
 };
 
 #[test]
@@ -136,8 +120,8 @@ fn a_filter_by_kind(rt: HostRuntime) -> Result<(), Fail> {
     let mut registry = Registry::new(rt.alloc());
     let kinds = Kinds::of(&KINDS);
     let filter = Box::new(rt.alloc(), Filter::new(KindIn(kinds), OfKinds(kinds)))?;
-    if let Err((filter, _)) = registry.add_filter(filter) {
-        see(&rt, registry.add_filter(filter).is_ok(), "added again");
+    if registry.add_filter(filter).is_err() {
+        return Err(AllocError.into());
     }
     see_chosen(&rt, rt.alloc(), &registry, &WITHOUT_ENUMS)?;
     Ok(())
@@ -147,8 +131,8 @@ fn a_filter_by_kind(rt: HostRuntime) -> Result<(), Fail> {
 fn a_filter_by_name(rt: HostRuntime) -> Result<(), Fail> {
     let mut registry = Registry::new(rt.alloc());
     let filter = Box::new(rt.alloc(), NamePrefix::filter(rt.alloc(), "E")?)?;
-    if let Err((filter, _)) = registry.add_filter(filter) {
-        see(&rt, registry.add_filter(filter).is_ok(), "added again");
+    if registry.add_filter(filter).is_err() {
+        return Err(AllocError.into());
     }
     see_chosen(&rt, rt.alloc(), &registry, &UNDER_E)?;
     Ok(())
@@ -161,8 +145,8 @@ fn a_filter_that_alternates(rt: HostRuntime) -> Result<(), Fail> {
         asked: AtomicU64::new(0),
     };
     let filter = Box::new(rt.alloc(), Filter::new(AnyAnswer, callback))?;
-    if let Err((filter, _)) = registry.add_filter(filter) {
-        see(&rt, registry.add_filter(filter).is_ok(), "added again");
+    if registry.add_filter(filter).is_err() {
+        return Err(AllocError.into());
     }
     see_chosen(&rt, rt.alloc(), &registry, &SECOND_ONES)?;
     Ok(())
@@ -172,8 +156,8 @@ fn a_filter_that_alternates(rt: HostRuntime) -> Result<(), Fail> {
 fn a_documentation_rule(rt: HostRuntime) -> Result<(), Fail> {
     let mut registry = Registry::new(rt.alloc());
     let rule = Box::new(rt.alloc(), DocAlways(DocChoice::Both).rule())?;
-    if let Err((rule, _)) = registry.add_doc(rule) {
-        see(&rt, registry.add_doc(rule).is_ok(), "added again");
+    if registry.add_doc(rule).is_err() {
+        return Err(AllocError.into());
     }
     see_chosen(&rt, rt.alloc(), &registry, &BOTH_TEXTS)?;
     Ok(())

@@ -10,15 +10,21 @@ mod chosen;
 #[cfg(test)]
 mod documents;
 #[cfg(test)]
+mod external_entries;
+#[cfg(test)]
 mod hooks;
 #[cfg(test)]
 mod linked;
+#[cfg(test)]
+mod listed;
 #[cfg(test)]
 mod merging;
 #[cfg(test)]
 mod paths;
 #[cfg(test)]
 mod reading;
+#[cfg(test)]
+mod resolving;
 #[cfg(test)]
 mod rows;
 #[cfg(test)]

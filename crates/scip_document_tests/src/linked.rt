@@ -3,13 +3,15 @@
 ghost use Rattle.std.specs.Prelude.{◌≡◌, ◌<◌, length, map, All, IfOk};
 ghost use Rattle.scip_document_tests.specs.Reads.{IsFine, linked_file, linked_files, counts};
 
-use crate::calls::document_again;
+use crate::calls::{document_again, externals_again};
 use crate::reading::Reading;
+use crate::resolving::all_resolve;
 use proto_lex::Encoding;
 use proto_link::{LinkFault, LinkFile, Linker, have_own_paths};
 use scip_document::Choices;
-use scip_model::Document;
+use scip_model::{Document, Info};
 use scip_symbol::PackageId;
+use sequences::Sequence;
 use std::alloc::{AllocError, Global};
 
 fn linked_file<'a>(reading: &'a Reading<'_>) -> LinkFile<'a>
@@ -50,7 +52,7 @@ pub(crate) fn link<'a>(alloc: Global, files: &'a [LinkFile<'a>]) -> Result<Linke
 }
 
 /// What `document` answers for the source with this number; `Broken` where that is included.
-pub(crate) fn document_at(
+fn document_at(
     alloc: Global,
     linker: &Linker<'_>,
     readings: &[Reading<'_>],
@@ -69,4 +71,41 @@ pub(crate) fn document_at(
         return Err(LinkFault::Broken(source));
     }
     document_again(alloc, linker, source, &reading.text, choices, id, encoding)
+}
+
+/// The same; `Broken` too where there is no such source.
+pub(crate) fn answer_of(
+    alloc: Global,
+    linker: &Linker<'_>,
+    readings: &[Reading<'_>],
+    source: usize,
+    choices: &Choices,
+    id: &PackageId,
+    encoding: Encoding,
+) -> Result<Document, LinkFault>
+    requires files { linker.now ≡ linked_files readings.now }
+    requires fine { All IsFine readings.now }
+    requires choices { map (λ list. length list) choices.now ≡ counts readings.now }
+{
+    if source >= readings.len() {
+        return Err(LinkFault::Broken(source));
+    }
+    document_at(alloc, linker, readings, source, choices, id, encoding)
+}
+
+/// What `externals` answers; nothing where a use of a source names no type.
+pub(crate) fn externals_of(
+    alloc: Global,
+    linker: &Linker<'_>,
+    readings: &[Reading<'_>],
+    choices: &Choices,
+    id: &PackageId,
+) -> Result<Option<Sequence<Info>>, AllocError>
+    requires files { linker.now ≡ linked_files readings.now }
+    requires choices { map (λ list. length list) choices.now ≡ counts readings.now }
+{
+    if !all_resolve(alloc, linker)? {
+        return Ok(None);
+    }
+    Ok(Some(externals_again(alloc, linker, choices, id)?))
 }

@@ -3,7 +3,7 @@
 ghost use Rattle.scip_document.specs.Pieces.{IsRising};
 
 use crate::calls::see;
-use scip_document::{MergeFault, Unmerged, merge, one_merge_refusal};
+use scip_document::{MergeFault, Unmerged, merge, one_merge_refusal, one_merged_list};
 use scip_model::{Document, Index, Info, Metadata};
 use sequences::{OwnedText, Sequence};
 use std::alloc::{AllocError, Global};
@@ -172,6 +172,7 @@ fn see_case(
 #[test]
 fn pieces_in_any_order(rt: HostRuntime) -> Result<(), Fail> {
     one_merge_refusal();
+    one_merged_list();
     for (paths, fault, marks) in CASES {
         see_case(&rt, rt.alloc(), paths, fault, marks)?;
     }

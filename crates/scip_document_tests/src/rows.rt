@@ -1,6 +1,7 @@
 //! Documents with everything in them that is declared.
 
-use crate::documents::{Case, Due, PLAIN, see_cases};
+use crate::documents::Due::Document;
+use crate::documents::{Case, PLAIN, see_cases};
 use std::test::Fail;
 
 const CASES: [Case<'static>; 13] = [
@@ -8,11 +9,11 @@ const CASES: [Case<'static>; 13] = [
         name: "a message",
         settings: PLAIN,
         sources: &[("a.proto", "syntax = \"proto3\";\nmessage A {}\n", false)],
-        due: &[Due {
-            source: 0,
-            rows: &[([0, 0, 0, 0], "`a.proto`/", 1), ([1, 8, 1, 9], "A#", 1)],
-            entries: &[("A#", "A", &[]), ("`a.proto`/", "a.proto", &[])],
-        }],
+        due: &[Document(
+            0,
+            &["0 0 0 0 1 `a.proto`/", "1 8 1 9 1 A#"],
+            &["A#|A", "`a.proto`/|a.proto"],
+        )],
     },
     Case {
         name: "packages and types of other files",
@@ -35,54 +36,54 @@ const CASES: [Case<'static>; 13] = [
             ),
         ],
         due: &[
-            Due {
-                source: 0,
-                rows: &[
-                    ([0, 0, 0, 0], "`a.proto`/", 1),
-                    ([1, 8, 1, 12], "acme/", 1),
-                    ([2, 7, 2, 16], "`b.proto`/", 2),
-                    ([3, 7, 3, 16], "`t.proto`/", 2),
-                    ([4, 8, 4, 9], "acme/M#", 1),
-                    ([4, 13, 4, 19], "google/", 0),
-                    ([4, 20, 4, 28], "google/protobuf/", 0),
-                    ([4, 29, 4, 38], "google/protobuf/Timestamp#", 0),
-                    ([4, 39, 4, 40], "acme/M#t.", 1),
+            Document(
+                0,
+                &[
+                    "0 0 0 0 1 `a.proto`/",
+                    "1 8 1 12 1 acme/",
+                    "2 7 2 16 2 `b.proto`/",
+                    "3 7 3 16 2 `t.proto`/",
+                    "4 8 4 9 1 acme/M#",
+                    "4 13 4 19 0 google/",
+                    "4 20 4 28 0 google/protobuf/",
+                    "4 29 4 38 0 google/protobuf/Timestamp#",
+                    "4 39 4 40 1 acme/M#t.",
                 ],
-                entries: &[
-                    ("`a.proto`/", "a.proto", &[]),
-                    ("acme/", "acme", &[]),
-                    ("acme/M#", "M", &[]),
-                    ("acme/M#t.", "t", &[]),
+                &[
+                    "`a.proto`/|a.proto",
+                    "acme/|acme",
+                    "acme/M#|M",
+                    "acme/M#t.|t",
                 ],
-            },
-            Due {
-                source: 1,
-                rows: &[
-                    ([0, 0, 0, 0], "`b.proto`/", 1),
-                    ([1, 8, 1, 12], "acme/", 1),
-                    ([1, 13, 1, 19], "acme/google/", 1),
+            ),
+            Document(
+                1,
+                &[
+                    "0 0 0 0 1 `b.proto`/",
+                    "1 8 1 12 1 acme/",
+                    "1 13 1 19 1 acme/google/",
                 ],
-                entries: &[
-                    ("`b.proto`/", "b.proto", &[]),
-                    ("acme/", "acme", &[]),
-                    ("acme/google/", "acme.google", &[]),
+                &[
+                    "`b.proto`/|b.proto",
+                    "acme/|acme",
+                    "acme/google/|acme.google",
                 ],
-            },
-            Due {
-                source: 2,
-                rows: &[
-                    ([0, 0, 0, 0], "`t.proto`/", 1),
-                    ([1, 8, 1, 14], "google/", 1),
-                    ([1, 15, 1, 23], "google/protobuf/", 1),
-                    ([2, 8, 2, 17], "google/protobuf/Timestamp#", 1),
+            ),
+            Document(
+                2,
+                &[
+                    "0 0 0 0 1 `t.proto`/",
+                    "1 8 1 14 1 google/",
+                    "1 15 1 23 1 google/protobuf/",
+                    "2 8 2 17 1 google/protobuf/Timestamp#",
                 ],
-                entries: &[
-                    ("`t.proto`/", "t.proto", &[]),
-                    ("google/", "google", &[]),
-                    ("google/protobuf/", "google.protobuf", &[]),
-                    ("google/protobuf/Timestamp#", "Timestamp", &[]),
+                &[
+                    "`t.proto`/|t.proto",
+                    "google/|google",
+                    "google/protobuf/|google.protobuf",
+                    "google/protobuf/Timestamp#|Timestamp",
                 ],
-            },
+            ),
         ],
     },
     Case {
@@ -93,26 +94,26 @@ const CASES: [Case<'static>; 13] = [
             "syntax = \"proto3\";\npackage p;\nmessage Foo {}\nmessage M { string Foo = 1; Foo x = 2; }\n",
             false,
         )],
-        due: &[Due {
-            source: 0,
-            rows: &[
-                ([0, 0, 0, 0], "`a.proto`/", 1),
-                ([1, 8, 1, 9], "p/", 1),
-                ([2, 8, 2, 11], "p/Foo#", 1),
-                ([3, 8, 3, 9], "p/M#", 1),
-                ([3, 19, 3, 22], "p/M#Foo.", 1),
-                ([3, 28, 3, 31], "p/Foo#", 0),
-                ([3, 32, 3, 33], "p/M#x.", 1),
+        due: &[Document(
+            0,
+            &[
+                "0 0 0 0 1 `a.proto`/",
+                "1 8 1 9 1 p/",
+                "2 8 2 11 1 p/Foo#",
+                "3 8 3 9 1 p/M#",
+                "3 19 3 22 1 p/M#Foo.",
+                "3 28 3 31 0 p/Foo#",
+                "3 32 3 33 1 p/M#x.",
             ],
-            entries: &[
-                ("`a.proto`/", "a.proto", &[]),
-                ("p/", "p", &[]),
-                ("p/Foo#", "Foo", &[]),
-                ("p/M#", "M", &[]),
-                ("p/M#Foo.", "Foo", &[]),
-                ("p/M#x.", "x", &[]),
+            &[
+                "`a.proto`/|a.proto",
+                "p/|p",
+                "p/Foo#|Foo",
+                "p/M#|M",
+                "p/M#Foo.|Foo",
+                "p/M#x.|x",
             ],
-        }],
+        )],
     },
     Case {
         name: "a method of its type's name",
@@ -122,23 +123,18 @@ const CASES: [Case<'static>; 13] = [
             "syntax = \"proto3\";\nmessage Foo {}\nservice S { rpc Foo(Foo) returns (stream Foo); }\n",
             false,
         )],
-        due: &[Due {
-            source: 0,
-            rows: &[
-                ([0, 0, 0, 0], "`a.proto`/", 1),
-                ([1, 8, 1, 11], "Foo#", 1),
-                ([2, 8, 2, 9], "S#", 1),
-                ([2, 16, 2, 19], "S#Foo().", 1),
-                ([2, 20, 2, 23], "Foo#", 0),
-                ([2, 41, 2, 44], "Foo#", 0),
+        due: &[Document(
+            0,
+            &[
+                "0 0 0 0 1 `a.proto`/",
+                "1 8 1 11 1 Foo#",
+                "2 8 2 9 1 S#",
+                "2 16 2 19 1 S#Foo().",
+                "2 20 2 23 0 Foo#",
+                "2 41 2 44 0 Foo#",
             ],
-            entries: &[
-                ("Foo#", "Foo", &[]),
-                ("S#", "S", &[]),
-                ("S#Foo().", "Foo", &[]),
-                ("`a.proto`/", "a.proto", &[]),
-            ],
-        }],
+            &["Foo#|Foo", "S#|S", "S#Foo().|Foo", "`a.proto`/|a.proto"],
+        )],
     },
     Case {
         name: "files that import each other",
@@ -156,36 +152,28 @@ const CASES: [Case<'static>; 13] = [
             ),
         ],
         due: &[
-            Due {
-                source: 0,
-                rows: &[
-                    ([0, 0, 0, 0], "`a.proto`/", 1),
-                    ([1, 7, 1, 16], "`b.proto`/", 2),
-                    ([2, 8, 2, 9], "A#", 1),
-                    ([2, 12, 2, 13], "B#", 0),
-                    ([2, 14, 2, 15], "A#b.", 1),
+            Document(
+                0,
+                &[
+                    "0 0 0 0 1 `a.proto`/",
+                    "1 7 1 16 2 `b.proto`/",
+                    "2 8 2 9 1 A#",
+                    "2 12 2 13 0 B#",
+                    "2 14 2 15 1 A#b.",
                 ],
-                entries: &[
-                    ("A#", "A", &[]),
-                    ("A#b.", "b", &[]),
-                    ("`a.proto`/", "a.proto", &[]),
+                &["A#|A", "A#b.|b", "`a.proto`/|a.proto"],
+            ),
+            Document(
+                1,
+                &[
+                    "0 0 0 0 1 `b.proto`/",
+                    "1 7 1 16 2 `a.proto`/",
+                    "2 8 2 9 1 B#",
+                    "2 12 2 13 0 A#",
+                    "2 14 2 15 1 B#a.",
                 ],
-            },
-            Due {
-                source: 1,
-                rows: &[
-                    ([0, 0, 0, 0], "`b.proto`/", 1),
-                    ([1, 7, 1, 16], "`a.proto`/", 2),
-                    ([2, 8, 2, 9], "B#", 1),
-                    ([2, 12, 2, 13], "A#", 0),
-                    ([2, 14, 2, 15], "B#a.", 1),
-                ],
-                entries: &[
-                    ("B#", "B", &[]),
-                    ("B#a.", "a", &[]),
-                    ("`b.proto`/", "b.proto", &[]),
-                ],
-            },
+                &["B#|B", "B#a.|a", "`b.proto`/|b.proto"],
+            ),
         ],
     },
     Case {
@@ -200,19 +188,12 @@ const CASES: [Case<'static>; 13] = [
             ),
         ],
         due: &[
-            Due {
-                source: 0,
-                rows: &[([0, 0, 0, 0], "`ab.proto`/", 1)],
-                entries: &[("`ab.proto`/", "ab.proto", &[])],
-            },
-            Due {
-                source: 1,
-                rows: &[
-                    ([0, 0, 0, 0], "`m.proto`/", 1),
-                    ([1, 7, 2, 9], "`ab.proto`/", 2),
-                ],
-                entries: &[("`m.proto`/", "m.proto", &[])],
-            },
+            Document(0, &["0 0 0 0 1 `ab.proto`/"], &["`ab.proto`/|ab.proto"]),
+            Document(
+                1,
+                &["0 0 0 0 1 `m.proto`/", "1 7 2 9 2 `ab.proto`/"],
+                &["`m.proto`/|m.proto"],
+            ),
         ],
     },
     Case {
@@ -226,16 +207,16 @@ const CASES: [Case<'static>; 13] = [
             ),
             ("b.proto", "syntax = \"proto3\";\n", false),
         ],
-        due: &[Due {
-            source: 0,
-            rows: &[
-                ([0, 0, 0, 0], "`a.proto`/", 1),
-                ([1, 7, 1, 16], "`b.proto`/", 2),
-                ([2, 14, 2, 26], "`b.proto`/", 2),
-                ([3, 12, 3, 21], "`b.proto`/", 2),
+        due: &[Document(
+            0,
+            &[
+                "0 0 0 0 1 `a.proto`/",
+                "1 7 1 16 2 `b.proto`/",
+                "2 14 2 26 2 `b.proto`/",
+                "3 12 3 21 2 `b.proto`/",
             ],
-            entries: &[("`a.proto`/", "a.proto", &[])],
-        }],
+            &["`a.proto`/|a.proto"],
+        )],
     },
     Case {
         name: "a file that imports itself",
@@ -245,32 +226,21 @@ const CASES: [Case<'static>; 13] = [
             "syntax = \"proto3\";\nimport \"a.proto\";\n",
             false,
         )],
-        due: &[Due {
-            source: 0,
-            rows: &[
-                ([0, 0, 0, 0], "`a.proto`/", 1),
-                ([1, 7, 1, 16], "`a.proto`/", 2),
-            ],
-            entries: &[("`a.proto`/", "a.proto", &[])],
-        }],
+        due: &[Document(
+            0,
+            &["0 0 0 0 1 `a.proto`/", "1 7 1 16 2 `a.proto`/"],
+            &["`a.proto`/|a.proto"],
+        )],
     },
     Case {
         name: "a package of equal components",
         settings: PLAIN,
         sources: &[("a.proto", "syntax = \"proto3\";\npackage a.a;\n", false)],
-        due: &[Due {
-            source: 0,
-            rows: &[
-                ([0, 0, 0, 0], "`a.proto`/", 1),
-                ([1, 8, 1, 9], "a/", 1),
-                ([1, 10, 1, 11], "a/a/", 1),
-            ],
-            entries: &[
-                ("`a.proto`/", "a.proto", &[]),
-                ("a/", "a", &[]),
-                ("a/a/", "a.a", &[]),
-            ],
-        }],
+        due: &[Document(
+            0,
+            &["0 0 0 0 1 `a.proto`/", "1 8 1 9 1 a/", "1 10 1 11 1 a/a/"],
+            &["`a.proto`/|a.proto", "a/|a", "a/a/|a.a"],
+        )],
     },
     Case {
         name: "one package of two files",
@@ -284,20 +254,20 @@ const CASES: [Case<'static>; 13] = [
             ),
         ],
         due: &[
-            Due {
-                source: 0,
-                rows: &[([0, 0, 0, 0], "`a.proto`/", 1), ([1, 8, 1, 9], "p/", 1)],
-                entries: &[("`a.proto`/", "a.proto", &[]), ("p/", "p", &[])],
-            },
-            Due {
-                source: 1,
-                rows: &[
-                    ([0, 0, 0, 0], "`b.proto`/", 1),
-                    ([1, 8, 1, 9], "p/", 1),
-                    ([2, 7, 2, 16], "`a.proto`/", 2),
+            Document(
+                0,
+                &["0 0 0 0 1 `a.proto`/", "1 8 1 9 1 p/"],
+                &["`a.proto`/|a.proto", "p/|p"],
+            ),
+            Document(
+                1,
+                &[
+                    "0 0 0 0 1 `b.proto`/",
+                    "1 8 1 9 1 p/",
+                    "2 7 2 16 2 `a.proto`/",
                 ],
-                entries: &[("`b.proto`/", "b.proto", &[]), ("p/", "p", &[])],
-            },
+                &["`b.proto`/|b.proto", "p/|p"],
+            ),
         ],
     },
     Case {
@@ -308,51 +278,51 @@ const CASES: [Case<'static>; 13] = [
             "syntax = \"proto3\";\npackage p;\nmessage A { message B { enum C { Z = 0; } } oneof o { A.B x = 1; B.C y = 2; } }\nmessage M { p.A.B.C c = 1; map<string, A.B> m = 2; repeated .p.A n = 3; }\n",
             false,
         )],
-        due: &[Due {
-            source: 0,
-            rows: &[
-                ([0, 0, 0, 0], "`a.proto`/", 1),
-                ([1, 8, 1, 9], "p/", 1),
-                ([2, 8, 2, 9], "p/A#", 1),
-                ([2, 20, 2, 21], "p/A#B#", 1),
-                ([2, 29, 2, 30], "p/A#B#C#", 1),
-                ([2, 33, 2, 34], "p/A#B#C#Z.", 1),
-                ([2, 50, 2, 51], "p/A#o:", 1),
-                ([2, 54, 2, 55], "p/A#", 0),
-                ([2, 56, 2, 57], "p/A#B#", 0),
-                ([2, 58, 2, 59], "p/A#x.", 1),
-                ([2, 65, 2, 66], "p/A#B#", 0),
-                ([2, 67, 2, 68], "p/A#B#C#", 0),
-                ([2, 69, 2, 70], "p/A#y.", 1),
-                ([3, 8, 3, 9], "p/M#", 1),
-                ([3, 12, 3, 13], "p/", 0),
-                ([3, 14, 3, 15], "p/A#", 0),
-                ([3, 16, 3, 17], "p/A#B#", 0),
-                ([3, 18, 3, 19], "p/A#B#C#", 0),
-                ([3, 20, 3, 21], "p/M#c.", 1),
-                ([3, 39, 3, 40], "p/A#", 0),
-                ([3, 41, 3, 42], "p/A#B#", 0),
-                ([3, 44, 3, 45], "p/M#m.", 1),
-                ([3, 61, 3, 62], "p/", 0),
-                ([3, 63, 3, 64], "p/A#", 0),
-                ([3, 65, 3, 66], "p/M#n.", 1),
+        due: &[Document(
+            0,
+            &[
+                "0 0 0 0 1 `a.proto`/",
+                "1 8 1 9 1 p/",
+                "2 8 2 9 1 p/A#",
+                "2 20 2 21 1 p/A#B#",
+                "2 29 2 30 1 p/A#B#C#",
+                "2 33 2 34 1 p/A#B#C#Z.",
+                "2 50 2 51 1 p/A#o:",
+                "2 54 2 55 0 p/A#",
+                "2 56 2 57 0 p/A#B#",
+                "2 58 2 59 1 p/A#x.",
+                "2 65 2 66 0 p/A#B#",
+                "2 67 2 68 0 p/A#B#C#",
+                "2 69 2 70 1 p/A#y.",
+                "3 8 3 9 1 p/M#",
+                "3 12 3 13 0 p/",
+                "3 14 3 15 0 p/A#",
+                "3 16 3 17 0 p/A#B#",
+                "3 18 3 19 0 p/A#B#C#",
+                "3 20 3 21 1 p/M#c.",
+                "3 39 3 40 0 p/A#",
+                "3 41 3 42 0 p/A#B#",
+                "3 44 3 45 1 p/M#m.",
+                "3 61 3 62 0 p/",
+                "3 63 3 64 0 p/A#",
+                "3 65 3 66 1 p/M#n.",
             ],
-            entries: &[
-                ("`a.proto`/", "a.proto", &[]),
-                ("p/", "p", &[]),
-                ("p/A#", "A", &[]),
-                ("p/A#B#", "B", &[]),
-                ("p/A#B#C#", "C", &[]),
-                ("p/A#B#C#Z.", "Z", &[]),
-                ("p/A#o:", "o", &[]),
-                ("p/A#x.", "x", &[]),
-                ("p/A#y.", "y", &[]),
-                ("p/M#", "M", &[]),
-                ("p/M#c.", "c", &[]),
-                ("p/M#m.", "m", &[]),
-                ("p/M#n.", "n", &[]),
+            &[
+                "`a.proto`/|a.proto",
+                "p/|p",
+                "p/A#|A",
+                "p/A#B#|B",
+                "p/A#B#C#|C",
+                "p/A#B#C#Z.|Z",
+                "p/A#o:|o",
+                "p/A#x.|x",
+                "p/A#y.|y",
+                "p/M#|M",
+                "p/M#c.|c",
+                "p/M#m.|m",
+                "p/M#n.|n",
             ],
-        }],
+        )],
     },
     Case {
         name: "names with gaps",
@@ -362,37 +332,37 @@ const CASES: [Case<'static>; 13] = [
             "syntax = \"proto3\";\npackage a . /* . */ b;\nmessage A {}\nmessage M { b\n  . A x = 1; }\n",
             false,
         )],
-        due: &[Due {
-            source: 0,
-            rows: &[
-                ([0, 0, 0, 0], "`a.proto`/", 1),
-                ([1, 8, 1, 9], "a/", 1),
-                ([1, 20, 1, 21], "a/b/", 1),
-                ([2, 8, 2, 9], "a/b/A#", 1),
-                ([3, 8, 3, 9], "a/b/M#", 1),
-                ([3, 12, 3, 13], "a/b/", 0),
-                ([4, 4, 4, 5], "a/b/A#", 0),
-                ([4, 6, 4, 7], "a/b/M#x.", 1),
+        due: &[Document(
+            0,
+            &[
+                "0 0 0 0 1 `a.proto`/",
+                "1 8 1 9 1 a/",
+                "1 20 1 21 1 a/b/",
+                "2 8 2 9 1 a/b/A#",
+                "3 8 3 9 1 a/b/M#",
+                "3 12 3 13 0 a/b/",
+                "4 4 4 5 0 a/b/A#",
+                "4 6 4 7 1 a/b/M#x.",
             ],
-            entries: &[
-                ("`a.proto`/", "a.proto", &[]),
-                ("a/", "a", &[]),
-                ("a/b/", "a.b", &[]),
-                ("a/b/A#", "A", &[]),
-                ("a/b/M#", "M", &[]),
-                ("a/b/M#x.", "x", &[]),
+            &[
+                "`a.proto`/|a.proto",
+                "a/|a",
+                "a/b/|a.b",
+                "a/b/A#|A",
+                "a/b/M#|M",
+                "a/b/M#x.|x",
             ],
-        }],
+        )],
     },
     Case {
         name: "a path with a space",
         settings: PLAIN,
         sources: &[("x/a b.proto", "syntax = \"proto3\";\nmessage A {}\n", false)],
-        due: &[Due {
-            source: 0,
-            rows: &[([0, 0, 0, 0], "`x/a b.proto`/", 1), ([1, 8, 1, 9], "A#", 1)],
-            entries: &[("A#", "A", &[]), ("`x/a b.proto`/", "x/a b.proto", &[])],
-        }],
+        due: &[Document(
+            0,
+            &["0 0 0 0 1 `x/a b.proto`/", "1 8 1 9 1 A#"],
+            &["A#|A", "`x/a b.proto`/|x/a b.proto"],
+        )],
     },
 ];
 

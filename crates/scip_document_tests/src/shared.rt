@@ -1,6 +1,7 @@
 //! Documents of sources that see included files.
 
-use crate::documents::{Case, Due, PLAIN, Settings, see_cases};
+use crate::documents::Due::Document;
+use crate::documents::{Case, PLAIN, Settings, see_cases};
 use std::test::Fail;
 
 const CASES: [Case<'static>; 4] = [
@@ -19,22 +20,18 @@ const CASES: [Case<'static>; 4] = [
                 true,
             ),
         ],
-        due: &[Due {
-            source: 0,
-            rows: &[
-                ([0, 0, 0, 0], "`a.proto`/", 1),
-                ([1, 7, 1, 16], "`t.proto`/", 2),
-                ([2, 8, 2, 9], "M#", 1),
-                ([2, 12, 2, 15], "lib/", 0),
-                ([2, 16, 2, 17], "lib/T#", 0),
-                ([2, 18, 2, 19], "M#t.", 1),
+        due: &[Document(
+            0,
+            &[
+                "0 0 0 0 1 `a.proto`/",
+                "1 7 1 16 2 `t.proto`/",
+                "2 8 2 9 1 M#",
+                "2 12 2 15 0 lib/",
+                "2 16 2 17 0 lib/T#",
+                "2 18 2 19 1 M#t.",
             ],
-            entries: &[
-                ("M#", "M", &[]),
-                ("M#t.", "t", &[]),
-                ("`a.proto`/", "a.proto", &[]),
-            ],
-        }],
+            &["M#|M", "M#t.|t", "`a.proto`/|a.proto"],
+        )],
     },
     Case {
         name: "an included file with a use and an import of what isn't there",
@@ -51,22 +48,18 @@ const CASES: [Case<'static>; 4] = [
                 true,
             ),
         ],
-        due: &[Due {
-            source: 0,
-            rows: &[
-                ([0, 0, 0, 0], "`a.proto`/", 1),
-                ([1, 7, 1, 16], "`t.proto`/", 2),
-                ([2, 8, 2, 9], "M#", 1),
-                ([2, 12, 2, 15], "lib/", 0),
-                ([2, 16, 2, 17], "lib/T#", 0),
-                ([2, 18, 2, 19], "M#t.", 1),
+        due: &[Document(
+            0,
+            &[
+                "0 0 0 0 1 `a.proto`/",
+                "1 7 1 16 2 `t.proto`/",
+                "2 8 2 9 1 M#",
+                "2 12 2 15 0 lib/",
+                "2 16 2 17 0 lib/T#",
+                "2 18 2 19 1 M#t.",
             ],
-            entries: &[
-                ("M#", "M", &[]),
-                ("M#t.", "t", &[]),
-                ("`a.proto`/", "a.proto", &[]),
-            ],
-        }],
+            &["M#|M", "M#t.|t", "`a.proto`/|a.proto"],
+        )],
     },
     Case {
         name: "a dropped type of an included file",
@@ -86,21 +79,17 @@ const CASES: [Case<'static>; 4] = [
                 true,
             ),
         ],
-        due: &[Due {
-            source: 0,
-            rows: &[
-                ([0, 0, 0, 0], "`a.proto`/", 1),
-                ([1, 7, 1, 16], "`t.proto`/", 2),
-                ([2, 8, 2, 9], "M#", 1),
-                ([2, 12, 2, 15], "lib/", 0),
-                ([2, 18, 2, 19], "M#t.", 1),
+        due: &[Document(
+            0,
+            &[
+                "0 0 0 0 1 `a.proto`/",
+                "1 7 1 16 2 `t.proto`/",
+                "2 8 2 9 1 M#",
+                "2 12 2 15 0 lib/",
+                "2 18 2 19 1 M#t.",
             ],
-            entries: &[
-                ("M#", "M", &[]),
-                ("M#t.", "t", &[]),
-                ("`a.proto`/", "a.proto", &[]),
-            ],
-        }],
+            &["M#|M", "M#t.|t", "`a.proto`/|a.proto"],
+        )],
     },
     Case {
         name: "an included file that nobody sees has the same message",
@@ -109,11 +98,11 @@ const CASES: [Case<'static>; 4] = [
             ("a.proto", "syntax = \"proto3\";\nmessage M {}\n", false),
             ("t.proto", "syntax = \"proto3\";\nmessage M {}\n", true),
         ],
-        due: &[Due {
-            source: 0,
-            rows: &[([0, 0, 0, 0], "`a.proto`/", 1), ([1, 8, 1, 9], "M#", 1)],
-            entries: &[("M#", "M", &[]), ("`a.proto`/", "a.proto", &[])],
-        }],
+        due: &[Document(
+            0,
+            &["0 0 0 0 1 `a.proto`/", "1 8 1 9 1 M#"],
+            &["M#|M", "`a.proto`/|a.proto"],
+        )],
     },
 ];
 

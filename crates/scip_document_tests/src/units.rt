@@ -1,6 +1,7 @@
 //! Documents in both units of columns, and under a package.
 
-use crate::documents::{Case, Due, PLAIN, Settings, see_cases};
+use crate::documents::Due::Document;
+use crate::documents::{Case, PLAIN, Settings, see_cases};
 use proto_lex::Encoding;
 use std::test::Fail;
 
@@ -13,11 +14,11 @@ const CASES: [Case<'static>; 9] = [
             ..PLAIN
         },
         sources: &[("a.proto", "syntax = \"proto3\";\nmessage A {}\n", false)],
-        due: &[Due {
-            source: 0,
-            rows: &[([0, 0, 0, 0], "`a.proto`/", 1), ([1, 8, 1, 9], "A#", 1)],
-            entries: &[("A#", "A", &[]), ("`a.proto`/", "a.proto", &[])],
-        }],
+        due: &[Document(
+            0,
+            &["0 0 0 0 1 `a.proto`/", "1 8 1 9 1 A#"],
+            &["A#|A", "`a.proto`/|a.proto"],
+        )],
     },
     Case {
         name: "two bytes in Utf8",
@@ -30,11 +31,11 @@ const CASES: [Case<'static>; 9] = [
             "syntax = \"proto3\";\n/* é */ message A {}\n",
             false,
         )],
-        due: &[Due {
-            source: 0,
-            rows: &[([0, 0, 0, 0], "`a.proto`/", 1), ([1, 17, 1, 18], "A#", 1)],
-            entries: &[("A#", "A", &[]), ("`a.proto`/", "a.proto", &[])],
-        }],
+        due: &[Document(
+            0,
+            &["0 0 0 0 1 `a.proto`/", "1 17 1 18 1 A#"],
+            &["A#|A", "`a.proto`/|a.proto"],
+        )],
     },
     Case {
         name: "a character past U+FFFF in Utf8",
@@ -47,11 +48,11 @@ const CASES: [Case<'static>; 9] = [
             "syntax = \"proto3\";\n/* 😀 */ message A {}\n",
             false,
         )],
-        due: &[Due {
-            source: 0,
-            rows: &[([0, 0, 0, 0], "`a.proto`/", 1), ([1, 19, 1, 20], "A#", 1)],
-            entries: &[("A#", "A", &[]), ("`a.proto`/", "a.proto", &[])],
-        }],
+        due: &[Document(
+            0,
+            &["0 0 0 0 1 `a.proto`/", "1 19 1 20 1 A#"],
+            &["A#|A", "`a.proto`/|a.proto"],
+        )],
     },
     Case {
         name: "a byte order mark in Utf8",
@@ -64,11 +65,11 @@ const CASES: [Case<'static>; 9] = [
             "\u{feff}syntax = \"proto3\"; message A {}",
             false,
         )],
-        due: &[Due {
-            source: 0,
-            rows: &[([0, 0, 0, 0], "`a.proto`/", 1), ([0, 30, 0, 31], "A#", 1)],
-            entries: &[("A#", "A", &[]), ("`a.proto`/", "a.proto", &[])],
-        }],
+        due: &[Document(
+            0,
+            &["0 0 0 0 1 `a.proto`/", "0 30 0 31 1 A#"],
+            &["A#|A", "`a.proto`/|a.proto"],
+        )],
     },
     Case {
         name: "two bytes in Utf16",
@@ -81,11 +82,11 @@ const CASES: [Case<'static>; 9] = [
             "syntax = \"proto3\";\n/* é */ message A {}\n",
             false,
         )],
-        due: &[Due {
-            source: 0,
-            rows: &[([0, 0, 0, 0], "`a.proto`/", 1), ([1, 16, 1, 17], "A#", 1)],
-            entries: &[("A#", "A", &[]), ("`a.proto`/", "a.proto", &[])],
-        }],
+        due: &[Document(
+            0,
+            &["0 0 0 0 1 `a.proto`/", "1 16 1 17 1 A#"],
+            &["A#|A", "`a.proto`/|a.proto"],
+        )],
     },
     Case {
         name: "a character past U+FFFF in Utf16",
@@ -98,11 +99,11 @@ const CASES: [Case<'static>; 9] = [
             "syntax = \"proto3\";\n/* 😀 */ message A {}\n",
             false,
         )],
-        due: &[Due {
-            source: 0,
-            rows: &[([0, 0, 0, 0], "`a.proto`/", 1), ([1, 17, 1, 18], "A#", 1)],
-            entries: &[("A#", "A", &[]), ("`a.proto`/", "a.proto", &[])],
-        }],
+        due: &[Document(
+            0,
+            &["0 0 0 0 1 `a.proto`/", "1 17 1 18 1 A#"],
+            &["A#|A", "`a.proto`/|a.proto"],
+        )],
     },
     Case {
         name: "a byte order mark in Utf16",
@@ -115,11 +116,11 @@ const CASES: [Case<'static>; 9] = [
             "\u{feff}syntax = \"proto3\"; message A {}",
             false,
         )],
-        due: &[Due {
-            source: 0,
-            rows: &[([0, 0, 0, 0], "`a.proto`/", 1), ([0, 28, 0, 29], "A#", 1)],
-            entries: &[("A#", "A", &[]), ("`a.proto`/", "a.proto", &[])],
-        }],
+        due: &[Document(
+            0,
+            &["0 0 0 0 1 `a.proto`/", "0 28 0 29 1 A#"],
+            &["A#|A", "`a.proto`/|a.proto"],
+        )],
     },
     Case {
         name: "an empty source but for its syntax, in Utf16",
@@ -128,11 +129,7 @@ const CASES: [Case<'static>; 9] = [
             ..PLAIN
         },
         sources: &[("a.proto", "syntax = \"proto3\";\n", false)],
-        due: &[Due {
-            source: 0,
-            rows: &[([0, 0, 0, 0], "`a.proto`/", 1)],
-            entries: &[("`a.proto`/", "a.proto", &[])],
-        }],
+        due: &[Document(0, &["0 0 0 0 1 `a.proto`/"], &["`a.proto`/|a.proto"])],
     },
     Case {
         name: "a message in Utf16",
@@ -141,11 +138,11 @@ const CASES: [Case<'static>; 9] = [
             ..PLAIN
         },
         sources: &[("a.proto", "syntax = \"proto3\";\nmessage A {}\n", false)],
-        due: &[Due {
-            source: 0,
-            rows: &[([0, 0, 0, 0], "`a.proto`/", 1), ([1, 8, 1, 9], "A#", 1)],
-            entries: &[("A#", "A", &[]), ("`a.proto`/", "a.proto", &[])],
-        }],
+        due: &[Document(
+            0,
+            &["0 0 0 0 1 `a.proto`/", "1 8 1 9 1 A#"],
+            &["A#|A", "`a.proto`/|a.proto"],
+        )],
     },
 ];
 

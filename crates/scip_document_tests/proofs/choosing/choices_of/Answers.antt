@@ -1,4 +1,4 @@
-use Rattle.std.proofs.Common.{◌≡◌, ◌∙◌, ℕ, List, length, map, ap}
+use Rattle.std.proofs.Common.{◌∙◌, ℕ, List, length, map, ap}
 use Rattle.std.proofs.lemmas.Simd.{map-map}
 use Rattle.index_hooks.specs.declared.choice.Choice.{Choice}
 use Rattle.scip_document.specs.Chosen.{Chosen}

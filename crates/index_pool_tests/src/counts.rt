@@ -182,6 +182,22 @@ fn no_input_gives_no_answers(rt: HostRuntime) -> Result<(), Fail> {
     Ok(())
 }
 
+/// Whether each input was run to its end, and at most once, if it was begun.
+fn are_ended(counts: &Counts) -> bool {
+    are_same(&counts.before, &counts.runs)
+        && are_same(&counts.before, &counts.after)
+        && how_many(&counts.before, 0).wrapping_add(how_many(&counts.before, 1)) == INPUTS
+}
+
+/// Whether a phase answers twice each number, or else that a thread is refused.
+fn is_told(answer: Result<Vec<usize>, PoolFault<()>>, spawned: bool) -> bool {
+    match answer {
+        Ok(outs) => spawned && outs.len() == INPUTS && are_doubled(&outs),
+        Err(PoolFault::Spawn) => !spawned,
+        Err(_) => false,
+    }
+}
+
 /// Whether a phase of whose threads so many can be started gives this, leaves no run half done, and
 /// answers where no start is refused after it.
 fn ends_with<R: Threads + Wait>(
@@ -193,22 +209,22 @@ fn ends_with<R: Threads + Wait>(
 ) -> Result<bool, AllocError> {
     let counts = no_counts(alloc)?;
     let answer = run_phase_with_starts(rt, alloc, &counts, INPUTS, workers, &counts, starts);
-    let ended = are_same(&counts.before, &counts.runs)
-        && are_same(&counts.before, &counts.after)
-        && how_many(&counts.before, 0).wrapping_add(how_many(&counts.before, 1)) == INPUTS;
-    let as_told = match answer {
-        Ok(outs) => spawned && outs.len() == INPUTS && are_doubled(&outs),
-        Err(PoolFault::Spawn) => !spawned,
-        Err(_) => false,
-    };
+    let ended = are_ended(&counts);
+    let as_told = is_told(answer, spawned);
     let again = run_phase(rt, alloc, &counts, INPUTS, workers, &NoGate);
     Ok(ended && as_told && matches!(again, Ok(outs) if outs.len() == INPUTS))
 }
 
 /// Whether there are as many calls of both kinds for each input.
 fn are_same(some: &Vec<AtomicU64>, others: &Vec<AtomicU64>) -> bool {
-    some.iter().zip(others.iter()).all(|(a, b)| a.load(Ordering::SeqCst)
-        == b.load(Ordering::SeqCst))
+    for number in 0..some.len() {
+        if number >= others.len()
+            || some[number].load(Ordering::SeqCst) != others[number].load(Ordering::SeqCst)
+        {
+            return false;
+        }
+    }
+    true
 }
 
 #[test]

@@ -123,6 +123,23 @@ fn waiting_gate<C: Drop>(
     })
 }
 
+/// Whether no wait ran out, and the job and the gate were called once for each of so many inputs.
+fn is_each_once<C>(gate: &Waiting<C>, inputs: usize) -> bool {
+    gate.before.is_each_once(inputs)
+        && gate.runs.is_each_once(inputs)
+        && gate.after.is_each_once(inputs)
+        && gate.run_outs.load(Ordering::SeqCst) == 0
+}
+
+/// The order in which the inputs were entered.
+fn order_of(alloc: Global, tickets: &Vec<AtomicU64>) -> Result<Vec<u64>, AllocError> {
+    let mut order = Vec::new(alloc);
+    for ticket in tickets.iter() {
+        order.push(ticket.load(Ordering::SeqCst))?;
+    }
+    Ok(order)
+}
+
 /// The order in which the inputs were entered, where the phase answers, no wait ran out, and the job
 /// and the gate were called once for each input.
 fn entry_order<R: Threads + Wait + Clock + Sync>(
@@ -136,17 +153,11 @@ fn entry_order<R: Threads + Wait + Clock + Sync>(
     let gate = waiting_gate(alloc, rt, awaited)?;
     let inputs = awaited.len();
     let answer = run_phase(rt, alloc, &gate, inputs, workers, &gate);
-    let once = gate.before.is_each_once(inputs)
-        && gate.runs.is_each_once(inputs)
-        && gate.after.is_each_once(inputs);
-    if answer.is_err() || !once || gate.run_outs.load(Ordering::SeqCst) != 0 {
-        return Ok(None);
+    if answer.is_ok() && is_each_once(&gate, inputs) {
+        Ok(Some(order_of(alloc, &gate.order)?))
+    } else {
+        Ok(None)
     }
-    let mut order = Vec::new(alloc);
-    for ticket in gate.order.iter() {
-        order.push(ticket.load(Ordering::SeqCst))?;
-    }
-    Ok(Some(order))
 }
 
 #[test]

@@ -74,69 +74,74 @@ fn first_without(alloc: Global, want: LexFault, sources: &[&str]) -> Option<usiz
     None
 }
 
+const FAULTS: [(&[u8], LexFault); 16] = [
+    (b"@", LexFault::BadByte(0)),
+    (b"\"abc", LexFault::OpenString(0)),
+    (b"/* x", LexFault::OpenComment(0)),
+    (b"08", LexFault::BadNumber(0)),
+    (b"\"\\q\"", LexFault::BadEscape(1)),
+    (b"\xFF", LexFault::NotUtf8(0)),
+    (b"\xEF\xBB\xBF\xEF\xBB\xBF", LexFault::BadByte(3)),
+    (b"a\xEF\xBB\xBF", LexFault::BadByte(1)),
+    (b"syntax = \"pro\0to3\";", LexFault::BadByte(13)),
+    (b"a 'b\nc'", LexFault::OpenString(2)),
+    (b"x /* /* */ */", LexFault::BadByte(11)),
+    (b"a\n/*/", LexFault::OpenComment(2)),
+    (b"a \xC3\xA9", LexFault::BadByte(2)),
+    (b"1\xC3\xA9", LexFault::BadByte(1)),
+    (b"'\"", LexFault::OpenString(0)),
+    (b"a\0", LexFault::BadByte(1)),
+];
+
 #[test]
 fn faults_and_their_offsets(rt: HostRuntime) {
-    let cases = [
-        (b"@".as_slice(), LexFault::BadByte(0)),
-        (b"\"abc", LexFault::OpenString(0)),
-        (b"/* x", LexFault::OpenComment(0)),
-        (b"08", LexFault::BadNumber(0)),
-        (b"\"\\q\"", LexFault::BadEscape(1)),
-        (b"\xFF", LexFault::NotUtf8(0)),
-        (b"\xEF\xBB\xBF\xEF\xBB\xBF", LexFault::BadByte(3)),
-        (b"a\xEF\xBB\xBF", LexFault::BadByte(1)),
-        (b"syntax = \"pro\0to3\";", LexFault::BadByte(13)),
-        (b"a 'b\nc'", LexFault::OpenString(2)),
-        (b"x /* /* */ */", LexFault::BadByte(11)),
-        (b"a\n/*/", LexFault::OpenComment(2)),
-        (b"a \xC3\xA9", LexFault::BadByte(2)),
-        (b"1\xC3\xA9", LexFault::BadByte(1)),
-        (b"'\"", LexFault::OpenString(0)),
-        (b"a\0", LexFault::BadByte(1)),
-    ];
-    see_all(&rt, first_other_fault(rt.alloc(), &cases));
+    see_all(&rt, first_other_fault(rt.alloc(), &FAULTS));
 }
+
+const FIRST_FAULTS: [(&[u8], LexFault); 9] = [
+    (b"\"\\q", LexFault::BadEscape(1)),
+    (b"\"\0", LexFault::BadByte(1)),
+    (b"\"\\", LexFault::BadEscape(1)),
+    (b"\"\\\n\"", LexFault::BadEscape(1)),
+    (b"\"\\\0\"", LexFault::BadEscape(1)),
+    (b"\"a\n\\q\"", LexFault::OpenString(0)),
+    (b"08 @", LexFault::BadNumber(0)),
+    (b"@ 08", LexFault::BadByte(0)),
+    (b"// @\n@", LexFault::BadByte(5)),
+];
 
 #[test]
 fn fault_that_is_met_first(rt: HostRuntime) {
-    let cases = [
-        (b"\"\\q".as_slice(), LexFault::BadEscape(1)),
-        (b"\"\0", LexFault::BadByte(1)),
-        (b"\"\\", LexFault::BadEscape(1)),
-        (b"\"\\\n\"", LexFault::BadEscape(1)),
-        (b"\"\\\0\"", LexFault::BadEscape(1)),
-        (b"\"a\n\\q\"", LexFault::OpenString(0)),
-        (b"08 @", LexFault::BadNumber(0)),
-        (b"@ 08", LexFault::BadByte(0)),
-        (b"// @\n@", LexFault::BadByte(5)),
-    ];
-    see_all(&rt, first_other_fault(rt.alloc(), &cases));
+    see_all(&rt, first_other_fault(rt.alloc(), &FIRST_FAULTS));
 }
+
+const INTEGERS: [&str; 8] = ["0", "00", "07", "1", "120", "0x1F", "0XaB9", "0xe"];
+
+const FLOATS: [&str; 13] = [
+    "1.", "1.5", ".5", "1e5", "1E+5", "1e-50", "1.e5", "08.5", "09e1", "1.5e10", ".5E-3", "0.0",
+    "0e0",
+];
 
 #[test]
 fn forms_of_numbers(rt: HostRuntime) -> Result<(), Fail> {
-    let integers = ["0", "00", "07", "1", "120", "0x1F", "0XaB9", "0xe"];
     see_all(
         &rt,
-        first_not_one(rt.alloc(), TokenKind::Integer, &integers)?,
+        first_not_one(rt.alloc(), TokenKind::Integer, &INTEGERS)?,
     );
-    let floats = [
-        "1.", "1.5", ".5", "1e5", "1E+5", "1e-50", "1.e5", "08.5", "09e1", "1.5e10", ".5E-3",
-        "0.0", "0e0",
-    ];
-    see_all(&rt, first_not_one(rt.alloc(), TokenKind::Float, &floats)?);
+    see_all(&rt, first_not_one(rt.alloc(), TokenKind::Float, &FLOATS)?);
     Ok(())
 }
 
+const NO_NUMBERS: [&str; 17] = [
+    "08", "1_0", "0x", "0xg", "0x1.8", "1..2", "1.0f", "1e", "1e+", "12a", "0b1", "1.2.3", "1e5.",
+    "1e+5e+3", ".5.", "1.5e", "00x1",
+];
+
 #[test]
 fn runs_that_are_no_numbers(rt: HostRuntime) {
-    let sources = [
-        "08", "1_0", "0x", "0xg", "0x1.8", "1..2", "1.0f", "1e", "1e+", "12a", "0b1", "1.2.3",
-        "1e5.", "1e+5e+3", ".5.", "1.5e", "00x1",
-    ];
     see_all(
         &rt,
-        first_without(rt.alloc(), LexFault::BadNumber(0), &sources),
+        first_without(rt.alloc(), LexFault::BadNumber(0), &NO_NUMBERS),
     );
 }
 
@@ -153,71 +158,102 @@ fn first_misread(alloc: Global, cases: &[Case<'_>]) -> Result<Option<usize>, Lex
     Ok(None)
 }
 
+const NONE: (TokenKind, &str) = (TokenKind::Dot, "");
+
+const DOT: (TokenKind, &str) = (TokenKind::Dot, ".");
+
+const PLUS: (TokenKind, &str) = (TokenKind::Plus, "+");
+
+const RUNS: [Case<'static>; 7] = [
+    (
+        "0xe+1",
+        3,
+        [(TokenKind::Integer, "0xe"), PLUS, (TokenKind::Integer, "1")],
+    ),
+    (
+        "1+1",
+        3,
+        [(TokenKind::Integer, "1"), PLUS, (TokenKind::Integer, "1")],
+    ),
+    (
+        "a.5",
+        2,
+        [(TokenKind::Identifier, "a"), (TokenKind::Float, ".5"), NONE],
+    ),
+    (
+        "a.b",
+        3,
+        [
+            (TokenKind::Identifier, "a"),
+            DOT,
+            (TokenKind::Identifier, "b"),
+        ],
+    ),
+    ("..5", 2, [DOT, (TokenKind::Float, ".5"), NONE]),
+    (
+        "_a1 B_2",
+        2,
+        [
+            (TokenKind::Identifier, "_a1"),
+            (TokenKind::Identifier, "B_2"),
+            NONE,
+        ],
+    ),
+    (
+        "1/**/2",
+        2,
+        [(TokenKind::Integer, "1"), (TokenKind::Integer, "2"), NONE],
+    ),
+];
+
 #[test]
 fn where_runs_end(rt: HostRuntime) -> Result<(), Fail> {
-    let none = (TokenKind::Dot, "");
-    let identifier = TokenKind::Identifier;
-    let integer = TokenKind::Integer;
-    let float = TokenKind::Float;
-    let dot = (TokenKind::Dot, ".");
-    let plus = (TokenKind::Plus, "+");
-    let cases = [
-        ("0xe+1", 3, [(integer, "0xe"), plus, (integer, "1")]),
-        ("1+1", 3, [(integer, "1"), plus, (integer, "1")]),
-        ("a.5", 2, [(identifier, "a"), (float, ".5"), none]),
-        ("a.b", 3, [(identifier, "a"), dot, (identifier, "b")]),
-        ("..5", 2, [dot, (float, ".5"), none]),
-        (
-            "_a1 B_2",
-            2,
-            [(identifier, "_a1"), (identifier, "B_2"), none],
-        ),
-        ("1/**/2", 2, [(integer, "1"), (integer, "2"), none]),
-    ];
-    see_all(&rt, first_misread(rt.alloc(), &cases)?);
+    see_all(&rt, first_misread(rt.alloc(), &RUNS)?);
     Ok(())
 }
 
+const STRINGS: [&str; 10] = [
+    r#""""#,
+    r#""a'b""#,
+    r#"'a"b'"#,
+    r#""é/*//""#,
+    r#""\a\b\f\n\r\t\v\\\'\"\?""#,
+    r#"'\x1'"#,
+    r#""\x1Fg\X0g\xFFF""#,
+    r#""\0\12\377\777\1238""#,
+    r#""\u00e9\uD800""#,
+    r#""\U0000ABCD\U000FFFFF\U0010FFFF""#,
+];
+
 #[test]
 fn forms_of_strings(rt: HostRuntime) -> Result<(), Fail> {
-    let sources = [
-        r#""""#,
-        r#""a'b""#,
-        r#"'a"b'"#,
-        r#""é/*//""#,
-        r#""\a\b\f\n\r\t\v\\\'\"\?""#,
-        r#"'\x1'"#,
-        r#""\x1Fg\X0g\xFFF""#,
-        r#""\0\12\377\777\1238""#,
-        r#""\u00e9\uD800""#,
-        r#""\U0000ABCD\U000FFFFF\U0010FFFF""#,
-    ];
     see_all(
         &rt,
-        first_not_one(rt.alloc(), TokenKind::StringLiteral, &sources)?,
+        first_not_one(rt.alloc(), TokenKind::StringLiteral, &STRINGS)?,
     );
     Ok(())
 }
 
+const NO_ESCAPES: [&str; 12] = [
+    r#""\q""#,
+    r#""\x""#,
+    r#""\xg""#,
+    r#""\8""#,
+    r#""\A""#,
+    r#""\u123""#,
+    r#""\u123g""#,
+    r#""\U0010FFF""#,
+    r#""\U00110000""#,
+    r#""\U0001000""#,
+    r#""\U0100FFFF""#,
+    r#""\ ""#,
+];
+
 #[test]
 fn escapes_that_are_none(rt: HostRuntime) {
-    let sources = [
-        r#""\q""#,
-        r#""\x""#,
-        r#""\xg""#,
-        r#""\8""#,
-        r#""\A""#,
-        r#""\u123""#,
-        r#""\u123g""#,
-        r#""\U0010FFF""#,
-        r#""\U00110000""#,
-        r#""\U0001000""#,
-        r#""\U0100FFFF""#,
-        r#""\ ""#,
-    ];
     see_all(
         &rt,
-        first_without(rt.alloc(), LexFault::BadEscape(1), &sources),
+        first_without(rt.alloc(), LexFault::BadEscape(1), &NO_ESCAPES),
     );
 }
 
@@ -263,47 +299,50 @@ fn has_places(
     Ok(are_comments(found.comments(), comments))
 }
 
+const COMMENTS: [(CommentKind, usize, usize); 4] = [
+    (CommentKind::Block, 0, 8),
+    (CommentKind::Line, 11, 16),
+    (CommentKind::Block, 17, 21),
+    (CommentKind::Line, 22, 24),
+];
+
+const TOKENS: [(usize, usize); 2] = [(9, 10), (21, 22)];
+
 #[test]
 fn comments_and_their_places(rt: HostRuntime) -> Result<(), Fail> {
     let source = b"/* /* */ a // b\r\n/**/c//";
-    let comments = [
-        (CommentKind::Block, 0, 8),
-        (CommentKind::Line, 11, 16),
-        (CommentKind::Block, 17, 21),
-        (CommentKind::Line, 22, 24),
-    ];
-    let tokens = [(9, 10), (21, 22)];
     see(
         &rt,
-        has_places(rt.alloc(), source, &tokens, &comments)?,
+        has_places(rt.alloc(), source, &TOKENS, &COMMENTS)?,
         "places",
     );
     Ok(())
 }
 
+const SIGNS: [(TokenKind, &str); 16] = [
+    (TokenKind::Semicolon, ";"),
+    (TokenKind::Equals, "="),
+    (TokenKind::OpenBrace, "{"),
+    (TokenKind::CloseBrace, "}"),
+    (TokenKind::OpenBracket, "["),
+    (TokenKind::CloseBracket, "]"),
+    (TokenKind::OpenParenthesis, "("),
+    (TokenKind::CloseParenthesis, ")"),
+    (TokenKind::Less, "<"),
+    (TokenKind::Greater, ">"),
+    (TokenKind::Comma, ","),
+    (TokenKind::Dot, "."),
+    (TokenKind::Colon, ":"),
+    (TokenKind::Plus, "+"),
+    (TokenKind::Minus, "-"),
+    (TokenKind::Slash, "/"),
+];
+
 #[test]
 fn every_sign(rt: HostRuntime) -> Result<(), Fail> {
-    let want = [
-        (TokenKind::Semicolon, ";"),
-        (TokenKind::Equals, "="),
-        (TokenKind::OpenBrace, "{"),
-        (TokenKind::CloseBrace, "}"),
-        (TokenKind::OpenBracket, "["),
-        (TokenKind::CloseBracket, "]"),
-        (TokenKind::OpenParenthesis, "("),
-        (TokenKind::CloseParenthesis, ")"),
-        (TokenKind::Less, "<"),
-        (TokenKind::Greater, ">"),
-        (TokenKind::Comma, ","),
-        (TokenKind::Dot, "."),
-        (TokenKind::Colon, ":"),
-        (TokenKind::Plus, "+"),
-        (TokenKind::Minus, "-"),
-        (TokenKind::Slash, "/"),
-    ];
     see(
         &rt,
-        has_tokens(rt.alloc(), ";={}[]()<>,.:+-/", &want)?,
+        has_tokens(rt.alloc(), ";={}[]()<>,.:+-/", &SIGNS)?,
         "signs",
     );
     Ok(())
@@ -319,10 +358,11 @@ fn first_with_tokens(alloc: Global, sources: &[&str]) -> Result<Option<usize>, L
     Ok(None)
 }
 
+const TEXTS_WITHOUT_TOKENS: [&str; 4] = ["", "\u{FEFF}", " \t\n\x0B\x0C\r", "\u{FEFF}// end"];
+
 #[test]
 fn texts_without_tokens(rt: HostRuntime) -> Result<(), Fail> {
-    let sources = ["", "\u{FEFF}", " \t\n\x0B\x0C\r", "\u{FEFF}// end"];
-    see_all(&rt, first_with_tokens(rt.alloc(), &sources)?);
+    see_all(&rt, first_with_tokens(rt.alloc(), &TEXTS_WITHOUT_TOKENS)?);
     Ok(())
 }
 

@@ -1,5 +1,5 @@
 -- What the second phase answers.
-use Rattle.std.proofs.Common.{◌≡◌, ◌∙◌, ℕ, ◌<◌, List, length, Some, ap, sym, subst}
+use Rattle.std.proofs.Common.{◌≡◌, ◌∙◌, ℕ, ◌<◌, List, length, Some, refl, ap, sym, subst}
 use Rattle.std.specs.List.{Contains, slice_get}
 use Rattle.std.specs.Option.{option_map}
 use Rattle.std.specs.declared.cmp.Ordering.TheVariants.{Less}
@@ -63,6 +63,10 @@ module _ (readings : List ReadFile) (files : List File) (chosen : Chosen) (id : 
         exact = λ document. (found document, only document);
         ascends = rising_from_places document_cmp documents ascending;
       };
+      each = λ source is.
+          let here = made source ((ready.sources source).1 is) in
+          let of = is_of source here.0 here.1 in
+          (here.0, contained documents source here.0 here.1, record { source = source; text = of.text; text_is = text_listed source of.text of.has_text; is = of.is }, refl);
     }
 
   -- why a source has no document, the first of those that have none, is why there are no documents

@@ -13,7 +13,7 @@ use Rattle.scip_document.specs.Chosen.{Chosen, HaveChoices}
 use Rattle.scip_document.specs.Conditions.{HaveGoodPaths, AllResolve, IsFirstUnresolved}
 use Rattle.scip_document.specs.Uses.{UsesResolve}
 use Rattle.scip_document.specs.Texts.{HasText}
-use Rattle.scip_document.specs.Indexes.{IsAscendingListOf, IsDocumentOf, document_cmp, HasDocument}
+use Rattle.scip_document.specs.Indexes.{IsAscendingListOf, IsDocumentOf, document_cmp, HasDocument, HaveDocuments}
 use Rattle.scip_build.specs.declared.fault.FileFault.{FileFault}
 use Rattle.scip_build.specs.declared.fault.BuildFault.{BuildFault}
 use Rattle.scip_build.specs.declared.fault.BuildFault.TheVariants as build
@@ -81,10 +81,11 @@ MayRefuseSource files number (build.Unresolved place) = (place.file ≡ number) 
 abbrev pub GivesDocument : List ReadFile → List File → Chosen → Package → Encoding → (number : ℕ) → Result Document BuildFault → Type 0
 GivesDocument readings files chosen id encoding number result = MatchResult result (IsDocumentAt readings files chosen id encoding number) (MayRefuseSource files number)
 
--- The documents of all sources, by path, of which each use names a type.
+-- The documents of all sources, one of each, by path; each use of the sources names a type.
 pub record AreDocuments (readings : List ReadFile) (files : List File) (chosen : Chosen) (id : Package) (encoding : Encoding) (documents : List Document) : Type 0 where
   pub resolved : AllResolve files
   pub list : IsAscendingListOf document_cmp (HasDocument files (texts_of readings) chosen id encoding) documents
+  pub each : HaveDocuments files (texts_of readings) chosen id encoding documents
 
 -- the first use that names no type, of the first source in which one does
 pub record IsLeastUnresolved (files : List File) (place : FilePlace) : Type 0 where

@@ -13,7 +13,7 @@ use Rattle.scip_model.specs.declared.records.Document.{Document}
 use Rattle.scip_model.specs.declared.records.Occurrence.{Occurrence}
 use Rattle.scip_model.specs.declared.records.Info.{Info}
 use Rattle.scip_symbol.specs.Package.{Package}
-use Rattle.proto_link.specs.Files.{File}
+use Rattle.proto_link.specs.Files.{File, IsSource}
 use Rattle.scip_document.specs.Chosen.{Chosen}
 use Rattle.scip_document.specs.Occurs.{Occurs}
 use Rattle.scip_document.specs.Entries.{HasEntry, HasExternal}
@@ -76,9 +76,15 @@ pub record HasDocument (files : List File) (texts : List (List ℕ)) (chosen : C
   pub text_is : slice_get texts source ≡ Some text
   pub is : IsDocumentOf files chosen id encoding source text document
 
--- The index of the files, which have these texts.
+-- each source has one among these
+abbrev pub HaveDocuments : List File → (texts : List (List ℕ)) → Chosen → Package → Encoding → List Document → Type 0
+HaveDocuments files texts chosen id encoding documents =
+    (source : ℕ) → IsSource files source → (document : Document) × Contains documents document × (has : HasDocument files texts chosen id encoding document) × (has.source ≡ source)
+
+-- The index of the files, which have these texts: just the documents of its sources, and one of each.
 pub record IsIndexOf (files : List File) (texts : List (List ℕ)) (chosen : Chosen) (id : Package) (encoding : Encoding) (project_root : List ℕ) (index : Index) : Type 0 where
   pub metadata_is : index.metadata ≡ Some (metadata_of project_root)
   pub one_text_each : length texts ≡ length files
   pub documents : IsAscendingListOf document_cmp (HasDocument files texts chosen id encoding) index.documents
+  pub each : HaveDocuments files texts chosen id encoding index.documents
   pub externals : AreExternals files chosen id index.external_symbols

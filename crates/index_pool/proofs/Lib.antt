@@ -11,5 +11,6 @@ mod LaneEndsLemmas
 mod CoreLanesLemmas
 -- phases: results, the recursion over threads, and the results in order
 mod ResultsLemmas
+mod TakenLemmas
 mod LevelsLemmas
 mod InOrderLemmas

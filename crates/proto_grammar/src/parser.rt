@@ -1,11 +1,11 @@
 //! The parser's place among the tokens, and single tokens.
 
-ghost use Rattle.std.specs.Prelude.{◌≡◌, ◌==◌, length, option_map, slice_get, IfSome};
+ghost use Rattle.std.specs.Prelude.{◌≡◌, ◌==◌, length, option_map, slice_get, IfSome, bytes_eq};
 ghost use Rattle.std.specs.List.{list_any};
 ghost use Rattle.std.specs.Option.{option_map_or};
 ghost use Rattle.proto_grammar.specs.Gives.{Gives};
 ghost use Rattle.proto_grammar.specs.declared.tree.CustomOptions.TheVariants.{Skip};
-ghost use Rattle.proto_grammar.specs.Terminal.{first, others, first_is, of_kind, is_word, is_scalar, is_key, is_sign, is_numeral, is_number, is_plain_literal, between_quotes, begins_scalar, is_end};
+ghost use Rattle.proto_grammar.specs.Terminal.{first, others, first_is, of_kind, is_word, key_words, scalar_words, is_scalar, is_key, is_sign, is_numeral, is_number, is_plain_literal, between_quotes, begins_scalar, is_end};
 ghost use Rattle.proto_grammar.specs.Reading.Steps.{token_that, span_at};
 ghost use Rattle.proto_grammar.specs.Lexeme.{lexemes_of};
 ghost use Rattle.proto_grammar.specs.View.{lexeme_view};
@@ -47,25 +47,7 @@ impl<'t> Lexeme<'t> {
     fn is_scalar(self) -> bool
         ensures { result ≡ is_scalar (lexeme_view self.entry) }
     {
-        self.kind == TokenKind::Identifier
-            && matches!(
-                self.spelling,
-                "double"
-                    | "float"
-                    | "bytes"
-                    | "int32"
-                    | "int64"
-                    | "uint32"
-                    | "uint64"
-                    | "sint32"
-                    | "sint64"
-                    | "fixed32"
-                    | "fixed64"
-                    | "sfixed32"
-                    | "sfixed64"
-                    | "bool"
-                    | "string"
-            )
+        self.kind == TokenKind::Identifier && is_scalar_word(self.spelling)
     }
 
     /// Whether it is the word of a scalar type that may be a map's key (proto3 specification,
@@ -73,22 +55,7 @@ impl<'t> Lexeme<'t> {
     fn is_key(self) -> bool
         ensures { result ≡ is_key (lexeme_view self.entry) }
     {
-        self.kind == TokenKind::Identifier
-            && matches!(
-                self.spelling,
-                "int32"
-                    | "int64"
-                    | "uint32"
-                    | "uint64"
-                    | "sint32"
-                    | "sint64"
-                    | "fixed32"
-                    | "fixed64"
-                    | "sfixed32"
-                    | "sfixed64"
-                    | "bool"
-                    | "string"
-            )
+        self.kind == TokenKind::Identifier && is_key_word(self.spelling)
     }
 
     /// Whether it is `-` or `+`.
@@ -118,6 +85,32 @@ impl<'t> Lexeme<'t> {
     {
         self.kind == TokenKind::StringLiteral && !has_backslash(self.spelling.as_bytes())
     }
+}
+
+fn is_scalar_word(word: &str) -> bool
+    ensures { result ≡ list_any (bytes_eq word.now) scalar_words }
+{
+    matches!(word, "double" | "float" | "bytes") || is_key_word(word)
+}
+
+fn is_key_word(word: &str) -> bool
+    ensures { result ≡ list_any (bytes_eq word.now) key_words }
+{
+    matches!(
+        word,
+        "int32"
+            | "int64"
+            | "uint32"
+            | "uint64"
+            | "sint32"
+            | "sint64"
+            | "fixed32"
+            | "fixed64"
+            | "sfixed32"
+            | "sfixed64"
+            | "bool"
+            | "string"
+    )
 }
 
 fn has_backslash(text: &[u8]) -> bool

@@ -2,11 +2,11 @@
 # sourced, with `set -u`. Sets top, program, work (an empty folder, which goes at the end), right and
 # wrong; the program is built where it isn't as new as its sources.
 #
-# Needs only bash and coreutils.
+# Needs only bash and coreutils; run_as_nobody, run as root, setpriv (util-linux).
 
 top=$(dirname "$(dirname "$(readlink -f "${BASH_SOURCE[0]}")")")
 work=$(mktemp -d) || exit 1
-trap 'rm -rf "$work"' EXIT
+trap 'chmod -R u+rwx "$work" && rm -rf "$work"' EXIT
 program=$top/protoscip
 right=0 wrong=0
 : >"$work/in"
@@ -60,9 +60,82 @@ fault() {
     verdict "$1, lines" 1 "$(wc -l <"$work/err")"
 }
 
+# refused_words ARGUMENT..: a command line that is refused.
+refused_words() {
+    run "$@"
+    verdict "refused words $*, status" 2 "$status"
+    verdict "refused words $*, standard error" 'error: ' "$(head -c 7 "$work/err")"
+    is_empty "refused words $*" "$work/out"
+}
+
+# shows_help USAGE NAME: `NAME --help`, `NAME -h` and `help NAME` print one text with this usage line.
+shows_help() {
+    local words
+    run "$2" --help
+    verdict "$2 --help, status" 0 "$status"
+    verdict "$2 --help, its usage" 1 "$(grep -cxF "Usage: protoscip $1" "$work/out")"
+    is_empty "$2 --help" "$work/err"
+    cp "$work/out" "$work/help"
+    for words in "$2 -h" "help $2"; do
+        # shellcheck disable=SC2086
+        run $words
+        same "$words" 0 "$(cat "$work/help")" ''
+    done
+}
+
 # ended: says how many were right and wrong, and ends.
 ended() {
     echo "$right right, $wrong wrong"
     [ "$wrong" = 0 ]
     exit
+}
+
+# ---- trees of sources
+
+# make_tree: sets tree to an empty folder that everybody may read.
+make_tree() {
+    tree=$work/tree
+    chmod 755 "$work"
+    mkdir "$tree"
+}
+
+# source_at PATH FORMAT ARGUMENT..: makes a source of the tree, which begins with the syntax statement's
+# 19 bytes.
+source_at() {
+    local path=$tree/$1
+    shift
+    mkdir -p "$(dirname "$path")"
+    printf 'syntax = "proto3";\n' >"$path"
+    # shellcheck disable=SC2059
+    printf "$@" >>"$path"
+}
+
+# text_at PATH FORMAT ARGUMENT..: a file of the tree with just this text.
+text_at() {
+    local path=$tree/$1
+    shift
+    mkdir -p "$(dirname "$path")"
+    # shellcheck disable=SC2059
+    printf "$@" >"$path"
+}
+
+# no_tree: the tree is empty again.
+no_tree() {
+    chmod -R u+rwx "$tree" && rm -rf "$tree" && mkdir "$tree"
+}
+
+# as_nobody COMMAND..: runs it as a user for whom permissions count, also where root runs the script.
+as_nobody() {
+    if [ "$(id -u)" = 0 ]; then
+        setpriv --reuid=65534 --regid=65534 --clear-groups -- "$@"
+    else
+        "$@"
+    fi
+}
+
+# run_as_nobody ARGUMENT..: `run`, as nobody, of a copy of the program, since he may not reach the repository.
+run_as_nobody() {
+    [ -e "$work/program" ] || cp "$top/crates/protoscip_cli/out/protoscip_cli" "$work/program" || exit 1
+    as_nobody "$work/program" "$@" <"$work/in" >"$work/out" 2>"$work/err"
+    status=$?
 }

@@ -1,1 +1,4 @@
 pub mod AnswerLemmas
+pub mod GivenLemmas
+pub mod WorkersLemmas
+pub mod RuleLemmas

@@ -1,19 +1,89 @@
--- The programs of the command line and their arguments, as the rules of the crate `clap` see them.
-use Rattle.std.specs.Prelude.{[], true, codes}
-use Rattle.clap.specs.Words.{App, Shape, Text, new_app, new_rule, with_rule, with_subcommand}
+-- The programs of the command line with their arguments and options, as the rules of the crate `clap`
+-- see them.
+use Rattle.std.specs.Prelude.{List, [], ◌∷◌, ◌++◌, Some, true, codes}
+use Rattle.std.specs.Borrow.{Bor}
+use Rattle.clap.specs.Words.{App, Rule, Shape, Text, new_app, new_rule, with_rule, with_subcommand}
+use Rattle.clap.specs.declared.builder.action.ArgAction.TheVariants.{Append}
+use Rattle.clap.specs.declared.builder.value_parser.ValueParser.TheVariants as values
+use Rattle.command_line.specs.declared.words.WordLists.{WordLists}
+
+-- ---- arguments and options
+
+-- an argument that has to be given
+abbrev pub required_rule : Text → Rule
+required_rule name = record (new_rule name) { required = true }
+
+-- an option `--name VALUE` of any text, at most once
+abbrev pub option_rule : Text → Rule
+option_rule name = record (new_rule name) { long = Some name; value_names = 1 }
+
+-- the option has this text where it isn't given
+abbrev pub or_default : Text → Rule → Rule
+or_default text rule = record rule { defaults = text ∷ [] }
+
+-- the option takes these words alone
+abbrev pub taking_words : Bor (List (Bor Text)) → Rule → Rule
+taking_words words rule = record rule { parser = Some (values.Names words) }
+
+-- a number from 1 to 16, and 4 where it isn't given
+abbrev pub workers_rule : Rule
+workers_rule = record (or_default (codes "4") (option_rule (codes "workers"))) {
+  parser = Some (values.Unsigned 1 16);
+}
+
+-- an option that may be given again
+abbrev pub include_rule : Rule
+include_rule = record (option_rule (codes "include")) { action = Some Append }
+
+abbrev pub custom_options_rule : Bor (List (Bor Text)) → Rule
+custom_options_rule words =
+    or_default (codes "refuse") (taking_words words (option_rule (codes "custom-options")))
+
+-- the options on the run and on the package
+abbrev pub setting_rules : List Rule
+setting_rules = workers_rule
+    ∷ or_default (codes "file:///") (option_rule (codes "project-root"))
+    ∷ option_rule (codes "manager")
+    ∷ option_rule (codes "package")
+    ∷ option_rule (codes "release")
+    ∷ []
+
+-- the options on what is indexed, and how
+abbrev pub choice_rules : WordLists → List Rule
+choice_rules lists = option_rule (codes "only")
+    ∷ taking_words lists.doc (option_rule (codes "doc"))
+    ∷ include_rule
+    ∷ or_default (codes "utf8") (taking_words lists.positions (option_rule (codes "positions")))
+    ∷ custom_options_rule lists.custom_options
+    ∷ []
+
+-- the options of `index`
+abbrev pub tree_rules : WordLists → List Rule
+tree_rules lists = setting_rules ++ choice_rules lists
+
+-- ---- programs
+
+abbrev pub with_rules : App → List Rule → App
+with_rules a [] = a
+with_rules a (rule ∷ rules) = with_rules (with_rule a rule) rules
+
+abbrev pub index_line : WordLists → Shape
+index_line lists = (with_rules (new_app (codes "index"))
+    (required_rule (codes "ROOT") ∷ required_rule (codes "OUT") ∷ tree_rules lists)).top
 
 -- `query` wants one argument, the path of an index
-abbrev pub index_argument : Text
-index_argument = codes "INDEX"
-
 abbrev pub query_line : Shape
-query_line = (with_rule (new_app (codes "query")) (record (new_rule index_argument) { required = true })).top
+query_line = (with_rule (new_app (codes "query")) (required_rule (codes "INDEX"))).top
 
--- `protoscip` has a version and wants a program: `query`, or `dump`, which takes no arguments
-abbrev pub command_line : App
-command_line =
+abbrev pub dump_line : WordLists → Shape
+dump_line lists =
+    (with_rule (new_app (codes "dump")) (custom_options_rule lists.custom_options)).top
+
+-- `protoscip` has a version and wants a program
+abbrev pub command_line : WordLists → App
+command_line lists =
     let plain = (new_app (codes "protoscip")).top in
-    with_subcommand (with_subcommand (record {
+    with_subcommand (with_subcommand (with_subcommand (record {
       top = record plain { has_version = true; subcommand_required = true };
       subs = [];
-    }) query_line) (new_app (codes "dump")).top
+    }) (index_line lists)) query_line) (dump_line lists)

@@ -3,47 +3,48 @@ use Rattle.std.specs.Prelude.{◌≡◌, ◌≢◌, ◌⊎◌, ⊤, Option, Some
 use Rattle.clap.specs.Words.{Text}
 use Rattle.clap.specs.declared.error.kind.ErrorKind.{ErrorKind}
 use Rattle.clap.specs.declared.error.kind.ErrorKind.TheVariants as kind
+use Rattle.command_line.specs.declared.options.IndexOptions.{IndexOptions}
+use Rattle.command_line.specs.declared.options.CustomOptionsWord.{CustomOptionsWord}
 use Rattle.command_line.specs.declared.request.Request.{Request}
 use Rattle.command_line.specs.declared.request.Request.TheVariants as request
 
 -- what is done with an answer of this kind: help and the version are printed, the rest is refused
 abbrev pub Prints : ErrorKind → Request → Type 0
-Prints answer request.Dump = ⊥
-Prints answer (request.Query index) = ⊥
 Prints answer (request.Print text) = (answer ≡ kind.DisplayHelp) ⊎ (answer ≡ kind.DisplayVersion)
 Prints answer (request.Refuse text) = (answer ≢ kind.DisplayHelp) × (answer ≢ kind.DisplayVersion)
+Prints answer _ = ⊥
 
 -- the text of help or the version
 abbrev pub printed_text : Request → Option Text
-printed_text request.Dump = None
-printed_text (request.Query index) = None
 printed_text (request.Print text) = Some (string_bytes text)
-printed_text (request.Refuse text) = None
+printed_text _ = None
 
 -- the text that says why the command line is refused
 abbrev pub refused_text : Request → Option Text
-refused_text request.Dump = None
-refused_text (request.Query index) = None
-refused_text (request.Print text) = None
 refused_text (request.Refuse text) = Some (string_bytes text)
+refused_text _ = None
 
 -- the command line is refused
 abbrev pub IsRefused : Request → Type 0
-IsRefused request.Dump = ⊥
-IsRefused (request.Query index) = ⊥
-IsRefused (request.Print text) = ⊥
 IsRefused (request.Refuse text) = ⊤
+IsRefused _ = ⊥
 
--- a dump is asked for
-abbrev pub IsDump : Request → Type 0
-IsDump request.Dump = ⊤
-IsDump (request.Query index) = ⊥
-IsDump (request.Print text) = ⊥
-IsDump (request.Refuse text) = ⊥
+-- what is done about custom options in the dump that is asked for
+abbrev pub dump_options : Request → Option CustomOptionsWord
+dump_options (request.Dump custom_options) = Some custom_options
+dump_options _ = None
 
 -- the path of the index about which commands are to be answered
 abbrev pub index_path : Request → Option Text
-index_path request.Dump = None
 index_path (request.Query index) = Some (string_bytes index)
-index_path (request.Print text) = None
-index_path (request.Refuse text) = None
+index_path _ = None
+
+-- the options of the index that is to be written
+abbrev pub index_options : Request → Option IndexOptions
+index_options (request.Index options out) = Some options
+index_options _ = None
+
+-- the path of the file that it goes to
+abbrev pub out_path : Request → Option Text
+out_path (request.Index options out) = Some (string_bytes out)
+out_path _ = None

@@ -1,9 +1,15 @@
 //! The command line of the program `protoscip`: what it asks for, by the rules of `clap`.
 #![tactic(auto)]
 
+mod given;
+mod names;
+mod options;
 mod program;
 mod reading;
 mod request;
+mod tree;
+mod words;
 
+pub use options::{CustomOptionsWord, DocWord, IndexOptions, PositionsWord};
 pub use reading::{request_of, request_of_process};
 pub use request::Request;

@@ -5,10 +5,15 @@ ghost use Rattle.std.specs.IoError.{error_kind};
 ghost use Rattle.std.specs.declared.io.ErrorKind.TheVariants.{OutOfMemory as Memory};
 ghost use Rattle.clap.specs.Words.{kind_of, subcommand_rows_of};
 ghost use Rattle.command_line.specs.Asks.{Asks, Names};
+ghost use Rattle.command_line.specs.Given.{custom_options_of, rows_in};
 ghost use Rattle.command_line.specs.Requests.{IsRefused, Prints};
 
-use crate::program::{INDEX, QUERY, program};
+use crate::given::{custom_options_of, options_of, text_of};
+use crate::names::{INDEX, INDEX_FILE, OUT, QUERY};
+use crate::options::CustomOptionsWord;
+use crate::program::program;
 use crate::request::Request;
+use crate::words::WordLists;
 use clap::error::ErrorKind;
 use clap::{ArgMatches, Error};
 use std::alloc::{AllocError, Global};
@@ -20,7 +25,8 @@ use std::io;
 pub fn request_of(alloc: Global, words: &Vec<String>) -> Result<Request, AllocError>
     ensures { IfOk result (Asks (map string_bytes words.now.items)) }
 {
-    match program(alloc)?.try_get_matches_from(words.as_slice()) {
+    let lists = WordLists::new();
+    match program(alloc, lists)?.try_get_matches_from(words.as_slice()) {
         Ok(matches) => named(alloc, &matches),
         Err(error) => answer(alloc, &error),
     }
@@ -30,12 +36,23 @@ pub fn request_of(alloc: Global, words: &Vec<String>) -> Result<Request, AllocEr
 fn named(alloc: Global, matches: &ArgMatches<'_>) -> Result<Request, AllocError>
     ensures { IfOk result (Names (subcommand_rows_of matches.now)) }
 {
-    match matches.subcommand_matches(QUERY) {
-        Some(given) => {
-            let index = given.get_str(INDEX).unwrap_or("");
-            Ok(Request::Query(String::from_str(alloc, index)?))
-        }
-        None => Ok(Request::Dump),
+    if let Some(given) = matches.subcommand_matches(INDEX) {
+        let options = options_of(alloc, given)?;
+        return Ok(Request::Index(options, text_of(alloc, given, OUT)?));
+    }
+    if let Some(given) = matches.subcommand_matches(QUERY) {
+        return Ok(Request::Query(text_of(alloc, given, INDEX_FILE)?));
+    }
+    Ok(Request::Dump(dump_options(matches)))
+}
+
+/// What `dump` is given, where it is the program that is named.
+fn dump_options(matches: &ArgMatches<'_>) -> CustomOptionsWord
+    ensures { result ≡ custom_options_of (rows_in (subcommand_rows_of matches.now)) }
+{
+    match matches.subcommand() {
+        Some((_, given)) => custom_options_of(given),
+        None => CustomOptionsWord::Refuse,
     }
 }
 
@@ -63,7 +80,7 @@ fn refuse_other_text(alloc: Global) -> Result<Request, AllocError>
     let message = "invalid UTF-8 was detected in one or more arguments";
     answer(
         alloc,
-        &program(alloc)?.error(ErrorKind::ValueValidation, message)?,
+        &program(alloc, WordLists::new())?.error(ErrorKind::ValueValidation, message)?,
     )
 }
 

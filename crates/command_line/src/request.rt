@@ -1,12 +1,16 @@
 //! What a command line asks for.
 
+use crate::options::{CustomOptionsWord, IndexOptions};
+
 /// What a command line asks for.
 #[derive(Debug, Drop)]
 pub enum Request {
-    /// The program `dump`.
-    Dump,
+    /// The program `dump`, with what is done about custom options.
+    Dump(CustomOptionsWord),
     /// The program `query`, about the index that the file with this path holds.
     Query(String),
+    /// The program `index`, whose index goes to the file with this path.
+    Index(IndexOptions, String),
     /// A text for standard output: help or the version.
     Print(String),
     /// A text for standard error: what is wrong with the command line.

@@ -2,6 +2,14 @@
 #![tactic(auto)]
 
 #[cfg(test)]
-mod command_lines;
+mod help;
+#[cfg(test)]
+mod options;
+#[cfg(test)]
+mod process;
+#[cfg(test)]
+mod refusals;
 #[cfg(test)]
 mod see;
+#[cfg(test)]
+mod words;

@@ -1,95 +1,207 @@
--- Lemmas on what a dump leaves behind, by where it stopped.
-use Rattle.std.proofs.Common.{◌≡◌, ℕ, List, refl, sym, subst, Option, Result, Ok, Err, MatchResult}
-use Rattle.proto_lex.specs.declared.span.Span.{Span}
+-- What a dump answers, by where it stops.
+use Rattle.std.proofs.Common.{◌≡◌, ◌∙◌, ◌⊎◌, inl, inr, ℕ, zero, suc, ◌<◌, ◌≤◌, List, [], ◌∷◌, length, Some, Option, Result, Ok, Err, refl, ap, sym, subst, arith}
+use Rattle.std.specs.Prelude.{true, false, IfErr}
+use Rattle.std.specs.List.{slice_get}
+use Rattle.std.proofs.lemmas.Option.{same_Some, none-some}
+use Rattle.std.proofs.lemmas.List.{take_all, length-take}
 use Rattle.proto_lex.specs.declared.fault.LexFault.{LexFault}
+use Rattle.proto_lex.specs.declared.fault.LexFault.TheVariants as lexing
+use Rattle.proto_lex.specs.Text.{IsText, IsNoText, max_text_length}
+use Rattle.proto_lex.specs.Faults.{IsFirstFault}
+use Rattle.proto_grammar.specs.declared.tree.CustomOptions.{CustomOptions}
+use Rattle.proto_decl.specs.Seen.{Seen}
+use Rattle.index_hooks.specs.declared.choice.Choice.{Choice}
+use Rattle.source_tree.specs.Files.{TreeFile}
+use Rattle.scip_model.specs.declared.records.Index.{Index}
+use Rattle.scip_build.specs.Builds.{IsBuilt, IsBuildFault, OfReadings}
+use Rattle.proto_link.specs.Linked.{CanBeLinked}
+use Rattle.scip_build.specs.Documents.{IsLeastUnresolved}
+use Rattle.scip_build.specs.Files.{FileContents, ReadFile}
+use Rattle.scip_build.specs.Linking.{linked_files, MayRefuseReadings}
+use Rattle.scip_build.specs.Parsed.{IsUnlexed, IsUnparsed, IsUnreadable}
+use Rattle.scip_build.specs.Readings.{HasContents, AreReadingsOf, IsFirstFaulty}
+use Rattle.scip_build.specs.declared.built.Built.{Built}
+use Rattle.scip_build.specs.declared.settings.Settings.{Settings}
+use Rattle.scip_build.specs.declared.fault.BuildFault.{BuildFault}
+use Rattle.scip_build.specs.declared.fault.BuildFault.TheVariants as build
+use Rattle.scip_build.specs.declared.fault.FileFault.{FileFault}
+use Rattle.scip_build.specs.declared.fault.FileFault.TheVariants as file
+use Rattle.scip_wire.specs.Spelling.{spelling_of}
+use Rattle.protoscip.specs.Faults.{fault_of_build}
+use Rattle.protoscip.specs.FaultLines.{HasFilesOf}
+use Rattle.protoscip.specs.Source.{kept_bytes, max_kept_length}
+use Rattle.protoscip.specs.Indexes.{IsRefused}
+use Rattle.protoscip.specs.Writing.{IsReadBack}
+use Rattle.protoscip.specs.Output.{Writes}
+use Rattle.protoscip.specs.DumpText.{dump_text}
+use Rattle.protoscip.specs.Dump.{source_path, dump_tree, dump_settings, default_choices, IsListing, IsRefusal, Dumps, LeavesWriter}
 use Rattle.protoscip.specs.declared.fault.Fault.{Fault}
 use Rattle.protoscip.specs.declared.fault.Fault.TheVariants as fault
-use Rattle.protoscip.specs.declared.syntax.fault.SyntaxFault.{SyntaxFault}
-use Rattle.protoscip.specs.declared.source.SourceFault.{SourceFault}
-use Rattle.protoscip.specs.declared.source.SourceFault.TheVariants as source
-use Rattle.protoscip.specs.Faults.{refusal_of_source}
-use Rattle.protoscip.specs.Dump.{IsRefusal, IsListing, IsIndexOfSource, Dumps, LeavesReader, LeavesWriter, source_path}
-use Rattle.protoscip.specs.DumpSteps.{IsListingOf, IsStoreRefusal}
-use Rattle.scip_model.specs.declared.records.Index.{Index}
-use Rattle.scip_model.specs.WholeReads.{IsReadFault, IsReadThrough}
-use Rattle.protoscip.specs.Output.{Writes}
+use Rattle.protoscip.proofs.FileLemmas.{files_of_build}
 
--- the listing of a source's index is that of the source, and why there is none is why the source has none
-pub listing_of_source : {A : Type 0} (view : A → List ℕ) (bytes : List ℕ) (index : Index) (r : Result A Fault) → IsIndexOfSource source_path bytes index
-    → MatchResult r (λ x. IsListingOf index (view x)) (IsStoreRefusal index) → MatchResult r (λ x. IsListing bytes (view x)) (IsRefusal bytes)
-listing_of_source view bytes index (Ok x) of_source is = (index, of_source, is.0, is.1)
-listing_of_source view bytes index (Err fault.Memory) of_source is = is
-listing_of_source view bytes index (Err fault.Read) of_source is = is
-listing_of_source view bytes index (Err (fault.Lex e)) of_source is = absurd is
-listing_of_source view bytes index (Err (fault.Syntax e)) of_source is = absurd is
-listing_of_source view bytes index (Err (fault.Duplicate first second)) of_source is = absurd is
-listing_of_source view bytes index (Err fault.TooLarge) of_source is = (index, of_source, is)
-listing_of_source view bytes index (Err (fault.Write count)) of_source is = is
-listing_of_source view bytes index (Err fault.Unreadable) of_source is = absurd is
-listing_of_source view bytes index (Err (fault.Wire e)) of_source is = absurd is
+refused_of_build : (allows : Seen → Choice → Type 0) (settings : Settings) (tree : List TreeFile) (workers : ℕ) (e : BuildFault) → IsBuildFault allows settings.custom_options tree workers e
+    → IsRefused allows settings tree workers (fault_of_build e)
+refused_of_build allows settings tree workers build.Spawn is = is
+refused_of_build allows settings tree workers build.Memory is = is
+refused_of_build allows settings tree workers (build.File number (file.Lex e)) is = is
+refused_of_build allows settings tree workers (build.File number (file.Syntax e)) is = is
+refused_of_build allows settings tree workers (build.Duplicate first second) is = is
+refused_of_build allows settings tree workers (build.MissingImport place) is = is
+refused_of_build allows settings tree workers (build.Unresolved place) is = is
 
--- a fault that refuses bytes is none of reading or writing
-pub refusal-elim : (P : Fault → Type 0) → P fault.Memory → ((e : LexFault) → P (fault.Lex e)) → ((e : SyntaxFault) → P (fault.Syntax e))
-    → ((first second : Span) → P (fault.Duplicate first second)) → P fault.TooLarge → (bytes : List ℕ) (e : Fault) → IsRefusal bytes e → P e
-refusal-elim P memory lex syntax duplicate large bytes fault.Memory is = memory
-refusal-elim P memory lex syntax duplicate large bytes fault.Read is = absurd is
-refusal-elim P memory lex syntax duplicate large bytes (fault.Lex e) is = lex e
-refusal-elim P memory lex syntax duplicate large bytes (fault.Syntax e) is = syntax e
-refusal-elim P memory lex syntax duplicate large bytes (fault.Duplicate first second) is = duplicate first second
-refusal-elim P memory lex syntax duplicate large bytes fault.TooLarge is = large
-refusal-elim P memory lex syntax duplicate large bytes (fault.Write count) is = absurd is
-refusal-elim P memory lex syntax duplicate large bytes fault.Unreadable is = absurd is
-refusal-elim P memory lex syntax duplicate large bytes (fault.Wire e) is = absurd is
+module _ (custom : CustomOptions) (bytes : List ℕ) (settings : Settings) (tree : List TreeFile) (set : settings ≡ dump_settings custom) (alone : tree ≡ dump_tree bytes) where
+  -- why its tree isn't built is why a source has no listing
+  pub refusal_of_build : (workers : ℕ) (e : BuildFault) → workers ≡ 1 → IsBuildFault default_choices settings.custom_options tree workers e → IsRefusal custom bytes (fault_of_build e)
+  refusal_of_build workers e one is =
+      let of : IsRefused default_choices settings tree workers (fault_of_build e) = refused_of_build default_choices settings tree workers e is in
+      let by_settings = subst (λ (s : Settings). IsRefused default_choices s tree workers (fault_of_build e)) set of in
+      let of_tree = subst (λ (t : List TreeFile). IsRefused default_choices (dump_settings custom) t workers (fault_of_build e)) alone by_settings in
+      subst (λ (n : ℕ). IsRefused default_choices (dump_settings custom) (dump_tree bytes) n (fault_of_build e)) one of_tree
 
--- what a dump says where the bytes are refused
-pub refused-dumps : (bytes due : List ℕ) (e : Fault) → IsRefusal bytes e → Dumps bytes due (Err e)
-refused-dumps bytes due e is =
-    let P : Fault → Type 0 = λ f. IsRefusal bytes f → Dumps bytes due (Err f) in
-    refusal-elim P (λ i. i) (λ _ i. i) (λ _ i. i) (λ _ _ i. i) (λ i. i) bytes e is is
+  -- the listing of its index is that of the source
+  pub listing_of_built : (built : Built) (read : Index) (listing : List ℕ) → IsBuilt default_choices settings tree built → IsReadBack built.index read → listing ≡ dump_text read
+      → IsListing custom bytes listing
+  listing_of_built built read listing is back text =
+      let by_settings = subst (λ (s : Settings). IsBuilt default_choices s tree built) set is in
+      let of_tree = subst (λ (t : List TreeFile). IsBuilt default_choices (dump_settings custom) t built) alone by_settings in
+      record {
+        choices = built.choices;
+        spelling = spelling_of built.index;
+        indexed = record { index = built.index; built = of_tree; spelled = back.0 };
+        listing_is = text ∙ ap dump_text back.1;
+      }
 
-pub refused-reader : (R : Type 0) (failures reads ends : R → ℕ) (before after : R) (bytes : List ℕ) (e : Fault)
-    → IsRefusal bytes e → IsReadThrough failures ends before after → LeavesReader failures reads ends before after (Err e)
-refused-reader R failures reads ends before after bytes e is through =
-    let P : Fault → Type 0 = λ f. LeavesReader failures reads ends before after (Err f) in
-    refusal-elim P through.0 (λ _. through) (λ _. through) (λ _ _. through) through bytes e is
+-- ---- what is kept of bytes is all of them, where that isn't too long
 
-pub refused-writer : (W : Type 0) (contents : W → Option (List ℕ)) (failures : W → ℕ) (out : W) (due bytes : List ℕ) (e : Fault)
-    → IsRefusal bytes e → LeavesWriter contents failures out out due (Err e)
-refused-writer W contents failures out due bytes e is =
-    let P : Fault → Type 0 = λ f. LeavesWriter contents failures out out due (Err f) in
-    refusal-elim P refl (λ _. refl) (λ _. refl) (λ _ _. refl) refl bytes e is
+all_kept : (bytes : List ℕ) → length (kept_bytes bytes) ≤ max_text_length → kept_bytes bytes ≡ bytes
+all_kept bytes short = take_all max_kept_length bytes (omega (arith, length-take max_kept_length bytes))
 
--- and where the source isn't read to its end
-pub unread-dumps : (bytes due : List ℕ) (f : SourceFault) → Dumps bytes due (Err (refusal_of_source f))
-unread-dumps bytes due source.Read = tt
-unread-dumps bytes due source.Memory = tt
+longer : (bytes : List ℕ) → max_text_length < length (kept_bytes bytes) → max_text_length < length bytes
+longer bytes long = omega (arith, length-take max_kept_length bytes)
 
-pub unread-reader : (R : Type 0) (failures reads ends : R → ℕ) (before after : R) (f : SourceFault)
-    → (f ≡ source.Read → IsReadFault failures reads ends before after) → (f ≡ source.Memory → failures after ≡ failures before)
-    → LeavesReader failures reads ends before after (Err (refusal_of_source f))
-unread-reader R failures reads ends before after source.Read why memory = why refl
-unread-reader R failures reads ends before after source.Memory why memory = memory refl
+whole : (P : List ℕ → Type 0) (bytes : List ℕ) → length (kept_bytes bytes) ≤ max_text_length → P (kept_bytes bytes) → P bytes
+whole P bytes short p = subst P (all_kept bytes short) p
 
-pub unread-writer : (W : Type 0) (contents : W → Option (List ℕ)) (failures : W → ℕ) (out : W) (due : List ℕ) (f : SourceFault)
-    → LeavesWriter contents failures out out due (Err (refusal_of_source f))
-unread-writer W contents failures out due source.Read = refl
-unread-writer W contents failures out due source.Memory = refl
+-- a source that was read isn't too long
+module _ (custom : CustomOptions) (bytes : List ℕ) where
+  abbrev pub alone : TreeFile
+  alone = record { path = source_path; bytes = bytes; is_included = false }
 
--- and where the listing is written, or cut off
+  short_contents : (contents : Result FileContents FileFault) → HasContents custom default_choices zero alone contents → length bytes ≤ max_text_length
+  short_contents (Ok contents) has = has.1.facts_in.lexing.text.short
+  short_contents (Err e) has = absurd (let same : false ≡ true = has.0 in cc)
+
+  pub short_source : (readings : List ReadFile) → AreReadingsOf custom default_choices (dump_tree bytes) readings → length bytes ≤ max_text_length
+  short_source [] are = absurd (let none = are.one_each in omega (arith, none))
+  short_source (reading ∷ others) are = short_contents reading.contents (are.each zero alone reading refl refl).contents
+
+module _ (custom : CustomOptions) (bytes : List ℕ) where
+  no_text_of_all : (e : LexFault) → IsNoText (kept_bytes bytes) e → IsNoText bytes e
+  no_text_of_all lexing.TooLong is = longer bytes is
+  no_text_of_all (lexing.NotUtf8 at) is = whole (λ b. IsNoText b (lexing.NotUtf8 at)) bytes is.0 is
+  no_text_of_all (lexing.BadByte at) is = is
+  no_text_of_all (lexing.OpenString at) is = is
+  no_text_of_all (lexing.OpenComment at) is = is
+  no_text_of_all (lexing.BadEscape at) is = is
+  no_text_of_all (lexing.BadNumber at) is = is
+  no_text_of_all lexing.Memory is = is
+
+  unreadable_of_all : (e : FileFault) → IsUnreadable custom (kept_bytes bytes) e → IsUnreadable custom bytes e
+  unreadable_of_all (file.Lex e) (inl none) = inl (no_text_of_all e none)
+  unreadable_of_all (file.Lex e) (inr is) = inr (whole (λ b. IsText b × IsFirstFault b e) bytes is.0.short is)
+  unreadable_of_all (file.Syntax e) is = whole (λ b. IsUnparsed custom b e) bytes is.lexing.text.short is
+
+  -- the one source is the first that can't be read
+  faulty_of_all : (number : ℕ) (e : FileFault) → IsFirstFaulty custom (dump_tree (kept_bytes bytes)) number e → IsFirstFaulty custom (dump_tree bytes) number e
+  faulty_of_all zero e is =
+      let one : is.file ≡ alone custom (kept_bytes bytes) = sym (same_Some _ is.file is.numbered) in
+      let faulty = subst (λ (f : TreeFile). IsUnreadable custom f.bytes e) one is.faulty.unreadable in
+      record {
+        file = record { path = source_path; bytes = bytes; is_included = false };
+        numbered = refl;
+        faulty = record { source = refl; unreadable = unreadable_of_all e faulty };
+        before = λ lesser other less at. absurd (omega arith);
+      }
+  faulty_of_all (suc number) e is = absurd (none-some is.file is.numbered)
+
+  of_readings : (P : List TreeFile → List ReadFile → Type 0) → (readings : List ReadFile) × AreReadingsOf custom default_choices (dump_tree (kept_bytes bytes)) readings × P (dump_tree (kept_bytes bytes)) readings
+      → (readings : List ReadFile) × AreReadingsOf custom default_choices (dump_tree bytes) readings × P (dump_tree bytes) readings
+  of_readings P of =
+      whole (λ b. (readings : List ReadFile) × AreReadingsOf custom default_choices (dump_tree b) readings × P (dump_tree b) readings) bytes (short_source custom (kept_bytes bytes) of.0 of.1) of
+
+  fault_of_all : (number : ℕ) (e : FileFault) → IsBuildFault default_choices custom (dump_tree (kept_bytes bytes)) 1 (build.File number e) → IsBuildFault default_choices custom (dump_tree bytes) 1 (build.File number e)
+  fault_of_all number e (inl first) = inl (faulty_of_all number e first)
+  fault_of_all number e (inr of) = inr (of_readings (λ _ readings. MayRefuseReadings readings (build.File number e)) of)
+
+  -- what holds of the bytes that are kept holds of all
+  pub refusal_of_all : (e : Fault) → IsRefusal custom (kept_bytes bytes) e → IsRefusal custom bytes e
+  refusal_of_all fault.Spawn is = is
+  refusal_of_all fault.Memory is = is
+  refusal_of_all (fault.Lex number e) is = fault_of_all number (file.Lex e) is
+  refusal_of_all (fault.Syntax number e) is = fault_of_all number (file.Syntax e) is
+  refusal_of_all (fault.Duplicate first second) is = of_readings (λ _ readings. MayRefuseReadings readings (build.Duplicate first second)) is
+  refusal_of_all (fault.MissingImport place) is = of_readings (λ _ readings. MayRefuseReadings readings (build.MissingImport place)) is
+  refusal_of_all (fault.Unresolved place) is = of_readings (λ _ readings. CanBeLinked (linked_files readings) × IsLeastUnresolved (linked_files readings) place) is
+  refusal_of_all fault.TooLarge is = whole (λ b. IsRefusal custom b fault.TooLarge) bytes (short_source custom (kept_bytes bytes) is.1.readings is.1.read) is
+  refusal_of_all (fault.Write count) is = is
+  refusal_of_all fault.Read is = is
+  refusal_of_all (fault.Answer count) is = is
+
+  pub listing_of_all : (listing : List ℕ) → IsListing custom (kept_bytes bytes) listing → IsListing custom bytes listing
+  listing_of_all listing is =
+      let readings = is.indexed.built in
+      whole (λ b. IsListing custom b listing) bytes (short_source custom (kept_bytes bytes) readings.readings readings.read) is
+
+  -- a source that has no listing is refused,
+  pub refused_dumps : (due : List ℕ) (e : Fault) → IsRefusal custom bytes e → Dumps custom bytes due (Err e)
+  refused_dumps due fault.Spawn is = is
+  refused_dumps due fault.Memory is = is
+  refused_dumps due (fault.Lex number e) is = is
+  refused_dumps due (fault.Syntax number e) is = is
+  refused_dumps due (fault.Duplicate first second) is = is
+  refused_dumps due (fault.MissingImport place) is = is
+  refused_dumps due (fault.Unresolved place) is = is
+  refused_dumps due fault.TooLarge is = is
+  refused_dumps due (fault.Write count) is = absurd is
+  refused_dumps due fault.Read is = absurd is
+  refused_dumps due (fault.Answer count) is = is
+
+  -- with the writer as it was,
+  pub refused_writer : (W : Type 0) (contents : W → Option (List ℕ)) (failures : W → ℕ) (out : W) (due : List ℕ) (e : Fault) → IsRefusal custom bytes e → LeavesWriter contents failures out out due (Err e)
+  refused_writer W contents failures out due fault.Spawn is = refl
+  refused_writer W contents failures out due fault.Memory is = refl
+  refused_writer W contents failures out due (fault.Lex number e) is = refl
+  refused_writer W contents failures out due (fault.Syntax number e) is = refl
+  refused_writer W contents failures out due (fault.Duplicate first second) is = refl
+  refused_writer W contents failures out due (fault.MissingImport place) is = refl
+  refused_writer W contents failures out due (fault.Unresolved place) is = refl
+  refused_writer W contents failures out due fault.TooLarge is = refl
+  refused_writer W contents failures out due (fault.Write count) is = absurd is
+  refused_writer W contents failures out due fault.Read is = refl
+  refused_writer W contents failures out due (fault.Answer count) is = refl
+
+  -- and of no other file
+  pub dump_files : (e : Fault) → IsRefusal custom bytes e → HasFilesOf (dump_tree []) e
+  dump_files fault.Spawn is = tt
+  dump_files fault.Memory is = tt
+  dump_files (fault.Lex number e) is = files_of_build default_choices custom (dump_tree bytes) 1 (build.File number (file.Lex e)) is
+  dump_files (fault.Syntax number e) is = files_of_build default_choices custom (dump_tree bytes) 1 (build.File number (file.Syntax e)) is
+  dump_files (fault.Duplicate first second) is = files_of_build default_choices custom (dump_tree bytes) 1 (build.Duplicate first second) is
+  dump_files (fault.MissingImport place) is = files_of_build default_choices custom (dump_tree bytes) 1 (build.MissingImport place) is
+  dump_files (fault.Unresolved place) is = files_of_build default_choices custom (dump_tree bytes) 1 (build.Unresolved place) is
+  dump_files fault.TooLarge is = tt
+  dump_files (fault.Write count) is = tt
+  dump_files fault.Read is = tt
+  dump_files (fault.Answer count) is = tt
+
+-- where the listing is written, or cut off
 module _ (W : Type 0) (contents : W → Option (List ℕ)) (failures : W → ℕ) (before after : W) (due : List ℕ) where
-  pub written-dumps : (bytes : List ℕ) (done : Result (Unit {0}) Fault) → IsListing bytes due → Writes contents failures before after due done → Dumps bytes due done
-  written-dumps bytes (Ok done) is wrote = is
-  written-dumps bytes (Err e) is wrote = let P : Fault → Type 0 = λ f. Dumps bytes due (Err f) in subst P (sym wrote.1) is
+  pub written_dumps : (custom : CustomOptions) (bytes : List ℕ) (done : Result (Unit {0}) Fault) → IsListing custom bytes due → Writes contents failures before after due done → Dumps custom bytes due done
+  written_dumps custom bytes (Ok done) is wrote = is
+  written_dumps custom bytes (Err e) is wrote = let P : Fault → Type 0 = λ f. Dumps custom bytes due (Err f) in subst P (sym wrote.1) is
 
-  pub written-reader : (R : Type 0) (reader_failures reads ends : R → ℕ) (start end : R) (done : Result (Unit {0}) Fault)
-      → IsReadThrough reader_failures ends start end → Writes contents failures before after due done → LeavesReader reader_failures reads ends start end done
-  written-reader R reader_failures reads ends start end (Ok done) through wrote = through
-  written-reader R reader_failures reads ends start end (Err e) through wrote =
-      let P : Fault → Type 0 = λ f. LeavesReader reader_failures reads ends start end (Err f) in
-      subst P (sym wrote.1) through
-
-  pub written-writer : (done : Result (Unit {0}) Fault) → Writes contents failures before after due done → LeavesWriter contents failures before after due done
-  written-writer (Ok done) wrote = wrote
-  written-writer (Err e) wrote =
+  pub written_writer : (done : Result (Unit {0}) Fault) → Writes contents failures before after due done → LeavesWriter contents failures before after due done
+  written_writer (Ok done) wrote = wrote
+  written_writer (Err e) wrote =
       let P : Fault → Type 0 = λ f. LeavesWriter contents failures before after due (Err f) in
       subst P (sym wrote.1) wrote.2

@@ -1,18 +1,16 @@
--- A source's bytes, its tree, and what it declares
+-- lists by their places
+mod ListLemmas
+-- what is kept of a source
 pub mod SourceLemmas
-pub mod SyntaxLemmas
-pub mod DeclarationLemmas
-pub mod DuplicateLemmas
--- The index of a source
-pub mod SymbolLemmas
-pub mod DocumentLemmas
-pub mod IndexLemmas
--- Its dump, and why there is none
-pub mod QueryLemmas
-mod RefusalLemmas
-pub mod DumpLemmas
--- The laws
-pub mod OneSymbol
-pub mod OneIndex
-pub mod NoTies
-pub mod ListedUnlessMemory
+-- what a run answers, and the files that its fault names
+mod IndexingLemmas
+mod FileLemmas
+-- the listing of one source
+mod DumpTreeLemmas
+mod DumpLemmas
+-- answers to commands
+mod SessionLemmas
+-- the laws
+mod LawLemmas
+mod HeadlineLemmas
+mod DumpLawLemmas

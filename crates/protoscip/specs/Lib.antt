@@ -1,19 +1,20 @@
--- A source's bytes, its tree, and what it declares
+-- what is kept of a source, and what is written of a text
 pub mod Source
-pub mod Syntax
-pub mod Declarations
-pub mod Duplicates
--- The index of a source, and its listing
-pub mod Symbols
-pub mod Document
-pub mod DumpText
--- What a dump answers, and what it leaves of its streams
 pub mod Output
-pub mod Dump
-pub mod DumpSteps
-pub mod DumpLaws
--- What is answered of an index
-pub mod Query
--- What is said of a fault
+-- why a run stops, the line that says so, and the status that a program then ends with
 pub mod Faults
-pub mod Messages
+pub mod FaultLines
+pub mod Statuses
+-- the index of a tree and its bytes
+pub mod Indexes
+pub mod Writing
+pub mod IndexLaws
+-- the listing of one source
+pub mod DumpText
+pub mod Dump
+pub mod DumpLaws
+-- answers to commands about the index of a tree
+pub mod Sessions
+pub mod Conversing
+-- what holds of all of these
+pub mod Headline

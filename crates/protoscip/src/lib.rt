@@ -1,28 +1,32 @@
-//! From a proto3 source to its listing, and from an index to answers: what the program `protoscip` does, over readers,
-//! writers and files.
+//! From a tree of proto3 sources to the bytes of its SCIP index, and to answers about it: over readers and writers, with
+//! no files.
 #![tactic(auto)]
 
-// The program.
-pub mod run;
+// The index of a tree.
+mod indexing;
+mod laws;
 
-// A dump: a source is read, indexed, spelled, read back and listed.
-pub mod dump;
+// The listing of one source.
+mod dumping;
+mod listing;
 mod output;
-pub mod source;
+mod source;
 
-// Queries: an index is read from a file, and answers commands.
-pub mod files;
-pub mod query;
+// Answers to commands about the index of a tree.
+mod reading_back;
+mod sessions;
 
-// The index of a source.
-pub mod declarations;
-pub mod document;
-pub mod duplicates;
-pub mod index;
-pub mod listing;
-pub mod symbols;
-pub mod syntax;
+// Why a run stops.
+mod fault;
+mod fault_lines;
 
-// Why there is none, and the laws.
-pub mod fault;
-pub mod laws;
+pub use dumping::{SOURCE_PATH, dump, dump_tree};
+pub use fault::Fault;
+pub use fault_lines::fault_line;
+pub use indexing::index_tree;
+pub use laws::{
+    headline, indexed_has_no_fault, listed_unless_memory, one_indexing, one_listing, one_reason,
+};
+pub use output::write_text;
+pub use sessions::session;
+pub use source::{SourceFault, read_source};

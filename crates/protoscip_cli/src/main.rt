@@ -2,9 +2,9 @@
 #![tactic(auto)]
 
 use command_line::request_of_process;
-use protoscip::files::SystemFiles;
-use protoscip::run::run;
+use programs::{out_path, run};
 use scip_model::Std;
+use source_files::{OutFile, SystemFiles};
 use std::process::ExitCode;
 
 /// Does what the command line asks for, over the process's streams and the system's files, and ends with its
@@ -13,15 +13,18 @@ fn main(rt: HostRuntime) -> ExitCode {
     let words = std::env::args(&rt).and_then(|words| Ok(words.collect(rt.alloc())?));
     let asked = request_of_process(rt.alloc(), words);
     let files = SystemFiles::new(&rt);
+    let mut file = OutFile::new(&rt, out_path(&asked));
     let mut input = Std::new(rt.stdin());
     let mut out = Std::new(rt.stdout());
     let mut messages = Std::new(rt.stderr());
     let status = run(
+        &rt,
         rt.alloc(),
         &asked,
         &files,
         &mut input,
         &mut out,
+        &mut file,
         &mut messages,
     );
     ExitCode::from(status)

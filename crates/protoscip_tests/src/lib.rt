@@ -2,18 +2,18 @@
 #![tactic(auto)]
 
 #[cfg(test)]
-mod dump;
+mod bytes;
 #[cfg(test)]
-mod fault;
+mod calls;
 #[cfg(test)]
-mod index;
+mod dumps;
 #[cfg(test)]
-mod report;
+mod indexes;
 #[cfg(test)]
-mod run;
+mod laws;
 #[cfg(test)]
-mod see;
+mod lines;
 #[cfg(test)]
 mod streams;
 #[cfg(test)]
-mod syntax;
+mod talks;

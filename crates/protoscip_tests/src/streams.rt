@@ -1,7 +1,5 @@
-//! Readers, writers and files of the tests.
+//! Readers and writers of the tests.
 
-use protoscip::files::{FileFault, ReadFile};
-use std::alloc::Global;
 use std::io;
 use std::io::{ErrorKind, Read, Write};
 
@@ -72,26 +70,5 @@ impl Write for Failing {
 
     fn flush(&mut self) -> io::Result<()> {
         Ok(())
-    }
-}
-
-/// Files: the index `a.scip` of one document `a` with one occurrence, `cut.scip`, which is cut off, and
-/// no other.
-#[derive(Clone, Copy)]
-pub struct TwoFiles;
-
-impl ReadFile for TwoFiles {
-    ghost use Rattle.std.specs.Prelude.{⊤};
-
-    ghost gives = { λ _ _ _. ⊤ };
-
-    fn read_file(&self, alloc: Global, path: &str) -> Result<Vec<u8>, FileFault> {
-        let bytes = match path {
-            "a.scip" =>
-                b"\x12\x0f\x0a\x01a\x12\x0a\x0a\x03\x01\x08\x09\x12\x01x\x18\x01".as_slice(),
-            "cut.scip" => b"\x0a".as_slice(),
-            _ => return Err(FileFault::Unreadable),
-        };
-        Vec::from_slice(alloc, bytes).map_err(|_| FileFault::Memory)
     }
 }

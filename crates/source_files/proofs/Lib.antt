@@ -1,1 +1,3 @@
 pub mod RootLemmas
+pub mod SourceLemmas
+pub mod LoadLemmas

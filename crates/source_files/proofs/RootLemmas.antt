@@ -1,5 +1,5 @@
 -- The sources below a root as they are read, one after the other.
-use Rattle.std.proofs.Common.{◌≡◌, ◌<◌, ℕ, List, [], ◌∷◌, ◌++◌, map, length, Result, Ok, Err, refl, ap, sym, ◌∙◌, subst, string_bytes, append_assoc}
+use Rattle.std.proofs.Common.{◌≡◌, ℕ, List, [], ◌∷◌, ◌++◌, Result, Ok, Err, ap, sym, ◌∙◌, subst, append_assoc}
 use Rattle.std.specs.List.{All}
 use Rattle.std.proofs.lemmas.List.{map-append}
 use Rattle.std.proofs.lemmas.List.Elements.{All-push}
@@ -8,14 +8,10 @@ use Rattle.source_files.specs.declared.file_fault.FileFault.{FileFault}
 use Rattle.source_files.specs.declared.file_fault.FileFault.TheVariants as fault
 use Rattle.source_files.specs.declared.root.RootFault.{RootFault}
 use Rattle.source_files.specs.declared.root.RootFault.TheVariants.{Unreadable, Memory}
-use Rattle.source_files.specs.Roots.{path_below, IsUnreadable, of_root, of_source}
+use Rattle.source_files.specs.Roots.{path_below, IsHeld, IsUnreadable, of_root, of_source}
 use Rattle.source_files.specs.RootFaults.{MayStop, MayName}
 
 module _ (lists : List ℕ → Result (List (List ℕ)) FileFault → Type 0) (gives : List ℕ → Result (List ℕ) FileFault → Type 0) (root : List ℕ) where
-  -- what a source holds is what its file gave
-  abbrev pub IsHeld : SourceFile → Type 0
-  IsHeld source = gives (path_below root source.path) (Ok source.bytes)
-
   -- the root can't be listed
   pub stop_root : (of : FileFault) (r : RootFault) → lists root (Err of) → MayName root of r → MayStop lists gives root r
   stop_root of (Unreadable name) listed named = subst (IsUnreadable lists gives root) (sym named.1) (of_root (subst (λ f. lists root (Err f)) named.0 listed))
@@ -23,7 +19,7 @@ module _ (lists : List ℕ → Result (List (List ℕ)) FileFault → Type 0) (g
 
   -- a source can't be read, and those before it can
   pub stop_source : (sources : List SourceFile) (path : List ℕ) (behind all : List (List ℕ)) (of : FileFault) (r : RootFault)
-      → all ≡ path ∷ behind → lists root (Ok (paths_of sources ++ all)) → All IsHeld sources
+      → all ≡ path ∷ behind → lists root (Ok (paths_of sources ++ all)) → All (IsHeld lists gives root) sources
       → (of ≡ fault.Unreadable → gives (path_below root path) (Err fault.Unreadable)) → MayName path of r → MayStop lists gives root r
   stop_source sources path behind all of (Unreadable name) next listed held given named =
       subst (IsUnreadable lists gives root) (sym named.1)
@@ -39,5 +35,6 @@ module _ (lists : List ℕ → Result (List (List ℕ)) FileFault → Type 0) (g
       ∙ ap (λ l. l ++ behind) (sym (map-append (λ (s : SourceFile). s.path) sources (source ∷ [])) ∙ ap paths_of (sym pushed)))
       listed
 
-  pub held_more : (sources more : List SourceFile) (source : SourceFile) → more ≡ sources ++ source ∷ [] → All IsHeld sources → IsHeld source → All IsHeld more
-  held_more sources more source pushed held one = subst (All IsHeld) (sym pushed) (All-push IsHeld sources source held one)
+  pub held_more : (sources more : List SourceFile) (source : SourceFile) → more ≡ sources ++ source ∷ [] → All (IsHeld lists gives root) sources
+      → IsHeld lists gives root source → All (IsHeld lists gives root) more
+  held_more sources more source pushed held one = subst (All (IsHeld lists gives root)) (sym pushed) (All-push (IsHeld lists gives root) sources source held one)

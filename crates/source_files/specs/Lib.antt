@@ -1,3 +1,9 @@
+-- what is kept of a source's bytes
+pub mod Source
+pub mod FileFaults
 -- what the sources below a root are, and which can't be read
 pub mod Roots
 pub mod RootFaults
+-- the tree below a root and included roots, and why there is none
+pub mod Loads
+pub mod LoadFaults

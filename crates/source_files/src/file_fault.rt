@@ -1,5 +1,6 @@
 //! Why files aren't read.
 
+use crate::source::SourceFault;
 use std::alloc::{AllocError, AllocFailed};
 use std::io;
 use std::io::ErrorKind;
@@ -43,5 +44,19 @@ impl<T: Drop> From<AllocFailed<T>> for FileFault {
 
     fn from(_refused: AllocFailed<T>) -> FileFault {
         FileFault::Memory
+    }
+}
+
+impl From<SourceFault> for FileFault {
+    ghost use Rattle.std.specs.Prelude.{◌≡◌};
+    ghost use Rattle.source_files.specs.FileFaults.{fault_of_source};
+
+    ghost from_gives = { λ fault e. e ≡ fault_of_source fault };
+
+    fn from(fault: SourceFault) -> FileFault {
+        match fault {
+            SourceFault::Read => FileFault::Unreadable,
+            SourceFault::Memory => FileFault::Memory,
+        }
     }
 }

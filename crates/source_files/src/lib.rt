@@ -1,13 +1,22 @@
-//! The files of a run: the sources below a root, and the file that an index is written to.
+//! The files of a run: the sources below a root, the tree that they make with included files, and the file that an
+//! index is written to.
 #![tactic(auto)]
 
 mod file_fault;
+mod load;
+mod load_fault;
 mod out_file;
+mod read_files;
 mod root;
+mod source;
 mod system_files;
 mod walk;
 
 pub use file_fault::FileFault;
+pub use load::load_tree;
+pub use load_fault::LoadFault;
 pub use out_file::OutFile;
-pub use root::{ReadTree, RootFault, read_root};
+pub use read_files::ReadFiles;
+pub use root::{RootFault, read_root};
+pub use source::{SourceFault, read_source};
 pub use system_files::SystemFiles;

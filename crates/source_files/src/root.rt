@@ -1,33 +1,15 @@
 //! The sources below a root, with what they hold.
 
-ghost use Rattle.std.specs.Prelude.{◌≡◌, ℕ, List, Result, Ok, Err, map, IfOk, IfErr, string_bytes};
-ghost use Rattle.std.specs.Result.{result_map_both};
+ghost use Rattle.std.specs.Prelude.{◌≡◌, Ok, Err, IfOk, IfErr, string_bytes};
 ghost use Rattle.source_files.specs.declared.file_fault.FileFault.TheVariants.{Unreadable};
-ghost use Rattle.source_files.specs.Roots.{path_below, AreBelow, IsUnreadable};
+ghost use Rattle.source_files.specs.Source.{MayKeep};
+ghost use Rattle.source_files.specs.Roots.{path_below, AreBelow};
 ghost use Rattle.source_files.specs.RootFaults.{MayName, MayStop};
 
 use crate::file_fault::FileFault;
+use crate::read_files::ReadFiles;
 use source_tree::Source;
 use std::alloc::{AllocError, AllocFailed, Global};
-
-/// Lists the sources below roots, and reads them.
-pub trait ReadTree {
-    ghost use Rattle.source_files.specs.declared.file_fault.FileFault.{FileFault};
-
-    // What listing a root may give: the paths below it.
-    ghost lists: { Self → List ℕ → Result (List (List ℕ)) FileFault → Type 0 };
-
-    // What reading the file with a path may give.
-    ghost gives: { Self → List ℕ → Result (List ℕ) FileFault → Type 0 };
-
-    /// The paths below a root of the regular files there whose names end in `.proto`, by their bytes.
-    fn list_sources(&self, alloc: Global, root: &str) -> Result<Vec<String>, FileFault>
-        ensures { lists self.now root.now (result_map_both (λ paths. map string_bytes paths.items) (λ fault. fault) result) };
-
-    /// The bytes of the file with a path.
-    fn read_file(&self, alloc: Global, path: &str) -> Result<Vec<u8>, FileFault>
-        ensures { gives self.now path.now (result_map_both (λ bytes. bytes.items) (λ fault. fault) result) };
-}
 
 /// Why the sources below a root aren't read.
 #[derive(Debug, Drop)]
@@ -37,6 +19,17 @@ pub enum RootFault {
     Unreadable(String),
     /// Memory ran out.
     Memory,
+}
+
+impl From<AllocError> for RootFault {
+    ghost use Rattle.std.specs.Prelude.{◌≡◌};
+    ghost use Rattle.source_files.specs.declared.root.RootFault.TheVariants.{Memory};
+
+    ghost from_gives = { λ _ e. e ≡ Memory };
+
+    fn from(_refused: AllocError) -> RootFault {
+        RootFault::Memory
+    }
 }
 
 impl<T: Drop> From<AllocFailed<T>> for RootFault {
@@ -60,18 +53,18 @@ fn path_below(alloc: Global, root: &str, path: &str) -> Result<String, AllocErro
     Ok(below)
 }
 
-// The bytes of a file below a root.
-fn read_below<F: ReadTree>(
+// The bytes of a source below a root.
+fn read_below<F: ReadFiles>(
     alloc: Global,
     files: &F,
     root: &str,
     path: &str,
 ) -> Result<Vec<u8>, FileFault>
-    ensures ok { IfOk result (λ bytes. F.gives files.now (path_below root.now path.now) (Ok bytes.items)) }
+    ensures ok { IfOk result (λ bytes. MayKeep (F.gives files.now (path_below root.now path.now)) (Ok bytes.items)) }
     ensures err { result ≡ Err Unreadable → F.gives files.now (path_below root.now path.now) (Err Unreadable) }
 {
     let below = path_below(alloc, root, path)?;
-    files.read_file(alloc, below.as_str())
+    files.read_source(alloc, below.as_str())
 }
 
 fn stop_at(name: String, fault: FileFault) -> RootFault
@@ -94,7 +87,7 @@ fn stop_at_root(alloc: Global, root: &str, fault: FileFault) -> RootFault
 }
 
 /// The sources below a root, by path.
-pub fn read_root<F: ReadTree>(
+pub fn read_root<F: ReadFiles>(
     alloc: Global,
     files: &F,
     root: &str,

@@ -1,10 +1,13 @@
 //! The system's files.
 
 use crate::file_fault::FileFault;
-use crate::root::ReadTree;
+use crate::read_files::ReadFiles;
+use crate::source::read_source;
 use crate::walk;
+use scip_model::Std;
 use std::alloc::Global;
 use std::fs;
+use std::fs::File;
 use std::rt::Files;
 
 /// The system's files. Nothing is known of what they hold.
@@ -20,7 +23,7 @@ impl<'a, S: Files + AllocGlobal + Clone + Drop> SystemFiles<'a, S> {
     }
 }
 
-impl<'a, S: Files + AllocGlobal + Clone + Drop> ReadTree for SystemFiles<'a, S> {
+impl<'a, S: Files + AllocGlobal + Clone + Drop> ReadFiles for SystemFiles<'a, S> {
     ghost use Rattle.std.specs.Prelude.{⊤};
 
     ghost lists = { λ _ _ _. ⊤ };
@@ -33,5 +36,10 @@ impl<'a, S: Files + AllocGlobal + Clone + Drop> ReadTree for SystemFiles<'a, S> 
 
     fn read_file(&self, _alloc: Global, path: &str) -> Result<Vec<u8>, FileFault> {
         Ok(fs::read(self.system, path)?)
+    }
+
+    fn read_source(&self, alloc: Global, path: &str) -> Result<Vec<u8>, FileFault> {
+        let mut source = Std::new(File::open(self.system, path)?);
+        Ok(read_source(alloc, &mut source)?)
     }
 }

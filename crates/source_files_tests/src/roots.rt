@@ -1,13 +1,14 @@
 //! The sources below a root.
 
-use source_files::{FileFault, ReadTree, SystemFiles, read_root};
+use source_files::{FileFault, ReadFiles, SystemFiles, read_root};
 use std::alloc::{AllocError, Global};
 use std::fs;
 use std::process::Abort;
 use std::rt::Files;
 use std::test::Fail;
 
-fn see_text(rt: &impl Abort, found: &str, due: &str) {
+/// Sees that a text is what is due.
+pub(crate) fn see_text(rt: &impl Abort, found: &str, due: &str) {
     assert!(rt; found == due, "{found} in place of {due}");
 }
 

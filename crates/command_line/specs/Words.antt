@@ -1,0 +1,34 @@
+-- The words that options take alone.
+use Rattle.std.specs.Prelude.{◌≡◌, List, [], ◌∷◌, map, codes, if◌then◌else◌}
+use Rattle.std.specs.Str.{bytes_eq}
+use Rattle.std.specs.Borrow.{Bor}
+use Rattle.clap.specs.Words.{Text}
+use Rattle.command_line.specs.declared.words.WordLists.{WordLists}
+use Rattle.command_line.specs.declared.options.DocWord.{DocWord}
+use Rattle.command_line.specs.declared.options.DocWord.TheVariants.{Leading, Trailing, Both, Nothing}
+use Rattle.command_line.specs.declared.options.PositionsWord.{PositionsWord}
+use Rattle.command_line.specs.declared.options.PositionsWord.TheVariants.{Utf8, Utf16}
+use Rattle.command_line.specs.declared.options.CustomOptionsWord.{CustomOptionsWord}
+use Rattle.command_line.specs.declared.options.CustomOptionsWord.TheVariants.{Refuse, Skip}
+
+-- the texts of a list, wherever it stands in memory
+abbrev pub texts_at : Bor (List (Bor Text)) → List Text
+texts_at list = map (λ (s : Bor Text). s.now) list.now
+
+-- the lists hold the words of `--doc`, `--positions` and `--custom-options`
+pub record AreListed (lists : WordLists) : Type 0 where
+  pub doc : texts_at lists.doc ≡ codes "leading" ∷ codes "trailing" ∷ codes "both" ∷ codes "nothing" ∷ []
+  pub positions : texts_at lists.positions ≡ codes "utf8" ∷ codes "utf16" ∷ []
+  pub custom_options : texts_at lists.custom_options ≡ codes "refuse" ∷ codes "skip" ∷ []
+
+-- what each word says; `clap` refuses every other text
+abbrev pub doc_word : Text → DocWord
+doc_word text = if bytes_eq text (codes "leading") then Leading
+    else if bytes_eq text (codes "trailing") then Trailing
+    else if bytes_eq text (codes "both") then Both else Nothing
+
+abbrev pub positions_word : Text → PositionsWord
+positions_word text = if bytes_eq text (codes "utf16") then Utf16 else Utf8
+
+abbrev pub custom_options_word : Text → CustomOptionsWord
+custom_options_word text = if bytes_eq text (codes "skip") then Skip else Refuse

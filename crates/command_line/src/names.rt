@@ -1,0 +1,35 @@
+//! The names of programs, arguments and options.
+
+pub(crate) const DUMP: &str = "dump";
+
+pub(crate) const INDEX: &str = "index";
+
+pub(crate) const QUERY: &str = "query";
+
+/// The argument that `query` wants.
+pub(crate) const INDEX_FILE: &str = "INDEX";
+
+/// The arguments that `index` wants.
+pub(crate) const ROOT: &str = "ROOT";
+
+pub(crate) const OUT: &str = "OUT";
+
+pub(crate) const WORKERS: &str = "workers";
+
+pub(crate) const PROJECT_ROOT: &str = "project-root";
+
+pub(crate) const MANAGER: &str = "manager";
+
+pub(crate) const PACKAGE: &str = "package";
+
+pub(crate) const RELEASE: &str = "release";
+
+pub(crate) const ONLY: &str = "only";
+
+pub(crate) const DOC: &str = "doc";
+
+pub(crate) const INCLUDE: &str = "include";
+
+pub(crate) const POSITIONS: &str = "positions";
+
+pub(crate) const CUSTOM_OPTIONS: &str = "custom-options";

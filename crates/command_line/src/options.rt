@@ -1,0 +1,62 @@
+//! What `index` is told of a tree.
+
+ghost use Rattle.std.specs.Prelude.{◌≤◌};
+
+/// The values of the arguments and options of `index`. An option that isn't given has its default.
+#[derive(Debug, Drop)]
+pub struct IndexOptions {
+    /// The path of the folder whose sources are indexed, as it was written.
+    pub root: String,
+    /// How many threads, 1 to 16; 4 where it isn't said.
+    pub workers: usize,
+    /// Where the sources' folder lies, as a URI; `file:///` where it isn't said.
+    pub project_root: String,
+    /// The package's manager, empty where it isn't said.
+    pub manager: String,
+    /// The package's name, empty where it isn't said.
+    pub package: String,
+    /// The package's release, empty where it isn't said.
+    pub release: String,
+    /// The full name below which declarations are kept; `None` where all are.
+    pub only: Option<String>,
+    /// Which comments document a declaration, where it is said.
+    pub doc: Option<DocWord>,
+    /// The paths of the folders with included files, in the order of the words.
+    pub include: Vec<String>,
+    /// The unit of columns; UTF-8 where it isn't said.
+    pub positions: PositionsWord,
+    /// What is done about custom options; they are refused where it isn't said.
+    pub custom_options: CustomOptionsWord,
+    ghost workers_fit: { (1 ≤ workers) × (workers ≤ 16) },
+}
+
+/// A word of `--doc`.
+#[derive(Clone, Copy, Debug, PartialEq, Eq)]
+pub enum DocWord {
+    /// `leading`: the comments before a declaration.
+    Leading,
+    /// `trailing`: the comments behind it.
+    Trailing,
+    /// `both`: first those before it, then those behind it.
+    Both,
+    /// `nothing`: no comments.
+    Nothing,
+}
+
+/// A word of `--positions`.
+#[derive(Clone, Copy, Debug, PartialEq, Eq)]
+pub enum PositionsWord {
+    /// `utf8`: columns count bytes.
+    Utf8,
+    /// `utf16`: columns count UTF-16 code units.
+    Utf16,
+}
+
+/// A word of `--custom-options`.
+#[derive(Clone, Copy, Debug, PartialEq, Eq)]
+pub enum CustomOptionsWord {
+    /// `refuse`: a source that has one is refused.
+    Refuse,
+    /// `skip`: they are read past.
+    Skip,
+}

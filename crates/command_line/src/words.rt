@@ -1,0 +1,71 @@
+//! The words that options take alone.
+
+ghost use Rattle.std.specs.Prelude.{◌≡◌};
+ghost use Rattle.command_line.specs.Words.{AreListed, custom_options_word, doc_word, positions_word};
+
+use crate::options::{CustomOptionsWord, DocWord, PositionsWord};
+
+/// The lists of words of the options that take listed words alone.
+#[derive(Clone, Copy)]
+pub(crate) struct WordLists<'a> {
+    pub(crate) doc: &'a [&'a str],
+    pub(crate) positions: &'a [&'a str],
+    pub(crate) custom_options: &'a [&'a str],
+}
+
+static DOC: [&str; 4] = ["leading", "trailing", "both", "nothing"];
+
+static POSITIONS: [&str; 2] = ["utf8", "utf16"];
+
+static CUSTOM_OPTIONS: [&str; 2] = ["refuse", "skip"];
+
+impl<'a> WordLists<'a> {
+    /// The words of each of these options.
+    pub(crate) fn new() -> WordLists<'a>
+        ensures { AreListed result }
+    {
+        WordLists {
+            doc: DOC.as_slice(),
+            positions: POSITIONS.as_slice(),
+            custom_options: CUSTOM_OPTIONS.as_slice(),
+        }
+    }
+}
+
+impl DocWord {
+    /// What a word of `--doc` says. `clap` takes no other text than these words.
+    pub(crate) fn of(text: &str) -> DocWord
+        ensures { result ≡ doc_word text.now }
+    {
+        match text {
+            "leading" => DocWord::Leading,
+            "trailing" => DocWord::Trailing,
+            "both" => DocWord::Both,
+            _ => DocWord::Nothing,
+        }
+    }
+}
+
+impl PositionsWord {
+    /// What a word of `--positions` says. `clap` takes no other text than these words.
+    pub(crate) fn of(text: &str) -> PositionsWord
+        ensures { result ≡ positions_word text.now }
+    {
+        match text {
+            "utf16" => PositionsWord::Utf16,
+            _ => PositionsWord::Utf8,
+        }
+    }
+}
+
+impl CustomOptionsWord {
+    /// What a word of `--custom-options` says. `clap` takes no other text than these words.
+    pub(crate) fn of(text: &str) -> CustomOptionsWord
+        ensures { result ≡ custom_options_word text.now }
+    {
+        match text {
+            "skip" => CustomOptionsWord::Skip,
+            _ => CustomOptionsWord::Refuse,
+        }
+    }
+}

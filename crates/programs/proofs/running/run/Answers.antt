@@ -1,0 +1,19 @@
+use Rattle.std.proofs.Common.{◌≡◌, refl, subst, sym}
+use Rattle.std.specs.Prelude.{IfOk, IfSome, Result}
+use Rattle.std.specs.declared.alloc.AllocError.{AllocError}
+use Rattle.command_line.specs.Requests.{index_options}
+use Rattle.command_line.specs.declared.request.Request.{Request}
+use Rattle.programs.specs.Indexing.{Indexed}
+use Rattle.programs.specs.Messages.{memory_line}
+use Rattle.programs.proofs.running.run.Goals as goal
+
+pub returns-in-Index-clause-indexed : goal.returns-in-Index-clause-indexed
+returns-in-Index-clause-indexed g c =
+    let Here : Request → Type 0 = λ request. IfSome (index_options request) (λ options.
+    Indexed (g.F.ReadFiles.lists c.args.files.now) (g.F.ReadFiles.gives c.args.files.now) g.O.Sink.contents g.O.Sink.failures g.M.Sink.contents g.M.Sink.failures options
+    c.args.file.now c.index.new.out c.args.messages.now c.index.new.messages c.index.result
+    × (c.args.input.now ≡ c.args.input.now) × (c.args.out.now ≡ c.args.out.now)) in
+    subst (λ (asked : Result Request AllocError). IfOk asked Here) (sym c.in-Ok.is) (subst Here (sym c.in-Index.is) (c.index.ensures, refl, refl))
+
+pub returns-in-Err-clause-unknown : goal.returns-in-Err-clause-unknown
+returns-in-Err-clause-unknown g c = rw c.in-Err.is (c.report.ensures memory_line c.from_str-line.ensures.ok, refl, refl, refl)

@@ -1,0 +1,43 @@
+-- What the options of `index` say of the run.
+use Rattle.std.specs.Prelude.{string_bytes}
+use Rattle.std.specs.Option.{option_map}
+use Rattle.proto_lex.specs.declared.position.Encoding.{Encoding}
+use Rattle.proto_lex.specs.declared.position.Encoding.TheVariants as encoding
+use Rattle.proto_grammar.specs.declared.tree.CustomOptions.{CustomOptions}
+use Rattle.proto_grammar.specs.declared.tree.CustomOptions.TheVariants as custom
+use Rattle.proto_decl.specs.Seen.{Seen}
+use Rattle.index_hooks.specs.declared.choice.Choice.{Choice}
+use Rattle.scip_symbol.specs.Package.{Package}
+use Rattle.scip_build.specs.declared.settings.Settings.{Settings}
+use Rattle.command_line.specs.declared.options.IndexOptions.{IndexOptions}
+use Rattle.command_line.specs.declared.options.PositionsWord.{PositionsWord}
+use Rattle.command_line.specs.declared.options.PositionsWord.TheVariants as positions
+use Rattle.command_line.specs.declared.options.CustomOptionsWord.{CustomOptionsWord}
+use Rattle.command_line.specs.declared.options.CustomOptionsWord.TheVariants as word
+use Rattle.programs.specs.Choices.{IsChosenBy, choice_of_word}
+
+-- the unit of columns
+abbrev pub encoding_of : PositionsWord → Encoding
+encoding_of positions.Utf8 = encoding.Utf8
+encoding_of positions.Utf16 = encoding.Utf16
+
+-- what is done about custom options
+abbrev pub custom_options_of : CustomOptionsWord → CustomOptions
+custom_options_of word.Refuse = custom.Refuse
+custom_options_of word.Skip = custom.Skip
+
+-- the package that symbols name
+abbrev pub package_in : IndexOptions → Package
+package_in options = record { manager = string_bytes options.manager; name = string_bytes options.«package»; version = string_bytes options.release }
+
+abbrev pub settings_in : IndexOptions → Settings
+settings_in options = record {
+  project_root = string_bytes options.project_root;
+  «package» = package_in options;
+  encoding = encoding_of options.positions;
+  custom_options = custom_options_of options.custom_options;
+}
+
+-- the choices that they allow
+abbrev pub allowed_by : IndexOptions → Seen → Choice → Type 0
+allowed_by options = IsChosenBy (option_map string_bytes options.only) (option_map choice_of_word options.doc)

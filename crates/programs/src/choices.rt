@@ -1,0 +1,112 @@
+//! What the options of `index` choose for each declaration.
+
+ghost use Rattle.std.specs.Prelude.{◌≡◌, IfOk};
+ghost use Rattle.std.specs.Option.{option_map};
+ghost use Rattle.std.specs.String.{string_bytes};
+ghost use Rattle.programs.specs.Choices.{IsKeptBy, choice_of_word, documented_by};
+
+use command_line::DocWord;
+use index_hooks::{
+    Choice, Chooses, DocAlways, DocChoice, DocHook, DocRule, Filter, FilterHook, NamePrefix,
+};
+use proto_decl::DeclView;
+use std::alloc::{AllocError, Global};
+
+/// What is chosen for each declaration: by `--only` whether it is kept, and by `--doc` which comment
+/// texts document it. Without the first all are kept, and without the second the text before each
+/// documents it.
+#[derive(Drop)]
+pub struct OptionChoices {
+    filter: Option<Filter<NamePrefix, NamePrefix>>,
+    rule: Option<DocRule<DocAlways, DocAlways>>,
+}
+
+/// The answer that a word of `--doc` asks for.
+fn choice_of_word(word: DocWord) -> DocChoice
+    ensures { result ≡ choice_of_word word }
+{
+    match word {
+        DocWord::Leading => DocChoice::Leading,
+        DocWord::Trailing => DocChoice::Trailing,
+        DocWord::Both => DocChoice::Both,
+        DocWord::Nothing => DocChoice::Nothing,
+    }
+}
+
+/// The rule that a word of `--doc` asks for.
+fn rule_of(word: Option<DocWord>) -> Option<DocRule<DocAlways, DocAlways>>
+    ensures { option_map (λ rule. rule.0) result ≡ option_map choice_of_word word }
+{
+    match word {
+        Some(word) => Some(DocAlways(choice_of_word(word)).rule()),
+        None => None,
+    }
+}
+
+/// The filter that a prefix of `--only` asks for.
+fn filter_of(
+    alloc: Global,
+    prefix: Option<&str>,
+) -> Result<Option<Filter<NamePrefix, NamePrefix>>, AllocError>
+    ensures { IfOk result (λ filter. option_map (λ f. string_bytes f.0) filter ≡ option_map (λ text. text.now) prefix.entry) }
+{
+    match prefix {
+        Some(prefix) => Ok(Some(NamePrefix::filter(alloc, prefix)?)),
+        None => Ok(None),
+    }
+}
+
+impl OptionChoices {
+    /// The choices by a full name of `--only` and a word of `--doc`.
+    pub fn new(
+        alloc: Global,
+        only: Option<&str>,
+        doc: Option<DocWord>,
+    ) -> Result<OptionChoices, AllocError>
+        ensures only { IfOk result (λ choices. option_map (λ f. string_bytes f.0) choices.filter ≡ option_map (λ text. text.now) only.entry) }
+        ensures doc { IfOk result (λ choices. option_map (λ r. r.0) choices.rule ≡ option_map choice_of_word doc) }
+    {
+        Ok(OptionChoices {
+            filter: filter_of(alloc, only)?,
+            rule: rule_of(doc),
+        })
+    }
+
+    /// Whether a declaration is kept.
+    fn keeps(&self, view: &DeclView<'_>) -> bool
+        ensures { IsKeptBy (option_map (λ f. string_bytes f.0) self.now.filter) view.now result }
+    {
+        match &self.filter {
+            Some(filter) => filter.ask(view),
+            None => true,
+        }
+    }
+
+    /// Which texts document a declaration.
+    fn documents(&self, view: &DeclView<'_>) -> DocChoice
+        ensures { result ≡ documented_by (option_map (λ r. r.0) self.now.rule) }
+    {
+        match &self.rule {
+            Some(rule) => match rule.ask(view) {
+                DocChoice::Pass => DocChoice::Leading,
+                answer => answer,
+            },
+            None => DocChoice::Leading,
+        }
+    }
+}
+
+impl Chooses for OptionChoices {
+    ghost use Rattle.std.specs.Option.{option_map};
+    ghost use Rattle.std.specs.String.{string_bytes};
+    ghost use Rattle.programs.specs.Choices.{IsChosenBy};
+
+    ghost allows = { λ choices seen choice. IsChosenBy (option_map (λ f. string_bytes f.0) choices.filter) (option_map (λ r. r.0) choices.rule) seen choice };
+
+    fn choose(&self, view: &DeclView<'_>) -> Choice {
+        Choice {
+            keep: self.keeps(view),
+            doc: self.documents(view),
+        }
+    }
+}

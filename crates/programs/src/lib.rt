@@ -1,0 +1,29 @@
+//! What each program of the command line does with its files, its streams and its exit status.
+#![tactic(auto)]
+
+// The programs.
+mod running;
+
+// `dump`: a source is read, indexed and listed.
+mod dumping;
+
+// `query`: an index is read from a file, and answers commands.
+mod query_fault;
+mod querying;
+
+// `index`: what its options say of the run, why there is no package or no tree, and what it does.
+mod choices;
+mod indexing;
+mod load_line;
+mod package;
+mod settings;
+
+// What is printed and said.
+mod messages;
+mod output;
+
+pub use choices::OptionChoices;
+pub use messages::report;
+pub use query_fault::QueryFault;
+pub use querying::query;
+pub use running::{out_path, run};

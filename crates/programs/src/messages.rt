@@ -1,0 +1,40 @@
+//! What is said on the stream of messages.
+
+ghost use Rattle.std.specs.Prelude.{◌≡◌, ◌++◌, ℕ, List, IfOk, codes, string_bytes};
+ghost use Rattle.std.specs.Io.KnownBytes.{Appends};
+ghost use Rattle.programs.specs.Messages.{Heard, Tells};
+
+use scip_model::{Sink, write_all};
+use std::alloc::AllocError;
+
+/// The exit status of a program that wants for memory.
+pub(crate) const MEMORY_STATUS: u8 = 4;
+
+/// Says in one line why a program stops, and gives the exit status: this one; or, where memory didn't
+/// suffice for the line, that of want of memory, of which it is said instead. What the stream doesn't
+/// take is lost; where the line is cut off, no line end follows it, which tests show.
+pub fn report<M: Sink>(line: Result<String, AllocError>, status: u8, messages: &mut M) -> u8
+    ensures { (due : List ℕ) → IfOk line (λ text. string_bytes text ≡ due)
+        → Tells M.contents M.failures due status messages.old messages.new result }
+{
+    match line {
+        Ok(line) => {
+            say(messages, line.as_str());
+            status
+        }
+        Err(_) => {
+            say(messages, "protoscip: Memory");
+            MEMORY_STATUS
+        }
+    }
+}
+
+/// Writes a line and its end. What the stream doesn't take is lost.
+fn say<M: Sink>(messages: &mut M, line: &str)
+    ensures { Heard (M.failures messages.old) (M.failures messages.new)
+        (Appends (M.contents messages.old) (M.contents messages.new) (line.now ++ codes "\n")) }
+{
+    if write_all(messages, line.as_bytes()).is_ok() {
+        let _ = write_all(messages, b"\n");
+    }
+}

@@ -1,0 +1,28 @@
+//! What is printed.
+
+ghost use Rattle.programs.specs.Printing.{Prints};
+
+use crate::messages::report;
+use scip_model::{Sink, write_all};
+use std::alloc::Global;
+
+/// The exit status of a program whose streams or files fail.
+pub(crate) const STREAM_STATUS: u8 = 3;
+
+/// Prints a text, and gives the exit status. Where a write fails, that is said.
+pub(crate) fn print<W: Sink, M: Sink>(
+    alloc: Global,
+    text: &str,
+    out: &mut W,
+    messages: &mut M,
+) -> u8
+    ensures { Prints W.contents W.failures M.contents M.failures text.now out.old out.new messages.old messages.new result }
+{
+    match write_all(out, text.as_bytes()) {
+        Ok(()) => 0,
+        Err(_) => {
+            let line = String::from_str(alloc, "protoscip: Write");
+            report(line, STREAM_STATUS, messages)
+        }
+    }
+}

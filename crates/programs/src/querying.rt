@@ -1,0 +1,41 @@
+//! Answers to commands about the index that a file holds.
+
+ghost use Rattle.std.specs.Prelude.{◌≡◌};
+ghost use Rattle.programs.specs.Queries.{IsReadFrom, Queried};
+
+use crate::query_fault::QueryFault;
+use scip_model::{Feed, Index, Sink};
+use scip_query::Queries;
+use scip_wire::read_index;
+use source_files::ReadFiles;
+use std::alloc::Global;
+
+/// The index that a file holds. Nothing of the file's bytes is kept beside it.
+fn index_of_file<F: ReadFiles>(alloc: Global, files: &F, path: &str) -> Result<Index, QueryFault>
+    ensures { IsReadFrom (F.gives files.now path.now) result }
+{
+    let bytes = files.read_file(alloc, path)?;
+    let index = read_index(alloc, &bytes)?;
+    Ok(index)
+}
+
+/// Reads the index that a file holds, and answers commands about it, one a line, as
+/// `Queries::answer_all` does.
+///
+/// - `Unreadable`: the file can't be read.
+/// - `Wire`: its bytes decode to no index.
+/// - `Read`, `Write`: reading commands or writing answers failed, as `Queries::answer_all` says.
+pub fn query<F: ReadFiles, R: Feed, W: Sink>(
+    alloc: Global,
+    files: &F,
+    path: &str,
+    commands: &mut R,
+    answers: &mut W,
+) -> Result<(), QueryFault>
+    ensures { Queried (F.gives files.now path.now) R.remaining R.failures R.reads R.ends W.contents W.failures commands.old commands.new answers.old answers.new result }
+{
+    let index = index_of_file(alloc, files, path)?;
+    let queries = Queries::new(alloc, index)?;
+    queries.answer_all(alloc, commands, answers)?;
+    Ok(())
+}

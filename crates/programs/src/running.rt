@@ -1,0 +1,124 @@
+//! What the program does with its files and streams, and the exit status that it ends with.
+
+ghost use Rattle.std.specs.Prelude.{◌≡◌, ℕ, List, [], Some, Result, IfSome, IfOk, IfErr};
+ghost use Rattle.std.specs.Io.KnownBytes.{Appends};
+ghost use Rattle.command_line.specs.Requests.{dump_options, index_options, index_path, out_path, printed_text, refused_text};
+ghost use Rattle.scip_model.specs.WholeReads.{IsReadBriefly};
+ghost use Rattle.protoscip.specs.declared.fault.Fault.{Fault};
+ghost use Rattle.protoscip.specs.Dump.{Dumps, LeavesReader, LeavesWriter, dump_tree};
+ghost use Rattle.programs.specs.declared.query_fault.QueryFault.{QueryFault};
+ghost use Rattle.programs.specs.Answering.{Answers};
+ghost use Rattle.programs.specs.Indexing.{Ends, Indexed};
+ghost use Rattle.programs.specs.Messages.{Heard, Tells, memory_line, memory_status};
+ghost use Rattle.programs.specs.Printing.{Prints};
+ghost use Rattle.programs.specs.Queries.{Queried};
+ghost use Rattle.programs.specs.Settings.{custom_options_of};
+
+use crate::dumping::dump_source;
+use crate::indexing::index;
+use crate::messages::{MEMORY_STATUS, report};
+use crate::output::print;
+use crate::package::COMMAND_LINE_STATUS;
+use crate::querying::query;
+use command_line::Request;
+use scip_model::{Feed, Sink, write_all};
+use source_files::ReadFiles;
+use std::alloc::{AllocError, Global};
+use std::sync::Wait;
+use std::thread::Threads;
+
+/// Says why a command line is refused. What the stream of messages doesn't take is lost.
+fn refuse<M: Sink>(text: &str, messages: &mut M) -> u8
+    ensures status { result ≡ 2 }
+    ensures said { Heard (M.failures messages.old) (M.failures messages.new)
+        (Appends (M.contents messages.old) (M.contents messages.new) text.now) }
+{
+    let _ = write_all(messages, text.as_bytes());
+    COMMAND_LINE_STATUS
+}
+
+/// Answers commands about the index that a file holds, and gives the exit status.
+fn answer<F: ReadFiles, I: Feed, W: Sink, M: Sink>(
+    alloc: Global,
+    files: &F,
+    path: &str,
+    input: &mut I,
+    out: &mut W,
+    messages: &mut M,
+) -> u8
+    ensures { (done : Result (Unit {0}) QueryFault)
+        × Queried (F.gives files.now path.now) I.remaining I.failures I.reads I.ends W.contents W.failures input.old input.new out.old out.new done
+        × Answers M.contents M.failures path.now done messages.old messages.new result }
+{
+    match query(alloc, files, path, input, out) {
+        Ok(()) => 0,
+        Err(fault) => report(fault.line(alloc, path), fault.status(), messages),
+    }
+}
+
+/// The path of the file that an index is asked for; empty where none is.
+pub fn out_path(asked: &Result<Request, AllocError>) -> &str
+    ensures { IfOk asked.now (λ request. IfSome (out_path request) (λ path. result.now ≡ path)) }
+{
+    match asked {
+        Ok(Request::Index(_, path)) => path.as_str(),
+        _ => "",
+    }
+}
+
+/// Does what was asked for, and gives the exit status. An index goes to `file`, everything else to
+/// `out`. Where memory ran out while the command line was read, it says so.
+pub fn run<R: Threads + Wait, F: ReadFiles, I: Feed, W: Sink, O: Sink, M: Sink>(
+    rt: &R,
+    alloc: Global,
+    asked: &Result<Request, AllocError>,
+    files: &F,
+    input: &mut I,
+    out: &mut W,
+    file: &mut O,
+    messages: &mut M,
+) -> u8
+    // Help and the version are printed.
+    ensures printed { IfOk asked.now (λ request. IfSome (printed_text request) (λ text.
+        Prints W.contents W.failures M.contents M.failures text out.old out.new messages.old messages.new result
+        × (input.new ≡ input.old) × (file.new ≡ file.old))) }
+    // Of a refused command line it is said why.
+    ensures refused { IfOk asked.now (λ request. IfSome (refused_text request) (λ text. (result ≡ 2)
+        × Heard (M.failures messages.old) (M.failures messages.new)
+        (Appends (M.contents messages.old) (M.contents messages.new) text)
+        × (input.new ≡ input.old) × (out.new ≡ out.old) × (file.new ≡ file.old))) }
+    // What `dump` promises of its answer, and what becomes of that.
+    ensures dumped { IfOk asked.now (λ request. IfSome (dump_options request) (λ word. ((done : Result (Unit {0}) Fault)
+        × ((due : List ℕ) × LeavesWriter W.contents W.failures out.old out.new due done
+        × ((bytes : List ℕ) → I.remaining input.old ≡ Some bytes → Dumps (custom_options_of word) bytes due done))
+        × LeavesReader I.failures I.reads I.ends input.old input.new done
+        × IsReadBriefly I.reads input.old input.new
+        × Ends M.contents M.failures (dump_tree []) done messages.old messages.new result)
+        × (file.new ≡ file.old))) }
+    // What `query` promises of its answers, and what becomes of that.
+    ensures queried { IfOk asked.now (λ request. IfSome (index_path request) (λ path. ((done : Result (Unit {0}) QueryFault)
+        × Queried (F.gives files.now path) I.remaining I.failures I.reads I.ends W.contents W.failures input.old input.new out.old out.new done
+        × Answers M.contents M.failures path done messages.old messages.new result)
+        × (file.new ≡ file.old))) }
+    // What `index` does.
+    ensures indexed { IfOk asked.now (λ request. IfSome (index_options request) (λ options.
+        Indexed (F.lists files.now) (F.gives files.now) O.contents O.failures M.contents M.failures options file.old file.new messages.old messages.new result
+        × (input.new ≡ input.old) × (out.new ≡ out.old))) }
+    // Nothing was asked for, since memory ran out, and that is said.
+    ensures unknown { IfErr asked.now (λ _. Tells M.contents M.failures memory_line memory_status messages.old messages.new result
+        × (input.new ≡ input.old) × (out.new ≡ out.old) × (file.new ≡ file.old)) }
+{
+    match asked {
+        Ok(request) => match request {
+            Request::Dump(word) => dump_source(rt, alloc, *word, input, out, messages),
+            Request::Query(path) => answer(alloc, files, path.as_str(), input, out, messages),
+            Request::Index(options, _) => index(rt, alloc, options, files, file, messages),
+            Request::Print(text) => print(alloc, text.as_str(), out, messages),
+            Request::Refuse(text) => refuse(text.as_str(), messages),
+        },
+        Err(AllocError) => {
+            let line = String::from_str(alloc, "protoscip: Memory");
+            report(line, MEMORY_STATUS, messages)
+        }
+    }
+}

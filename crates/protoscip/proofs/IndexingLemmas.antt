@@ -1,0 +1,102 @@
+-- What a run answers, by where it stops.
+use Rattle.std.proofs.Common.{◌≡◌, ◌↔◌, ℕ, suc, ◌<◌, ◌≤◌, List, length, Option, Result, Ok, Err, refl, sym, subst, arith}
+use Rattle.std.proofs.Math.Nat.{lt_of_not-le}
+use Rattle.proto_decl.specs.Seen.{Seen}
+use Rattle.index_hooks.specs.declared.choice.Choice.{Choice}
+use Rattle.source_tree.specs.Files.{TreeFile}
+use Rattle.scip_model.specs.declared.records.Index.{Index}
+use Rattle.scip_model.specs.WholeWrites.{IsWritten}
+use Rattle.scip_build.specs.Builds.{IsBuilt, IsBuildFault}
+use Rattle.scip_build.specs.declared.built.Built.{Built}
+use Rattle.scip_build.specs.declared.settings.Settings.{Settings}
+use Rattle.scip_build.specs.declared.fault.BuildFault.{BuildFault}
+use Rattle.scip_build.specs.declared.fault.BuildFault.TheVariants as build
+use Rattle.scip_build.specs.declared.fault.FileFault.TheVariants as file
+use Rattle.scip_wire.specs.Decodes.{Decodes}
+use Rattle.scip_wire.specs.Spelling.{spelling_of, max_index_len}
+use Rattle.scip_wire.specs.WellFormed.{IsWellFormed}
+use Rattle.scip_wire.specs.Writing.{Leaves}
+use Rattle.scip_wire.specs.declared.write_fault.WriteFault.{WriteFault}
+use Rattle.scip_wire.specs.declared.write_fault.WriteFault.TheVariants as writing
+use Rattle.protoscip.specs.Faults.{fault_of_build, fault_of_writing}
+use Rattle.protoscip.specs.Indexes.{IsSpelled, IsIndexed, IsRefused, Indexes}
+use Rattle.protoscip.specs.Writing.{WritesIndex}
+use Rattle.protoscip.specs.FaultLines.{HasFilesOf}
+use Rattle.protoscip.specs.declared.fault.Fault.{Fault}
+use Rattle.protoscip.specs.declared.fault.Fault.TheVariants as fault
+
+pub not_above : (n m : ℕ) → (m < n → ⊥) → n ≤ m
+not_above n m never = let h : n < suc m = lt_of_not-le never in omega arith
+
+abbrev pub SpellingDecodes : Type 0
+SpellingDecodes = (i : Index) → IsWellFormed i → length (spelling_of i) ≤ max_index_len → Decodes (spelling_of i) i
+
+abbrev pub OneDecoding : Type 0
+OneDecoding = (bytes : List ℕ) (index other : Index) → Decodes bytes index → Decodes bytes other → index ≡ other
+
+abbrev pub stopped : WriteFault → Result (Unit {0}) WriteFault
+stopped e = Err e
+
+-- the bytes of an index that isn't too large
+pub spelled : SpellingDecodes → OneDecoding → (i : Index) → IsWellFormed i → length (spelling_of i) ≤ max_index_len → IsSpelled i (spelling_of i)
+spelled decodes one i known small =
+    let is = decodes i known small in
+    record { spelling = refl; small = small; decodes = is; alone = λ other d. one (spelling_of i) other i d is }
+
+module _ (decodes : SpellingDecodes) (one : OneDecoding) (index : Index) (known : IsWellFormed index) where
+  -- where TooLarge, which is said exactly of an index with too many bytes, isn't said
+  pub spelled_unless : (Says : Type 0) → Says ↔ (max_index_len < length (spelling_of index)) → (Says → ⊥) → IsSpelled index (spelling_of index)
+  spelled_unless Says large never = spelled decodes one index known (not_above (length (spelling_of index)) max_index_len (λ above. never (large.1 above)))
+
+  module _ (W : Type 0) (contents : W → Option (List ℕ)) (failures : W → ℕ) (before after : W) where
+    -- an index isn't written, or cut off
+    pub not_written : (e : WriteFault) → (stopped e ≡ stopped writing.TooLarge) ↔ (max_index_len < length (spelling_of index)) → Leaves contents failures before after (spelling_of index) e
+        → WritesIndex contents failures index before after (Err (fault_of_writing e))
+    not_written writing.TooLarge large leaves = (large.0 refl, leaves)
+    not_written (writing.Write count) large leaves = (spelled_unless (stopped (writing.Write count) ≡ stopped writing.TooLarge) large (λ same. cc), leaves)
+    not_written writing.Memory large leaves = leaves
+
+module _ (W : Type 0) (contents : W → Option (List ℕ)) (failures : W → ℕ) (allows : Seen → Choice → Type 0) (settings : Settings) (tree : List TreeFile) (workers : ℕ) (before after : W) where
+  -- a tree isn't built
+  pub unbuilt : (e : BuildFault) → IsBuildFault allows settings.custom_options tree workers e → Indexes contents failures allows settings tree workers before before (Err (fault_of_build e))
+  unbuilt build.Spawn is = (is, refl)
+  unbuilt build.Memory is = (is, refl)
+  unbuilt (build.File number (file.Lex e)) is = (is, refl)
+  unbuilt (build.File number (file.Syntax e)) is = (is, refl)
+  unbuilt (build.Duplicate first second) is = (is, refl)
+  unbuilt (build.MissingImport place) is = (is, refl)
+  unbuilt (build.Unresolved place) is = (is, refl)
+
+  module _ (built : Built) (is : IsBuilt allows settings tree built) where
+    -- its index isn't written, or cut off
+    pub unwritten : (e : Fault) → WritesIndex contents failures built.index before after (Err e) → Indexes contents failures allows settings tree workers before after (Err e)
+    unwritten fault.Spawn wrote = absurd wrote
+    unwritten fault.Memory wrote = (tt, wrote)
+    unwritten (fault.Lex number e) wrote = absurd wrote
+    unwritten (fault.Syntax number e) wrote = absurd wrote
+    unwritten (fault.Duplicate first second) wrote = absurd wrote
+    unwritten (fault.MissingImport place) wrote = absurd wrote
+    unwritten (fault.Unresolved place) wrote = absurd wrote
+    unwritten fault.TooLarge wrote = ((built, is, wrote.0), wrote.1)
+    unwritten (fault.Write count) wrote = (built.choices, spelling_of built.index, record { index = built.index; built = is; spelled = wrote.0 }, wrote.1)
+    unwritten fault.Read wrote = absurd wrote
+    unwritten (fault.Answer count) wrote = absurd wrote
+
+    -- it is written
+    pub written : (done : Unit {0}) → WritesIndex contents failures built.index before after (Ok done) → Indexes contents failures allows settings tree workers before after (Ok built.choices)
+    written done wrote = (spelling_of built.index, record { index = built.index; built = is; spelled = wrote.0 }, wrote.1)
+
+-- writing an index has no fault of a file
+pub no_files : (W : Type 0) (contents : W → Option (List ℕ)) (failures : W → ℕ) (tree : List TreeFile) (before after : W) (index : Index) (e : Fault)
+    → WritesIndex contents failures index before after (Err e) → HasFilesOf tree e
+no_files W contents failures tree before after index fault.Spawn wrote = tt
+no_files W contents failures tree before after index fault.Memory wrote = tt
+no_files W contents failures tree before after index (fault.Lex number e) wrote = absurd wrote
+no_files W contents failures tree before after index (fault.Syntax number e) wrote = absurd wrote
+no_files W contents failures tree before after index (fault.Duplicate first second) wrote = absurd wrote
+no_files W contents failures tree before after index (fault.MissingImport place) wrote = absurd wrote
+no_files W contents failures tree before after index (fault.Unresolved place) wrote = absurd wrote
+no_files W contents failures tree before after index fault.TooLarge wrote = tt
+no_files W contents failures tree before after index (fault.Write count) wrote = tt
+no_files W contents failures tree before after index fault.Read wrote = tt
+no_files W contents failures tree before after index (fault.Answer count) wrote = tt

@@ -1,0 +1,12 @@
+use Rattle.std.proofs.Common.{◌≡◌, ◌∙◌, ℕ, List, sym, subst}
+use Rattle.scip_wire.specs.Decodes.{Decodes}
+use Rattle.protoscip.proofs.IndexingLemmas.{spelled_unless}
+use Rattle.protoscip.proofs.reading_back.read_back.Goals as goal
+
+pub returns-in-Ok : goal.returns-in-Ok
+returns-in-Ok c =
+    let spelling = c.in_ok-bytes.ensures in
+    let is = spelled_unless c.spelling_decodes_to_its_index.ensures c.bytes_decode_to_one_index.ensures c.args.index spelling.known _ spelling.too_large (λ same. cc) in
+    let bytes = c.deref.ensures.value ∙ spelling.bytes in
+    let decodes = subst (λ (b : List ℕ). Decodes b c.args.index) (sym bytes) is.decodes in
+    (is, c.in-Ok.ensures.only c.args.index decodes)

@@ -1,7 +1,0 @@
-use Rattle.protoscip.proofs.SyntaxLemmas.Places.{first-offset}
-use Rattle.protoscip.proofs.syntax.parser.Parser.offset.Goals as goal
-
-pub returns : goal.returns
-returns c =
-    let inside = c.self.inside in
-    rw (← c.self.view_is) (first-offset inside.tokens.now.text inside.tokens.now.tokens inside.next c.offset_at.result c.offset_at.ensures)

@@ -1,0 +1,26 @@
+-- What the writing of an index answers, and what it leaves of the writer.
+use Rattle.std.specs.Prelude.{◌≡◌, ℕ, ◌<◌, List, length, Option, Result, Ok, Err}
+use Rattle.scip_model.specs.WholeWrites.{IsWritten, IsCutOff}
+use Rattle.scip_model.specs.declared.records.Index.{Index}
+use Rattle.scip_wire.specs.Spelling.{spelling_of, max_index_len}
+use Rattle.protoscip.specs.Indexes.{IsSpelled}
+use Rattle.protoscip.specs.declared.fault.Fault.{Fault}
+use Rattle.protoscip.specs.declared.fault.Fault.TheVariants.{Memory, TooLarge, Write}
+
+-- its bytes are written, all or the first `count`; or it has too many, or memory ran out, and the writer is as it was
+abbrev pub WritesIndex : {W : Type 0} → (contents : W → Option (List ℕ)) → (failures : W → ℕ) → Index → W → W → Result (Unit {0}) Fault → Type 0
+WritesIndex contents failures index before after (Ok done) = IsSpelled index (spelling_of index) × IsWritten contents failures before after (spelling_of index)
+WritesIndex contents failures index before after (Err (Write count)) = IsSpelled index (spelling_of index) × IsCutOff contents failures before after (spelling_of index) count
+WritesIndex contents failures index before after (Err TooLarge) = (max_index_len < length (spelling_of index)) × (after ≡ before)
+WritesIndex contents failures index before after (Err Memory) = after ≡ before
+WritesIndex contents failures index before after (Err other) = ⊥
+
+-- what is read back of an index's bytes is the index
+abbrev pub IsReadBack : Index → Index → Type 0
+IsReadBack index read = IsSpelled index (spelling_of index) × (read ≡ index)
+
+-- an index has no bytes to read back: it has too many, or memory ran out
+abbrev pub IsNotReadBack : Index → Fault → Type 0
+IsNotReadBack index Memory = Unit {0}
+IsNotReadBack index TooLarge = max_index_len < length (spelling_of index)
+IsNotReadBack index other = ⊥

@@ -1,0 +1,131 @@
+//! From a source's bytes to the listing of its occurrences.
+
+ghost use Rattle.std.specs.Prelude.{◌≡◌, ℕ, List, [], Some, IfOk, IfErr, MatchResult};
+ghost use Rattle.std.specs.String.{string_bytes};
+ghost use Rattle.scip_model.specs.WholeReads.{IsReadBriefly};
+ghost use Rattle.protoscip.specs.Dump.{dump_tree, dump_settings, IsListing, IsRefusal, Dumps, LeavesReader, LeavesWriter};
+ghost use Rattle.protoscip.specs.FaultLines.{HasFilesOf};
+
+use crate::fault::Fault;
+use crate::listing::dump_text;
+use crate::output::write_text;
+use crate::reading_back::read_back;
+use crate::source::read_source;
+use index_hooks::{Choice, Chooses, DocChoice};
+use index_pool::{NoGate, Workers};
+use proto_decl::DeclView;
+use proto_lex::Encoding;
+use proto_parse::CustomOptions;
+use scip_build::{Settings, build};
+use scip_model::{Feed, OwnedText, Sink};
+use scip_symbol::PackageId;
+use source_tree::{Source, Tree, TreeFault};
+use std::alloc::{AllocError, Global};
+use std::sync::Wait;
+use std::thread::Threads;
+
+/// The path under which a dump, and what is said of its fault, shows its source.
+pub const SOURCE_PATH: &str = "input.proto";
+
+/// Keeps each declaration, with its leading text.
+#[derive(Clone, Copy, Debug)]
+pub(crate) struct DefaultChoices;
+
+impl Chooses for DefaultChoices {
+    ghost use Rattle.index_hooks.specs.MayChoose.{IsDefaultChoice};
+
+    ghost allows = { λ _ _ choice. IsDefaultChoice choice };
+
+    fn choose(&self, _view: &DeclView<'_>) -> Choice {
+        Choice {
+            keep: true,
+            doc: DocChoice::Leading,
+        }
+    }
+}
+
+/// The tree of a dump: these bytes as `SOURCE_PATH`, and no other file.
+pub fn dump_tree(alloc: Global, bytes: Vec<u8>) -> Result<Tree, AllocError>
+    ensures { IfOk result (λ tree. tree ≡ dump_tree bytes.items) }
+{
+    let path = String::from_str(alloc, SOURCE_PATH)?;
+    let sources = vec![in alloc; Source { path, bytes }]?;
+    match Tree::new(alloc, sources) {
+        Ok(tree) => Ok(tree),
+        Err((_, fault)) => match fault {
+            TreeFault::Memory => Err(AllocError),
+            _ => unreachable!(),
+        },
+    }
+}
+
+/// The settings of a dump.
+fn dump_settings(alloc: Global, custom_options: CustomOptions) -> Result<Settings, AllocError>
+    ensures { IfOk result (λ settings. settings ≡ dump_settings custom_options) }
+{
+    let parts = [String::new(alloc), String::new(alloc), String::new(alloc)];
+    Ok(Settings {
+        project_root: OwnedText::copy_of(alloc, "file:///")?,
+        package: PackageId::new(parts).unwrap(),
+        encoding: Encoding::Utf8,
+        custom_options,
+    })
+}
+
+/// One worker, who starts no thread.
+fn one_worker() -> Workers
+    ensures { result ≡ 1 }
+{
+    Workers::new(1).unwrap()
+}
+
+/// The listing of a source.
+fn listing_of<R: Threads + Wait>(
+    rt: &R,
+    alloc: Global,
+    custom: CustomOptions,
+    bytes: Vec<u8>,
+) -> Result<String, Fault>
+    ensures { MatchResult result (λ listing. IsListing custom bytes.items (string_bytes listing)) (IsRefusal custom bytes.items) }
+{
+    let tree = dump_tree(alloc, bytes)?;
+    let settings = dump_settings(alloc, custom)?;
+    let worker = one_worker();
+    let built = build(
+        rt,
+        alloc,
+        &tree,
+        &DefaultChoices,
+        worker,
+        &settings,
+        &NoGate,
+    )?;
+    let index = read_back(alloc, built.index)?;
+    let listing = dump_text(alloc, &index)?;
+    Ok(listing)
+}
+
+/// Reads a source to its end, and writes a line for each occurrence of its index: it is a tree of
+/// itself, of which each declaration is kept, with its leading text.
+///
+/// - `Read`: a read failed, or `MAX_READS` reads met no end.
+/// - `Lex`, `Syntax`, `Duplicate`, `MissingImport`, `Unresolved`, `TooLarge`: why the source has no
+///   listing, the first that holds.
+/// - `Write`: a write failed before all of the listing was written.
+pub fn dump<R: Threads + Wait, F: Feed, W: Sink>(
+    rt: &R,
+    alloc: Global,
+    custom: CustomOptions,
+    source: &mut F,
+    out: &mut W,
+) -> Result<(), Fault>
+    ensures dumped { (due : List ℕ) × LeavesWriter W.contents W.failures out.old out.new due result
+        × ((bytes : List ℕ) → F.remaining source.old ≡ Some bytes → Dumps custom bytes due result) }
+    ensures files { IfErr result (HasFilesOf (dump_tree [])) }
+    ensures reader { LeavesReader F.failures F.reads F.ends source.old source.new result }
+    ensures briefly { IsReadBriefly F.reads source.old source.new }
+{
+    let bytes = read_source(alloc, source)?;
+    let listing = listing_of(rt, alloc, custom, bytes)?;
+    write_text(out, listing.as_str())
+}

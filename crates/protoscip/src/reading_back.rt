@@ -1,0 +1,27 @@
+//! An index, by its bytes.
+
+ghost use Rattle.std.specs.Prelude.{MatchResult};
+ghost use Rattle.protoscip.specs.Writing.{IsReadBack, IsNotReadBack};
+
+use crate::fault::Fault;
+use scip_model::Index;
+use scip_wire::{
+    WireFault, bytes_decode_to_one_index, read_index, spell_index, spelling_decodes_to_its_index,
+};
+use std::alloc::Global;
+
+/// The index that an index's bytes decode to: itself.
+///
+/// `TooLarge`: it has more than `MAX_INDEX_LEN`.
+pub(crate) fn read_back(alloc: Global, index: Index) -> Result<Index, Fault>
+    ensures { MatchResult result (IsReadBack index) (IsNotReadBack index) }
+{
+    let bytes = spell_index(alloc, &index)?;
+    spelling_decodes_to_its_index();
+    bytes_decode_to_one_index();
+    match read_index(alloc, &bytes) {
+        Ok(read) => Ok(read),
+        Err(WireFault::Memory) => Err(Fault::Memory),
+        Err(_) => unreachable!(),
+    }
+}

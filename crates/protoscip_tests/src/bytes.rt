@@ -1,0 +1,32 @@
+//! The bytes of indexes, as an encoder of another hand writes them from the occurrences and the symbol entries that are due.
+
+/// Of no files.
+pub(crate) const NO_FILES: &[u8] = b"\n\x1C\x12\x0E\n\x09protoscip\x12\x011\x1A\x08file:/// \x01";
+
+/// Of `ONE`.
+pub(crate) const ONE_MESSAGE: &[u8] =
+    b"\n\x1C\x12\x0E\n\x09protoscip\x12\x011\x1A\x08file:/// \x01\x12\xA7\x01\n\x07a.proto\x12'\n\x03\x00\x00\x00\x12\x1Escip-protobuf . . . `a.proto`/\x18\x01\x12\x1F\n\x03\x01\x08\x09\x12\x16scip-protobuf . . . A#\x18\x01\x1A\x1B\n\x16scip-protobuf . . . A#2\x01A\x1A)\n\x1Escip-protobuf . . . `a.proto`/2\x07a.proto\"\x08Protobuf0\x01";
+
+/// Of `ONE`, with columns in UTF-16.
+pub(crate) const IN_UTF16: &[u8] =
+    b"\n\x1C\x12\x0E\n\x09protoscip\x12\x011\x1A\x08file:/// \x01\x12\xA7\x01\n\x07a.proto\x12'\n\x03\x00\x00\x00\x12\x1Escip-protobuf . . . `a.proto`/\x18\x01\x12\x1F\n\x03\x01\x08\x09\x12\x16scip-protobuf . . . A#\x18\x01\x1A\x1B\n\x16scip-protobuf . . . A#2\x01A\x1A)\n\x1Escip-protobuf . . . `a.proto`/2\x07a.proto\"\x08Protobuf0\x02";
+
+/// Of `ONE`, under another root, in a package.
+pub(crate) const OTHER_SETTINGS: &[u8] =
+    b"\n%\x12\x0E\n\x09protoscip\x12\x011\x1A\x11file:///home/user \x01\x12\xC7\x01\n\x07a.proto\x12/\n\x03\x00\x00\x00\x12&scip-protobuf my  mgr . 1.0 `a.proto`/\x18\x01\x12'\n\x03\x01\x08\x09\x12\x1Escip-protobuf my  mgr . 1.0 A#\x18\x01\x1A#\n\x1Escip-protobuf my  mgr . 1.0 A#2\x01A\x1A1\n&scip-protobuf my  mgr . 1.0 `a.proto`/2\x07a.proto\"\x08Protobuf0\x01";
+
+/// Of `PACKAGES`.
+pub(crate) const COMPOUND: &[u8] =
+    b"\n\x1C\x12\x0E\n\x09protoscip\x12\x011\x1A\x08file:/// \x01\x12\x9E\x04\n\x07a.proto\x12'\n\x03\x00\x00\x00\x12\x1Escip-protobuf . . . `a.proto`/\x18\x01\x12\"\n\x03\x01\x08\x0C\x12\x19scip-protobuf . . . acme/\x18\x01\x12'\n\x03\x02\x07\x10\x12\x1Escip-protobuf . . . `b.proto`/\x18\x02\x12'\n\x03\x03\x07\x10\x12\x1Escip-protobuf . . . `t.proto`/\x18\x02\x12$\n\x03\x04\x08\x09\x12\x1Bscip-protobuf . . . acme/M#\x18\x01\x12\"\n\x03\x04\x0D\x13\x12\x1Bscip-protobuf . . . google/\x12+\n\x03\x04\x14\x1C\x12$scip-protobuf . . . google/protobuf/\x125\n\x03\x04\x1D&\x12.scip-protobuf . . . google/protobuf/Timestamp#\x12&\n\x03\x04'(\x12\x1Dscip-protobuf . . . acme/M#t.\x18\x01\x1A)\n\x1Escip-protobuf . . . `a.proto`/2\x07a.proto\x1A!\n\x19scip-protobuf . . . acme/2\x04acme\x1A \n\x1Bscip-protobuf . . . acme/M#2\x01M\x1A\"\n\x1Dscip-protobuf . . . acme/M#t.2\x01t\"\x08Protobuf0\x01\x12\x8C\x02\n\x07b.proto\x12'\n\x03\x00\x00\x00\x12\x1Escip-protobuf . . . `b.proto`/\x18\x01\x12\"\n\x03\x01\x08\x0C\x12\x19scip-protobuf . . . acme/\x18\x01\x12)\n\x03\x01\x0D\x13\x12 scip-protobuf . . . acme/google/\x18\x01\x1A)\n\x1Escip-protobuf . . . `b.proto`/2\x07b.proto\x1A!\n\x19scip-protobuf . . . acme/2\x04acme\x1A/\n scip-protobuf . . . acme/google/2\x0Bacme.google\"\x08Protobuf0\x01\x12\x94\x03\n\x07t.proto\x12'\n\x03\x00\x00\x00\x12\x1Escip-protobuf . . . `t.proto`/\x18\x01\x12$\n\x03\x01\x08\x0E\x12\x1Bscip-protobuf . . . google/\x18\x01\x12-\n\x03\x01\x0F\x17\x12$scip-protobuf . . . google/protobuf/\x18\x01\x127\n\x03\x02\x08\x11\x12.scip-protobuf . . . google/protobuf/Timestamp#\x18\x01\x1A)\n\x1Escip-protobuf . . . `t.proto`/2\x07t.proto\x1A%\n\x1Bscip-protobuf . . . google/2\x06google\x1A7\n$scip-protobuf . . . google/protobuf/2\x0Fgoogle.protobuf\x1A;\n.scip-protobuf . . . google/protobuf/Timestamp#2\x09Timestamp\"\x08Protobuf0\x01";
+
+/// Of `ROOTS`.
+pub(crate) const INCLUDED: &[u8] =
+    b"\n\x1C\x12\x0E\n\x09protoscip\x12\x011\x1A\x08file:/// \x01\x12\xD6\x02\n\x07a.proto\x12'\n\x03\x00\x00\x00\x12\x1Escip-protobuf . . . `a.proto`/\x18\x01\x12'\n\x03\x01\x07\x10\x12\x1Escip-protobuf . . . `t.proto`/\x18\x02\x12\x1F\n\x03\x02\x08\x09\x12\x16scip-protobuf . . . M#\x18\x01\x12\x1F\n\x03\x02\x0C\x0F\x12\x18scip-protobuf . . . lib/\x12!\n\x03\x02\x10\x11\x12\x1Ascip-protobuf . . . lib/T#\x12!\n\x03\x02\x12\x13\x12\x18scip-protobuf . . . M#t.\x18\x01\x1A\x1B\n\x16scip-protobuf . . . M#2\x01M\x1A\x1D\n\x18scip-protobuf . . . M#t.2\x01t\x1A)\n\x1Escip-protobuf . . . `a.proto`/2\x07a.proto\"\x08Protobuf0\x01\x1A)\n\x1Ascip-protobuf . . . lib/T#\x1A\x08A thing.2\x01T";
+
+/// Of `JOINED`.
+pub(crate) const JOINED_IMPORT: &[u8] =
+    b"\n\x1C\x12\x0E\n\x09protoscip\x12\x011\x1A\x08file:/// \x01\x12m\n\x08ab.proto\x12(\n\x03\x00\x00\x00\x12\x1Fscip-protobuf . . . `ab.proto`/\x18\x01\x1A+\n\x1Fscip-protobuf . . . `ab.proto`/2\x08ab.proto\"\x08Protobuf0\x01\x12\x94\x01\n\x07m.proto\x12'\n\x03\x00\x00\x00\x12\x1Escip-protobuf . . . `m.proto`/\x18\x01\x12)\n\x04\x01\x07\x02\x09\x12\x1Fscip-protobuf . . . `ab.proto`/\x18\x02\x1A)\n\x1Escip-protobuf . . . `m.proto`/2\x07m.proto\"\x08Protobuf0\x01";
+
+/// Of `EACH`.
+pub(crate) const EACH_OTHER: &[u8] =
+    b"\n\x1C\x12\x0E\n\x09protoscip\x12\x011\x1A\x08file:/// \x01\x12\xB1\x02\n\x07a.proto\x12'\n\x03\x00\x00\x00\x12\x1Escip-protobuf . . . `a.proto`/\x18\x01\x12'\n\x03\x01\x07\x10\x12\x1Escip-protobuf . . . `b.proto`/\x18\x02\x12\x1F\n\x03\x02\x08\x09\x12\x16scip-protobuf . . . A#\x18\x01\x12\x1D\n\x03\x02\x0C\x0D\x12\x16scip-protobuf . . . B#\x12!\n\x03\x02\x0E\x0F\x12\x18scip-protobuf . . . A#b.\x18\x01\x1A\x1B\n\x16scip-protobuf . . . A#2\x01A\x1A\x1D\n\x18scip-protobuf . . . A#b.2\x01b\x1A)\n\x1Escip-protobuf . . . `a.proto`/2\x07a.proto\"\x08Protobuf0\x01\x12\xB1\x02\n\x07b.proto\x12'\n\x03\x00\x00\x00\x12\x1Escip-protobuf . . . `b.proto`/\x18\x01\x12'\n\x03\x01\x07\x10\x12\x1Escip-protobuf . . . `a.proto`/\x18\x02\x12\x1F\n\x03\x02\x08\x09\x12\x16scip-protobuf . . . B#\x18\x01\x12\x1D\n\x03\x02\x0C\x0D\x12\x16scip-protobuf . . . A#\x12!\n\x03\x02\x0E\x0F\x12\x18scip-protobuf . . . B#a.\x18\x01\x1A\x1B\n\x16scip-protobuf . . . B#2\x01B\x1A\x1D\n\x18scip-protobuf . . . B#a.2\x01a\x1A)\n\x1Escip-protobuf . . . `b.proto`/2\x07b.proto\"\x08Protobuf0\x01";

@@ -1,0 +1,18 @@
+//! Laws, each called at a chooser and another.
+
+use index_hooks::Registry;
+use protoscip::{
+    headline, indexed_has_no_fault, listed_unless_memory, one_indexing, one_listing, one_reason,
+};
+
+#[test]
+fn laws_of_indexes(rt: HostRuntime) {
+    let registry = Registry::new(rt.alloc());
+    let other = Registry::new(rt.alloc());
+    headline(&registry);
+    one_reason(&registry, &other);
+    indexed_has_no_fault(&registry, &other);
+    one_indexing(&registry, &other);
+    one_listing();
+    listed_unless_memory();
+}

@@ -1,0 +1,38 @@
+-- What the tree below a root and included roots is, and why there is none.
+use Rattle.std.specs.Prelude.{◌≡◌, ℕ, ⊤, List, ◌∷◌, Result, string_bytes}
+use Rattle.source_tree.specs.Files.{SourceFile, TreeFile}
+use Rattle.source_tree.specs.Trees.{IsTreeOf}
+use Rattle.source_tree.specs.Refusals.{AreTooMany, HaveBadPath, HaveSamePath}
+use Rattle.source_files.specs.declared.file_fault.FileFault.{FileFault}
+use Rattle.source_files.specs.declared.load_fault.LoadFault.{LoadFault}
+use Rattle.source_files.specs.declared.load_fault.LoadFault.TheVariants.{Unreadable, TooMany, BadPath, SamePath, Memory}
+use Rattle.source_files.specs.Roots.{AreBelow, AreBelowEach, IsUnreadableBelow}
+
+-- the first file of all without a good path has this one
+abbrev pub HasBadPath : (path : List ℕ) → (sources included : List SourceFile) → Type 0
+HasBadPath path sources included = (number : ℕ) × (bad : HaveBadPath sources included number) × (path ≡ bad.first.file.path)
+
+-- of the sources by path the first with the path of the one before it has this one
+abbrev pub HasSamePath : (path : List ℕ) → (sources included : List SourceFile) → Type 0
+HasSamePath path sources included = (number : ℕ) × (same : HaveSamePath sources included number) × (path ≡ same.first.repeats.second.path)
+
+module _ (lists : List ℕ → Result (List (List ℕ)) FileFault → Type 0) (gives : List ℕ → Result (List ℕ) FileFault → Type 0) (root : List ℕ) (roots : List (List ℕ)) where
+  -- this holds of the sources below the root and the files below the included roots, all of which can be read
+  pub record OfFiles (Holds : (sources included : List SourceFile) → Type 0) : Type 0 where
+    pub sources : List SourceFile
+    pub included : List SourceFile
+    pub below : AreBelow lists gives root sources
+    pub below_included : AreBelowEach lists gives roots included
+    pub holds : Holds sources included
+
+  -- the tree of these files
+  abbrev pub IsTreeBelow : List TreeFile → Type 0
+  IsTreeBelow files = OfFiles (λ sources included. IsTreeOf sources included files)
+
+  -- why there is no tree: something can't be read, the first of all; or these files make none; of memory nothing is said
+  abbrev pub MayNotLoad : LoadFault → Type 0
+  MayNotLoad (Unreadable name) = IsUnreadableBelow lists gives (root ∷ roots) (string_bytes name)
+  MayNotLoad TooMany = OfFiles AreTooMany
+  MayNotLoad (BadPath path) = OfFiles (HasBadPath (string_bytes path))
+  MayNotLoad (SamePath path) = OfFiles (HasSamePath (string_bytes path))
+  MayNotLoad Memory = ⊤

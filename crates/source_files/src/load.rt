@@ -1,0 +1,95 @@
+//! The tree of the sources below a root and the files below included roots.
+
+ghost use Rattle.std.specs.Prelude.{◌≡◌, ◌+◌, ◌++◌, ◌<◌, Some, IfOk, IfErr, MatchResult, length, map, slice_get, string_bytes};
+ghost use Rattle.std.specs.Option.{option_map};
+ghost use Rattle.source_tree.specs.Trees.{IsTreeOf};
+ghost use Rattle.source_files.specs.Roots.{AreBelowEach};
+ghost use Rattle.source_files.specs.Loads.{IsTreeBelow, MayNotLoad};
+ghost use Rattle.source_files.specs.LoadFaults.{MayRefuseFiles, MayStopBelow};
+
+use crate::load_fault::LoadFault;
+use crate::read_files::ReadFiles;
+use crate::root::{RootFault, read_root};
+use source_tree::{Source, Tree, TreeFault, one_sorting_by_path};
+use std::alloc::Global;
+
+// The files below roots, root by root.
+fn read_roots<F: ReadFiles>(
+    alloc: Global,
+    files: &F,
+    roots: &[String],
+) -> Result<Vec<Source>, RootFault>
+    ensures ok { IfOk result (λ sources. AreBelowEach (F.lists files.now) (F.gives files.now) (map string_bytes roots.now) sources.items) }
+    ensures err { IfErr result (MayStopBelow (F.lists files.now) (F.gives files.now) (map string_bytes roots.now)) }
+{
+    let mut sources = Vec::new(alloc);
+    for root in roots {
+        let mut here = read_root(alloc, files, root.as_str())?;
+        sources.append(&mut here)?;
+    }
+    Ok(sources)
+}
+
+// The path of the file with a number.
+fn path_of(files: Vec<Source>, number: usize) -> String
+    requires { number < length files.items }
+    ensures { option_map (λ file. file.path) (slice_get files.items number) ≡ Some (string_bytes result) }
+{
+    let mut files = files;
+    files.swap_remove(number).path
+}
+
+// The path of the file with a number, through the sources and then the included files.
+fn path_among(sources: Vec<Source>, included: Vec<Source>, number: usize) -> String
+    requires { number < length sources.items + length included.items }
+    ensures { option_map (λ file. file.path) (slice_get (sources.items ++ included.items) number) ≡ Some (string_bytes result) }
+{
+    let count = sources.len();
+    if number < count {
+        path_of(sources, number)
+    } else {
+        path_of(included, number - count)
+    }
+}
+
+// The tree of files that were read.
+fn make_tree(alloc: Global, sources: Vec<Source>, included: Vec<Source>) -> Result<Tree, LoadFault>
+    ensures { MatchResult result (IsTreeOf sources.items included.items) (MayRefuseFiles sources.items included.items) }
+{
+    one_sorting_by_path();
+    match Tree::with_included(alloc, sources, included) {
+        Ok(tree) => Ok(tree),
+        Err((lists, fault)) => {
+            let (sources, included) = lists;
+            match fault {
+                TreeFault::TooMany => Err(LoadFault::TooMany),
+                TreeFault::BadPath(number) => {
+                    let path = path_among(sources, included, number);
+                    Err(LoadFault::BadPath(path))
+                }
+                TreeFault::SamePath(number) => Err(LoadFault::SamePath(path_of(sources, number))),
+                TreeFault::Memory => Err(LoadFault::Memory),
+            }
+        }
+    }
+}
+
+/// The tree of the sources below a root and of the files below included roots, which are read in
+/// order, each by the paths below it.
+///
+/// `Unreadable`: what can't be read first, root by root: the root, which can't be listed, or else the
+/// first file below it. Then `TooMany`, `BadPath`, of the first bad path through the sources and then
+/// the included files, and `SamePath`. `Memory` may come at any step.
+pub fn load_tree<F: ReadFiles>(
+    alloc: Global,
+    files: &F,
+    root: &str,
+    included: &[String],
+) -> Result<Tree, LoadFault>
+    ensures tree { IfOk result (IsTreeBelow (F.lists files.now) (F.gives files.now) root.now (map string_bytes included.now)) }
+    ensures refused { IfErr result (MayNotLoad (F.lists files.now) (F.gives files.now) root.now (map string_bytes included.now)) }
+{
+    let sources = read_root(alloc, files, root)?;
+    let included = read_roots(alloc, files, included)?;
+    make_tree(alloc, sources, included)
+}

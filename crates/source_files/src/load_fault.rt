@@ -1,0 +1,33 @@
+//! Why the files below roots make no tree.
+
+use crate::root::RootFault;
+
+/// Why there is no tree of the sources below a root and the files below included roots.
+#[derive(Debug, Drop)]
+pub enum LoadFault {
+    /// A root that can't be listed, and this is the root as it was given; or a file below one that
+    /// can't be read, and this is its path below its root. The first of them, root by root.
+    Unreadable(String),
+    /// There are more files than a tree has.
+    TooMany,
+    /// The path of the first file whose path isn't a good one.
+    BadPath(String),
+    /// The path of two sources: the first of such paths.
+    SamePath(String),
+    /// Memory ran out.
+    Memory,
+}
+
+impl From<RootFault> for LoadFault {
+    ghost use Rattle.std.specs.Prelude.{◌≡◌};
+    ghost use Rattle.source_files.specs.LoadFaults.{fault_of_root};
+
+    ghost from_gives = { λ fault e. e ≡ fault_of_root fault };
+
+    fn from(fault: RootFault) -> LoadFault {
+        match fault {
+            RootFault::Unreadable(name) => LoadFault::Unreadable(name),
+            RootFault::Memory => LoadFault::Memory,
+        }
+    }
+}

@@ -1,0 +1,7 @@
+use Rattle.std.proofs.Common.{sym}
+use Rattle.std.proofs.lemmas.List.{take_all}
+use Rattle.source_files.specs.Source.{max_kept_length}
+use Rattle.source_files_tests.proofs.table.TableReadFiles.read_source.Goals as goal
+
+pub returns : goal.returns
+returns c = let bytes = c.in_ok-read_source.field-0.items in (bytes, tt, sym (take_all max_kept_length bytes c.in_ok-read_source.ensures.few))

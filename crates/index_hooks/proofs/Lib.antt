@@ -4,3 +4,5 @@ mod AskedLemmas
 mod KindLemmas
 -- names under one another
 mod NameLemmas
+-- promises that allow one answer each allow one choice
+mod OneChoiceLemmas

@@ -8,3 +8,5 @@ pub mod IsUnder
 pub mod KindNumber
 -- which choices promises allow
 pub mod MayChoose
+-- the one choice of promises that allow one answer each
+pub mod OneChoice

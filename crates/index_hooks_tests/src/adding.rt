@@ -3,7 +3,7 @@
 use crate::shared::{chooses, message, see};
 use index_hooks::{
     AnyAnswer, BoxedFilter, BoxedRule, DocAlways, DocChoice, DocHook, Filter, FilterCallback,
-    FilterHook, HookFault, MAX_HOOKS, Registry,
+    FilterHook, HookFault, MAX_HOOKS, Registry, one_choice,
 };
 use proto_decl::DeclView;
 use std::test::Fail;
@@ -21,6 +21,7 @@ impl FilterCallback for Fixed {
 #[test]
 fn a_new_registry_keeps_all_with_the_leading_text(rt: HostRuntime) {
     let registry = Registry::new(rt.alloc());
+    one_choice(&registry);
     see(&rt, chooses(&registry, true, DocChoice::Leading, 1), "new");
 }
 

@@ -4,8 +4,8 @@ use Rattle.std.specs.Prelude.{All}
 use Rattle.std.proofs.lemmas.List.Elements.{All-head, All-tail}
 use Rattle.index_hooks.specs.declared.choice.DocChoice.{DocChoice}
 use Rattle.index_hooks.specs.declared.choice.DocChoice.TheVariants.{Pass}
-use Rattle.index_hooks.specs.MayChoose.{FirstOf, MayKeep, MayDocument}
-use Rattle.index_hooks.specs.OneChoice.{AllowsOne, OneChoice}
+use Rattle.index_hooks.specs.MayChoose.{FirstOf, MayKeep, MayDocument, MayChoose}
+use Rattle.index_hooks.specs.OneChoice.{AllowsOne, AreExact}
 
 -- the first element of a list that is not empty, and those behind it
 same_head : {H : Type 0} (x y : H) (xs ys : List H) → x ∷ xs ≡ y ∷ ys → x ≡ y
@@ -78,8 +78,9 @@ module _ {R : Type 0} (may : R → DocChoice → Type 0) (rules : List R) (exact
   one_doc doc other (inr a) (inl b) = absurd (all_pass other b.0 b.1 a.1)
   one_doc doc other (inr a) (inr b) = a.0 ∙ sym b.0
 
-pub one_choice : {F R : Type 0} (may_keep : F → Bool → Type 0) (may_document : R → DocChoice → Type 0) (filters : List F) (rules : List R) → OneChoice may_keep may_document filters rules
-one_choice may_keep may_document filters rules keeps documents choice other is also =
-    let keep = one_keep may_keep filters keeps choice.keep other.keep is.keep also.keep in
-    let doc = one_doc may_document rules documents choice.doc other.doc is.doc also.doc in
+pub one_choice : {F R : Type 0} (may_keep : F → Bool → Type 0) (may_document : R → DocChoice → Type 0) (filters : List F) (rules : List R)
+    → AreExact may_keep may_document filters rules → AllowsOne (MayChoose may_keep may_document filters rules)
+one_choice may_keep may_document filters rules exact choice other is also =
+    let keep = one_keep may_keep filters exact.filters_are choice.keep other.keep is.keep also.keep in
+    let doc = one_doc may_document rules exact.rules_are choice.doc other.doc is.doc also.doc in
     λ i. record { keep = keep i; doc = doc i }

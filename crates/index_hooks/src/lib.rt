@@ -70,5 +70,5 @@ pub use kinds::{KindIn, Kinds};
 pub use laws::one_choice;
 pub use names::NamePrefix;
 pub use promise::{DocPromise, FilterPromise};
-pub use registry::{Chooses, HookFault, MAX_HOOKS, Registry};
+pub use registry::{Chooses, HookFault, MAX_HOOKS, Promises, Registry};
 pub use rule::DocRule;

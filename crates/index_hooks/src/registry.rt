@@ -47,6 +47,14 @@ pub trait Chooses {
         ensures { allows self.now view.now result };
 }
 
+/// What has promises about the answers of its filters and rules, and nothing else is known of these.
+pub trait Promises {
+    ghost use Rattle.proto_decl.specs.Seen.{Seen};
+
+    // For what is seen of a declaration each promise allows one answer at most.
+    ghost are_exact: { Self → Seen → Type 0 };
+}
+
 /// Adds a filter or a rule to those of its kind.
 fn add<H>(hooks: &mut Sequence<H>, hook: H) -> Result<(), (H, HookFault)>
     requires { length hooks.old ≤ most_hooks }
@@ -157,4 +165,10 @@ impl Chooses for Registry {
             doc: documents(self.rules.as_slice(), view),
         }
     }
+}
+
+impl Promises for Registry {
+    ghost use Rattle.index_hooks.specs.OneChoice.{AreExact};
+
+    ghost are_exact = { λ registry seen. AreExact (λ f keep. (FilterHook-box f).may f.value seen keep) (λ r answer. (DocHook-box r).may r.value seen answer) registry.filters registry.rules };
 }

@@ -1,8 +1,9 @@
 //! Keywords as names: the grammar has no reserved words.
 
-use crate::calls::parsed;
+use crate::calls::{SYNTAX, joined, refusal_of, see_all};
 use proto_parse::CustomOptions;
 use std::alloc::{AllocError, Global};
+use std::process::Abort;
 use std::test::Fail;
 
 const WORDS: [&str; 27] = [
@@ -61,63 +62,84 @@ const TYPE_WORDS: [&str; 19] = [
     "to", "max", "inf", "nan", "double", "int32", "bytes", "required", "group",
 ];
 
-/// What parsing the syntax statement and these three parts gives: whether they have a tree.
-fn is_accepted(alloc: Global, before: &str, word: &str, behind: &str) -> Result<bool, AllocError> {
-    let mut rest = String::new(alloc);
-    rest.push_str(before)?;
-    rest.push_str(word)?;
-    rest.push_str(behind)?;
-    Ok(parsed(alloc, rest.as_str(), CustomOptions::Refuse).is_ok())
-}
-
-/// The first word and place that have no tree, by their indices.
-fn first_refused(
+/// The first word that has no tree between these texts.
+fn first_refused_between(
     alloc: Global,
     words: &[&str],
-    places: &[(&str, &str)],
-) -> Result<Option<(usize, usize)>, AllocError> {
-    for (place, (before, behind)) in places.iter().enumerate() {
-        for (index, word) in words.iter().enumerate() {
-            if !is_accepted(alloc, before, word, behind)? {
-                return Ok(Some((place, index)));
-            }
+    front: &str,
+    behind: &str,
+) -> Result<Option<usize>, AllocError> {
+    for (index, word) in words.iter().enumerate() {
+        if refusal_of(alloc, front, word, behind, CustomOptions::Refuse)?.is_some() {
+            return Ok(Some(index));
         }
     }
     Ok(None)
 }
 
-#[test]
-fn every_word_names_what_is_declared_or_used(rt: HostRuntime) -> Result<(), Fail> {
-    assert_eq!(rt; first_refused(rt.alloc(), &WORDS, &PLACES)?, None);
+/// Sees that all words have a tree at a place.
+fn see_place(
+    rt: &impl Abort,
+    alloc: Global,
+    words: &[&str],
+    before: &str,
+    behind: &str,
+) -> Result<(), AllocError> {
+    let front = joined(alloc, SYNTAX, before, "")?;
+    let wrong = first_refused_between(alloc, words, front.as_str(), behind)?;
+    see_all(rt, wrong);
     Ok(())
 }
+
+/// Sees that all words have a tree at each place.
+fn see_words(
+    rt: &impl Abort,
+    alloc: Global,
+    words: &[&str],
+    places: &[(&str, &str)],
+) -> Result<(), AllocError> {
+    for (before, behind) in places {
+        see_place(rt, alloc, words, before, behind)?;
+    }
+    Ok(())
+}
+
+#[test]
+fn every_word_names_what_is_declared_or_used(rt: HostRuntime) -> Result<(), Fail> {
+    see_words(&rt, rt.alloc(), &WORDS, &PLACES)?;
+    Ok(())
+}
+
+const TYPE_PLACES: [(&str, &str); 3] = [
+    ("message A { ", ".B x = 1; }"),
+    ("message A { oneof o { ", ".B x = 1; } }"),
+    ("enum E { ", " = 0; }"),
+];
 
 #[test]
 fn words_that_begin_no_statement(rt: HostRuntime) -> Result<(), Fail> {
-    let places = [
-        ("message A { ", ".B x = 1; }"),
-        ("message A { oneof o { ", ".B x = 1; } }"),
-        ("enum E { ", " = 0; }"),
-    ];
-    assert_eq!(rt; first_refused(rt.alloc(), &TYPE_WORDS, &places)?, None);
+    see_words(&rt, rt.alloc(), &TYPE_WORDS, &TYPE_PLACES)?;
     Ok(())
 }
 
+/// Words that begin a statement of a message, but none of a oneof or an enum.
+const STATEMENT_WORDS: [&str; 7] = [
+    "message",
+    "enum",
+    "oneof",
+    "extend",
+    "extensions",
+    "repeated",
+    "optional",
+];
+
+const INNER_PLACES: [(&str, &str); 2] = [
+    ("message A { oneof o { ", ".B x = 1; } }"),
+    ("enum E { ", " = 0; }"),
+];
+
 #[test]
 fn words_that_begin_no_statement_of_a_oneof_or_an_enum(rt: HostRuntime) -> Result<(), Fail> {
-    let words = [
-        "message",
-        "enum",
-        "oneof",
-        "extend",
-        "extensions",
-        "repeated",
-        "optional",
-    ];
-    let places = [
-        ("message A { oneof o { ", ".B x = 1; } }"),
-        ("enum E { ", " = 0; }"),
-    ];
-    assert_eq!(rt; first_refused(rt.alloc(), &words, &places)?, None);
+    see_words(&rt, rt.alloc(), &STATEMENT_WORDS, &INNER_PLACES)?;
     Ok(())
 }

@@ -34,13 +34,13 @@ fn first_other(alloc: Global, reads: &[Read<'_>]) -> Option<usize> {
 }
 
 /// What is written is read.
-const SAMPLES: [Read<'static>; 3] = [
+static SAMPLES: [Read<'static>; 3] = [
     (NO_DOCUMENT, NO_DOCUMENT_INDEX),
     (MESSAGE, MESSAGE_INDEX),
     (EVERYTHING, EVERYTHING_INDEX),
 ];
 
-const REPEATED: [Read<'static>; 2] = [
+static REPEATED: [Read<'static>; 2] = [
     (
         UNPACKED,
         SampleIndex {
@@ -75,7 +75,7 @@ const REPEATED: [Read<'static>; 2] = [
 ];
 
 /// Each field of metadata, and of a symbol.
-const EACH_FIELD: [Read<'static>; 2] = [
+static EACH_FIELD: [Read<'static>; 2] = [
     (
         b"\x0A\x17\x08\x05\x12\x0D\x0A\x01t\x12\x01v\x1A\x02-a\x1A\x01b\x1A\x02r/\x20\x02",
         SampleIndex {
@@ -106,7 +106,7 @@ const EACH_FIELD: [Read<'static>; 2] = [
 ];
 
 /// The low 32 bits of numbers.
-const VERSIONS: [(&[u8], i32); 5] = [
+static VERSIONS: [(&[u8], i32); 5] = [
     (b"\x0A\x0B\x08\xFF\xFF\xFF\xFF\xFF\xFF\xFF\xFF\xFF\x01", -1),
     (b"\x0A\x06\x08\xFF\xFF\xFF\xFF\x0F", -1),
     (b"\x0A\x06\x08\xFF\xFF\xFF\xFF\x07", i32::MAX),
@@ -114,7 +114,7 @@ const VERSIONS: [(&[u8], i32); 5] = [
     (b"\x0A\x06\x08\x85\x80\x80\x80\x10", 5),
 ];
 
-const RANGES: [Read<'static>; 3] = [
+static RANGES: [Read<'static>; 3] = [
     (
         b"\x12\x0A\x12\x08\x0A\x06\x01\x08\x89\x80\x80\x00",
         SampleIndex {
@@ -161,7 +161,7 @@ const RANGES: [Read<'static>; 3] = [
     ),
 ];
 
-const NOTHING: [Read<'static>; 4] = [
+static NOTHING: [Read<'static>; 4] = [
     (b"", EMPTY_INDEX),
     // Field 1 as a number, as eight bytes and as four bytes, and fields 7 and 536,870,911.
     (

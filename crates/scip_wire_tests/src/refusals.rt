@@ -49,81 +49,85 @@ fn cut_bytes_are_refused(rt: HostRuntime) {
     see_all(&rt, first_other_cut(rt.alloc(), bytes, 30, second));
 }
 
+static OF_TAGS: [Refusal<'static>; 11] = [
+    (b"\x0B", WireFault::Group(0)),
+    (b"\x0C", WireFault::Group(0)),
+    (b"\x00", WireFault::FieldZero(0)),
+    (b"\x03", WireFault::FieldZero(0)),
+    (b"\x0E", WireFault::WireType(0)),
+    (b"\x0F", WireFault::WireType(0)),
+    (b"\x0A", WireFault::Truncated(0)),
+    (b"\x80\x80\x80\x80\x10", WireFault::Varint(0)),
+    (b"\x80\x80\x80\x80\x13", WireFault::Varint(0)),
+    (
+        b"\x08\xFF\xFF\xFF\xFF\xFF\xFF\xFF\xFF\xFF\x02",
+        WireFault::Varint(0),
+    ),
+    (b"\x12\x01\x0B\x00", WireFault::Group(2)),
+];
+
 #[test]
 fn faults_of_tags(rt: HostRuntime) {
-    let refusals: [Refusal<'_>; 11] = [
-        (b"\x0B", WireFault::Group(0)),
-        (b"\x0C", WireFault::Group(0)),
-        (b"\x00", WireFault::FieldZero(0)),
-        (b"\x03", WireFault::FieldZero(0)),
-        (b"\x0E", WireFault::WireType(0)),
-        (b"\x0F", WireFault::WireType(0)),
-        (b"\x0A", WireFault::Truncated(0)),
-        (b"\x80\x80\x80\x80\x10", WireFault::Varint(0)),
-        (b"\x80\x80\x80\x80\x13", WireFault::Varint(0)),
-        (
-            b"\x08\xFF\xFF\xFF\xFF\xFF\xFF\xFF\xFF\xFF\x02",
-            WireFault::Varint(0),
-        ),
-        (b"\x12\x01\x0B\x00", WireFault::Group(2)),
-    ];
-    see_all(&rt, first_other(rt.alloc(), &refusals));
+    see_all(&rt, first_other(rt.alloc(), &OF_TAGS));
 }
+
+static OF_MESSAGES: [Refusal<'static>; 6] = [
+    (b"\x0A\x00\x0A\x00", WireFault::Repeated(2)),
+    (b"\x0A\x04\x12\x00\x12\x00", WireFault::Repeated(4)),
+    (b"\x12\x03\x0A\x01\xFF", WireFault::Utf8(2)),
+    (b"\x12\x06\x12\x04\x0A\x02\x01\x08", WireFault::BadRange(2)),
+    (
+        b"\x12\x09\x12\x07\x0A\x05\x01\x02\x03\x04\x05",
+        WireFault::BadRange(2),
+    ),
+    (
+        b"\x12\x10\x12\x0E\x0A\x0C\x01\x08\xFF\xFF\xFF\xFF\xFF\xFF\xFF\xFF\xFF\x01",
+        WireFault::BadRange(2),
+    ),
+];
 
 #[test]
 fn faults_of_messages(rt: HostRuntime) {
-    let refusals: [Refusal<'_>; 6] = [
-        (b"\x0A\x00\x0A\x00", WireFault::Repeated(2)),
-        (b"\x0A\x04\x12\x00\x12\x00", WireFault::Repeated(4)),
-        (b"\x12\x03\x0A\x01\xFF", WireFault::Utf8(2)),
-        (b"\x12\x06\x12\x04\x0A\x02\x01\x08", WireFault::BadRange(2)),
-        (
-            b"\x12\x09\x12\x07\x0A\x05\x01\x02\x03\x04\x05",
-            WireFault::BadRange(2),
-        ),
-        (
-            b"\x12\x10\x12\x0E\x0A\x0C\x01\x08\xFF\xFF\xFF\xFF\xFF\xFF\xFF\xFF\xFF\x01",
-            WireFault::BadRange(2),
-        ),
-    ];
-    see_all(&rt, first_other(rt.alloc(), &refusals));
+    see_all(&rt, first_other(rt.alloc(), &OF_MESSAGES));
 }
+
+static CLAIMED: [Refusal<'static>; 5] = [
+    (b"\x12\xFF\xFF\xFF\xFF\x07", WireFault::Truncated(0)),
+    (
+        b"\x12\xFF\xFF\xFF\xFF\xFF\xFF\xFF\xFF\xFF\x01",
+        WireFault::Truncated(0),
+    ),
+    (b"\x12\x04\x12\x02\x0A\x05", WireFault::Truncated(4)),
+    (b"\x12\x05\x12\x03\x0A\x01\x80", WireFault::Truncated(4)),
+    (b"\x12\x06\x12\x04\x0A\x02\x01\x80", WireFault::Truncated(4)),
+];
 
 #[test]
 fn lengths_that_bytes_only_claim(rt: HostRuntime) {
-    let refusals: [Refusal<'_>; 5] = [
-        (b"\x12\xFF\xFF\xFF\xFF\x07", WireFault::Truncated(0)),
-        (
-            b"\x12\xFF\xFF\xFF\xFF\xFF\xFF\xFF\xFF\xFF\x01",
-            WireFault::Truncated(0),
-        ),
-        (b"\x12\x04\x12\x02\x0A\x05", WireFault::Truncated(4)),
-        (b"\x12\x05\x12\x03\x0A\x01\x80", WireFault::Truncated(4)),
-        (b"\x12\x06\x12\x04\x0A\x02\x01\x80", WireFault::Truncated(4)),
-    ];
-    see_all(&rt, first_other(rt.alloc(), &refusals));
+    see_all(&rt, first_other(rt.alloc(), &CLAIMED));
 }
+
+static FIRST_OF_TWO: [Refusal<'static>; 7] = [
+    // A second metadata's own length is checked first, its content not at all.
+    (b"\x0A\x00\x0A\x05\x00", WireFault::Truncated(2)),
+    (b"\x0A\x00\x0A\x02\x0B\x00", WireFault::Repeated(2)),
+    // One of another wire type doesn't count.
+    (b"\x08\x01\x0A\x00\x08\x01\x0A\x00", WireFault::Repeated(6)),
+    // A range is judged once the occurrence's other records were read.
+    (
+        b"\x12\x08\x12\x06\x0A\x01\x01\x12\x05x",
+        WireFault::Truncated(7),
+    ),
+    (
+        b"\x12\x08\x12\x06\x0A\x01\x01\x12\x01\xFF",
+        WireFault::Utf8(7),
+    ),
+    (b"\x12\x05\x12\x03\x12\x01\xFF", WireFault::Utf8(4)),
+    // A text that a later one replaces has to be UTF-8 too.
+    (b"\x12\x06\x0A\x01\xFF\x0A\x01a", WireFault::Utf8(2)),
+];
 
 #[test]
 fn the_first_of_two_faults(rt: HostRuntime) {
-    let refusals: [Refusal<'_>; 7] = [
-        // A second metadata's own length is checked first, its content not at all.
-        (b"\x0A\x00\x0A\x05\x00", WireFault::Truncated(2)),
-        (b"\x0A\x00\x0A\x02\x0B\x00", WireFault::Repeated(2)),
-        // One of another wire type doesn't count.
-        (b"\x08\x01\x0A\x00\x08\x01\x0A\x00", WireFault::Repeated(6)),
-        // A range is judged once the occurrence's other records were read.
-        (
-            b"\x12\x08\x12\x06\x0A\x01\x01\x12\x05x",
-            WireFault::Truncated(7),
-        ),
-        (
-            b"\x12\x08\x12\x06\x0A\x01\x01\x12\x01\xFF",
-            WireFault::Utf8(7),
-        ),
-        (b"\x12\x05\x12\x03\x12\x01\xFF", WireFault::Utf8(4)),
-        // A text that a later one replaces has to be UTF-8 too.
-        (b"\x12\x06\x0A\x01\xFF\x0A\x01a", WireFault::Utf8(2)),
-    ];
-    see_all(&rt, first_other(rt.alloc(), &refusals));
+    see_all(&rt, first_other(rt.alloc(), &FIRST_OF_TWO));
 }

@@ -54,7 +54,7 @@ fn is_spelled(alloc: Global, index: &Index, want: &[u8]) -> bool {
     }
 }
 
-const SAMPLES: [(&str, SampleIndex<'static>, &[u8]); 6] = [
+static SAMPLES: [(&str, SampleIndex<'static>, &[u8]); 6] = [
     ("empty index", EMPTY_INDEX, b""),
     ("empty tool", EMPTY_TOOL_INDEX, b"\x0A\x02\x12\x00"),
     ("no document", NO_DOCUMENT_INDEX, NO_DOCUMENT),

@@ -1,6 +1,6 @@
 //! A chain of a hundred files, each of which publicly imports the next.
 
-use crate::trees::{Sight, Source, see_answer};
+use crate::trees::{Due, Sight, Source, see_tree};
 use std::alloc::{AllocError, Global};
 use std::process::Abort;
 use std::test::Fail;
@@ -20,73 +20,61 @@ const PLAIN_SIGHTS: [Sight; 4] = [
     (50, 99, true),
 ];
 
-fn path_of(alloc: Global, number: u8) -> Result<String, AllocError> {
-    let mut path = String::from_str(alloc, "f")?;
-    path.push(char::from(b'0' + number / 10 % 10))?;
-    path.push(char::from(b'0' + number % 10))?;
-    path.push_str(".proto")?;
-    Ok(path)
-}
-
-fn paths_of(alloc: Global) -> Result<Vec<String>, AllocError> {
-    let mut paths = Vec::new(alloc);
-    for number in 0..100 {
-        let path = path_of(alloc, number)?;
-        paths.push(path)?;
-    }
-    Ok(paths)
-}
-
-/// The text of a file that imports this path.
-fn text_of(alloc: Global, path: &str, plain: bool) -> Result<String, AllocError> {
-    let mut text = String::from_str(alloc, "syntax = \"proto3\";\nimport ")?;
-    if !plain {
-        text.push_str("public ")?;
-    }
-    text.push_str("\"")?;
-    text.push_str(path)?;
-    text.push_str("\";\n")?;
+/// The text of a file that imports the one with this number, which is below 100.
+fn text_of(alloc: Global, number: u8, plain: bool) -> Result<String, AllocError> {
+    let front = if plain {
+        "syntax = \"proto3\";\nimport \"f"
+    } else {
+        "syntax = \"proto3\";\nimport public \"f"
+    };
+    let mut text = String::from_str(alloc, front)?;
+    text.push(char::from(b'0' + number / 10 % 10))?;
+    text.push(char::from(b'0' + number % 10))?;
+    text.push_str(".proto\";\n")?;
     Ok(text)
 }
 
 /// The texts of all files but the last; that of one file imports plainly.
-fn texts_of(alloc: Global, paths: &[String], plain: usize) -> Result<Vec<String>, AllocError> {
+fn texts_of(alloc: Global, plain: u8) -> Result<Vec<String>, AllocError> {
     let mut texts = Vec::new(alloc);
-    for (number, path) in paths.iter().enumerate() {
-        if number > 0 {
-            let text = text_of(alloc, path.as_str(), number - 1 == plain)?;
-            texts.push(text)?;
-        }
+    for number in 1..100 {
+        let text = text_of(alloc, number, number - 1 == plain)?;
+        texts.push(text)?;
     }
     Ok(texts)
 }
 
-fn sources_of<'a>(
-    alloc: Global,
-    paths: &'a [String],
-    texts: &'a [String],
-) -> Result<Vec<Source<'a>>, AllocError> {
+/// What a text imports.
+fn imported(text: &str) -> &str {
+    text.split('"').nth(3).unwrap_or("")
+}
+
+fn sources_of<'a>(alloc: Global, texts: &'a [String]) -> Result<Vec<Source<'a>>, AllocError> {
     let mut sources = Vec::new(alloc);
-    for (number, path) in paths.iter().enumerate() {
-        let text = match texts.get(number) {
-            Some(text) => text.as_str(),
-            None => "syntax = \"proto3\";\n",
-        };
-        sources.push((path.as_str(), text, false))?;
+    let mut path = "f00.proto";
+    for text in texts {
+        sources.push((path, text.as_str(), false))?;
+        path = imported(text.as_str());
     }
+    sources.push((path, "syntax = \"proto3\";\n", false))?;
     Ok(sources)
 }
 
 fn see_chain(
     rt: &impl Abort,
     alloc: Global,
-    plain: usize,
+    plain: u8,
     sights: &[Sight],
 ) -> Result<(), AllocError> {
-    let paths = paths_of(alloc)?;
-    let texts = texts_of(alloc, paths.as_slice(), plain)?;
-    let sources = sources_of(alloc, paths.as_slice(), texts.as_slice())?;
-    see_answer(rt, alloc, sources.as_slice(), (None, sights), "a chain")
+    let texts = texts_of(alloc, plain)?;
+    let sources = sources_of(alloc, texts.as_slice())?;
+    see_tree(
+        rt,
+        alloc,
+        sources.as_slice(),
+        Due::Sights(sights),
+        "a chain",
+    )
 }
 
 #[test]

@@ -12,7 +12,6 @@ const CASES: [Case<'static>; 17] = [
             false,
         )],
         due: Due::Duplicate([0, 42, 46], [0, 65, 69]),
-        sees: &[],
     },
     Case {
         name: "values of enums in two messages",
@@ -21,8 +20,7 @@ const CASES: [Case<'static>; 17] = [
             "syntax = \"proto3\";\nmessage M { enum A { ZERO = 0; } }\nmessage N { enum B { ZERO = 0; } }\n",
             false,
         )],
-        due: Due::Linked,
-        sees: &["1"],
+        due: Due::Sees(&["1"]),
     },
     Case {
         name: "values of two enums in two files",
@@ -35,7 +33,6 @@ const CASES: [Case<'static>; 17] = [
             ),
         ],
         due: Due::Duplicate([0, 28, 29], [1, 35, 36]),
-        sees: &[],
     },
     Case {
         name: "a message and a later package",
@@ -48,7 +45,6 @@ const CASES: [Case<'static>; 17] = [
             ),
         ],
         due: Due::Duplicate([0, 27, 30], [1, 27, 30]),
-        sees: &[],
     },
     Case {
         name: "a package and a later message",
@@ -61,7 +57,6 @@ const CASES: [Case<'static>; 17] = [
             ("b.proto", "syntax = \"proto3\";\nmessage aim {}", false),
         ],
         due: Due::Duplicate([0, 27, 30], [1, 27, 30]),
-        sees: &[],
     },
     Case {
         name: "a package below and a message",
@@ -74,7 +69,6 @@ const CASES: [Case<'static>; 17] = [
             ("b.proto", "syntax = \"proto3\";\npackage q.rest.s;", false),
         ],
         due: Due::Duplicate([0, 38, 42], [1, 29, 33]),
-        sees: &[],
     },
     Case {
         name: "the first of two packages",
@@ -84,7 +78,6 @@ const CASES: [Case<'static>; 17] = [
             ("c.proto", "syntax = \"proto3\";\nmessage aim {}", false),
         ],
         due: Due::Duplicate([0, 27, 30], [2, 27, 30]),
-        sees: &[],
     },
     Case {
         name: "one package of two files",
@@ -100,8 +93,7 @@ const CASES: [Case<'static>; 17] = [
                 false,
             ),
         ],
-        due: Due::Linked,
-        sees: &["10", "01"],
+        due: Due::Sees(&["10", "01"]),
     },
     Case {
         name: "a package below one of its name",
@@ -117,8 +109,7 @@ const CASES: [Case<'static>; 17] = [
                 false,
             ),
         ],
-        due: Due::Linked,
-        sees: &["10", "01"],
+        due: Due::Sees(&["10", "01"]),
     },
     Case {
         name: "a message of its package",
@@ -135,7 +126,6 @@ const CASES: [Case<'static>; 17] = [
             ),
         ],
         due: Due::Duplicate([0, 31, 35], [1, 40, 44]),
-        sees: &[],
     },
     Case {
         name: "of three declarations the first two",
@@ -153,7 +143,6 @@ const CASES: [Case<'static>; 17] = [
             ),
         ],
         due: Due::Duplicate([0, 27, 32], [1, 39, 44]),
-        sees: &[],
     },
     Case {
         name: "the least second place",
@@ -170,7 +159,6 @@ const CASES: [Case<'static>; 17] = [
             ),
         ],
         due: Due::Duplicate([0, 42, 45], [1, 27, 30]),
-        sees: &[],
     },
     Case {
         name: "fields of a oneof",
@@ -180,7 +168,6 @@ const CASES: [Case<'static>; 17] = [
             false,
         )],
         due: Due::Duplicate([0, 47, 52], [0, 66, 71]),
-        sees: &[],
     },
     Case {
         name: "a method and a message of two scopes",
@@ -189,8 +176,7 @@ const CASES: [Case<'static>; 17] = [
             "syntax = \"proto3\";\nmessage Foo {}\nservice S { rpc Foo(Foo) returns (stream Foo); }\n",
             false,
         )],
-        due: Due::Linked,
-        sees: &["1"],
+        due: Due::Sees(&["1"]),
     },
     Case {
         name: "a field of the name of a message above it",
@@ -199,8 +185,7 @@ const CASES: [Case<'static>; 17] = [
             "syntax = \"proto3\";\npackage p;\nmessage Foo {}\nmessage M { string Foo = 1; Foo x = 2; }\n",
             false,
         )],
-        due: Due::Linked,
-        sees: &["1"],
+        due: Due::Sees(&["1"]),
     },
     Case {
         name: "a clash before a missing import",
@@ -213,7 +198,6 @@ const CASES: [Case<'static>; 17] = [
             ("b.proto", "syntax = \"proto3\";\nmessage Y {}", false),
         ],
         due: Due::Duplicate([0, 45, 46], [1, 27, 28]),
-        sees: &[],
     },
     Case {
         name: "files that see nothing of each other",
@@ -235,7 +219,6 @@ const CASES: [Case<'static>; 17] = [
             ),
         ],
         due: Due::Duplicate([0, 38, 42], [2, 35, 39]),
-        sees: &[],
     },
 ];
 

@@ -1,57 +1,58 @@
 //! What compound names name, by scopes and packages.
 
-use crate::lookups::Meaning::{Names, Unresolved};
-use crate::lookups::{Lookup, see_lookups};
+use crate::trees::Due::Means;
+use crate::trees::Meaning::{Names, Unresolved};
+use crate::trees::{Case, see_cases};
 use proto_link::Entity::{Declared, Package};
 use std::test::Fail;
 
-const CASES: [Lookup<'static>; 8] = [
-    Lookup {
+const CASES: [Case<'static>; 8] = [
+    Case {
         name: "a message that lacks the rest",
         sources: &[(
             "a.proto",
             "syntax = \"proto3\";\nmessage A { message B {} }\nmessage M {\n  message A {}\n  A.B b = 1;\n  M.A c = 2;\n  .A.B d = 3;\n}\n",
             false,
         )],
-        uses: &[&[
+        due: Means(&[&[
             Unresolved([0, 75, 78]),
             Names("M.A", &[Declared(0, 2), Declared(0, 3)]),
             Names("A.B", &[Declared(0, 0), Declared(0, 1)]),
-        ]],
+        ]]),
     },
-    Lookup {
+    Case {
         name: "an enum that lacks the rest",
         sources: &[(
             "a.proto",
             "syntax = \"proto3\";\nmessage E { message X {} }\nmessage M {\n  enum E { Z = 0; }\n  E.X x = 1;\n  E e = 2;\n  E.Z z = 3;\n}\n",
             false,
         )],
-        uses: &[&[
+        due: Means(&[&[
             Unresolved([0, 80, 83]),
             Names("M.E", &[Declared(0, 3)]),
             Unresolved([0, 104, 107]),
-        ]],
+        ]]),
     },
-    Lookup {
+    Case {
         name: "a field and a oneof do not stop a compound name",
         sources: &[(
             "a.proto",
             "syntax = \"proto3\";\nmessage A { message B {} }\nmessage M { string A = 1; A.B b = 2; }\nmessage N { oneof A { A.B c = 1; } }\n",
             false,
         )],
-        uses: &[&[
+        due: Means(&[&[
             Names("A.B", &[Declared(0, 0), Declared(0, 1)]),
             Names("A.B", &[Declared(0, 0), Declared(0, 1)]),
-        ]],
+        ]]),
     },
-    Lookup {
+    Case {
         name: "the packages of one name",
         sources: &[(
             "a.proto",
             "syntax = \"proto3\";\npackage a.b;\nmessage M {\n  a.b.M c = 1;\n  b.M d = 2;\n  a.b e = 3;\n  a f = 4;\n  .a.b g = 5;\n  .a h = 6;\n  .a.b.M i = 7;\n  M j = 8;\n  .M k = 9;\n  .b.M l = 10;\n}\n",
             false,
         )],
-        uses: &[&[
+        due: Means(&[&[
             Names("a.b.M", &[Package(1), Package(2), Declared(0, 0)]),
             Names("a.b.M", &[Package(2), Declared(0, 0)]),
             Unresolved([0, 74, 77]),
@@ -62,22 +63,22 @@ const CASES: [Lookup<'static>; 8] = [
             Names("a.b.M", &[Declared(0, 0)]),
             Unresolved([0, 151, 153]),
             Unresolved([0, 163, 167]),
-        ]],
+        ]]),
     },
-    Lookup {
+    Case {
         name: "a package below one of its name",
         sources: &[(
             "a.proto",
             "syntax = \"proto3\";\npackage p.p;\nmessage M {\n  p.M c = 1;\n  p.p.M d = 2;\n  .p.p.M e = 3;\n}\n",
             false,
         )],
-        uses: &[&[
+        due: Means(&[&[
             Names("p.p.M", &[Package(2), Declared(0, 0)]),
             Unresolved([0, 59, 64]),
             Names("p.p.M", &[Package(1), Package(2), Declared(0, 0)]),
-        ]],
+        ]]),
     },
-    Lookup {
+    Case {
         name: "packages above that of a file",
         sources: &[
             (
@@ -101,7 +102,7 @@ const CASES: [Lookup<'static>; 8] = [
                 false,
             ),
         ],
-        uses: &[
+        due: Means(&[
             &[
                 Names("a.X", &[Declared(1, 0)]),
                 Names("a.b.Y", &[Package(2), Declared(2, 0)]),
@@ -112,9 +113,9 @@ const CASES: [Lookup<'static>; 8] = [
             &[],
             &[],
             &[],
-        ],
+        ]),
     },
-    Lookup {
+    Case {
         name: "packages that no file has alone",
         sources: &[
             (
@@ -134,7 +135,7 @@ const CASES: [Lookup<'static>; 8] = [
             ),
             ("d.proto", "syntax = \"proto3\";\npackage x.a.q;\n", false),
         ],
-        uses: &[
+        due: Means(&[
             &[
                 Names(
                     "d.e.f.T",
@@ -146,25 +147,25 @@ const CASES: [Lookup<'static>; 8] = [
             &[],
             &[],
             &[],
-        ],
+        ]),
     },
-    Lookup {
+    Case {
         name: "blanks and comments in names",
         sources: &[(
             "a.proto",
             "syntax = \"proto3\";\npackage p . q;\nmessage M {\n  p . q\n  .M a = 1;\n  . q /* none */ . M b = 2;\n  q. /* ; */ N c = 3;\n}\n",
             false,
         )],
-        uses: &[&[
+        due: Means(&[&[
             Names("p.q.M", &[Package(1), Package(2), Declared(0, 0)]),
             Unresolved([0, 68, 86]),
             Unresolved([0, 96, 108]),
-        ]],
+        ]]),
     },
 ];
 
 #[test]
 fn compound_names(rt: HostRuntime) -> Result<(), Fail> {
-    see_lookups(&rt, rt.alloc(), &CASES)?;
+    see_cases(&rt, rt.alloc(), &CASES)?;
     Ok(())
 }

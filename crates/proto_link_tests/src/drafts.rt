@@ -3,29 +3,69 @@
 use crate::dice::Dice;
 use std::alloc::{AllocError, Global};
 
-/// Keeps the full name that a type has in a scope.
-fn keep_type(
+/// A text in the making. Where memory runs out it takes no more, and is no text at its end.
+#[derive(Drop)]
+pub(crate) struct Draft {
+    text: String,
+    is_cut: bool,
+}
+
+impl Draft {
+    pub(crate) fn new(alloc: Global) -> Draft {
+        Draft {
+            text: String::new(alloc),
+            is_cut: false,
+        }
+    }
+
+    pub(crate) fn add(&mut self, part: &str) {
+        if self.text.push_str(part).is_err() {
+            self.is_cut = true;
+        }
+    }
+
+    pub(crate) fn finish(self) -> Result<String, AllocError> {
+        if self.is_cut {
+            Err(AllocError)
+        } else {
+            Ok(self.text)
+        }
+    }
+}
+
+/// The full name that a type has in a scope.
+fn full_name(alloc: Global, scope: &str, name: &str) -> Result<String, AllocError> {
+    let mut draft = Draft::new(alloc);
+    if !scope.is_empty() {
+        draft.add(scope);
+        draft.add(".");
+    }
+    draft.add(name);
+    draft.finish()
+}
+
+/// Keeps the full names of a message of a package, and of a message in it.
+fn keep_messages(
     alloc: Global,
     types: &mut Vec<String>,
-    scope: &str,
-    name: &str,
+    package: &str,
+    outer: &str,
+    inner: &str,
 ) -> Result<(), AllocError> {
-    let mut full_name = String::from_str(alloc, scope)?;
-    if !scope.is_empty() {
-        full_name.push_str(".")?;
-    }
-    full_name.push_str(name)?;
-    types.push(full_name)?;
+    let scope = full_name(alloc, package, outer)?;
+    let name = full_name(alloc, scope.as_str(), inner)?;
+    types.push(scope)?;
+    types.push(name)?;
     Ok(())
 }
 
 /// Adds one to three words with dots between them.
-fn add_words(text: &mut String, dice: &mut Dice) -> Result<(), AllocError> {
+fn add_words(draft: &mut Draft, dice: &mut Dice) {
     for _ in 0..dice.below(3) {
-        text.push_str(dice.word())?;
-        text.push_str(".")?;
+        draft.add(dice.word());
+        draft.add(".");
     }
-    text.push_str(dice.word())
+    draft.add(dice.word());
 }
 
 /// A name without so many of its first words, as far as others stand behind them.
@@ -40,86 +80,80 @@ fn tail_of(name: &str, count: u8) -> &str {
 }
 
 /// Adds the name of a type: most often the last words of one of these, at times behind a dot.
-fn add_type(text: &mut String, dice: &mut Dice, types: &[String]) -> Result<(), AllocError> {
+fn add_type(draft: &mut Draft, dice: &mut Dice, types: &[String]) {
     if dice.below(6) == 0 {
-        text.push_str(".")?;
+        draft.add(".");
     }
     let limit = u8::try_from(types.len()).unwrap_or(255);
     let index = dice.below(limit) as usize;
     let is_any = dice.below(4) == 0;
     match types.get(index) {
-        Some(name) if !is_any => text.push_str(tail_of(name.as_str(), dice.below(4))),
-        _ => add_words(text, dice),
+        Some(name) if !is_any => draft.add(tail_of(name.as_str(), dice.below(4))),
+        _ => add_words(draft, dice),
     }
 }
 
 /// Adds two fields, of which the second has at times a name that a type may have.
-fn add_fields(text: &mut String, dice: &mut Dice, types: &[String]) -> Result<(), AllocError> {
-    add_type(text, dice, types)?;
-    text.push_str(" x = 1; ")?;
-    add_type(text, dice, types)?;
-    text.push_str(" ")?;
+fn add_fields(draft: &mut Draft, dice: &mut Dice, types: &[String]) {
+    add_type(draft, dice, types);
+    draft.add(" x = 1; ");
+    add_type(draft, dice, types);
+    draft.add(" ");
     let name = if dice.below(4) == 0 { dice.word() } else { "y" };
-    text.push_str(name)?;
-    text.push_str(" = 2; ")
+    draft.add(name);
+    draft.add(" = 2; ");
 }
 
 /// Adds a message with a message in it, in the scope of a package, and keeps their names.
 pub(crate) fn add_message(
     alloc: Global,
-    text: &mut String,
+    draft: &mut Draft,
     dice: &mut Dice,
     package: &str,
     types: &mut Vec<String>,
 ) -> Result<(), AllocError> {
     let outer = dice.word();
-    keep_type(alloc, types, package, outer)?;
     let inner = dice.word();
-    let scope = match types.last() {
-        Some(full_name) => String::from_str(alloc, full_name.as_str())?,
-        None => String::new(alloc),
-    };
-    keep_type(alloc, types, scope.as_str(), inner)?;
-    text.push_str("message ")?;
-    text.push_str(outer)?;
-    text.push_str(" { message ")?;
-    text.push_str(inner)?;
-    text.push_str(" { ")?;
-    add_fields(text, dice, types.as_slice())?;
-    text.push_str("} ")?;
-    add_fields(text, dice, types.as_slice())?;
-    text.push_str("}\n")
+    keep_messages(alloc, types, package, outer, inner)?;
+    draft.add("message ");
+    draft.add(outer);
+    draft.add(" { message ");
+    draft.add(inner);
+    draft.add(" { ");
+    add_fields(draft, dice, types.as_slice());
+    draft.add("} ");
+    add_fields(draft, dice, types.as_slice());
+    draft.add("}\n");
+    Ok(())
 }
 
 /// Adds an enum in the scope of a package, and keeps its name.
 pub(crate) fn add_enum(
     alloc: Global,
-    text: &mut String,
+    draft: &mut Draft,
     dice: &mut Dice,
     package: &str,
     types: &mut Vec<String>,
 ) -> Result<(), AllocError> {
     let name = dice.word();
-    keep_type(alloc, types, package, name)?;
-    text.push_str("enum ")?;
-    text.push_str(name)?;
-    text.push_str(" { ")?;
-    text.push_str(dice.word())?;
-    text.push_str(" = 0; }\n")
+    draft.add("enum ");
+    draft.add(name);
+    draft.add(" { ");
+    draft.add(dice.word());
+    draft.add(" = 0; }\n");
+    let kept = full_name(alloc, package, name)?;
+    types.push(kept)?;
+    Ok(())
 }
 
-pub(crate) fn add_service(
-    text: &mut String,
-    dice: &mut Dice,
-    types: &[String],
-) -> Result<(), AllocError> {
-    text.push_str("service ")?;
-    text.push_str(dice.word())?;
-    text.push_str(" { rpc ")?;
-    text.push_str(dice.word())?;
-    text.push_str("(")?;
-    add_type(text, dice, types)?;
-    text.push_str(") returns (")?;
-    add_type(text, dice, types)?;
-    text.push_str("); }\n")
+pub(crate) fn add_service(draft: &mut Draft, dice: &mut Dice, types: &[String]) {
+    draft.add("service ");
+    draft.add(dice.word());
+    draft.add(" { rpc ");
+    draft.add(dice.word());
+    draft.add("(");
+    add_type(draft, dice, types);
+    draft.add(") returns (");
+    add_type(draft, dice, types);
+    draft.add("); }\n");
 }

@@ -1,8 +1,8 @@
 //! Trees of up to 12 files that look like chance, compared with scans.
 
 use crate::dice::{Dice, word_at};
-use crate::drafts::{add_enum, add_message, add_service};
-use crate::trees::{Source, see_scanned};
+use crate::drafts::{Draft, add_enum, add_message, add_service};
+use crate::trees::{Due, Source, see_tree};
 use std::alloc::{AllocError, Global};
 use std::process::Abort;
 use std::test::Fail;
@@ -21,40 +21,64 @@ const IMPORTS: [&str; 4] = [
 
 /// The name of a package of up to three words; none is empty.
 fn package_of(alloc: Global, dice: &mut Dice) -> Result<String, AllocError> {
-    let mut package = String::new(alloc);
-    for _ in 0..dice.below(4) {
-        if !package.is_empty() {
-            package.push_str(".")?;
+    let mut draft = Draft::new(alloc);
+    for index in 0..dice.below(4) {
+        if index > 0 {
+            draft.add(".");
         }
-        package.push_str(dice.word())?;
+        draft.add(dice.word());
     }
-    Ok(package)
+    draft.finish()
 }
 
 /// Adds an import of one of so many files, or at times of none.
-fn add_import(text: &mut String, dice: &mut Dice, files: u8) -> Result<(), AllocError> {
-    text.push_str(word_at(&IMPORTS, dice.below(4) as usize))?;
+fn add_import(draft: &mut Draft, dice: &mut Dice, files: u8) {
+    draft.add(word_at(&IMPORTS, dice.below(4) as usize));
     if dice.below(40) == 0 {
-        text.push_str("./")?;
+        draft.add("./");
     }
-    text.push_str(word_at(&PATHS, dice.below(files) as usize))?;
-    text.push_str("\";\n")
+    draft.add(word_at(&PATHS, dice.below(files) as usize));
+    draft.add("\";\n");
 }
 
 fn add_part(
     alloc: Global,
-    text: &mut String,
+    draft: &mut Draft,
     dice: &mut Dice,
     files: u8,
     package: &str,
     types: &mut Vec<String>,
 ) -> Result<(), AllocError> {
     match dice.below(12) {
-        0 | 1 => add_message(alloc, text, dice, package, types),
-        2 => add_enum(alloc, text, dice, package, types),
-        3 => add_service(text, dice, types.as_slice()),
-        _ => add_import(text, dice, files),
+        0 | 1 => add_message(alloc, draft, dice, package, types)?,
+        2 => add_enum(alloc, draft, dice, package, types)?,
+        3 => add_service(draft, dice, types.as_slice()),
+        _ => add_import(draft, dice, files),
     }
+    Ok(())
+}
+
+/// Adds the package statement of a file, where it has a package, and its other statements.
+fn add_parts(
+    alloc: Global,
+    draft: &mut Draft,
+    dice: &mut Dice,
+    files: u8,
+    package: &str,
+    types: &mut Vec<String>,
+) -> Result<(), AllocError> {
+    if !package.is_empty() {
+        draft.add("package ");
+        draft.add(package);
+        draft.add(";\n");
+    }
+    for _ in 0..dice.below(5) {
+        add_part(alloc, draft, dice, files, package, types)?;
+    }
+    if dice.below(16) == 0 {
+        draft.add("@");
+    }
+    Ok(())
 }
 
 /// The text of one of so many files, which may use all these types; its own are added to them.
@@ -64,20 +88,11 @@ fn text_of(
     files: u8,
     types: &mut Vec<String>,
 ) -> Result<String, AllocError> {
-    let mut text = String::from_str(alloc, "syntax = \"proto3\";\n")?;
     let package = package_of(alloc, dice)?;
-    if !package.is_empty() {
-        text.push_str("package ")?;
-        text.push_str(package.as_str())?;
-        text.push_str(";\n")?;
-    }
-    for _ in 0..dice.below(5) {
-        add_part(alloc, &mut text, dice, files, package.as_str(), types)?;
-    }
-    if dice.below(16) == 0 {
-        text.push_str("@")?;
-    }
-    Ok(text)
+    let mut draft = Draft::new(alloc);
+    draft.add("syntax = \"proto3\";\n");
+    add_parts(alloc, &mut draft, dice, files, package.as_str(), types)?;
+    draft.finish()
 }
 
 fn texts_of(alloc: Global, dice: &mut Dice, files: u8) -> Result<Vec<String>, AllocError> {
@@ -110,7 +125,13 @@ fn see_generated(rt: &impl Abort, alloc: Global, seed: u32) -> Result<(), AllocE
     let included = if seed % 2 == 0 { 12 } else { dice.below(files) };
     let texts = texts_of(alloc, &mut dice, files)?;
     let sources = sources_of(alloc, texts.as_slice(), included as usize)?;
-    see_scanned(rt, alloc, sources.as_slice(), "a generated tree")
+    see_tree(
+        rt,
+        alloc,
+        sources.as_slice(),
+        Due::Scanned,
+        "a generated tree",
+    )
 }
 
 #[test]

@@ -24,8 +24,7 @@ const CASES: [Case<'static>; 16] = [
             ),
             ("d.proto", "syntax = \"proto3\";\nmessage D {}\n", false),
         ],
-        due: Due::Linked,
-        sees: &["1111", "0111", "0011", "0001"],
+        due: Due::Sees(&["1111", "0111", "0011", "0001"]),
     },
     Case {
         name: "a plain import does not lead on",
@@ -47,8 +46,7 @@ const CASES: [Case<'static>; 16] = [
             ),
             ("d.proto", "syntax = \"proto3\";\nmessage D {}\n", false),
         ],
-        due: Due::Linked,
-        sees: &["1110", "0110", "0011", "0001"],
+        due: Due::Sees(&["1110", "0110", "0011", "0001"]),
     },
     Case {
         name: "the end of a chain is missing",
@@ -70,7 +68,6 @@ const CASES: [Case<'static>; 16] = [
             ),
         ],
         due: Due::MissingImport([2, 33, 42]),
-        sees: &[],
     },
     Case {
         name: "two files import each other",
@@ -86,8 +83,7 @@ const CASES: [Case<'static>; 16] = [
                 false,
             ),
         ],
-        due: Due::Linked,
-        sees: &["11", "11"],
+        due: Due::Sees(&["11", "11"]),
     },
     Case {
         name: "public imports go round",
@@ -109,8 +105,7 @@ const CASES: [Case<'static>; 16] = [
             ),
             ("d.proto", "syntax = \"proto3\";\nmessage D {}", false),
         ],
-        due: Due::Linked,
-        sees: &["1110", "1111", "1010", "0001"],
+        due: Due::Sees(&["1110", "1111", "1010", "0001"]),
     },
     Case {
         name: "a plain import in a ring of public ones",
@@ -136,8 +131,7 @@ const CASES: [Case<'static>; 16] = [
                 false,
             ),
         ],
-        due: Due::Linked,
-        sees: &["1110", "1111", "1110", "1111"],
+        due: Due::Sees(&["1110", "1111", "1110", "1111"]),
     },
     Case {
         name: "a file imports itself",
@@ -146,8 +140,7 @@ const CASES: [Case<'static>; 16] = [
             "syntax = \"proto3\";\nimport \"a.proto\";\nimport public \"a.proto\";\n",
             false,
         )],
-        due: Due::Linked,
-        sees: &["1"],
+        due: Due::Sees(&["1"]),
     },
     Case {
         name: "a weak import is a plain one",
@@ -169,8 +162,7 @@ const CASES: [Case<'static>; 16] = [
             ),
             ("d.proto", "syntax = \"proto3\";\n", false),
         ],
-        due: Due::Linked,
-        sees: &["1100", "0111", "0011", "0001"],
+        due: Due::Sees(&["1100", "0111", "0011", "0001"]),
     },
     Case {
         name: "a path of two literals",
@@ -182,8 +174,7 @@ const CASES: [Case<'static>; 16] = [
                 false,
             ),
         ],
-        due: Due::Linked,
-        sees: &["10", "11"],
+        due: Due::Sees(&["10", "11"]),
     },
     Case {
         name: "a missing path of two literals",
@@ -196,7 +187,6 @@ const CASES: [Case<'static>; 16] = [
             ),
         ],
         due: Due::MissingImport([1, 26, 39]),
-        sees: &[],
     },
     Case {
         name: "no path is put in order",
@@ -209,7 +199,6 @@ const CASES: [Case<'static>; 16] = [
             ("b.proto", "syntax = \"proto3\";\n", false),
         ],
         due: Due::MissingImport([0, 26, 37]),
-        sees: &[],
     },
     Case {
         name: "an empty path",
@@ -218,7 +207,6 @@ const CASES: [Case<'static>; 16] = [
             ("b.proto", "syntax = \"proto3\";\n", false),
         ],
         due: Due::MissingImport([0, 26, 28]),
-        sees: &[],
     },
     Case {
         name: "of two missing imports the first",
@@ -235,7 +223,6 @@ const CASES: [Case<'static>; 16] = [
             ),
         ],
         due: Due::MissingImport([0, 49, 58]),
-        sees: &[],
     },
     Case {
         name: "a missing import of a later file",
@@ -252,7 +239,6 @@ const CASES: [Case<'static>; 16] = [
             ),
         ],
         due: Due::MissingImport([1, 51, 60]),
-        sees: &[],
     },
     Case {
         name: "three packages",
@@ -273,14 +259,12 @@ const CASES: [Case<'static>; 16] = [
                 false,
             ),
         ],
-        due: Due::Linked,
-        sees: &["111", "010", "001"],
+        due: Due::Sees(&["111", "010", "001"]),
     },
     Case {
         name: "no file",
         sources: &[],
-        due: Due::Linked,
-        sees: &[],
+        due: Due::Sights(&[]),
     },
 ];
 

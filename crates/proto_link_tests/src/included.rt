@@ -19,8 +19,7 @@ const CASES: [Case<'static>; 14] = [
             ),
             ("u.proto", "syntax = \"proto2\";\n", true),
         ],
-        due: Due::Linked,
-        sees: &["110", "010", "001"],
+        due: Due::Sees(&["110", "010", "001"]),
     },
     Case {
         name: "an included file that is no source of proto3",
@@ -38,7 +37,6 @@ const CASES: [Case<'static>; 14] = [
             ("u.proto", "syntax = \"proto2\";\n", true),
         ],
         due: Due::Broken(2),
-        sees: &[],
     },
     Case {
         name: "a plain import that an included file misses",
@@ -55,8 +53,7 @@ const CASES: [Case<'static>; 14] = [
             ),
             ("u.proto", "syntax = \"proto2\";\n", true),
         ],
-        due: Due::Linked,
-        sees: &["110", "010", "001"],
+        due: Due::Sees(&["110", "010", "001"]),
     },
     Case {
         name: "a public import that an included file misses",
@@ -74,7 +71,6 @@ const CASES: [Case<'static>; 14] = [
             ("u.proto", "syntax = \"proto2\";\n", true),
         ],
         due: Due::MissingImport([1, 85, 97]),
-        sees: &[],
     },
     Case {
         name: "a clash with an included file",
@@ -87,7 +83,6 @@ const CASES: [Case<'static>; 14] = [
             ("t.proto", "syntax = \"proto3\";\nmessage M {}\n", true),
         ],
         due: Due::Duplicate([0, 45, 46], [1, 27, 28]),
-        sees: &[],
     },
     Case {
         name: "no clash with one that nobody sees",
@@ -95,8 +90,7 @@ const CASES: [Case<'static>; 14] = [
             ("a.proto", "syntax = \"proto3\";\nmessage M {}\n", false),
             ("t.proto", "syntax = \"proto3\";\nmessage M {}\n", true),
         ],
-        due: Due::Linked,
-        sees: &["10", "01"],
+        due: Due::Sees(&["10", "01"]),
     },
     Case {
         name: "two that are seen clash",
@@ -110,7 +104,6 @@ const CASES: [Case<'static>; 14] = [
             ("u.proto", "syntax = \"proto3\";\nmessage M {}\n", true),
         ],
         due: Due::Duplicate([1, 27, 28], [2, 27, 28]),
-        sees: &[],
     },
     Case {
         name: "nobody sees a clash, a missing import and a broken file",
@@ -123,8 +116,7 @@ const CASES: [Case<'static>; 14] = [
             ),
             ("j.proto", "not a source", true),
         ],
-        due: Due::Linked,
-        sees: &["100", "010", "001"],
+        due: Due::Sees(&["100", "010", "001"]),
     },
     Case {
         name: "a broken file goes before a clash and a missing import",
@@ -138,7 +130,6 @@ const CASES: [Case<'static>; 14] = [
             ("j.proto", "not a source", true),
         ],
         due: Due::Broken(2),
-        sees: &[],
     },
     Case {
         name: "of two broken files the first",
@@ -152,7 +143,6 @@ const CASES: [Case<'static>; 14] = [
             ("j.proto", "@", true),
         ],
         due: Due::Broken(1),
-        sees: &[],
     },
     Case {
         name: "a broken file behind a public import of an included one",
@@ -170,7 +160,6 @@ const CASES: [Case<'static>; 14] = [
             ("j.proto", "syntax = \"proto3\"; message {}", true),
         ],
         due: Due::Broken(2),
-        sees: &[],
     },
     Case {
         name: "a broken file behind a plain import of an included one",
@@ -183,8 +172,7 @@ const CASES: [Case<'static>; 14] = [
             ("i.proto", "syntax = \"proto3\";\nimport \"j.proto\";", true),
             ("j.proto", "syntax = \"proto3\"; message {}", true),
         ],
-        due: Due::Linked,
-        sees: &["110", "011", "001"],
+        due: Due::Sees(&["110", "011", "001"]),
     },
     Case {
         name: "an included file sees a source",
@@ -200,8 +188,7 @@ const CASES: [Case<'static>; 14] = [
                 true,
             ),
         ],
-        due: Due::Linked,
-        sees: &["11", "11"],
+        due: Due::Sees(&["11", "11"]),
     },
     Case {
         name: "included files alone",
@@ -210,8 +197,7 @@ const CASES: [Case<'static>; 14] = [
             "syntax = \"proto3\";\nmessage M {} message M {} import public \"x.proto\";",
             true,
         )],
-        due: Due::Linked,
-        sees: &["1"],
+        due: Due::Sees(&["1"]),
     },
 ];
 

@@ -1,12 +1,13 @@
 //! What uses name, where a name is of one kind or another.
 
-use crate::lookups::Meaning::{Names, Unresolved};
-use crate::lookups::{Lookup, see_lookups};
+use crate::trees::Due::Means;
+use crate::trees::Meaning::{Names, Unresolved};
+use crate::trees::{Case, see_cases};
 use proto_link::Entity::{Declared, Package};
 use std::test::Fail;
 
-const CASES: [Lookup<'static>; 10] = [
-    Lookup {
+const CASES: [Case<'static>; 10] = [
+    Case {
         name: "a package that lacks the rest",
         sources: &[
             (
@@ -25,9 +26,9 @@ const CASES: [Lookup<'static>; 10] = [
                 false,
             ),
         ],
-        uses: &[&[Unresolved([0, 81, 106])], &[], &[]],
+        due: Means(&[&[Unresolved([0, 81, 106])], &[], &[]]),
     },
-    Lookup {
+    Case {
         name: "a leading dot passes by that package",
         sources: &[
             (
@@ -46,16 +47,16 @@ const CASES: [Lookup<'static>; 10] = [
                 false,
             ),
         ],
-        uses: &[
+        due: Means(&[
             &[Names(
                 "google.protobuf.Timestamp",
                 &[Package(1), Package(2), Declared(2, 0)],
             )],
             &[],
             &[],
-        ],
+        ]),
     },
-    Lookup {
+    Case {
         name: "a package of a file that isn't seen",
         sources: &[
             (
@@ -74,37 +75,37 @@ const CASES: [Lookup<'static>; 10] = [
                 false,
             ),
         ],
-        uses: &[
+        due: Means(&[
             &[Names(
                 "google.protobuf.Timestamp",
                 &[Package(1), Package(2), Declared(2, 0)],
             )],
             &[],
             &[],
-        ],
+        ]),
     },
-    Lookup {
+    Case {
         name: "a field of the name of its type",
         sources: &[(
             "a.proto",
             "syntax = \"proto3\";\npackage p;\nmessage Foo {}\nmessage M { string Foo = 1; Foo x = 2; }\n",
             false,
         )],
-        uses: &[&[Names("p.Foo", &[Declared(0, 0)])]],
+        due: Means(&[&[Names("p.Foo", &[Declared(0, 0)])]]),
     },
-    Lookup {
+    Case {
         name: "a method of the name of its types",
         sources: &[(
             "a.proto",
             "syntax = \"proto3\";\nmessage Foo {}\nservice S { rpc Foo(Foo) returns (stream Foo); }\n",
             false,
         )],
-        uses: &[&[
+        due: Means(&[&[
             Names("Foo", &[Declared(0, 0)]),
             Names("Foo", &[Declared(0, 0)]),
-        ]],
+        ]]),
     },
-    Lookup {
+    Case {
         name: "behind public imports",
         sources: &[
             (
@@ -124,9 +125,9 @@ const CASES: [Lookup<'static>; 10] = [
             ),
             ("d.proto", "syntax = \"proto3\";\nmessage D {}\n", false),
         ],
-        uses: &[&[Names("D", &[Declared(3, 0)])], &[], &[], &[]],
+        due: Means(&[&[Names("D", &[Declared(3, 0)])], &[], &[], &[]]),
     },
-    Lookup {
+    Case {
         name: "behind a plain import",
         sources: &[
             (
@@ -146,14 +147,14 @@ const CASES: [Lookup<'static>; 10] = [
             ),
             ("d.proto", "syntax = \"proto3\";\nmessage D {}\n", false),
         ],
-        uses: &[
+        due: Means(&[
             &[Unresolved([0, 49, 50])],
             &[],
             &[Names("D", &[Declared(3, 0)])],
             &[],
-        ],
+        ]),
     },
-    Lookup {
+    Case {
         name: "two files use each other",
         sources: &[
             (
@@ -167,12 +168,12 @@ const CASES: [Lookup<'static>; 10] = [
                 false,
             ),
         ],
-        uses: &[
+        due: Means(&[
             &[Names("B", &[Declared(1, 0)])],
             &[Names("A", &[Declared(0, 0)])],
-        ],
+        ]),
     },
-    Lookup {
+    Case {
         name: "values of an enum",
         sources: &[
             (
@@ -182,7 +183,7 @@ const CASES: [Lookup<'static>; 10] = [
             ),
             ("b.proto", "syntax = \"proto3\";\nmessage Z {}\n", false),
         ],
-        uses: &[
+        due: Means(&[
             &[
                 Names("Z", &[Declared(1, 0)]),
                 Unresolved([0, 98, 99]),
@@ -191,9 +192,9 @@ const CASES: [Lookup<'static>; 10] = [
                 Names("p.E", &[Declared(0, 0)]),
             ],
             &[],
-        ],
+        ]),
     },
-    Lookup {
+    Case {
         name: "a service",
         sources: &[
             (
@@ -207,7 +208,7 @@ const CASES: [Lookup<'static>; 10] = [
                 false,
             ),
         ],
-        uses: &[
+        due: Means(&[
             &[
                 Names("p.T", &[Declared(0, 0)]),
                 Unresolved([0, 93, 96]),
@@ -215,12 +216,12 @@ const CASES: [Lookup<'static>; 10] = [
                 Names("S", &[Declared(1, 0)]),
             ],
             &[],
-        ],
+        ]),
     },
 ];
 
 #[test]
 fn kinds_of_names(rt: HostRuntime) -> Result<(), Fail> {
-    see_lookups(&rt, rt.alloc(), &CASES)?;
+    see_cases(&rt, rt.alloc(), &CASES)?;
     Ok(())
 }

@@ -1,42 +1,12 @@
-//! Trees with uses of types, and what each use names.
+//! What uses name.
 
-ghost use Rattle.std.specs.Prelude.{ℕ, ◌≡◌, ◌<◌, IfOk, length};
-ghost use Rattle.proto_link.specs.Files.{HaveOwnPaths};
+ghost use Rattle.std.specs.Prelude.{ℕ, ◌≡◌, ◌<◌, length};
 
-use crate::calls::see;
 use crate::meanings::{Known, is_due, known_to};
-use crate::trees::{Sight, Source, facts_of_all, files_of, own_paths, place_of, see_scanned};
+use crate::trees::{Due, Meaning, Sight, place_of};
 use proto_decl::Use;
-use proto_link::{Entity, LinkFault, LinkFile, Linker, Target};
+use proto_link::{LinkFault, LinkFile, Linker, Target};
 use std::alloc::{AllocError, Global};
-use std::process::Abort;
-
-/// What is due of a use: its type's full name and what each component names, or its place where it
-/// names no type.
-#[derive(Clone, Copy, Drop)]
-pub(crate) enum Meaning<'a> {
-    Names(&'a str, &'a [Entity]),
-    Unresolved([usize; 3]),
-}
-
-/// A tree that is linked, and for each file what its uses name, in order of place.
-#[derive(Drop)]
-pub(crate) struct Lookup<'a> {
-    pub(crate) name: &'a str,
-    pub(crate) sources: &'a [Source<'a>],
-    pub(crate) uses: &'a [&'a [Meaning<'a>]],
-}
-
-/// Links files.
-pub(crate) fn link<'a>(alloc: Global, files: &'a [LinkFile<'a>]) -> Result<Linker<'a>, LinkFault>
-    requires { HaveOwnPaths files.now }
-    ensures { IfOk result (λ linker. linker ≡ files.now) }
-{
-    match Linker::new(alloc, files) {
-        Err(LinkFault::Memory) => Linker::new(alloc, files),
-        answer => answer,
-    }
-}
 
 /// What a use of a file names.
 fn resolved(
@@ -65,49 +35,38 @@ fn means(answer: &Result<Target, LinkFault>, meaning: Meaning) -> bool {
     }
 }
 
-/// Whether the uses of a file mean this.
-fn uses_mean(
-    alloc: Global,
-    linker: &Linker,
-    file: usize,
-    uses: &[Use],
-    meanings: &[Meaning],
-) -> bool
-    requires { file < length linker.now }
-{
-    for (type_use, meaning) in uses.iter().zip(meanings.iter()) {
-        let answer = resolved(alloc, linker, file, type_use);
-        if !means(&answer, *meaning) {
-            return false;
-        }
+/// Whether this answer is due of the use with this number, where that is said.
+fn is_meant(
+    answer: &Result<Target, LinkFault>,
+    meanings: Option<&[Meaning]>,
+    index: usize,
+) -> bool {
+    let Some(meanings) = meanings else {
+        return true;
+    };
+    match meanings.get(index) {
+        Some(meaning) => means(answer, *meaning),
+        None => false,
     }
-    uses.len() == meanings.len()
 }
 
-fn all_mean(alloc: Global, linker: &Linker, files: &[LinkFile], meanings: &[&[Meaning]]) -> bool
-    requires { length linker.now ≡ length files.now }
-{
-    for (number, file) in files.iter().enumerate() {
-        if let (Some(facts), Some(due)) = (file.facts, meanings.get(number)) {
-            if !uses_mean(alloc, linker, number, facts.uses(), *due) {
-                return false;
-            }
-        }
-    }
-    files.len() == meanings.len()
-}
-
-fn uses_are_as_scanned(
+/// Whether the uses of a file, which knows these names, have the answers that are due, and those that
+/// scans tell.
+fn are_answered(
     alloc: Global,
     linker: &Linker,
     file: usize,
     uses: &[Use],
     known: &[Known],
+    meanings: Option<&[Meaning]>,
 ) -> Result<bool, AllocError>
     requires { file < length linker.now }
 {
-    for type_use in uses {
+    for (index, type_use) in uses.iter().enumerate() {
         let answer = resolved(alloc, linker, file, type_use);
+        if !is_meant(&answer, meanings, index) {
+            return Ok(false);
+        }
         if !is_due(alloc, known, file, type_use, &answer)? {
             return Ok(false);
         }
@@ -115,60 +74,46 @@ fn uses_are_as_scanned(
     Ok(true)
 }
 
-/// Whether the uses of all files name what scans tell.
-pub(crate) fn resolve_as_scanned(
+/// What is due of the uses of a file, where that is said.
+fn meanings_of<'a>(due: Due<'a>, file: usize) -> Option<&'a [Meaning<'a>]> {
+    match due {
+        Due::Means(meanings) => match meanings.get(file) {
+            Some(meanings) => Some(*meanings),
+            None => Some(&[]),
+        },
+        _ => None,
+    }
+}
+
+/// Whether that many uses are due of a file, where that is said.
+fn is_count(uses: &[Use], meanings: Option<&[Meaning]>) -> bool {
+    match meanings {
+        Some(meanings) => uses.len() == meanings.len(),
+        None => true,
+    }
+}
+
+/// Whether the uses of all files name what is due, and what scans tell.
+pub(crate) fn resolve_as_due(
     alloc: Global,
     linker: &Linker,
     files: &[LinkFile],
     sights: &[Sight],
+    due: Due,
 ) -> Result<bool, AllocError>
     requires { length linker.now ≡ length files.now }
 {
     for (number, file) in files.iter().enumerate() {
         if let Some(facts) = file.facts {
             let known = known_to(alloc, files, sights, number)?;
-            if !uses_are_as_scanned(alloc, linker, number, facts.uses(), known.as_slice())? {
+            let meanings = meanings_of(due, number);
+            let uses = facts.uses();
+            if !is_count(uses, meanings)
+                || !are_answered(alloc, linker, number, uses, known.as_slice(), meanings)?
+            {
                 return Ok(false);
             }
         }
     }
     Ok(true)
-}
-
-fn is_meant(
-    alloc: Global,
-    files: &[LinkFile],
-    meanings: &[&[Meaning]],
-) -> Result<bool, AllocError> {
-    if !own_paths(alloc, files)? {
-        return Ok(false);
-    }
-    Ok(match link(alloc, files) {
-        Ok(linker) => {
-            linker.linked();
-            all_mean(alloc, &linker, files, meanings)
-        }
-        Err(_) => false,
-    })
-}
-
-fn see_lookup(rt: &impl Abort, alloc: Global, lookup: &Lookup) -> Result<(), AllocError> {
-    let facts = facts_of_all(alloc, lookup.sources)?;
-    let files = files_of(alloc, lookup.sources, facts.as_slice())?;
-    let meant = is_meant(alloc, files.as_slice(), lookup.uses)?;
-    see(rt, meant, lookup.name);
-    Ok(())
-}
-
-/// Sees that the uses of trees mean what is due, and that scans tell the same.
-pub(crate) fn see_lookups(
-    rt: &impl Abort,
-    alloc: Global,
-    lookups: &[Lookup],
-) -> Result<(), AllocError> {
-    for lookup in lookups {
-        see_lookup(rt, alloc, lookup)?;
-        see_scanned(rt, alloc, lookup.sources, lookup.name)?;
-    }
-    Ok(())
 }

@@ -1,19 +1,20 @@
 //! What names of nested messages name.
 
-use crate::lookups::Meaning::{Names, Unresolved};
-use crate::lookups::{Lookup, see_lookups};
+use crate::trees::Due::Means;
+use crate::trees::Meaning::{Names, Unresolved};
+use crate::trees::{Case, see_cases};
 use proto_link::Entity::{Declared, Package};
 use std::test::Fail;
 
-const CASES: [Lookup<'static>; 4] = [
-    Lookup {
+const CASES: [Case<'static>; 4] = [
+    Case {
         name: "scopes of nested messages",
         sources: &[(
             "a.proto",
             "syntax = \"proto3\";\nmessage A {\n  message B {\n    message C { B b = 1; C c = 2; A a = 3; D d = 4; E e = 5; B.D f = 6; }\n    message D {}\n  }\n  message D { message E {} }\n  D g = 1;\n  D.E h = 2;\n}\n",
             false,
         )],
-        uses: &[&[
+        due: Means(&[&[
             Names("A.B", &[Declared(0, 1)]),
             Names("A.B.C", &[Declared(0, 2)]),
             Names("A", &[Declared(0, 0)]),
@@ -22,25 +23,25 @@ const CASES: [Lookup<'static>; 4] = [
             Names("A.B.D", &[Declared(0, 1), Declared(0, 9)]),
             Names("A.D", &[Declared(0, 10)]),
             Names("A.D.E", &[Declared(0, 10), Declared(0, 11)]),
-        ]],
+        ]]),
     },
-    Lookup {
+    Case {
         name: "one name in each scope",
         sources: &[(
             "a.proto",
             "syntax = \"proto3\";\npackage A;\nmessage A {\n  A b = 1;\n  A.A c = 2;\n  message A { A d = 1; A.A e = 2; .A.A f = 3; }\n  .A.A.A g = 3;\n}\n",
             false,
         )],
-        uses: &[&[
+        due: Means(&[&[
             Names("A.A.A", &[Declared(0, 3)]),
             Unresolved([0, 55, 58]),
             Names("A.A.A", &[Declared(0, 3)]),
             Unresolved([0, 89, 92]),
             Names("A.A", &[Package(1), Declared(0, 0)]),
             Names("A.A.A", &[Package(1), Declared(0, 0), Declared(0, 3)]),
-        ]],
+        ]]),
     },
-    Lookup {
+    Case {
         name: "the innermost of two types",
         sources: &[
             (
@@ -50,7 +51,7 @@ const CASES: [Lookup<'static>; 4] = [
             ),
             ("b.proto", "syntax = \"proto3\";\nmessage T {}\n", false),
         ],
-        uses: &[
+        due: Means(&[
             &[
                 Names("p.M.T", &[Declared(0, 1)]),
                 Names("T", &[Declared(1, 0)]),
@@ -58,27 +59,27 @@ const CASES: [Lookup<'static>; 4] = [
                 Names("p.T", &[Declared(0, 5)]),
             ],
             &[],
-        ],
+        ]),
     },
-    Lookup {
+    Case {
         name: "types of maps, oneofs and methods",
         sources: &[(
             "a.proto",
             "syntax = \"proto3\";\nmessage M {\n  message V {}\n  map<string, V> a = 1;\n  oneof o { M.V b = 2; }\n  repeated E c = 3;\n}\nenum E { Z = 0; }\nservice S { rpc R(stream M.V) returns (.M); }\n",
             false,
         )],
-        uses: &[&[
+        due: Means(&[&[
             Names("M.V", &[Declared(0, 1)]),
             Names("M.V", &[Declared(0, 0), Declared(0, 1)]),
             Names("E", &[Declared(0, 6)]),
             Names("M.V", &[Declared(0, 0), Declared(0, 1)]),
             Names("M", &[Declared(0, 0)]),
-        ]],
+        ]]),
     },
 ];
 
 #[test]
 fn nested_scopes(rt: HostRuntime) -> Result<(), Fail> {
-    see_lookups(&rt, rt.alloc(), &CASES)?;
+    see_cases(&rt, rt.alloc(), &CASES)?;
     Ok(())
 }

@@ -1,12 +1,13 @@
 //! What uses name by the files that theirs sees.
 
-use crate::lookups::Meaning::{Names, Unresolved};
-use crate::lookups::{Lookup, see_lookups};
+use crate::trees::Due::Means;
+use crate::trees::Meaning::{Names, Unresolved};
+use crate::trees::{Case, see_cases};
 use proto_link::Entity::{Declared, Package};
 use std::test::Fail;
 
-const CASES: [Lookup<'static>; 8] = [
-    Lookup {
+const CASES: [Case<'static>; 8] = [
+    Case {
         name: "one package without an import",
         sources: &[
             (
@@ -20,16 +21,16 @@ const CASES: [Lookup<'static>; 8] = [
                 false,
             ),
         ],
-        uses: &[
+        due: Means(&[
             &[
                 Unresolved([0, 42, 43]),
                 Unresolved([0, 51, 54]),
                 Unresolved([0, 62, 66]),
             ],
             &[Unresolved([1, 42, 43])],
-        ],
+        ]),
     },
-    Lookup {
+    Case {
         name: "a weak import and one of the file itself",
         sources: &[
             (
@@ -44,13 +45,13 @@ const CASES: [Lookup<'static>; 8] = [
             ),
             ("c.proto", "syntax = \"proto3\";\nmessage U {}\n", false),
         ],
-        uses: &[
+        due: Means(&[
             &[Names("T", &[Declared(1, 0)]), Unresolved([0, 63, 64])],
             &[Names("T", &[Declared(1, 0)]), Names("U", &[Declared(2, 0)])],
             &[],
-        ],
+        ]),
     },
-    Lookup {
+    Case {
         name: "paths are texts",
         sources: &[
             (
@@ -61,13 +62,13 @@ const CASES: [Lookup<'static>; 8] = [
             ("b.proto", "syntax = \"proto3\";\nmessage B {}\n", false),
             ("./b.proto", "syntax = \"proto3\";\nmessage C {}\n", false),
         ],
-        uses: &[
+        due: Means(&[
             &[Unresolved([0, 51, 52]), Names("C", &[Declared(2, 0)])],
             &[],
             &[],
-        ],
+        ]),
     },
-    Lookup {
+    Case {
         name: "public imports in a ring",
         sources: &[
             (
@@ -91,14 +92,14 @@ const CASES: [Lookup<'static>; 8] = [
                 false,
             ),
         ],
-        uses: &[
+        due: Means(&[
             &[Names("C", &[Declared(2, 0)]), Unresolved([0, 65, 66])],
             &[Names("A", &[Declared(0, 0)]), Names("D", &[Declared(3, 0)])],
             &[Names("B", &[Declared(1, 0)]), Unresolved([2, 65, 66])],
             &[Unresolved([3, 31, 32])],
-        ],
+        ]),
     },
-    Lookup {
+    Case {
         name: "an included file",
         sources: &[
             (
@@ -113,13 +114,13 @@ const CASES: [Lookup<'static>; 8] = [
             ),
             ("u.proto", "syntax = \"proto2\";\n", true),
         ],
-        uses: &[
+        due: Means(&[
             &[Names("lib.T", &[Package(1), Declared(1, 0)])],
             &[Unresolved([1, 56, 60])],
             &[],
-        ],
+        ]),
     },
-    Lookup {
+    Case {
         name: "imports of an included file",
         sources: &[
             (
@@ -139,7 +140,7 @@ const CASES: [Lookup<'static>; 8] = [
                 true,
             ),
         ],
-        uses: &[
+        due: Means(&[
             &[
                 Names("V", &[Declared(2, 0)]),
                 Unresolved([0, 58, 59]),
@@ -151,9 +152,9 @@ const CASES: [Lookup<'static>; 8] = [
             ],
             &[],
             &[Unresolved([3, 31, 32])],
-        ],
+        ]),
     },
-    Lookup {
+    Case {
         name: "an included file that nobody sees",
         sources: &[
             (
@@ -167,12 +168,12 @@ const CASES: [Lookup<'static>; 8] = [
                 true,
             ),
         ],
-        uses: &[
+        due: Means(&[
             &[Names("M", &[Declared(0, 0)]), Unresolved([0, 40, 41])],
             &[Names("N", &[Declared(1, 3)]), Names("M", &[Declared(1, 0)])],
-        ],
+        ]),
     },
-    Lookup {
+    Case {
         name: "a source that an included file sees",
         sources: &[
             (
@@ -186,18 +187,18 @@ const CASES: [Lookup<'static>; 8] = [
                 true,
             ),
         ],
-        uses: &[
+        due: Means(&[
             &[Names("q.T", &[Package(1), Declared(1, 0)])],
             &[
                 Names("p.M", &[Package(1), Declared(0, 0)]),
                 Unresolved([1, 71, 72]),
             ],
-        ],
+        ]),
     },
 ];
 
 #[test]
 fn names_of_seen_files(rt: HostRuntime) -> Result<(), Fail> {
-    see_lookups(&rt, rt.alloc(), &CASES)?;
+    see_cases(&rt, rt.alloc(), &CASES)?;
     Ok(())
 }

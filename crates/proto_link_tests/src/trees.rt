@@ -1,14 +1,14 @@
 //! Trees of sources, and what linking answers to them.
 
-ghost use Rattle.std.specs.Prelude.{◌≡◌, ◌↔◌, IfOk, IsTrue, length};
+ghost use Rattle.std.specs.Prelude.{◌≡◌, ◌↔◌, ◌<◌, IfOk, IsTrue, length};
 ghost use Rattle.proto_link.specs.Files.{HaveOwnPaths};
 
 use crate::calls::{accepted, see};
-use crate::lookups::{link, resolve_as_scanned};
+use crate::lookups::resolve_as_due;
 use crate::scans;
 use proto_decl::FileFacts;
 use proto_lex::Span;
-use proto_link::{FilePlace, LinkFault, LinkFile, Linker, have_own_paths};
+use proto_link::{Entity, FilePlace, LinkFault, LinkFile, Linker, have_own_paths};
 use std::alloc::{AllocError, Global};
 use std::process::Abort;
 
@@ -18,23 +18,39 @@ pub(crate) type Source<'a> = (&'a str, &'a str, bool);
 /// Whether the one file sees the other.
 pub(crate) type Sight = (usize, usize, bool);
 
-/// What is due of a tree. A place is its file, its start and its end.
+/// What is due of a use: its type's full name and what each component names, or its place where it
+/// names no type. A place is its file, its start and its end.
 #[derive(Clone, Copy, Drop)]
-pub(crate) enum Due {
-    Linked,
+pub(crate) enum Meaning<'a> {
+    Names(&'a str, &'a [Entity]),
+    Unresolved([usize; 3]),
+}
+
+/// What is due of a tree, beside what scans tell.
+#[derive(Clone, Copy, Drop)]
+pub(crate) enum Due<'a> {
+    /// Nothing.
+    Scanned,
+
+    /// It is linked, and files see each other so. It isn't scanned.
+    Sights(&'a [Sight]),
+
+    /// It is linked. For each file a digit for each file: 1 where it sees that one.
+    Sees(&'a [&'a str]),
+
+    /// It is linked. For each file what its uses name, in order of place.
+    Means(&'a [&'a [Meaning<'a>]]),
     Broken(usize),
     Duplicate([usize; 3], [usize; 3]),
     MissingImport([usize; 3]),
 }
 
-/// A tree, what is due, and for each file, where it is linked, a digit for each file: 1 where it sees
-/// that one.
+/// A tree, and what is due.
 #[derive(Drop)]
 pub(crate) struct Case<'a> {
     pub(crate) name: &'a str,
     pub(crate) sources: &'a [Source<'a>],
-    pub(crate) due: Due,
-    pub(crate) sees: &'a [&'a str],
+    pub(crate) due: Due<'a>,
 }
 
 pub(crate) fn place_of(place: [usize; 3]) -> FilePlace {
@@ -45,37 +61,21 @@ pub(crate) fn place_of(place: [usize; 3]) -> FilePlace {
     }
 }
 
-fn fault_of(due: Due) -> Option<LinkFault> {
+/// Whether a tree may be refused for this.
+fn is_refusal(fault: LinkFault, due: Due) -> bool {
     match due {
-        Due::Linked => None,
-        Due::Broken(file) => Some(LinkFault::Broken(file)),
+        Due::Scanned => true,
+        Due::Broken(file) => fault == LinkFault::Broken(file),
         Due::Duplicate(first, second) => {
-            Some(LinkFault::Duplicate(place_of(first), place_of(second)))
+            fault == LinkFault::Duplicate(place_of(first), place_of(second))
         }
-        Due::MissingImport(place) => Some(LinkFault::MissingImport(place_of(place))),
+        Due::MissingImport(place) => fault == LinkFault::MissingImport(place_of(place)),
+        _ => false,
     }
-}
-
-fn add_sights(sights: &mut Vec<Sight>, file: usize, sees: &str) -> Result<(), AllocError> {
-    for (other, digit) in sees.as_bytes().iter().enumerate() {
-        sights.push((file, other, *digit == b'1'))?;
-    }
-    Ok(())
-}
-
-fn sights_of(alloc: Global, sees: &[&str]) -> Result<Vec<Sight>, AllocError> {
-    let mut sights = Vec::new(alloc);
-    for (file, row) in sees.iter().enumerate() {
-        add_sights(&mut sights, file, *row)?;
-    }
-    Ok(sights)
 }
 
 /// The facts of each source.
-pub(crate) fn facts_of_all(
-    alloc: Global,
-    sources: &[Source],
-) -> Result<Vec<Option<FileFacts>>, AllocError> {
+fn facts_of_all(alloc: Global, sources: &[Source]) -> Result<Vec<Option<FileFacts>>, AllocError> {
     let mut all = Vec::with_capacity(alloc, sources.len())?;
     for (number, source) in sources.iter().enumerate() {
         let facts = accepted(alloc, number, source.1)?;
@@ -92,7 +92,7 @@ fn facts_at<'a>(facts: &'a [Option<FileFacts>], number: usize) -> Option<&'a Fil
 }
 
 /// The files of sources with these facts.
-pub(crate) fn files_of<'a>(
+fn files_of<'a>(
     alloc: Global,
     sources: &'a [Source<'a>],
     facts: &'a [Option<FileFacts>],
@@ -118,6 +118,17 @@ pub(crate) fn own_paths(alloc: Global, files: &[LinkFile]) -> Result<bool, Alloc
     }
 }
 
+/// Links files.
+fn link<'a>(alloc: Global, files: &'a [LinkFile<'a>]) -> Result<Linker<'a>, LinkFault>
+    requires { HaveOwnPaths files.now }
+    ensures { IfOk result (λ linker. linker ≡ files.now) }
+{
+    match Linker::new(alloc, files) {
+        Err(LinkFault::Memory) => Linker::new(alloc, files),
+        answer => answer,
+    }
+}
+
 /// Whether files see each other so.
 fn see_each_other(linker: &Linker, files: usize, sights: &[Sight]) -> bool
     requires { length linker.now ≡ files }
@@ -130,85 +141,116 @@ fn see_each_other(linker: &Linker, files: usize, sights: &[Sight]) -> bool
     true
 }
 
-/// Whether linking answers this to files.
-fn is_answered(
+/// Whether a file sees those whose digit is 1, and no others.
+fn sees(linker: &Linker, files: usize, file: usize, digits: &[u8]) -> bool
+    requires count { length linker.now ≡ files }
+    requires within { file < files }
+{
+    for (other, digit) in digits.iter().enumerate() {
+        if other >= files || linker.visible(file, other) != (*digit == b'1') {
+            return false;
+        }
+    }
+    digits.len() == files
+}
+
+/// Whether each file sees those whose digit is 1, and no others.
+fn each_sees(linker: &Linker, files: usize, all: &[&str]) -> bool
+    requires { length linker.now ≡ files }
+{
+    for (file, digits) in all.iter().enumerate() {
+        if file >= files || !sees(linker, files, file, digits.as_bytes()) {
+            return false;
+        }
+    }
+    all.len() == files
+}
+
+/// Whether files may be linked, and see each other as is due.
+fn see_as_due(linker: &Linker, files: usize, due: Due) -> bool
+    requires { length linker.now ≡ files }
+{
+    match due {
+        Due::Scanned => true,
+        Due::Sights(sights) => see_each_other(linker, files, sights),
+        Due::Sees(all) => each_sees(linker, files, all),
+        Due::Means(meanings) => meanings.len() == files,
+        _ => false,
+    }
+}
+
+fn is_linked_as_due(
+    alloc: Global,
+    linker: &Linker,
+    files: &[LinkFile],
+    sights: &[Sight],
+    due: Due,
+) -> Result<bool, AllocError>
+    requires { length linker.now ≡ length files.now }
+{
+    linker.linked();
+    let count = files.len();
+    if !see_as_due(linker, count, due) || !see_each_other(linker, count, sights) {
+        return Ok(false);
+    }
+    resolve_as_due(alloc, linker, files, sights, due)
+}
+
+/// Which files see each other by scans; none where they aren't scanned.
+fn scanned(alloc: Global, files: &[LinkFile], due: Due) -> Result<Vec<Sight>, AllocError> {
+    match due {
+        Due::Sights(_) => Ok(Vec::new(alloc)),
+        _ => scans::sights(alloc, files),
+    }
+}
+
+/// Whether linking files that have paths of their own answers what is due, and what scans tell.
+fn is_linked_or_refused(
     alloc: Global,
     files: &[LinkFile],
     fault: Option<LinkFault>,
     sights: &[Sight],
-) -> Result<bool, AllocError> {
-    if !own_paths(alloc, files)? {
-        return Ok(false);
-    }
-    Ok(match link(alloc, files) {
-        Ok(linker) => fault.is_none() && see_each_other(&linker, files.len(), sights),
-        Err(found) => fault == Some(found),
-    })
-}
-
-/// Whether the uses of files that can be linked name what scans tell.
-fn are_resolved(alloc: Global, files: &[LinkFile], sights: &[Sight]) -> Result<bool, AllocError> {
-    if !own_paths(alloc, files)? {
-        return Ok(false);
-    }
+    due: Due,
+) -> Result<bool, AllocError>
+    requires { HaveOwnPaths files.now }
+{
     match link(alloc, files) {
-        Ok(linker) => resolve_as_scanned(alloc, &linker, files, sights),
-        Err(_) => Ok(true),
+        Ok(linker) => {
+            let linked = is_linked_as_due(alloc, &linker, files, sights, due)?;
+            Ok(linked && fault.is_none())
+        }
+        Err(found) => Ok(is_refusal(found, due) && fault == Some(found)),
     }
 }
 
-/// Whether linking answers to files what scans do.
-fn is_as_scanned(alloc: Global, files: &[LinkFile]) -> Result<bool, AllocError> {
-    let sights = scans::sights(alloc, files)?;
+/// Whether linking answers to files what is due, and what scans tell.
+fn is_answered(alloc: Global, files: &[LinkFile], due: Due) -> Result<bool, AllocError> {
+    if !own_paths(alloc, files)? {
+        return Ok(false);
+    }
+    let sights = scanned(alloc, files, due)?;
     let fault = scans::fault(alloc, files, sights.as_slice())?;
-    let answered = is_answered(alloc, files, fault, sights.as_slice())?;
-    let resolved = are_resolved(alloc, files, sights.as_slice())?;
-    Ok(answered && resolved)
+    is_linked_or_refused(alloc, files, fault, sights.as_slice(), due)
 }
 
-/// Sees that files are linked as scans tell.
-pub(crate) fn see_scanned(
+/// Sees that linking answers to sources what is due, and what scans tell.
+pub(crate) fn see_tree(
     rt: &impl Abort,
     alloc: Global,
     sources: &[Source],
+    due: Due,
     name: &str,
 ) -> Result<(), AllocError> {
     let facts = facts_of_all(alloc, sources)?;
     let files = files_of(alloc, sources, facts.as_slice())?;
-    see(rt, is_as_scanned(alloc, files.as_slice())?, name);
+    see(rt, is_answered(alloc, files.as_slice(), due)?, name);
     Ok(())
-}
-
-/// Sees what linking answers to sources.
-pub(crate) fn see_answer(
-    rt: &impl Abort,
-    alloc: Global,
-    sources: &[Source],
-    answer: (Option<LinkFault>, &[Sight]),
-    name: &str,
-) -> Result<(), AllocError> {
-    let facts = facts_of_all(alloc, sources)?;
-    let files = files_of(alloc, sources, facts.as_slice())?;
-    let (fault, sights) = answer;
-    see(
-        rt,
-        is_answered(alloc, files.as_slice(), fault, sights)?,
-        name,
-    );
-    Ok(())
-}
-
-fn see_case(rt: &impl Abort, alloc: Global, case: &Case) -> Result<(), AllocError> {
-    let sights = sights_of(alloc, case.sees)?;
-    let answer = (fault_of(case.due), sights.as_slice());
-    see_answer(rt, alloc, case.sources, answer, case.name)
 }
 
 /// Sees that cases are answered as they say, and as scans do.
 pub(crate) fn see_cases(rt: &impl Abort, alloc: Global, cases: &[Case]) -> Result<(), AllocError> {
     for case in cases {
-        see_case(rt, alloc, case)?;
-        see_scanned(rt, alloc, case.sources, case.name)?;
+        see_tree(rt, alloc, case.sources, case.due, case.name)?;
     }
     Ok(())
 }

@@ -8,7 +8,6 @@ use Rattle.std.proofs.lemmas.Bool.Decides.{nat_tests}
 use Rattle.proto_lex.specs.Lexes.{identifier}
 use Rattle.scip_symbol.specs.Path.{IsComponent}
 use Rattle.scip_symbol.specs.Entities.{IsIdentifier, OfFile, OfPackage, OfDeclaration, IsEntity}
-use Rattle.proto_decl.specs.declared.kind.DeclarationKind.{DeclarationKind}
 use Rattle.proto_decl.specs.declared.declaration.DeclarationStep.{DeclarationStep}
 
 at_least : (x : ℕ) → nat_le 32 x ≡ true → 32 ≤ x
@@ -49,24 +48,21 @@ two_components a b e f = (
       (All-cons IsIdentifier b [] (word b (codes "b") (identifier refl refl) f) (All-nil IsIdentifier)),
 )
 
-abbrev step : DeclarationKind → List ℕ → DeclarationStep
-step kind name = record { kind = kind; name = name }
-
 abbrev IsNamed : DeclarationStep → Type 0
 IsNamed s = IsIdentifier s.name
 
-pub message : (kind : DeclarationKind) (a : List ℕ) → a ≡ codes "A" → IsEntity (OfDeclaration [] (step kind a ∷ []))
-message kind a e = (
+pub message : (a : DeclarationStep) → a.name ≡ codes "A" → IsEntity (OfDeclaration [] (a ∷ []))
+message a e = (
   All-nil IsIdentifier,
   λ none. cc,
-  All-cons IsNamed (step kind a) [] (word a (codes "A") (identifier refl refl) e) (All-nil IsNamed),
+  All-cons IsNamed a [] (word a.name (codes "A") (identifier refl refl) e) (All-nil IsNamed),
 )
 
-pub declared : (p a b : List ℕ) (outer kind : DeclarationKind) → p ≡ codes "p" → a ≡ codes "A" → b ≡ codes "b"
-    → IsEntity (OfDeclaration (p ∷ []) (step outer a ∷ step kind b ∷ []))
-declared p a b outer kind d e f = (
+pub declared : (p : List ℕ) (a b : DeclarationStep) → p ≡ codes "p" → a.name ≡ codes "A" → b.name ≡ codes "b"
+    → IsEntity (OfDeclaration (p ∷ []) (a ∷ b ∷ []))
+declared p a b d e f = (
   All-cons IsIdentifier p [] (word p (codes "p") (identifier refl refl) d) (All-nil IsIdentifier),
   λ none. cc,
-  All-cons IsNamed (step outer a) (step kind b ∷ []) (word a (codes "A") (identifier refl refl) e)
-      (All-cons IsNamed (step kind b) [] (word b (codes "b") (identifier refl refl) f) (All-nil IsNamed)),
+  All-cons IsNamed a (b ∷ []) (word a.name (codes "A") (identifier refl refl) e)
+      (All-cons IsNamed b [] (word b.name (codes "b") (identifier refl refl) f) (All-nil IsNamed)),
 )

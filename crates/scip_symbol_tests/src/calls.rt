@@ -20,11 +20,55 @@ pub(crate) fn see_all(rt: &impl Abort, wrong: Option<usize>) {
     assert!(rt; wrong.is_none(), "case {wrong:?}");
 }
 
+/// Three texts, joined.
+pub(crate) fn joined<'a>(
+    alloc: Global,
+    front: &'a str,
+    middle: &'a str,
+    end: &'a str,
+) -> Result<String, AllocError> {
+    [front, middle, end].join(alloc, "")
+}
+
 /// What `read` answers for a text. After `Memory` it is called again, and the second answer counts.
 pub(crate) fn read_again(alloc: Global, text: &str) -> Result<Symbol, SymbolFault> {
     match read(alloc, text) {
         Err(SymbolFault::Memory) => read(alloc, text),
         answer => answer,
+    }
+}
+
+fn printed(alloc: Global, symbol: &Symbol) -> Result<String, SymbolFault> {
+    match print_again(alloc, symbol) {
+        Ok(text) => Ok(text),
+        Err(_) => Err(SymbolFault::Memory),
+    }
+}
+
+/// What is printed of the symbol that a text is read as, or why the text is refused.
+pub(crate) fn reprinted(alloc: Global, text: &str) -> Result<String, SymbolFault> {
+    match read_again(alloc, text) {
+        Ok(symbol) => printed(alloc, &symbol),
+        Err(fault) => Err(fault),
+    }
+}
+
+/// The text of a symbol, where it could be made.
+pub(crate) fn text_of_symbol(
+    alloc: Global,
+    symbol: Result<Symbol, AllocError>,
+) -> Result<String, AllocError> {
+    match symbol {
+        Ok(symbol) => print_again(alloc, &symbol),
+        Err(fault) => Err(fault),
+    }
+}
+
+/// Whether a text is read and printed as another.
+pub(crate) fn prints_as(alloc: Global, text: &str, want: &str) -> bool {
+    match reprinted(alloc, text) {
+        Ok(printed) => printed.as_str() == want,
+        Err(_) => false,
     }
 }
 

@@ -1,13 +1,14 @@
 //! Each front and each change of some symbols: what is read is printed and read back, and what is
 //! refused is refused behind the longest front that begins a symbol's spelling.
 
-use crate::calls::{print_again, read_again, see_all};
-use scip_symbol::{Symbol, SymbolFault};
-use std::alloc::Global;
+use crate::calls::{joined, prints_as, reprinted, see_all};
+use scip_symbol::SymbolFault;
+use std::alloc::{AllocError, Global};
+use std::str;
 use std::test::Fail;
 
 /// Texts of which one at least completes each text that begins a symbol's spelling.
-const ENDS: [&str; 33] = [
+const ENDS: &[&str] = &[
     "",
     "a . . . A#",
     " . . . A#",
@@ -44,7 +45,7 @@ const ENDS: [&str; 33] = [
 ];
 
 /// The symbols whose fronts and changes are tried.
-const SYMBOLS: [&str; 12] = [
+const SYMBOLS: &[&str] = &[
     "local x9",
     "scip-protobuf . . . A#",
     "scip-protobuf my  mgr . 1.0 A#b.",
@@ -60,15 +61,15 @@ const SYMBOLS: [&str; 12] = [
 ];
 
 /// What is put in the place of a byte: one of each kind of character that the grammar tells apart.
-const OTHERS: [&str; 16] = [
+const OTHERS: &[&str] = &[
     " ", "`", "#", "a", "l", "(", ")", "[", "]", ".", "/", ":", "!", "-", "~", "é",
 ];
 
 /// Whether one of the ends makes a symbol of a front.
-fn begins(alloc: Global, front: &str) -> Result<bool, Fail> {
-    for end in ENDS.iter() {
-        let whole = format!(in alloc; "{front}{end}")?;
-        if read_again(alloc, whole.as_str()).is_ok() {
+fn begins(alloc: Global, front: &str) -> Result<bool, AllocError> {
+    for end in ENDS {
+        let whole = joined(alloc, front, end, "")?;
+        if reprinted(alloc, whole.as_str()).is_ok() {
             return Ok(true);
         }
     }
@@ -76,44 +77,35 @@ fn begins(alloc: Global, front: &str) -> Result<bool, Fail> {
 }
 
 /// Whether the first so many bytes of a text begin a symbol, and those with the next character don't.
-fn is_longest(alloc: Global, text: &str, offset: usize) -> Result<bool, Fail> {
-    let Some((front, rest)) = text.split_at_checked(offset) else {
+fn is_longest(alloc: Global, text: &str, offset: usize) -> Result<bool, AllocError> {
+    let Some(front) = text.get(..offset) else {
         return Ok(false);
     };
     if !begins(alloc, front)? {
         return Ok(false);
     }
-    match rest.chars().next() {
-        Some(next) => {
-            let longer = format!(in alloc; "{front}{next}")?;
-            Ok(!begins(alloc, longer.as_str())?)
+    for longer in offset.saturating_add(1)..=text.len() {
+        if let Some(longer) = text.get(..longer) {
+            return Ok(!begins(alloc, longer)?);
         }
-        None => Ok(true),
     }
+    Ok(true)
 }
 
-/// Whether what is printed of a symbol is read and printed as the same text.
-fn comes_back(alloc: Global, symbol: &Symbol) -> Result<bool, Fail> {
-    let text = print_again(alloc, symbol)?;
-    match read_again(alloc, text.as_str()) {
-        Ok(again) => Ok(print_again(alloc, &again)?.as_str() == text.as_str()),
-        Err(_) => Ok(false),
-    }
-}
-
-/// Whether a text is read as it should be.
-fn is_read_well(alloc: Global, text: &str) -> Result<bool, Fail> {
-    match read_again(alloc, text) {
-        Ok(symbol) => comes_back(alloc, &symbol),
+/// Whether a text is read as it should be: what is printed of it is read and printed as the same
+/// text.
+fn is_read_well(alloc: Global, text: &str) -> Result<bool, AllocError> {
+    match reprinted(alloc, text) {
+        Ok(printed) => Ok(prints_as(alloc, printed.as_str(), printed.as_str())),
         Err(SymbolFault::BadSymbol(offset)) => is_longest(alloc, text, offset),
         Err(SymbolFault::Memory) => Ok(false),
     }
 }
 
 /// Whether each front of a text is read as it should be.
-fn are_fronts_read_well(alloc: Global, text: &str) -> Result<bool, Fail> {
+fn are_fronts_read_well(alloc: Global, text: &str) -> Result<bool, AllocError> {
     for count in 0..text.len() {
-        if let Some((front, _)) = text.split_at_checked(count) {
+        if let Some(front) = text.get(..count) {
             if !is_read_well(alloc, front)? {
                 return Ok(false);
             }
@@ -122,23 +114,36 @@ fn are_fronts_read_well(alloc: Global, text: &str) -> Result<bool, Fail> {
     Ok(true)
 }
 
+/// Whether a text is read as it should be with the byte at an offset in another's place. A byte that
+/// is no character is left.
+fn is_change_read_well(
+    alloc: Global,
+    text: &str,
+    offset: usize,
+    other: &str,
+) -> Result<bool, AllocError> {
+    let Some(front) = text.get(..offset) else {
+        return Ok(true);
+    };
+    let Some(behind) = text.get(offset.saturating_add(1)..) else {
+        return Ok(true);
+    };
+    let changed = joined(alloc, front, other, behind)?;
+    is_read_well(alloc, changed.as_str())
+}
+
 /// Whether a text is read as it should be with any one byte in another's place.
-fn are_changes_read_well(alloc: Global, text: &str, other: &str) -> Result<bool, Fail> {
-    for count in 0..text.len() {
-        if let Some((front, rest)) = text.split_at_checked(count) {
-            if let Some((_, behind)) = rest.split_at_checked(1) {
-                let changed = format!(in alloc; "{front}{other}{behind}")?;
-                if !is_read_well(alloc, changed.as_str())? {
-                    return Ok(false);
-                }
-            }
+fn are_changes_read_well(alloc: Global, text: &str, other: &str) -> Result<bool, AllocError> {
+    for offset in 0..text.len() {
+        if !is_change_read_well(alloc, text, offset, other)? {
+            return Ok(false);
         }
     }
     Ok(true)
 }
 
 /// The first symbol with a front that isn't read as it should be.
-fn first_bad_front(alloc: Global) -> Result<Option<usize>, Fail> {
+fn first_bad_front(alloc: Global) -> Result<Option<usize>, AllocError> {
     for (index, text) in SYMBOLS.iter().enumerate() {
         if !are_fronts_read_well(alloc, text)? {
             return Ok(Some(index));
@@ -148,7 +153,7 @@ fn first_bad_front(alloc: Global) -> Result<Option<usize>, Fail> {
 }
 
 /// The first symbol with a change to this text that isn't read as it should be.
-fn first_bad_change(alloc: Global, other: &str) -> Result<Option<usize>, Fail> {
+fn first_bad_change(alloc: Global, other: &str) -> Result<Option<usize>, AllocError> {
     for (index, text) in SYMBOLS.iter().enumerate() {
         if !are_changes_read_well(alloc, text, other)? {
             return Ok(Some(index));
@@ -165,34 +170,34 @@ fn fronts_of_symbols(rt: HostRuntime) -> Result<(), Fail> {
 
 #[test]
 fn symbols_with_one_byte_changed(rt: HostRuntime) -> Result<(), Fail> {
-    let alloc = rt.alloc();
-    for other in OTHERS.iter() {
-        see_all(&rt, first_bad_change(alloc, other)?);
+    for other in OTHERS {
+        see_all(&rt, first_bad_change(rt.alloc(), other)?);
     }
     Ok(())
 }
 
+/// Whether a name may stand without backticks.
+fn is_plain(code: u8) -> bool {
+    code.is_ascii_alphanumeric() || matches!(code, b'_' | b'+' | b'-' | b'$')
+}
+
 /// Whether a name of one character is printed between backticks just where it has to be.
-fn is_name_well(alloc: Global, code: u8) -> Result<bool, Fail> {
-    let name = char::from(code);
-    let plain = name.is_ascii_alphanumeric() || "_+-$".contains(name);
-    let quoted = match name {
-        '`' => format!(in alloc; "s m n v ````/")?,
-        _ => format!(in alloc; "s m n v `{name}`/")?,
+fn is_name_well(alloc: Global, code: u8) -> Result<bool, AllocError> {
+    let bytes = [code];
+    let Ok(name) = str::from_utf8(&bytes) else {
+        return Ok(false);
     };
-    let want = if plain {
-        format!(in alloc; "s m n v {name}/")?
-    } else {
-        quoted.clone()?
-    };
-    match read_again(alloc, quoted.as_str()) {
-        Ok(symbol) => Ok(print_again(alloc, &symbol)?.as_str() == want.as_str()),
-        Err(_) => Ok(false),
+    let inner = if name == "`" { "``" } else { name };
+    let quoted = joined(alloc, "s m n v `", inner, "`/")?;
+    if !is_plain(code) {
+        return Ok(prints_as(alloc, quoted.as_str(), quoted.as_str()));
     }
+    let plain = joined(alloc, "s m n v ", name, "/")?;
+    Ok(prints_as(alloc, quoted.as_str(), plain.as_str()))
 }
 
 /// The first ASCII character that isn't read and printed as it should be.
-fn first_bad_name(alloc: Global) -> Result<Option<usize>, Fail> {
+fn first_bad_name(alloc: Global) -> Result<Option<usize>, AllocError> {
     for code in 0..128u8 {
         if !is_name_well(alloc, code)? {
             return Ok(Some(usize::from(code)));

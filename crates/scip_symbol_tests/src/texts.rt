@@ -1,12 +1,9 @@
 //! The texts of the symbols of files, packages and declarations, made without the symbols.
 
-use crate::calls::see;
-use crate::entities::{component, package_of};
+use crate::entities::{component, step};
 use proto_decl::{Component, DeclarationKind, DeclarationStep};
 use scip_symbol::{PackageId, print_declaration, print_file, print_package, print_package_named};
-use sequences::OwnedText;
 use std::alloc::{AllocError, Global};
-use std::test::Fail;
 
 // After want of memory each of these calls is made again, and the second answer counts.
 
@@ -47,39 +44,51 @@ fn declaration_again(
     }
 }
 
-/// Whether the texts of a file, of a package in its two forms and of a method are as they should be.
-fn are_texts(alloc: Global, id: &PackageId) -> Result<[bool; 4], AllocError> {
-    let file = file_again(alloc, id, "a b.proto")?;
-    let components = [component(alloc, "a")?, component(alloc, "b_c")?];
-    let package = package_again(alloc, id, &components)?;
-    let named = named_again(alloc, id, &["a", "b_c"])?;
-    let service = DeclarationStep {
-        kind: DeclarationKind::Service,
-        name: OwnedText::copy_of(alloc, "AServiceOfAVeryLongName")?,
-    };
-    let method = DeclarationStep {
-        kind: DeclarationKind::Method,
-        name: OwnedText::copy_of(alloc, "AMethodOfAVeryLongName")?,
-    };
-    let declaration = declaration_again(alloc, id, &components, &[service, method])?;
-    Ok([
-        file.as_str() == "scip-protobuf my  mgr . 1.0 `a b.proto`/",
-        package.as_str() == "scip-protobuf my  mgr . 1.0 a/b_c/",
-        named.as_str() == "scip-protobuf my  mgr . 1.0 a/b_c/",
-        declaration.as_str()
-            == "scip-protobuf my  mgr . 1.0 a/b_c/AServiceOfAVeryLongName#AMethodOfAVeryLongName().",
-    ])
+/// What is printed without a symbol.
+#[derive(Clone, Copy)]
+pub(crate) enum Printed {
+    /// The file `a b.proto`.
+    File,
+    /// The package `a.b_c`, by its components.
+    Package,
+    /// The same, by its names.
+    Named,
+    /// A method of a service in that package.
+    Method,
 }
 
-#[test]
-fn texts_without_symbols(rt: HostRuntime) -> Result<(), Fail> {
-    let alloc = rt.alloc();
-    if let Some(id) = package_of(alloc, ["my mgr", "", "1.0"])? {
-        for right in are_texts(alloc, &id)? {
-            see(&rt, right, "text");
-        }
+fn method_text(
+    alloc: Global,
+    id: &PackageId,
+    components: &[Component],
+) -> Result<String, AllocError> {
+    let service = step(alloc, DeclarationKind::Service, "AServiceOfAVeryLongName")?;
+    let method = step(alloc, DeclarationKind::Method, "AMethodOfAVeryLongName")?;
+    declaration_again(alloc, id, components, &[service, method])
+}
+
+/// The text of the package, or of the method in it.
+fn package_text(alloc: Global, id: &PackageId, alone: bool) -> Result<String, AllocError> {
+    let a = component(alloc, "a")?;
+    let b = component(alloc, "b_c")?;
+    let components = [a, b];
+    if alone {
+        package_again(alloc, id, &components)
     } else {
-        see(&rt, false, "no package");
+        method_text(alloc, id, &components)
     }
-    Ok(())
+}
+
+/// What is printed.
+pub(crate) fn printed_text(
+    alloc: Global,
+    id: &PackageId,
+    which: Printed,
+) -> Result<String, AllocError> {
+    match which {
+        Printed::File => file_again(alloc, id, "a b.proto"),
+        Printed::Package => package_text(alloc, id, true),
+        Printed::Named => named_again(alloc, id, &["a", "b_c"]),
+        Printed::Method => package_text(alloc, id, false),
+    }
 }

@@ -36,6 +36,8 @@ fn is_dropping_filter(answer: Result<(), (BoxedFilter, HookFault)>) -> bool {
 #[test]
 fn seventeenth_filter_comes_back(rt: HostRuntime) -> Result<(), Fail> {
     let alloc = rt.alloc();
+    let rule = Box::new(alloc, DocAlways(DocChoice::Both).rule())?;
+    let dropping = Box::new(alloc, Filter::new(AnyAnswer, Fixed(false)))?;
     let mut registry = Registry::new(alloc);
     for _ in 0..16 {
         let filter = Box::new(alloc, Filter::new(AnyAnswer, Fixed(true)))?;
@@ -43,13 +45,11 @@ fn seventeenth_filter_comes_back(rt: HostRuntime) -> Result<(), Fail> {
             see(&rt, registry.add_filter(filter).is_ok(), "added again");
         }
     }
-    let filter = Box::new(alloc, Filter::new(AnyAnswer, Fixed(false)))?;
     see(
         &rt,
-        is_dropping_filter(registry.add_filter(filter)),
+        is_dropping_filter(registry.add_filter(dropping)),
         "the filter that came back",
     );
-    let rule = Box::new(alloc, DocAlways(DocChoice::Both).rule())?;
     if let Err((rule, _)) = registry.add_doc(rule) {
         see(&rt, registry.add_doc(rule).is_ok(), "added again");
     }
@@ -72,6 +72,8 @@ fn is_rule_of_both(answer: Result<(), (BoxedRule, HookFault)>) -> bool {
 #[test]
 fn seventeenth_rule_comes_back(rt: HostRuntime) -> Result<(), Fail> {
     let alloc = rt.alloc();
+    let both = Box::new(alloc, DocAlways(DocChoice::Both).rule())?;
+    let filter = Box::new(alloc, Filter::new(AnyAnswer, Fixed(false)))?;
     let mut registry = Registry::new(alloc);
     for _ in 0..MAX_HOOKS {
         let rule = Box::new(alloc, DocAlways(DocChoice::Pass).rule())?;
@@ -79,13 +81,11 @@ fn seventeenth_rule_comes_back(rt: HostRuntime) -> Result<(), Fail> {
             see(&rt, registry.add_doc(rule).is_ok(), "added again");
         }
     }
-    let rule = Box::new(alloc, DocAlways(DocChoice::Both).rule())?;
     see(
         &rt,
-        is_rule_of_both(registry.add_doc(rule)),
+        is_rule_of_both(registry.add_doc(both)),
         "the rule that came back",
     );
-    let filter = Box::new(alloc, Filter::new(AnyAnswer, Fixed(false)))?;
     if let Err((filter, _)) = registry.add_filter(filter) {
         see(&rt, registry.add_filter(filter).is_ok(), "added again");
     }

@@ -1,44 +1,21 @@
 //! What a registry asks, in which order and how often.
 
-use crate::shared::{chooses, counting_filter, counting_rule, message, see};
+use crate::shared::{chooses, counting_filter, counting_rule, counts, message, no_calls, see};
 use index_hooks::{AnyAnswer, Chooses, DocChoice, Filter, FilterCallback, Registry};
 use proto_decl::DeclView;
-use std::alloc::{AllocError, Global};
-use std::sync::Arc;
 use std::sync::atomic::{AtomicU64, Ordering};
 use std::test::Fail;
 use std::thread::join;
 
-type Calls = Arc<AtomicU64>;
-
-/// Four counts of calls.
-fn four(alloc: Global) -> Result<[Calls; 4], AllocError> {
-    Ok([
-        Arc::new(alloc, AtomicU64::new(0))?,
-        Arc::new(alloc, AtomicU64::new(0))?,
-        Arc::new(alloc, AtomicU64::new(0))?,
-        Arc::new(alloc, AtomicU64::new(0))?,
-    ])
-}
-
-/// The first three counts.
-fn counts(calls: &[Calls; 4]) -> [u64; 3] {
-    [
-        calls[0].load(Ordering::SeqCst),
-        calls[1].load(Ordering::SeqCst),
-        calls[2].load(Ordering::SeqCst),
-    ]
-}
-
-const FILTERED: [bool; 3] = [true, false, true];
+static FILTERED: [bool; 3] = [true, false, true];
 
 #[test]
 fn the_first_false_ends_the_asking(rt: HostRuntime) -> Result<(), Fail> {
     let alloc = rt.alloc();
-    let calls = four(alloc)?;
+    let calls = no_calls(alloc)?;
     let mut registry = Registry::new(alloc);
     for (at, answer) in FILTERED.iter().enumerate() {
-        let filter = counting_filter(alloc, *answer, &calls[at])?;
+        let filter = counting_filter(alloc, *answer, at, &calls)?;
         if let Err((filter, _)) = registry.add_filter(filter) {
             see(&rt, registry.add_filter(filter).is_ok(), "added again");
         }
@@ -50,25 +27,25 @@ fn the_first_false_ends_the_asking(rt: HostRuntime) -> Result<(), Fail> {
     );
     see(
         &rt,
-        counts(&calls) == [4, 4, 0],
+        counts(&calls) == [4, 4, 0, 0],
         "once for each choice that comes to it",
     );
     Ok(())
 }
 
-const DOCUMENTED: [DocChoice; 3] = [DocChoice::Pass, DocChoice::Trailing, DocChoice::Both];
+static DOCUMENTED: [DocChoice; 3] = [DocChoice::Pass, DocChoice::Trailing, DocChoice::Both];
 
 #[test]
 fn the_first_answer_of_a_rule_counts_also_for_what_is_dropped(rt: HostRuntime) -> Result<(), Fail> {
     let alloc = rt.alloc();
-    let calls = four(alloc)?;
+    let calls = no_calls(alloc)?;
+    let filter = counting_filter(alloc, false, 3, &calls)?;
     let mut registry = Registry::new(alloc);
-    let filter = counting_filter(alloc, false, &calls[3])?;
     if let Err((filter, _)) = registry.add_filter(filter) {
         see(&rt, registry.add_filter(filter).is_ok(), "added again");
     }
     for (at, answer) in DOCUMENTED.iter().enumerate() {
-        let rule = counting_rule(alloc, *answer, &calls[at])?;
+        let rule = counting_rule(alloc, *answer, at, &calls)?;
         if let Err((rule, _)) = registry.add_doc(rule) {
             see(&rt, registry.add_doc(rule).is_ok(), "added again");
         }
@@ -80,7 +57,7 @@ fn the_first_answer_of_a_rule_counts_also_for_what_is_dropped(rt: HostRuntime) -
     );
     see(
         &rt,
-        counts(&calls) == [4, 4, 0],
+        counts(&calls) == [4, 4, 0, 4],
         "once for each choice that comes to it",
     );
     Ok(())
@@ -101,11 +78,11 @@ impl FilterCallback for Alternating {
 #[test]
 fn a_filter_may_alternate(rt: HostRuntime) -> Result<(), Fail> {
     let alloc = rt.alloc();
-    let mut registry = Registry::new(alloc);
     let callback = Alternating {
         calls: AtomicU64::new(0),
     };
     let filter = Box::new(alloc, Filter::new(AnyAnswer, callback))?;
+    let mut registry = Registry::new(alloc);
     if let Err((filter, _)) = registry.add_filter(filter) {
         see(&rt, registry.add_filter(filter).is_ok(), "added again");
     }
@@ -118,9 +95,9 @@ fn a_filter_may_alternate(rt: HostRuntime) -> Result<(), Fail> {
 #[test]
 fn threads_share_a_registry(rt: HostRuntime) -> Result<(), Fail> {
     let alloc = rt.alloc();
-    let calls = Arc::new(alloc, AtomicU64::new(0))?;
+    let calls = no_calls(alloc)?;
+    let filter = counting_filter(alloc, false, 0, &calls)?;
     let mut registry = Registry::new(alloc);
-    let filter = counting_filter(alloc, false, &calls)?;
     if let Err((filter, _)) = registry.add_filter(filter) {
         see(&rt, registry.add_filter(filter).is_ok(), "added again");
     }
@@ -130,6 +107,6 @@ fn threads_share_a_registry(rt: HostRuntime) -> Result<(), Fail> {
         || registry.choose(&message()).keep,
     );
     see(&rt, !one && !other, "both asked");
-    see(&rt, calls.load(Ordering::SeqCst) == 2, "once each");
+    see(&rt, counts(&calls) == [2, 0, 0, 0], "once each");
     Ok(())
 }

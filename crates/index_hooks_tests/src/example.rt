@@ -47,7 +47,7 @@ impl FilterPromise for OnlyCommented {
     }
 }
 
-const CASES: [(DeclarationKind, &str, bool, DocChoice); 4] = [
+static CASES: [(DeclarationKind, &str, bool, DocChoice); 4] = [
     (
         DeclarationKind::Value,
         "A value.",
@@ -74,12 +74,12 @@ fn chooses_as_listed(registry: &Registry) -> bool {
 #[test]
 fn a_filter_and_a_rule_of_ones_own(rt: HostRuntime) -> Result<(), Fail> {
     let alloc = rt.alloc();
-    let mut registry = Registry::new(alloc);
     let filter = Box::new(alloc, Filter::new(AnyAnswer, Commented))?;
+    let rule = Box::new(alloc, DocRule::new(AnyAnswer, BehindValues))?;
+    let mut registry = Registry::new(alloc);
     if let Err((filter, _)) = registry.add_filter(filter) {
         see(&rt, registry.add_filter(filter).is_ok(), "added again");
     }
-    let rule = Box::new(alloc, DocRule::new(AnyAnswer, BehindValues))?;
     if let Err((rule, _)) = registry.add_doc(rule) {
         see(&rt, registry.add_doc(rule).is_ok(), "added again");
     }
@@ -112,8 +112,8 @@ fn allows_as_listed() -> bool {
 #[test]
 fn a_promise_of_ones_own(rt: HostRuntime) -> Result<(), Fail> {
     let alloc = rt.alloc();
-    let mut registry = Registry::new(alloc);
     let filter = Box::new(alloc, Filter::new(OnlyCommented, Commented))?;
+    let mut registry = Registry::new(alloc);
     if let Err((filter, _)) = registry.add_filter(filter) {
         see(&rt, registry.add_filter(filter).is_ok(), "added again");
     }

@@ -7,9 +7,10 @@ use index_hooks::{
 };
 use proto_decl::{DeclView, DeclarationKind};
 use std::alloc::{AllocError, Global};
+use std::process::Abort;
 use std::test::Fail;
 
-const ANSWERS: [DocChoice; 5] = [
+static ANSWERS: [DocChoice; 5] = [
     DocChoice::Pass,
     DocChoice::Nothing,
     DocChoice::Leading,
@@ -17,7 +18,7 @@ const ANSWERS: [DocChoice; 5] = [
     DocChoice::Both,
 ];
 
-const KINDS: [DeclarationKind; 7] = [
+static KINDS: [DeclarationKind; 7] = [
     DeclarationKind::Message,
     DeclarationKind::Enum,
     DeclarationKind::Service,
@@ -30,24 +31,24 @@ const KINDS: [DeclarationKind; 7] = [
 #[test]
 fn any_answer_allows_all(rt: HostRuntime) {
     let view = message();
-    for keep in [false, true] {
+    for keep in &[false, true] {
         see(
             &rt,
-            FilterPromise::allows(&AnyAnswer, &view, keep),
+            FilterPromise::allows(&AnyAnswer, &view, *keep),
             "a filter's",
         );
     }
-    for answer in ANSWERS {
+    for answer in &ANSWERS {
         see(
             &rt,
-            DocPromise::allows(&AnyAnswer, &view, answer),
+            DocPromise::allows(&AnyAnswer, &view, *answer),
             "a rule's",
         );
     }
 }
 
 // A text, a full name, and whether the name is the text or begins with it and a dot.
-const NAMES: [(&str, &str, bool); 12] = [
+static NAMES: [(&str, &str, bool); 12] = [
     ("E", "E", true),
     ("E", "E.ZERO", true),
     ("E", "ZERO", false),
@@ -91,43 +92,63 @@ fn a_name_is_the_prefix_or_goes_on_with_a_dot(rt: HostRuntime) -> Result<(), Fai
     Ok(())
 }
 
-#[test]
-fn kinds_are_those_listed(rt: HostRuntime) {
-    for left_out in KINDS {
-        let mut listed = KINDS;
-        for kind in &mut listed {
-            if *kind == left_out {
-                *kind = DeclarationKind::Enum;
-            }
-        }
-        let kinds = Kinds::of(&listed);
-        let promise = KindIn(kinds);
-        for kind in KINDS {
-            let has = kind != left_out || kind == DeclarationKind::Enum;
-            see(&rt, kinds.contains(kind) == has, "in the set");
-            let view = DeclView::new(kind, "M", "a.M", "", "");
-            see(&rt, promise.allows(&view, has), "the answer of the set");
-            see(&rt, !promise.allows(&view, !has), "the other answer");
+/// The kinds, but enums in place of this one.
+fn listed_without(left_out: DeclarationKind) -> [DeclarationKind; 7] {
+    let mut listed = KINDS;
+    for kind in &mut listed {
+        if *kind == left_out {
+            *kind = DeclarationKind::Enum;
         }
     }
-    for kind in KINDS {
-        see(&rt, !Kinds::of(&[]).contains(kind), "no kinds");
+    listed
+}
+
+/// Whether this kind is in a set, and its promise allows the answer of the set and no other.
+fn is_in(kinds: Kinds, kind: DeclarationKind, has: bool) -> bool {
+    let view = DeclView::new(kind, "M", "a.M", "", "");
+    let promise = KindIn(kinds);
+    kinds.contains(kind) == has && promise.allows(&view, has) && !promise.allows(&view, !has)
+}
+
+/// Sees that of the kinds without this one, those alone are in the set.
+fn see_without(rt: &impl Abort, left_out: DeclarationKind) {
+    let kinds = Kinds::of(&listed_without(left_out));
+    for kind in &KINDS {
+        let has = *kind != left_out || *kind == DeclarationKind::Enum;
+        see(rt, is_in(kinds, *kind, has), "in the set, and its answer");
     }
 }
 
 #[test]
-fn a_rule_that_always_answers_so(rt: HostRuntime) {
+fn kinds_are_those_listed(rt: HostRuntime) {
+    for left_out in &KINDS {
+        see_without(&rt, *left_out);
+    }
+    for kind in &KINDS {
+        see(&rt, !Kinds::of(&[]).contains(*kind), "no kinds");
+    }
+}
+
+/// Whether what always answers so does, and promises that alone.
+fn always_answers(answer: DocChoice) -> bool {
+    let promise = DocAlways(answer);
     let view = message();
-    for answer in ANSWERS {
-        let promise = DocAlways(answer);
-        see(&rt, promise.rule().ask(&view) == answer, "its answer");
-        for other in ANSWERS {
-            see(
-                &rt,
-                promise.allows(&view, other) == (other == answer),
-                "that one alone",
-            );
+    for other in &ANSWERS {
+        if promise.allows(&view, *other) != (*other == answer) {
+            return false;
         }
+    }
+    promise.rule().ask(&view) == answer
+}
+
+#[test]
+fn a_rule_that_always_answers_so(rt: HostRuntime) {
+    for answer in &ANSWERS {
+        see(
+            &rt,
+            always_answers(*answer),
+            "its answer, and that one alone",
+        );
     }
 }
 
@@ -140,26 +161,37 @@ fn first_answers(alloc: Global, count: usize) -> Result<DocOneOf, AllocError> {
     Ok(DocOneOf(answers))
 }
 
+/// Whether a promise allows the first so many answers, and no others.
+fn allows_first(promise: &DocOneOf, count: usize) -> bool {
+    let view = message();
+    for (at, answer) in ANSWERS.iter().enumerate() {
+        if promise.allows(&view, *answer) != (at < count) {
+            return false;
+        }
+    }
+    true
+}
+
 #[test]
 fn a_rule_with_some_answers(rt: HostRuntime) -> Result<(), Fail> {
     for count in 0..6 {
         let promise = first_answers(rt.alloc(), count)?;
-        for (at, answer) in ANSWERS.iter().enumerate() {
-            see(
-                &rt,
-                promise.allows(&message(), *answer) == (at < count),
-                "those listed",
-            );
-        }
+        see(&rt, allows_first(&promise, count), "those listed");
     }
     Ok(())
 }
 
+/// Whether a fault is printed so.
+fn is_printed(alloc: Global, fault: HookFault, name: &str) -> Result<bool, AllocError> {
+    let text = format!(in alloc; "{fault}")?;
+    Ok(text.as_str() == name)
+}
+
 #[test]
 fn faults_are_printed_by_their_names(rt: HostRuntime) -> Result<(), Fail> {
-    for (fault, name) in [(HookFault::Full, "Full"), (HookFault::Memory, "Memory")] {
-        let text = format!(in rt.alloc(); "{fault}")?;
-        see(&rt, text.as_str() == name, name);
-    }
+    let full = is_printed(rt.alloc(), HookFault::Full, "Full")?;
+    see(&rt, full, "Full");
+    let memory = is_printed(rt.alloc(), HookFault::Memory, "Memory")?;
+    see(&rt, memory, "Memory");
     Ok(())
 }

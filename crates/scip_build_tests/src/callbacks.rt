@@ -1,18 +1,18 @@
 //! What callbacks choose for an index, and how often they are asked.
 
-use crate::calls::{see, workers};
-use crate::expected::{Case, Due, PLAIN, is_due_index, settings_of, tree_of};
+use crate::calls::{see, tree_of, workers};
+use crate::expected::{Case, Due, PLAIN, is_due, settings_of};
 use index_hooks::{
     Choice, Chooses, DocAlways, DocChoice, Filter, FilterCallback, KindIn, Kinds, Registry,
 };
 use index_pool::{NoGate, Workers};
 use proto_decl::{DeclView, DeclarationKind};
 use scip_build::{
-    Settings, build, built_has_no_fault, faults_are_alike, file_faults_are_alike, one_build_fault,
+    Settings, built_has_no_fault, faults_are_alike, file_faults_are_alike, one_build_fault,
     one_built,
 };
 use source_tree::Tree;
-use std::alloc::{AllocError, Global};
+use std::alloc::Global;
 use std::process::Abort;
 use std::sync::Wait;
 use std::sync::atomic::{AtomicU64, Ordering};
@@ -91,10 +91,8 @@ fn asked_for<R: Threads + Wait>(
         registry,
         asked: AtomicU64::new(0),
     };
-    match build(rt, alloc, tree, &asking, workers, settings, &NoGate) {
-        Ok(built) if is_due_index(&built.index, case) => {
-            Some(asking.asked.load(Ordering::SeqCst))
-        }
+    match is_due(rt, alloc, tree, &asking, workers, settings, &NoGate, case) {
+        Some(true) => Some(asking.asked.load(Ordering::SeqCst)),
         _ => None,
     }
 }
@@ -107,7 +105,7 @@ fn see_asked<R: Threads + Wait + Abort>(
     registry: &Registry,
     case: &Case,
     times: u64,
-) -> Result<(), AllocError> {
+) -> Result<(), Fail> {
     let tree = tree_of(rt, alloc, case.files)?;
     let settings = settings_of(alloc, &case.set)?;
     for count in [1, 2, 16] {
@@ -121,7 +119,7 @@ fn see_asked<R: Threads + Wait + Abort>(
     Ok(())
 }
 
-const WITHOUT_ENUMS: Case<'static> = Case {
+static WITHOUT_ENUMS: Case<'static> = Case {
     name: "all kinds but enums",
     set: PLAIN,
     files: &[(
@@ -149,7 +147,7 @@ const WITHOUT_ENUMS: Case<'static> = Case {
     ),
 };
 
-const SECOND_ONES: Case<'static> = Case {
+static SECOND_ONES: Case<'static> = Case {
     name: "each second declaration, of both files",
     set: PLAIN,
     files: &[
@@ -186,7 +184,7 @@ const SECOND_ONES: Case<'static> = Case {
     ),
 };
 
-const BOTH_TEXTS: Case<'static> = Case {
+static BOTH_TEXTS: Case<'static> = Case {
     name: "both texts, in a source and in an included file",
     set: PLAIN,
     files: &[
@@ -223,9 +221,9 @@ const BOTH_TEXTS: Case<'static> = Case {
 
 #[test]
 fn a_filter_by_kind(rt: HostRuntime) -> Result<(), Fail> {
-    let mut registry = Registry::new(rt.alloc());
     let kinds = Kinds::of(&KINDS);
     let filter = Box::new(rt.alloc(), Filter::new(KindIn(kinds), OfKinds(kinds)))?;
+    let mut registry = Registry::new(rt.alloc());
     if let Err((filter, _)) = registry.add_filter(filter) {
         see(&rt, registry.add_filter(filter).is_ok(), "added again");
     }
@@ -234,8 +232,7 @@ fn a_filter_by_kind(rt: HostRuntime) -> Result<(), Fail> {
     faults_are_alike();
     file_faults_are_alike(&registry, &registry);
     one_built(&registry, &registry);
-    see_asked(&rt, rt.alloc(), &registry, &WITHOUT_ENUMS, 4)?;
-    Ok(())
+    see_asked(&rt, rt.alloc(), &registry, &WITHOUT_ENUMS, 4)
 }
 
 /// Whether what is chosen by turns serves both documents.
@@ -249,11 +246,17 @@ fn is_alternated<R: Threads + Wait>(
     let chooser = EachSecond {
         asked: AtomicU64::new(0),
     };
-    let is_due = match build(rt, alloc, tree, &chooser, workers, settings, &NoGate) {
-        Ok(built) => is_due_index(&built.index, &SECOND_ONES),
-        Err(_) => false,
-    };
-    is_due && chooser.asked.load(Ordering::SeqCst) == 5
+    let due = is_due(
+        rt,
+        alloc,
+        tree,
+        &chooser,
+        workers,
+        settings,
+        &NoGate,
+        &SECOND_ONES,
+    );
+    due == Some(true) && chooser.asked.load(Ordering::SeqCst) == 5
 }
 
 #[test]
@@ -270,11 +273,10 @@ fn a_choice_serves_each_document(rt: HostRuntime) -> Result<(), Fail> {
 
 #[test]
 fn a_documentation_rule(rt: HostRuntime) -> Result<(), Fail> {
-    let mut registry = Registry::new(rt.alloc());
     let rule = Box::new(rt.alloc(), DocAlways(DocChoice::Both).rule())?;
+    let mut registry = Registry::new(rt.alloc());
     if let Err((rule, _)) = registry.add_doc(rule) {
         see(&rt, registry.add_doc(rule).is_ok(), "added again");
     }
-    see_asked(&rt, rt.alloc(), &registry, &BOTH_TEXTS, 3)?;
-    Ok(())
+    see_asked(&rt, rt.alloc(), &registry, &BOTH_TEXTS, 3)
 }

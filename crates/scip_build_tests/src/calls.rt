@@ -4,13 +4,16 @@ use index_hooks::{Choice, Chooses, DocChoice};
 use index_pool::{NoGate, Workers};
 use proto_decl::DeclView;
 use proto_parse::CustomOptions;
-use scip_build::{ReadFault, Reading, read_files};
+use scip_build::{FileFault, ReadFault, Reading, read_files};
 use source_tree::{Source, Tree, TreeFault};
 use std::alloc::{AllocError, Global};
 use std::process::Abort;
 use std::sync::Wait;
 use std::sync::atomic::{AtomicU64, Ordering};
 use std::thread::Threads;
+
+/// A file: its path, its text, and whether it is included.
+pub(crate) type File<'a> = (&'a str, &'a str, bool);
 
 /// Fails the test where this doesn't hold.
 pub(crate) fn see(rt: &impl Abort, holds: bool, what: &str) {
@@ -22,49 +25,31 @@ pub(crate) fn workers(rt: &impl Abort, count: usize) -> Workers {
     Workers::new(count).expect(rt, "1 to 16 workers")
 }
 
-/// A file as tests name it.
-#[derive(Clone, Copy)]
-pub(crate) struct Given<'a> {
-    pub(crate) path: &'a str,
-    pub(crate) bytes: &'a [u8],
-    pub(crate) is_included: bool,
-}
-
-/// A source.
-pub(crate) fn source<'a>(path: &'a str, text: &'a str) -> Given<'a> {
-    Given {
-        path,
-        bytes: text.as_bytes(),
-        is_included: false,
-    }
-}
-
-/// An included file.
-pub(crate) fn included<'a>(path: &'a str, text: &'a str) -> Given<'a> {
-    Given {
-        path,
-        bytes: text.as_bytes(),
-        is_included: true,
-    }
+/// Adds a file with this path and these bytes.
+fn add(alloc: Global, found: &mut Vec<Source>, path: &str, bytes: &[u8]) -> Result<(), AllocError> {
+    let path = String::from_str(alloc, path)?;
+    let bytes = Vec::from_slice(alloc, bytes)?;
+    found.push(Source { path, bytes })?;
+    Ok(())
 }
 
 /// The sources among files, or the included ones.
-fn those(alloc: Global, files: &[Given<'_>], included: bool) -> Result<Vec<Source>, AllocError> {
+fn those(alloc: Global, files: &[File<'_>], included: bool) -> Result<Vec<Source>, AllocError> {
     let mut found = Vec::new(alloc);
-    for file in files {
-        if file.is_included == included {
-            found.push(Source {
-                path: String::from_str(alloc, file.path)?,
-                bytes: Vec::from_slice(alloc, file.bytes)?,
-            })?;
+    for (path, text, is_included) in files {
+        if *is_included == included {
+            add(alloc, &mut found, path, text.as_bytes())?;
         }
     }
     Ok(found)
 }
 
-fn tree_once(alloc: Global, files: &[Given<'_>]) -> Result<Option<Tree>, AllocError> {
-    let sources = those(alloc, files, false)?;
-    let included = those(alloc, files, true)?;
+/// The tree of sources and included files, if they make one.
+fn tree_from(
+    alloc: Global,
+    sources: Vec<Source>,
+    included: Vec<Source>,
+) -> Result<Option<Tree>, AllocError> {
     match Tree::with_included(alloc, sources, included) {
         Ok(tree) => Ok(Some(tree)),
         Err((_, TreeFault::Memory)) => Err(AllocError),
@@ -72,11 +57,17 @@ fn tree_once(alloc: Global, files: &[Given<'_>]) -> Result<Option<Tree>, AllocEr
     }
 }
 
+fn tree_once(alloc: Global, files: &[File<'_>]) -> Result<Option<Tree>, AllocError> {
+    let sources = those(alloc, files, false)?;
+    let included = those(alloc, files, true)?;
+    tree_from(alloc, sources, included)
+}
+
 /// The tree of these files. After want of memory it is made again.
-pub(crate) fn tree(
+pub(crate) fn tree_of(
     rt: &impl Abort,
     alloc: Global,
-    files: &[Given<'_>],
+    files: &[File<'_>],
 ) -> Result<Tree, AllocError> {
     let made = match tree_once(alloc, files) {
         Ok(made) => made,
@@ -85,15 +76,39 @@ pub(crate) fn tree(
     Ok(made.expect(rt, "files with good paths of their own"))
 }
 
-/// Keeps each declaration, with both texts, and counts how often it was asked.
+fn tree_of_bytes_once(alloc: Global, bytes: &[u8]) -> Result<Option<Tree>, AllocError> {
+    let mut sources = Vec::new(alloc);
+    add(alloc, &mut sources, "a.proto", bytes)?;
+    tree_from(alloc, sources, Vec::new(alloc))
+}
+
+/// The tree of a source `a.proto` of these bytes. After want of memory it is made again.
+pub(crate) fn tree_of_bytes(
+    rt: &impl Abort,
+    alloc: Global,
+    bytes: &[u8],
+) -> Result<Tree, AllocError> {
+    let made = match tree_of_bytes_once(alloc, bytes) {
+        Ok(made) => made,
+        Err(_) => tree_of_bytes_once(alloc, bytes)?,
+    };
+    Ok(made.expect(rt, "a file with a good path"))
+}
+
+/// Drops what has one of these full names, keeps the rest, documents all of it so, and counts how
+/// often it was asked.
 #[derive(Drop)]
-pub(crate) struct Counting {
+pub(crate) struct Dropping<'a> {
+    names: &'a [&'a str],
+    doc: DocChoice,
     asked: AtomicU64,
 }
 
-impl Counting {
-    pub(crate) fn new() -> Counting {
-        Counting {
+impl<'a> Dropping<'a> {
+    pub(crate) fn new(names: &'a [&'a str], doc: DocChoice) -> Dropping<'a> {
+        Dropping {
+            names,
+            doc,
             asked: AtomicU64::new(0),
         }
     }
@@ -104,32 +119,26 @@ impl Counting {
     }
 }
 
-impl Chooses for Counting {
+impl<'a> Chooses for Dropping<'a> {
     ghost allows = { λ _ _ _. Unit {0} };
 
-    fn choose(&self, _view: &DeclView<'_>) -> Choice {
+    fn choose(&self, view: &DeclView<'_>) -> Choice {
         self.asked.fetch_add(1, Ordering::SeqCst);
         Choice {
-            keep: true,
-            doc: DocChoice::Both,
+            keep: !self.names.contains(&view.full_name()),
+            doc: self.doc,
         }
     }
 }
 
-/// The readings of a tree's files, where custom options are refused. After want of memory or of a thread
-/// they are read again, and the second answer counts.
-pub(crate) fn read<'a, R: Threads + Wait, C: Chooses + Sync>(
-    rt: &R,
-    alloc: Global,
-    tree: &'a Tree,
-    chooser: &C,
-    workers: Workers,
-) -> Result<Vec<Reading<'a>>, ReadFault> {
-    read_with(rt, alloc, tree, chooser, workers, CustomOptions::Refuse)
+/// What keeps each declaration, with both texts.
+pub(crate) fn keeping() -> Dropping<'static> {
+    Dropping::new(&[], DocChoice::Both)
 }
 
-/// The same, with a choice of what is done with custom options.
-pub(crate) fn read_with<'a, R: Threads + Wait, C: Chooses + Sync>(
+/// The readings of a tree's files. After want of memory or of a thread they are read again, and the
+/// second answer counts.
+pub(crate) fn read<'a, R: Threads + Wait, C: Chooses + Sync>(
     rt: &R,
     alloc: Global,
     tree: &'a Tree,
@@ -142,5 +151,20 @@ pub(crate) fn read_with<'a, R: Threads + Wait, C: Chooses + Sync>(
             read_files(rt, alloc, tree, chooser, workers, custom, &NoGate)
         }
         answer => answer,
+    }
+}
+
+/// The number of the file that can't be read, and why; none where the tree is read, or where memory or
+/// a thread is refused.
+pub(crate) fn fault_of<R: Threads + Wait, C: Chooses + Sync>(
+    rt: &R,
+    alloc: Global,
+    tree: &Tree,
+    chooser: &C,
+    workers: Workers,
+) -> Option<(usize, FileFault)> {
+    match read(rt, alloc, tree, chooser, workers, CustomOptions::Refuse) {
+        Err(ReadFault::File(number, fault)) => Some((number, fault)),
+        _ => None,
     }
 }

@@ -1,7 +1,9 @@
 //! What is chosen, and how often it is asked for.
 
-use crate::calls::{Counting, Given, included, read, see, source, tree, workers};
-use index_hooks::{AnyAnswer, Choice, DocAlways, DocChoice, Filter, FilterCallback, Registry};
+use crate::calls::{File, keeping, read, see, tree_of, workers};
+use index_hooks::{
+    AnyAnswer, Choice, Chooses, DocAlways, DocChoice, Filter, FilterCallback, Registry,
+};
 use index_pool::{NoGate, Workers};
 use proto_decl::{DeclView, DeclarationKind};
 use proto_parse::CustomOptions;
@@ -11,13 +13,34 @@ use scip_build::{
 };
 use source_tree::Tree;
 use std::alloc::{AllocError, Global};
+use std::process::Abort;
 use std::sync::Wait;
 use std::test::Fail;
 use std::thread::Threads;
 
-const SOURCE: &str = "syntax = \"proto3\";\nenum E { ZERO = 0; }\nmessage M { E e = 1; }\n";
+static FILES: [File<'static>; 3] = [
+    (
+        "a.proto",
+        "syntax = \"proto3\";\nenum E { ZERO = 0; }\nmessage M { E e = 1; }\n",
+        false,
+    ),
+    (
+        "s.proto",
+        "syntax = \"proto3\";\nmessage S { message T {} }\n",
+        true,
+    ),
+    ("u.proto", "syntax = \"proto2\";\n", true),
+];
 
-const SHARED: &str = "syntax = \"proto3\";\nmessage S { message T {} }\n";
+const KEPT: Choice = Choice {
+    keep: true,
+    doc: DocChoice::Both,
+};
+
+const DROPPED: Choice = Choice {
+    keep: false,
+    doc: DocChoice::Both,
+};
 
 /// Keeps all but enums.
 #[derive(Drop)]
@@ -29,26 +52,10 @@ impl FilterCallback for NoEnums {
     }
 }
 
-fn files<'a>() -> [Given<'a>; 3] {
-    [
-        source("a.proto", SOURCE),
-        included("s.proto", SHARED),
-        included("u.proto", "syntax = \"proto2\";\n"),
-    ]
-}
-
-/// Whether the choices of a reading are to keep these, and to document with both texts.
-fn keeps(reading: &Reading<'_>, kept: &[bool]) -> bool {
+/// Whether these are the choices of a reading.
+fn has_chosen(reading: &Reading<'_>, choices: &[Choice]) -> bool {
     match &reading.contents {
-        Ok(contents) => {
-            let choices = contents.choices.as_slice();
-            choices.len() == kept.len()
-                && choices.iter().zip(kept.iter()).all(|(choice, keep)| *choice
-                    == Choice {
-                        keep: *keep,
-                        doc: DocChoice::Both,
-                    })
-        }
+        Ok(contents) => *contents.choices.as_slice() == *choices,
         Err(_) => false,
     }
 }
@@ -60,16 +67,9 @@ fn asked_while_read<R: Threads + Wait>(
     tree: &Tree,
     workers: Workers,
 ) -> Option<u64> {
-    let chooser = Counting::new();
-    match read_files(
-        rt,
-        alloc,
-        tree,
-        &chooser,
-        workers,
-        CustomOptions::Refuse,
-        &NoGate,
-    ) {
+    let chooser = keeping();
+    let custom = CustomOptions::Refuse;
+    match read_files(rt, alloc, tree, &chooser, workers, custom, &NoGate) {
         Ok(_) => Some(chooser.asked()),
         Err(_) => None,
     }
@@ -77,12 +77,11 @@ fn asked_while_read<R: Threads + Wait>(
 
 #[test]
 fn each_declaration_is_asked_about_once(rt: HostRuntime) -> Result<(), Fail> {
-    let alloc = rt.alloc();
-    let tree = tree(&rt, alloc, &files())?;
+    let tree = tree_of(&rt, rt.alloc(), &FILES)?;
     for count in [1, 2, 16] {
         let workers = workers(&rt, count);
-        let asked = match asked_while_read(&rt, alloc, &tree, workers) {
-            None => asked_while_read(&rt, alloc, &tree, workers),
+        let asked = match asked_while_read(&rt, rt.alloc(), &tree, workers) {
+            None => asked_while_read(&rt, rt.alloc(), &tree, workers),
             asked => asked,
         };
         see(
@@ -94,19 +93,19 @@ fn each_declaration_is_asked_about_once(rt: HostRuntime) -> Result<(), Fail> {
     Ok(())
 }
 
-/// Whether a registry without enums is asked about the declarations of each file.
-fn chooses_as_told<R: Threads + Wait>(
+/// Whether a chooser that drops enums is asked about the declarations of each file.
+fn chooses_as_told<R: Threads + Wait, C: Chooses + Sync>(
     rt: &R,
     alloc: Global,
     tree: &Tree,
-    registry: &Registry,
+    chooser: &C,
     workers: Workers,
 ) -> bool {
-    match read(rt, alloc, tree, registry, workers) {
+    match read(rt, alloc, tree, chooser, workers, CustomOptions::Refuse) {
         Ok(readings) => match readings.as_slice() {
             [a, s, u] => {
-                keeps(a, &[false, true, true, true])
-                    && keeps(s, &[true, true])
+                has_chosen(a, &[DROPPED, KEPT, KEPT, KEPT])
+                    && has_chosen(s, &[KEPT, KEPT])
                     && u.contents.is_err()
             }
             _ => false,
@@ -115,40 +114,73 @@ fn chooses_as_told<R: Threads + Wait>(
     }
 }
 
-/// Whether the lists of choices are as long as the declarations are many, and agree with the readings.
-fn are_listed(alloc: Global, readings: &[Reading<'_>]) -> Result<bool, AllocError> {
-    let lists = match chosen_lists(alloc, readings) {
-        Ok(lists) => lists,
-        Err(_) => chosen_lists(alloc, readings)?,
-    };
-    match lists.as_slice() {
-        [a, s, u] => Ok(
-            a.len() == 4
-                && s.len() == 2
-                && u.is_empty()
-                && a.iter().chain(s.iter()).all(|choice| choice.keep),
-        ),
-        _ => Ok(false),
+/// Whether these are so many choices, each to keep with both texts.
+fn has_kept(choices: &[Choice], count: usize) -> bool {
+    for choice in choices {
+        if *choice != KEPT {
+            return false;
+        }
+    }
+    choices.len() == count
+}
+
+/// Whether the lists of choices are as long as the declarations are many, and keep all of them.
+fn are_kept(lists: &[Vec<Choice>]) -> bool {
+    match lists {
+        [a, s, u] => { has_kept(a.as_slice(), 4) && has_kept(s.as_slice(), 2) && u.is_empty() }
+        _ => false,
+    }
+}
+
+/// Whether the lists of choices agree with the readings.
+fn are_listed_once(alloc: Global, readings: &[Reading<'_>]) -> Result<bool, AllocError> {
+    match chosen_lists(alloc, readings) {
+        Ok(lists) => Ok(are_kept(lists.as_slice())),
+        Err(_) => Err(AllocError),
+    }
+}
+
+/// The same. After want of memory they are listed again, and the second answer counts.
+fn are_listed(alloc: Global, readings: &[Reading<'_>]) -> bool {
+    match are_listed_once(alloc, readings) {
+        Ok(listed) => listed,
+        Err(_) => are_listed_once(alloc, readings) == Ok(true),
+    }
+}
+
+/// Whether what is read of a tree is listed.
+fn is_listed<R: Threads + Wait>(rt: &R, alloc: Global, tree: &Tree, workers: Workers) -> bool {
+    match read(rt, alloc, tree, &keeping(), workers, CustomOptions::Refuse) {
+        Ok(readings) => are_listed(alloc, &readings),
+        Err(_) => false,
     }
 }
 
 #[test]
 fn choices_are_listed_by_file(rt: HostRuntime) -> Result<(), Fail> {
-    let alloc = rt.alloc();
-    let tree = tree(&rt, alloc, &files())?;
-    let chooser = Counting::new();
+    let chooser = keeping();
     readings_have_own_paths(&chooser);
     readings_exclude_faults(&chooser);
     faults_exclude_facts();
     one_first_faulty();
     one_list_of_facts_a_file();
     one_linking(&chooser, &chooser);
-    match read(&rt, alloc, &tree, &chooser, workers(&rt, 2)) {
-        Ok(readings) => {
-            let listed = are_listed(alloc, &readings)?;
-            see(&rt, listed, "the lists");
-        }
-        Err(_) => see(&rt, false, "read"),
+    let tree = tree_of(&rt, rt.alloc(), &FILES)?;
+    let listed = is_listed(&rt, rt.alloc(), &tree, workers(&rt, 2));
+    see(&rt, listed, "the lists");
+    Ok(())
+}
+
+/// Sees that a registry without enums chooses as told, on 1, 2 and 16 workers.
+fn see_chosen<R: Threads + Wait + Abort>(
+    rt: &R,
+    alloc: Global,
+    registry: &Registry,
+) -> Result<(), Fail> {
+    let tree = tree_of(rt, alloc, &FILES)?;
+    for count in [1, 2, 16] {
+        let as_told = chooses_as_told(rt, alloc, &tree, registry, workers(rt, count));
+        see(rt, as_told, "choices");
     }
     Ok(())
 }
@@ -156,19 +188,14 @@ fn choices_are_listed_by_file(rt: HostRuntime) -> Result<(), Fail> {
 #[test]
 fn choices_stand_with_their_declarations(rt: HostRuntime) -> Result<(), Fail> {
     let alloc = rt.alloc();
-    let tree = tree(&rt, alloc, &files())?;
-    let mut registry = Registry::new(alloc);
     let filter = Box::new(alloc, Filter::new(AnyAnswer, NoEnums))?;
+    let rule = Box::new(alloc, DocAlways(DocChoice::Both).rule())?;
+    let mut registry = Registry::new(alloc);
     if let Err((filter, _)) = registry.add_filter(filter) {
         see(&rt, registry.add_filter(filter).is_ok(), "the filter");
     }
-    let rule = Box::new(alloc, DocAlways(DocChoice::Both).rule())?;
     if let Err((rule, _)) = registry.add_doc(rule) {
         see(&rt, registry.add_doc(rule).is_ok(), "the rule");
     }
-    for count in [1, 2, 16] {
-        let as_told = chooses_as_told(&rt, alloc, &tree, &registry, workers(&rt, count));
-        see(&rt, as_told, "choices");
-    }
-    Ok(())
+    see_chosen(&rt, alloc, &registry)
 }

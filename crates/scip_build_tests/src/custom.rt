@@ -1,32 +1,38 @@
 //! Custom options: refused, or read past.
 
-use crate::calls::{Counting, included, read_with, see, source, tree, workers};
+use crate::calls::{File, fault_of, keeping, read, see, tree_of, workers};
+use index_pool::Workers;
 use proto_parse::{CustomOptions, SyntaxFault};
-use scip_build::{FileFault, ReadFault};
+use scip_build::FileFault;
+use source_tree::Tree;
+use std::alloc::Global;
+use std::sync::Wait;
 use std::test::Fail;
+use std::thread::Threads;
 
 const OPTION: &str = "syntax = \"proto3\";\noption (x) = 1;\nmessage A {}\n";
 
+static FILES: [File<'static>; 2] = [("a.proto", OPTION, false), ("b.proto", OPTION, true)];
+
+/// Whether both files have contents, where custom options are read past.
+fn is_read_past<R: Threads + Wait>(rt: &R, alloc: Global, tree: &Tree, workers: Workers) -> bool {
+    match read(rt, alloc, tree, &keeping(), workers, CustomOptions::Skip) {
+        Ok(readings) => match readings.as_slice() {
+            [a, b] => a.contents.is_ok() && b.contents.is_ok(),
+            _ => false,
+        },
+        Err(_) => false,
+    }
+}
+
 #[test]
 fn custom_options_are_refused_or_read_past(rt: HostRuntime) -> Result<(), Fail> {
-    let alloc = rt.alloc();
-    let chooser = Counting::new();
-    let files = [source("a.proto", OPTION), included("b.proto", OPTION)];
-    let tree = tree(&rt, alloc, &files)?;
+    let tree = tree_of(&rt, rt.alloc(), &FILES)?;
     let two = workers(&rt, 2);
-    let refused = read_with(&rt, alloc, &tree, &chooser, two, CustomOptions::Refuse);
-    let named = matches!(
-        refused,
-        Err(ReadFault::File(0, FileFault::Syntax(SyntaxFault::CustomOption(26))))
-    );
+    let refused = fault_of(&rt, rt.alloc(), &tree, &keeping(), two);
+    let named = refused == Some((0, FileFault::Syntax(SyntaxFault::CustomOption(26))));
     see(&rt, named, "refused");
-    let skipped = read_with(&rt, alloc, &tree, &chooser, two, CustomOptions::Skip);
-    let read_past = match skipped {
-        Ok(readings) => {
-            readings.len() == 2 && readings.iter().all(|reading| reading.contents.is_ok())
-        }
-        Err(_) => false,
-    };
+    let read_past = is_read_past(&rt, rt.alloc(), &tree, two);
     see(&rt, read_past, "read past in both files");
     Ok(())
 }

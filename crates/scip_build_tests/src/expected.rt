@@ -1,13 +1,12 @@
 //! What is due of a build.
 
-use crate::calls::{Given, see, tree};
-use index_hooks::{Choice, Chooses, DocChoice};
+use crate::calls::{Dropping, File, see, tree_of, workers};
+use index_hooks::{Chooses, DocChoice};
 use index_pool::{Gate, NoGate, Workers};
-use proto_decl::DeclView;
 use proto_lex::Encoding;
 use proto_link::FilePlace;
 use proto_parse::CustomOptions;
-use scip_build::{BuildFault, Built, FileFault, Settings, build};
+use scip_build::{BuildFault, FileFault, Settings, build};
 use scip_model::{Document, Index, Info, Metadata, Occurrence};
 use scip_symbol::PackageId;
 use sequences::OwnedText;
@@ -15,11 +14,7 @@ use source_tree::Tree;
 use std::alloc::{AllocError, Global};
 use std::process::Abort;
 use std::sync::Wait;
-use std::sync::atomic::{AtomicU64, Ordering};
 use std::thread::Threads;
-
-/// A file: its path, its text, and whether it is included.
-pub(crate) type File<'a> = (&'a str, &'a str, bool);
 
 /// An occurrence: its range, its symbol's text without the front, and its role.
 pub(crate) type Row<'a> = ([u32; 4], &'a str, i32);
@@ -34,7 +29,7 @@ pub(crate) type Page<'a> = (&'a str, &'a [Row<'a>], &'a [Entry<'a>]);
 pub(crate) type Spot = (usize, usize, usize);
 
 /// What is answered.
-#[derive(Clone, Copy)]
+#[derive(Drop)]
 pub(crate) enum Due<'a> {
     Index(&'a [Page<'a>], &'a [Entry<'a>]),
     File(usize, FileFault),
@@ -65,7 +60,7 @@ pub(crate) const PLAIN: Set<'static> = Set {
 };
 
 /// Files, and what is answered to them.
-#[derive(Clone, Copy, Drop)]
+#[derive(Drop)]
 pub(crate) struct Case<'a> {
     pub(crate) name: &'a str,
     pub(crate) set: Set<'a>,
@@ -89,23 +84,25 @@ fn is_row(occurrence: &Occurrence, front: &str, row: &Row) -> bool {
 }
 
 fn are_rows(occurrences: &[Occurrence], front: &str, rows: &[Row]) -> bool {
-    for (index, row) in rows.iter().enumerate() {
-        match occurrences.get(index) {
-            Some(occurrence) if is_row(occurrence, front, row) => {}
+    let mut rest = occurrences;
+    for row in rows {
+        match rest {
+            [occurrence, others @ ..] if is_row(occurrence, front, row) => rest = others,
             _ => return false,
         }
     }
-    occurrences.len() == rows.len()
+    rest.is_empty()
 }
 
 fn are_texts(texts: &[OwnedText], due: &[&str]) -> bool {
-    for (index, text) in due.iter().enumerate() {
-        match texts.get(index) {
-            Some(found) if found.as_str() == *text => {}
+    let mut rest = texts;
+    for text in due {
+        match rest {
+            [found, others @ ..] if found.as_str() == *text => rest = others,
             _ => return false,
         }
     }
-    texts.len() == due.len()
+    rest.is_empty()
 }
 
 fn is_entry(info: &Info, front: &str, entry: &Entry) -> bool {
@@ -116,13 +113,14 @@ fn is_entry(info: &Info, front: &str, entry: &Entry) -> bool {
 }
 
 fn are_entries(infos: &[Info], front: &str, entries: &[Entry]) -> bool {
-    for (index, entry) in entries.iter().enumerate() {
-        match infos.get(index) {
-            Some(info) if is_entry(info, front, entry) => {}
+    let mut rest = infos;
+    for entry in entries {
+        match rest {
+            [info, others @ ..] if is_entry(info, front, entry) => rest = others,
             _ => return false,
         }
     }
-    infos.len() == entries.len()
+    rest.is_empty()
 }
 
 fn number_of(encoding: Encoding) -> i32 {
@@ -142,13 +140,14 @@ fn is_page(document: &Document, set: &Set, page: &Page) -> bool {
 }
 
 fn are_pages(documents: &[Document], set: &Set, pages: &[Page]) -> bool {
-    for (index, page) in pages.iter().enumerate() {
-        match documents.get(index) {
-            Some(document) if is_page(document, set, page) => {}
+    let mut rest = documents;
+    for page in pages {
+        match rest {
+            [document, others @ ..] if is_page(document, set, page) => rest = others,
             _ => return false,
         }
     }
-    documents.len() == pages.len()
+    rest.is_empty()
 }
 
 fn is_metadata(metadata: &Metadata, root: &str) -> bool {
@@ -174,12 +173,16 @@ fn has_metadata(index: &Index, root: &str) -> bool {
 }
 
 /// Whether an index is the one that is due.
-pub(crate) fn is_due_index(index: &Index, case: &Case) -> bool {
-    match case.due {
+fn is_due_index(index: &Index, case: &Case) -> bool {
+    match &case.due {
         Due::Index(pages, externals) => {
             has_metadata(index, case.set.root)
-                && are_pages(index.documents.as_slice(), &case.set, pages)
-                && are_entries(index.external_symbols.as_slice(), case.set.front, externals)
+                && are_pages(index.documents.as_slice(), &case.set, *pages)
+                && are_entries(
+                    index.external_symbols.as_slice(),
+                    case.set.front,
+                    *externals,
+                )
         }
         _ => false,
     }
@@ -190,107 +193,45 @@ fn is_spot(place: FilePlace, spot: Spot) -> bool {
 }
 
 /// Whether a refusal is the one that is due.
-fn is_due_fault(fault: BuildFault, due: Due) -> bool {
+fn is_due_fault(fault: BuildFault, due: &Due) -> bool {
     match (fault, due) {
         (BuildFault::File(number, cause), Due::File(wanted, other)) => {
-            number == wanted && cause == other
+            number == *wanted && cause == *other
         }
         (BuildFault::Duplicate(first, second), Due::Duplicate(one, two)) => {
-            is_spot(first, one) && is_spot(second, two)
+            is_spot(first, *one) && is_spot(second, *two)
         }
-        (BuildFault::MissingImport(place), Due::MissingImport(spot)) => is_spot(place, spot),
-        (BuildFault::Unresolved(place), Due::Unresolved(spot)) => is_spot(place, spot),
+        (BuildFault::MissingImport(place), Due::MissingImport(spot)) => is_spot(place, *spot),
+        (BuildFault::Unresolved(place), Due::Unresolved(spot)) => is_spot(place, *spot),
         _ => false,
     }
 }
 
-/// Drops what has one of these full names, keeps the rest, and counts how often it was asked.
-#[derive(Drop)]
-pub(crate) struct Dropping<'a> {
-    names: &'a [&'a str],
-    asked: AtomicU64,
-}
-
-impl<'a> Dropping<'a> {
-    pub(crate) fn new(names: &'a [&'a str]) -> Dropping<'a> {
-        Dropping {
-            names,
-            asked: AtomicU64::new(0),
-        }
-    }
-
-    /// How often it was asked.
-    pub(crate) fn asked(&self) -> u64 {
-        self.asked.load(Ordering::SeqCst)
-    }
-}
-
-impl<'a> Chooses for Dropping<'a> {
-    ghost allows = { λ _ _ _. Unit {0} };
-
-    fn choose(&self, view: &DeclView<'_>) -> Choice {
-        self.asked.fetch_add(1, Ordering::SeqCst);
-        Choice {
-            keep: !self.names.contains(&view.full_name()),
-            doc: DocChoice::Leading,
-        }
+/// The package of these parts, which are good ones.
+fn package_of(alloc: Global, parts: [&str; 3]) -> Result<PackageId, AllocError> {
+    let [manager, name, version] = parts;
+    let manager = String::from_str(alloc, manager)?;
+    let name = String::from_str(alloc, name)?;
+    let version = String::from_str(alloc, version)?;
+    match PackageId::new([manager, name, version]) {
+        Ok(package) => Ok(package),
+        Err(_) => Err(AllocError),
     }
 }
 
 /// The settings of a case.
 pub(crate) fn settings_of(alloc: Global, set: &Set<'_>) -> Result<Settings, AllocError> {
-    let [manager, name, version] = set.parts;
-    let manager = String::from_str(alloc, manager)?;
-    let name = String::from_str(alloc, name)?;
-    let version = String::from_str(alloc, version)?;
-    match PackageId::new([manager, name, version]) {
-        Ok(package) => Ok(Settings {
-            project_root: OwnedText::copy_of(alloc, set.root)?,
-            package,
-            encoding: set.encoding,
-            custom_options: set.custom,
-        }),
-        Err(_) => Err(AllocError),
-    }
+    let project_root = OwnedText::copy_of(alloc, set.root)?;
+    let package = package_of(alloc, set.parts)?;
+    Ok(Settings {
+        project_root,
+        package,
+        encoding: set.encoding,
+        custom_options: set.custom,
+    })
 }
 
-/// The tree of these files.
-pub(crate) fn tree_of(
-    rt: &impl Abort,
-    alloc: Global,
-    files: &[File<'_>],
-) -> Result<Tree, AllocError> {
-    let mut given = Vec::with_capacity(alloc, files.len())?;
-    for (path, text, is_included) in files {
-        given.push(Given {
-            path,
-            bytes: text.as_bytes(),
-            is_included: *is_included,
-        })?;
-    }
-    tree(rt, alloc, &given)
-}
-
-/// What `build` answers. After want of memory or of a thread it is called again, and the second
-/// answer counts.
-fn build_again<R: Threads + Wait, C: Chooses + Sync, G: Gate>(
-    rt: &R,
-    alloc: Global,
-    tree: &Tree,
-    chooser: &C,
-    workers: Workers,
-    settings: &Settings,
-    gate: &G,
-) -> Result<Built, BuildFault> {
-    match build(rt, alloc, tree, chooser, workers, settings, gate) {
-        Err(BuildFault::Memory) | Err(BuildFault::Spawn) => {
-            build(rt, alloc, tree, chooser, workers, settings, gate)
-        }
-        answer => answer,
-    }
-}
-
-/// Whether what is built on so many workers is what is due.
+/// Whether what is built on so many workers is what is due; none after want of memory or of a thread.
 pub(crate) fn is_due<R: Threads + Wait, C: Chooses + Sync, G: Gate>(
     rt: &R,
     alloc: Global,
@@ -300,30 +241,28 @@ pub(crate) fn is_due<R: Threads + Wait, C: Chooses + Sync, G: Gate>(
     settings: &Settings,
     gate: &G,
     case: &Case,
-) -> bool {
-    match build_again(rt, alloc, tree, chooser, workers, settings, gate) {
-        Ok(built) => is_due_index(&built.index, case),
-        Err(fault) => is_due_fault(fault, case.due),
+) -> Option<bool> {
+    match build(rt, alloc, tree, chooser, workers, settings, gate) {
+        Ok(built) => Some(is_due_index(&built.index, case)),
+        Err(BuildFault::Memory) | Err(BuildFault::Spawn) => None,
+        Err(fault) => Some(is_due_fault(fault, &case.due)),
     }
 }
 
-/// Whether what is built is what is due, on 1, 2 and 16 workers.
-pub(crate) fn is_due_on_each<R: Threads + Wait, C: Chooses + Sync>(
+/// The same. After want of memory or of a thread it is built again, and the second answer counts.
+fn is_due_again<R: Threads + Wait>(
     rt: &R,
     alloc: Global,
     tree: &Tree,
-    chooser: &C,
+    workers: Workers,
     settings: &Settings,
     case: &Case,
 ) -> bool {
-    for count in [1, 2, 16] {
-        match Workers::new(count) {
-            Some(workers) if is_due(rt, alloc, tree, chooser, workers, settings, &NoGate, case) =>
-                {}
-            _ => return false,
-        }
+    let chooser = Dropping::new(case.set.dropped, DocChoice::Leading);
+    match is_due(rt, alloc, tree, &chooser, workers, settings, &NoGate, case) {
+        Some(due) => due,
+        None => is_due(rt, alloc, tree, &chooser, workers, settings, &NoGate, case) == Some(true),
     }
-    true
 }
 
 /// Sees that a case has the answer that is due, on 1, 2 and 16 workers.
@@ -334,9 +273,10 @@ fn see_case<R: Threads + Wait + Abort>(
 ) -> Result<(), AllocError> {
     let tree = tree_of(rt, alloc, case.files)?;
     let settings = settings_of(alloc, &case.set)?;
-    let chooser = Dropping::new(case.set.dropped);
-    let holds = is_due_on_each(rt, alloc, &tree, &chooser, &settings, case);
-    see(rt, holds, case.name);
+    for count in [1, 2, 16] {
+        let due = is_due_again(rt, alloc, &tree, workers(rt, count), &settings, case);
+        see(rt, due, case.name);
+    }
     Ok(())
 }
 

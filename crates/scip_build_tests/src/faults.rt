@@ -1,10 +1,14 @@
 //! Which file is named, and why.
 
-use crate::calls::{Counting, Given, included, read, see, source, tree, workers};
+use crate::calls::{File, fault_of, keeping, see, tree_of, tree_of_bytes, workers};
 use proto_lex::LexFault;
 use proto_parse::SyntaxFault;
-use scip_build::{FileFault, ReadFault};
+use scip_build::FileFault;
+use std::alloc::{AllocError, Global};
+use std::process::Abort;
+use std::sync::Wait;
 use std::test::Fail;
+use std::thread::Threads;
 
 const GOOD: &str = "syntax = \"proto3\";\n";
 
@@ -12,112 +16,111 @@ const NO_NAME: &str = "syntax = \"proto3\";\nmessage {}\n";
 
 const PROTO2: &str = "syntax = \"proto2\";\n";
 
-fn lexing(fault: LexFault) -> FileFault {
-    FileFault::Lex(fault)
-}
+/// Files, and the one that is named, with its fault.
+type Row<'a> = (&'a [File<'a>], (usize, FileFault));
 
-fn parsing(fault: SyntaxFault) -> FileFault {
-    FileFault::Syntax(fault)
-}
+static ROWS: [Row<'static>; 5] = [
+    (
+        &[
+            ("a.proto", NO_NAME, false),
+            ("b.proto", "@", false),
+            ("c.proto", GOOD, false),
+        ],
+        (0, FileFault::Syntax(SyntaxFault::Grammar(27))),
+    ),
+    (
+        &[
+            ("a.proto", GOOD, false),
+            ("b.proto", "@", false),
+            ("c.proto", NO_NAME, false),
+        ],
+        (1, FileFault::Lex(LexFault::BadByte(0))),
+    ),
+    (
+        &[
+            ("a.proto", GOOD, false),
+            ("b.proto", GOOD, false),
+            ("c.proto", PROTO2, false),
+        ],
+        (2, FileFault::Syntax(SyntaxFault::NotProto3(9))),
+    ),
+    (
+        &[
+            ("a.proto", "", false),
+            ("b.proto", "@", false),
+            ("c.proto", PROTO2, false),
+        ],
+        (0, FileFault::Syntax(SyntaxFault::NotProto3(0))),
+    ),
+    (
+        &[
+            ("a.proto", GOOD, false),
+            ("b.proto", NO_NAME, false),
+            ("c.proto", "@", true),
+        ],
+        (1, FileFault::Syntax(SyntaxFault::Grammar(27))),
+    ),
+];
 
-#[test]
-fn the_first_faulty_source_is_named(rt: HostRuntime) -> Result<(), Fail> {
-    let alloc = rt.alloc();
-    let rows = vec![in alloc;
-        (
-            [
-                source("a.proto", NO_NAME),
-                source("b.proto", "@"),
-                source("c.proto", GOOD)
-            ],
-            0,
-            parsing(SyntaxFault::Grammar(27))
-        ),
-        (
-            [
-                source("a.proto", GOOD),
-                source("b.proto", "@"),
-                source("c.proto", NO_NAME)
-            ],
-            1,
-            lexing(LexFault::BadByte(0))
-        ),
-        (
-            [
-                source("a.proto", GOOD),
-                source("b.proto", GOOD),
-                source("c.proto", PROTO2)
-            ],
-            2,
-            parsing(SyntaxFault::NotProto3(9))
-        ),
-        (
-            [
-                source("a.proto", ""),
-                source("b.proto", "@"),
-                source("c.proto", PROTO2)
-            ],
-            0,
-            parsing(SyntaxFault::NotProto3(0))
-        ),
-        (
-            [
-                source("a.proto", GOOD),
-                source("b.proto", NO_NAME),
-                included("c.proto", "@")
-            ],
-            1,
-            parsing(SyntaxFault::Grammar(27))
-        ),
-    ]?;
-    for (files, number, fault) in rows {
-        let tree = tree(&rt, alloc, &files)?;
-        for count in [1, 2, 4, 16] {
-            let chooser = Counting::new();
-            let answer = read(&rt, alloc, &tree, &chooser, workers(&rt, count));
-            let named =
-                matches!(answer, Err(ReadFault::File(k, cause)) if k == number && cause == fault);
-            see(&rt, named, "the file and its fault");
-        }
+/// Sees that of files this one is named, with this fault, on 1, 2, 4 and 16 workers.
+fn see_named<R: Threads + Wait + Abort>(
+    rt: &R,
+    alloc: Global,
+    files: &[File<'_>],
+    named: (usize, FileFault),
+) -> Result<(), AllocError> {
+    let tree = tree_of(rt, alloc, files)?;
+    for count in [1, 2, 4, 16] {
+        let found = fault_of(rt, alloc, &tree, &keeping(), workers(rt, count));
+        see(rt, found == Some(named), "the file and its fault");
     }
     Ok(())
 }
 
 #[test]
+fn the_first_faulty_source_is_named(rt: HostRuntime) -> Result<(), Fail> {
+    for (files, named) in &ROWS {
+        see_named(&rt, rt.alloc(), *files, *named)?;
+    }
+    Ok(())
+}
+
+/// Texts that have no lexing, and whose tokens before that derive no tree.
+static NO_LEXINGS: [(&str, LexFault); 3] = [
+    ("message {} @", LexFault::BadByte(11)),
+    ("syntax = \"proto2\"; \"abc", LexFault::OpenString(19)),
+    ("syntax 08", LexFault::BadNumber(7)),
+];
+
+/// Sees that a text is refused by its lexing, before anybody is asked.
+fn see_no_lexing<R: Threads + Wait + Abort>(
+    rt: &R,
+    alloc: Global,
+    text: &str,
+    fault: LexFault,
+) -> Result<(), AllocError> {
+    let chooser = keeping();
+    let tree = tree_of(rt, alloc, &[("a.proto", text, false)])?;
+    let found = fault_of(rt, alloc, &tree, &chooser, workers(rt, 1));
+    let named = found == Some((0, FileFault::Lex(fault)));
+    see(rt, named, "the fault of the lexing");
+    see(rt, chooser.asked() == 0, "nobody was asked");
+    Ok(())
+}
+
+#[test]
 fn a_file_is_lexed_whole_before_it_is_parsed(rt: HostRuntime) -> Result<(), Fail> {
-    let alloc = rt.alloc();
-    let rows = [
-        ("message {} @", LexFault::BadByte(11)),
-        ("syntax = \"proto2\"; \"abc", LexFault::OpenString(19)),
-        ("syntax 08", LexFault::BadNumber(7)),
-    ];
-    for (text, fault) in rows {
-        let chooser = Counting::new();
-        let tree = tree(&rt, alloc, &[source("a.proto", text)])?;
-        let answer = read(&rt, alloc, &tree, &chooser, workers(&rt, 1));
-        let named =
-            matches!(answer, Err(ReadFault::File(0, FileFault::Lex(cause))) if cause == fault);
-        see(&rt, named, "the fault of the lexing");
-        see(&rt, chooser.asked() == 0, "nobody was asked");
+    for (text, fault) in &NO_LEXINGS {
+        see_no_lexing(&rt, rt.alloc(), text, *fault)?;
     }
     Ok(())
 }
 
 #[test]
 fn bytes_that_are_no_text_are_named(rt: HostRuntime) -> Result<(), Fail> {
-    let alloc = rt.alloc();
-    let chooser = Counting::new();
-    let file = Given {
-        path: "a.proto",
-        bytes: &[b'@', 0xFF],
-        is_included: false,
-    };
-    let tree = tree(&rt, alloc, &[file])?;
-    let answer = read(&rt, alloc, &tree, &chooser, workers(&rt, 2));
-    let named = matches!(
-        answer,
-        Err(ReadFault::File(0, FileFault::Lex(LexFault::NotUtf8(1))))
-    );
+    let tree = tree_of_bytes(&rt, rt.alloc(), &[b'@', 0xFF])?;
+    let found = fault_of(&rt, rt.alloc(), &tree, &keeping(), workers(&rt, 2));
+    let named = found == Some((0, FileFault::Lex(LexFault::NotUtf8(1))));
     see(&rt, named, "not UTF-8");
     Ok(())
 }

@@ -1,10 +1,10 @@
 //! A gate round both phases.
 
-use crate::calls::{see, workers};
-use crate::expected::{Dropping, is_due_index, settings_of, tree_of};
+use crate::calls::{keeping, see, tree_of, workers};
+use crate::expected::{Case, is_due, settings_of};
 use crate::trees::EACH_OTHER;
 use index_pool::{Gate, Workers};
-use scip_build::{Settings, build};
+use scip_build::Settings;
 use source_tree::Tree;
 use std::alloc::Global;
 use std::sync::Wait;
@@ -13,6 +13,8 @@ use std::test::Fail;
 use std::thread;
 use std::thread::Threads;
 use std::time::{Clock, Duration};
+
+static MET: Case<'static> = EACH_OTHER;
 
 /// How many milliseconds a gate waits at most.
 const MOST_TURNS: u64 = 5000;
@@ -65,12 +67,9 @@ fn is_met<R: Threads + Wait + Clock + Sync>(
         left: AtomicU64::new(0),
         run_outs: AtomicU64::new(0),
     };
-    let chooser = Dropping::new(&[]);
-    let is_due = match build(rt, alloc, tree, &chooser, workers, settings, &gate) {
-        Ok(built) => is_due_index(&built.index, &EACH_OTHER),
-        Err(_) => false,
-    };
-    is_due
+    let chooser = keeping();
+    let due = is_due(rt, alloc, tree, &chooser, workers, settings, &gate, &MET);
+    due == Some(true)
         && chooser.asked() == 4
         && gate.first.load(Ordering::SeqCst) == 2
         && gate.second.load(Ordering::SeqCst) == 2
@@ -81,8 +80,8 @@ fn is_met<R: Threads + Wait + Clock + Sync>(
 #[test]
 fn two_workers_meet_in_each_phase(rt: HostRuntime) -> Result<(), Fail> {
     let alloc = rt.alloc();
-    let tree = tree_of(&rt, alloc, EACH_OTHER.files)?;
-    let settings = settings_of(alloc, &EACH_OTHER.set)?;
+    let tree = tree_of(&rt, alloc, MET.files)?;
+    let settings = settings_of(alloc, &MET.set)?;
     let two = workers(&rt, 2);
     let met = is_met(&rt, alloc, &tree, two, &settings)
         || is_met(&rt, alloc, &tree, two, &settings);

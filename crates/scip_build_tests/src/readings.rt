@@ -1,10 +1,15 @@
 //! What files are read as.
 
-use crate::calls::{Counting, Given, included, read, see, source, tree, workers};
+use crate::calls::{File, keeping, read, see, tree_of, workers};
+use index_pool::Workers;
 use proto_lex::LexFault;
-use proto_parse::SyntaxFault;
+use proto_parse::{CustomOptions, SyntaxFault};
 use scip_build::{FileFault, Reading};
+use source_tree::Tree;
+use std::alloc::Global;
+use std::sync::Wait;
 use std::test::Fail;
+use std::thread::Threads;
 
 const MESSAGE: &str =
     "syntax = \"proto3\";\npackage lib;\n// A thing.\nmessage T { int32 n = 1; }\n";
@@ -40,14 +45,12 @@ fn has_fault(reading: &Reading<'_>, path: &str, fault: FileFault) -> bool {
         && matches!(&reading.contents, Err(cause) if *cause == fault)
 }
 
-fn four<'a>() -> [Given<'a>; 4] {
-    [
-        source("a.proto", IMPORT),
-        included("o.proto", "\"abc"),
-        included("t.proto", MESSAGE),
-        included("u.proto", "syntax = \"proto2\";\n"),
-    ]
-}
+static FOUR: [File<'static>; 4] = [
+    ("a.proto", IMPORT, false),
+    ("o.proto", "\"abc", true),
+    ("t.proto", MESSAGE, true),
+    ("u.proto", "syntax = \"proto2\";\n", true),
+];
 
 /// Whether these are the readings of those files.
 fn are_read(readings: &[Reading<'_>]) -> bool {
@@ -66,36 +69,49 @@ fn are_read(readings: &[Reading<'_>]) -> bool {
 
 /// Whether each file that has facts has them under its number.
 fn are_numbered(readings: &[Reading<'_>]) -> bool {
-    readings.iter().enumerate().all(|(number, reading)| match &reading.contents {
-        Ok(contents) => contents.facts.number() == number,
-        Err(_) => true,
-    })
+    for (number, reading) in readings.iter().enumerate() {
+        if let Ok(contents) = &reading.contents
+            && contents.facts.number() != number
+        {
+            return false;
+        }
+    }
+    true
+}
+
+/// Whether the four files are read as told.
+fn is_read<R: Threads + Wait>(rt: &R, alloc: Global, tree: &Tree, workers: Workers) -> bool {
+    match read(rt, alloc, tree, &keeping(), workers, CustomOptions::Refuse) {
+        Ok(readings) => are_read(&readings) && are_numbered(&readings),
+        Err(_) => false,
+    }
 }
 
 #[test]
 fn files_are_read_under_their_numbers(rt: HostRuntime) -> Result<(), Fail> {
-    let tree = tree(&rt, rt.alloc(), &four())?;
+    let tree = tree_of(&rt, rt.alloc(), &FOUR)?;
     for count in [1, 2, 3, 16] {
-        let chooser = Counting::new();
-        match read(&rt, rt.alloc(), &tree, &chooser, workers(&rt, count)) {
-            Ok(readings) => {
-                see(&rt, are_read(&readings), "readings");
-                see(&rt, are_numbered(&readings), "numbers");
-            }
-            Err(_) => see(&rt, false, "read"),
-        }
+        let as_told = is_read(&rt, rt.alloc(), &tree, workers(&rt, count));
+        see(&rt, as_told, "readings, under their numbers");
     }
     Ok(())
 }
 
-#[test]
-fn no_files_have_no_readings(rt: HostRuntime) -> Result<(), Fail> {
-    let chooser = Counting::new();
-    let tree = tree(&rt, rt.alloc(), &[])?;
-    let none = match read(&rt, rt.alloc(), &tree, &chooser, workers(&rt, 4)) {
+/// Whether a tree has no readings.
+fn has_none<R: Threads + Wait>(rt: &R, alloc: Global, tree: &Tree, workers: Workers) -> bool {
+    match read(rt, alloc, tree, &keeping(), workers, CustomOptions::Refuse) {
         Ok(readings) => readings.is_empty(),
         Err(_) => false,
-    };
-    see(&rt, none, "none");
+    }
+}
+
+#[test]
+fn no_files_have_no_readings(rt: HostRuntime) -> Result<(), Fail> {
+    let tree = tree_of(&rt, rt.alloc(), &[])?;
+    see(
+        &rt,
+        has_none(&rt, rt.alloc(), &tree, workers(&rt, 4)),
+        "none",
+    );
     Ok(())
 }

@@ -8,29 +8,7 @@ use std::test::Fail;
 
 const NO_NAME: FileFault = FileFault::Syntax(SyntaxFault::Grammar(27));
 
-const CASES: [Case<'static>; 10] = [
-    Case {
-        name: "a package is seen, and no type of the name",
-        set: PLAIN,
-        files: &[
-            (
-                "a.proto",
-                "syntax = \"proto3\";\npackage acme;\nimport \"b.proto\";\nimport \"t.proto\";\nmessage M { google.protobuf.Timestamp t = 1; }\n",
-                false,
-            ),
-            (
-                "b.proto",
-                "syntax = \"proto3\";\npackage acme.google;\n",
-                false,
-            ),
-            (
-                "t.proto",
-                "syntax = \"proto3\";\npackage google.protobuf;\nmessage Timestamp {}\n",
-                false,
-            ),
-        ],
-        due: Due::Unresolved((0, 81, 106)),
-    },
+static OF_LINKING: [Case<'static>; 4] = [
     Case {
         name: "a plain import in a chain of public ones",
         set: PLAIN,
@@ -99,6 +77,15 @@ const CASES: [Case<'static>; 10] = [
         ],
         due: Due::Duplicate((0, 45, 46), (1, 27, 28)),
     },
+];
+
+#[test]
+fn refusals_of_linking_in_their_order(rt: HostRuntime) -> Result<(), Fail> {
+    see_cases(&rt, rt.alloc(), &OF_LINKING)?;
+    Ok(())
+}
+
+static OF_READING: [Case<'static>; 3] = [
     Case {
         name: "the first source that can't be read goes before its like",
         set: PLAIN,
@@ -126,6 +113,37 @@ const CASES: [Case<'static>; 10] = [
         set: PLAIN,
         files: &[("a.proto", "syntax = \"proto3\";\noption (x) = 1;\n", false)],
         due: Due::File(0, FileFault::Syntax(SyntaxFault::CustomOption(26))),
+    },
+];
+
+#[test]
+fn refusals_of_reading_in_their_order(rt: HostRuntime) -> Result<(), Fail> {
+    see_cases(&rt, rt.alloc(), &OF_READING)?;
+    Ok(())
+}
+
+static OF_USES: [Case<'static>; 3] = [
+    Case {
+        name: "a package is seen, and no type of the name",
+        set: PLAIN,
+        files: &[
+            (
+                "a.proto",
+                "syntax = \"proto3\";\npackage acme;\nimport \"b.proto\";\nimport \"t.proto\";\nmessage M { google.protobuf.Timestamp t = 1; }\n",
+                false,
+            ),
+            (
+                "b.proto",
+                "syntax = \"proto3\";\npackage acme.google;\n",
+                false,
+            ),
+            (
+                "t.proto",
+                "syntax = \"proto3\";\npackage google.protobuf;\nmessage Timestamp {}\n",
+                false,
+            ),
+        ],
+        due: Due::Unresolved((0, 81, 106)),
     },
     Case {
         name: "the first use of the first source in which one names no type",
@@ -165,7 +183,7 @@ const CASES: [Case<'static>; 10] = [
 ];
 
 #[test]
-fn refusals_in_their_order(rt: HostRuntime) -> Result<(), Fail> {
-    see_cases(&rt, rt.alloc(), &CASES)?;
+fn refusals_of_uses_in_their_order(rt: HostRuntime) -> Result<(), Fail> {
+    see_cases(&rt, rt.alloc(), &OF_USES)?;
     Ok(())
 }

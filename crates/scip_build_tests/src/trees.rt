@@ -57,16 +57,7 @@ pub(crate) const EACH_OTHER: Case<'static> = Case {
     ),
 };
 
-const CASES: [Case<'static>; 7] = [
-    Case {
-        name: "no files",
-        set: Set {
-            root: "file:///home/user",
-            ..PLAIN
-        },
-        files: &[],
-        due: Due::Index(&[], &[]),
-    },
+static OF_PACKAGES: [Case<'static>; 2] = [
     Case {
         name: "packages and types of other files",
         set: PLAIN,
@@ -142,68 +133,101 @@ const CASES: [Case<'static>; 7] = [
         ),
     },
     Case {
-        name: "a chain of public imports",
-        set: PLAIN,
-        files: &[
-            (
-                "a.proto",
-                "syntax = \"proto3\";\nimport \"b.proto\";\nmessage M { D d = 1; }\n",
-                false,
-            ),
-            (
-                "b.proto",
-                "syntax = \"proto3\";\nimport public \"c.proto\";\n",
-                false,
-            ),
-            (
-                "c.proto",
-                "syntax = \"proto3\";\nimport public \"d.proto\";\n",
-                false,
-            ),
-            ("d.proto", "syntax = \"proto3\";\nmessage D {}\n", false),
-        ],
+        name: "a package of three parts",
+        set: Set {
+            parts: ["my mgr", "", "1.0"],
+            front: "scip-protobuf my  mgr . 1.0 ",
+            ..PLAIN
+        },
+        files: &[("a b.proto", "syntax = \"proto3\";\nmessage A {}\n", false)],
         due: Due::Index(
-            &[
-                (
-                    "a.proto",
-                    &[
-                        ([0, 0, 0, 0], "`a.proto`/", 1),
-                        ([1, 7, 1, 16], "`b.proto`/", 2),
-                        ([2, 8, 2, 9], "M#", 1),
-                        ([2, 12, 2, 13], "D#", 0),
-                        ([2, 14, 2, 15], "M#d.", 1),
-                    ],
-                    &[
-                        ("M#", "M", &[]),
-                        ("M#d.", "d", &[]),
-                        ("`a.proto`/", "a.proto", &[]),
-                    ],
-                ),
-                (
-                    "b.proto",
-                    &[
-                        ([0, 0, 0, 0], "`b.proto`/", 1),
-                        ([1, 14, 1, 23], "`c.proto`/", 2),
-                    ],
-                    &[("`b.proto`/", "b.proto", &[])],
-                ),
-                (
-                    "c.proto",
-                    &[
-                        ([0, 0, 0, 0], "`c.proto`/", 1),
-                        ([1, 14, 1, 23], "`d.proto`/", 2),
-                    ],
-                    &[("`c.proto`/", "c.proto", &[])],
-                ),
-                (
-                    "d.proto",
-                    &[([0, 0, 0, 0], "`d.proto`/", 1), ([1, 8, 1, 9], "D#", 1)],
-                    &[("D#", "D", &[]), ("`d.proto`/", "d.proto", &[])],
-                ),
-            ],
+            &[(
+                "a b.proto",
+                &[([0, 0, 0, 0], "`a b.proto`/", 1), ([1, 8, 1, 9], "A#", 1)],
+                &[("A#", "A", &[]), ("`a b.proto`/", "a b.proto", &[])],
+            )],
             &[],
         ),
     },
+];
+
+#[test]
+fn indexes_of_packages(rt: HostRuntime) -> Result<(), Fail> {
+    see_cases(&rt, rt.alloc(), &OF_PACKAGES)?;
+    Ok(())
+}
+
+static OF_CHAINS: [Case<'static>; 1] = [Case {
+    name: "a chain of public imports",
+    set: PLAIN,
+    files: &[
+        (
+            "a.proto",
+            "syntax = \"proto3\";\nimport \"b.proto\";\nmessage M { D d = 1; }\n",
+            false,
+        ),
+        (
+            "b.proto",
+            "syntax = \"proto3\";\nimport public \"c.proto\";\n",
+            false,
+        ),
+        (
+            "c.proto",
+            "syntax = \"proto3\";\nimport public \"d.proto\";\n",
+            false,
+        ),
+        ("d.proto", "syntax = \"proto3\";\nmessage D {}\n", false),
+    ],
+    due: Due::Index(
+        &[
+            (
+                "a.proto",
+                &[
+                    ([0, 0, 0, 0], "`a.proto`/", 1),
+                    ([1, 7, 1, 16], "`b.proto`/", 2),
+                    ([2, 8, 2, 9], "M#", 1),
+                    ([2, 12, 2, 13], "D#", 0),
+                    ([2, 14, 2, 15], "M#d.", 1),
+                ],
+                &[
+                    ("M#", "M", &[]),
+                    ("M#d.", "d", &[]),
+                    ("`a.proto`/", "a.proto", &[]),
+                ],
+            ),
+            (
+                "b.proto",
+                &[
+                    ([0, 0, 0, 0], "`b.proto`/", 1),
+                    ([1, 14, 1, 23], "`c.proto`/", 2),
+                ],
+                &[("`b.proto`/", "b.proto", &[])],
+            ),
+            (
+                "c.proto",
+                &[
+                    ([0, 0, 0, 0], "`c.proto`/", 1),
+                    ([1, 14, 1, 23], "`d.proto`/", 2),
+                ],
+                &[("`c.proto`/", "c.proto", &[])],
+            ),
+            (
+                "d.proto",
+                &[([0, 0, 0, 0], "`d.proto`/", 1), ([1, 8, 1, 9], "D#", 1)],
+                &[("D#", "D", &[]), ("`d.proto`/", "d.proto", &[])],
+            ),
+        ],
+        &[],
+    ),
+}];
+
+#[test]
+fn indexes_of_chains_of_imports(rt: HostRuntime) -> Result<(), Fail> {
+    see_cases(&rt, rt.alloc(), &OF_CHAINS)?;
+    Ok(())
+}
+
+static OF_IMPORTS: [Case<'static>; 2] = [
     EACH_OTHER,
     Case {
         name: "an import of joined literals",
@@ -235,22 +259,23 @@ const CASES: [Case<'static>; 7] = [
             &[],
         ),
     },
+];
+
+#[test]
+fn indexes_of_imports(rt: HostRuntime) -> Result<(), Fail> {
+    see_cases(&rt, rt.alloc(), &OF_IMPORTS)?;
+    Ok(())
+}
+
+static OF_SETTINGS: [Case<'static>; 2] = [
     Case {
-        name: "a package of three parts",
+        name: "no files",
         set: Set {
-            parts: ["my mgr", "", "1.0"],
-            front: "scip-protobuf my  mgr . 1.0 ",
+            root: "file:///home/user",
             ..PLAIN
         },
-        files: &[("a b.proto", "syntax = \"proto3\";\nmessage A {}\n", false)],
-        due: Due::Index(
-            &[(
-                "a b.proto",
-                &[([0, 0, 0, 0], "`a b.proto`/", 1), ([1, 8, 1, 9], "A#", 1)],
-                &[("A#", "A", &[]), ("`a b.proto`/", "a b.proto", &[])],
-            )],
-            &[],
-        ),
+        files: &[],
+        due: Due::Index(&[], &[]),
     },
     Case {
         name: "custom options that are read past",
@@ -277,6 +302,6 @@ const CASES: [Case<'static>; 7] = [
 
 #[test]
 fn indexes_of_trees(rt: HostRuntime) -> Result<(), Fail> {
-    see_cases(&rt, rt.alloc(), &CASES)?;
+    see_cases(&rt, rt.alloc(), &OF_SETTINGS)?;
     Ok(())
 }

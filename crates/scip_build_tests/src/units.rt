@@ -9,7 +9,7 @@ const WIDE: Set<'static> = Set {
     ..PLAIN
 };
 
-const CASES: [Case<'static>; 6] = [
+static OF_CHARACTERS: [Case<'static>; 4] = [
     Case {
         name: "two bytes, in UTF-8",
         set: PLAIN,
@@ -78,6 +78,15 @@ const CASES: [Case<'static>; 6] = [
             &[],
         ),
     },
+];
+
+#[test]
+fn columns_behind_characters_in_both_units(rt: HostRuntime) -> Result<(), Fail> {
+    see_cases(&rt, rt.alloc(), &OF_CHARACTERS)?;
+    Ok(())
+}
+
+static OF_MARKS: [Case<'static>; 2] = [
     Case {
         name: "a byte order mark, in UTF-8",
         set: PLAIN,
@@ -115,7 +124,7 @@ const CASES: [Case<'static>; 6] = [
 ];
 
 #[test]
-fn columns_in_both_units(rt: HostRuntime) -> Result<(), Fail> {
-    see_cases(&rt, rt.alloc(), &CASES)?;
+fn columns_behind_a_mark_in_both_units(rt: HostRuntime) -> Result<(), Fail> {
+    see_cases(&rt, rt.alloc(), &OF_MARKS)?;
     Ok(())
 }

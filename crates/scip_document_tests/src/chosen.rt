@@ -5,7 +5,7 @@ use crate::documents::{Case, PLAIN, Settings, see_cases};
 use index_hooks::DocChoice;
 use std::test::Fail;
 
-const CASES: [Case<'static>; 8] = [
+static DROPPED: [Case<'static>; 3] = [
     Case {
         name: "compound names, of which middle ones are dropped",
         settings: Settings {
@@ -87,6 +87,15 @@ const CASES: [Case<'static>; 8] = [
             &["M#|M", "M#b.|b", "`a.proto`/|a.proto"],
         )],
     },
+];
+
+#[test]
+fn documents_of_what_is_dropped(rt: HostRuntime) -> Result<(), Fail> {
+    see_cases(&rt, rt.alloc(), &DROPPED)?;
+    Ok(())
+}
+
+static DOCUMENTED: [Case<'static>; 5] = [
     Case {
         name: "documentation: Leading",
         settings: Settings {
@@ -179,7 +188,7 @@ const CASES: [Case<'static>; 8] = [
 ];
 
 #[test]
-fn documents_of_what_is_chosen(rt: HostRuntime) -> Result<(), Fail> {
-    see_cases(&rt, rt.alloc(), &CASES)?;
+fn documents_of_what_is_documented(rt: HostRuntime) -> Result<(), Fail> {
+    see_cases(&rt, rt.alloc(), &DOCUMENTED)?;
     Ok(())
 }

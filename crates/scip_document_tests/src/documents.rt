@@ -109,11 +109,12 @@ fn see_answer(
     requires choices { map (λ list. length list) choices.now ≡ counts readings.now }
 {
     let encoding = case.settings.encoding;
-    match answer_of(alloc, linker, readings, source, choices, id, encoding) {
-        Ok(document) => see(rt, is_document(&document, case, due), case.name),
+    let holds = match answer_of(alloc, linker, readings, source, choices, id, encoding) {
+        Ok(document) => is_document(&document, case, due),
         Err(LinkFault::Memory) => return Err(AllocError),
-        Err(fault) => see(rt, is_refusal(fault, due), case.name),
-    }
+        Err(fault) => is_refusal(fault, due),
+    };
+    see(rt, holds, case.name);
     Ok(())
 }
 
@@ -166,6 +167,22 @@ fn see_each(
     Ok(())
 }
 
+fn see_files(
+    rt: &impl Abort,
+    alloc: Global,
+    readings: &[Reading<'_>],
+    choices: &Choices,
+    id: &PackageId,
+    case: &Case,
+) -> Result<(), AllocError>
+    requires fine { All IsFine readings.now }
+    requires choices { map (λ list. length list) choices.now ≡ counts readings.now }
+{
+    let files = files_of(alloc, readings)?;
+    let linker = link(alloc, &files)?;
+    see_each(rt, alloc, &linker, readings, choices, id, case)
+}
+
 fn see_linked(
     rt: &impl Abort,
     alloc: Global,
@@ -177,9 +194,7 @@ fn see_linked(
     requires choices { map (λ list. length list) choices.now ≡ counts readings.now }
 {
     let id = package_of(alloc, case.settings.parts)?;
-    let files = files_of(alloc, readings)?;
-    let linker = link(alloc, &files)?;
-    see_each(rt, alloc, &linker, readings, choices, &id, case)
+    see_files(rt, alloc, readings, choices, &id, case)
 }
 
 /// Sees that of sources, by what is chosen so, that is found which is due.

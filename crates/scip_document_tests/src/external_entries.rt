@@ -12,7 +12,7 @@ const BOTH: Settings<'static> = Settings {
     ..PLAIN
 };
 
-const CASES: [Case<'static>; 9] = [
+static NAMED: [Case<'static>; 4] = [
     Case {
         name: "what a source names, and nothing else",
         sources: &[
@@ -87,6 +87,17 @@ const CASES: [Case<'static>; 9] = [
         },
         due: &[Externals(&["lib/T#|T"])],
     },
+];
+
+#[test]
+fn entries_of_declarations_of_included_files(rt: HostRuntime) -> Result<(), Fail> {
+    one_document_a_source();
+    one_index();
+    see_cases(&rt, rt.alloc(), &NAMED)?;
+    Ok(())
+}
+
+static CHOSEN: [Case<'static>; 5] = [
     Case {
         name: "named by a component in the middle",
         sources: &[
@@ -184,9 +195,7 @@ const CASES: [Case<'static>; 9] = [
 ];
 
 #[test]
-fn entries_of_declarations_of_included_files(rt: HostRuntime) -> Result<(), Fail> {
-    one_document_a_source();
-    one_index();
-    see_cases(&rt, rt.alloc(), &CASES)?;
+fn entries_of_what_components_name(rt: HostRuntime) -> Result<(), Fail> {
+    see_cases(&rt, rt.alloc(), &CHOSEN)?;
     Ok(())
 }

@@ -6,7 +6,8 @@ use index_hooks::{
     AnyAnswer, DocAlways, DocChoice, Filter, FilterCallback, KindIn, Kinds, NamePrefix, Registry,
 };
 use proto_decl::{DeclView, DeclarationKind};
-use std::alloc::AllocError;
+use std::alloc::{AllocError, Global};
+use std::process::Abort;
 use std::sync::atomic::{AtomicU64, Ordering};
 use std::test::Fail;
 
@@ -53,7 +54,7 @@ const ENUM: [(&str, &str, bool); 1] = [(
     false,
 )];
 
-const WITHOUT_ENUMS: Case<'static> = Case {
+static WITHOUT_ENUMS: Case<'static> = Case {
     name: "all kinds but enums",
     settings: PLAIN,
     sources: &ENUM,
@@ -69,7 +70,7 @@ const WITHOUT_ENUMS: Case<'static> = Case {
     )],
 };
 
-const UNDER_E: Case<'static> = Case {
+static UNDER_E: Case<'static> = Case {
     name: "what is under E",
     settings: PLAIN,
     sources: &ENUM,
@@ -80,7 +81,7 @@ const UNDER_E: Case<'static> = Case {
     )],
 };
 
-const SECOND_ONES: Case<'static> = Case {
+static SECOND_ONES: Case<'static> = Case {
     name: "each second declaration",
     settings: PLAIN,
     sources: &ENUM,
@@ -96,7 +97,7 @@ const SECOND_ONES: Case<'static> = Case {
     )],
 };
 
-const BOTH_TEXTS: Case<'static> = Case {
+static BOTH_TEXTS: Case<'static> = Case {
     name: "both texts, by a rule",
     settings: PLAIN,
     sources: &[(
@@ -115,50 +116,53 @@ const BOTH_TEXTS: Case<'static> = Case {
     )],
 };
 
+/// Sees that by what a registry chooses that is found which is due.
+fn see_asked(rt: &impl Abort, alloc: Global, registry: &Registry, case: &Case) -> Result<(), Fail> {
+    see_chosen(rt, alloc, registry, case)?;
+    Ok(())
+}
+
 #[test]
 fn a_filter_by_kind(rt: HostRuntime) -> Result<(), Fail> {
-    let mut registry = Registry::new(rt.alloc());
     let kinds = Kinds::of(&KINDS);
     let filter = Box::new(rt.alloc(), Filter::new(KindIn(kinds), OfKinds(kinds)))?;
+    let mut registry = Registry::new(rt.alloc());
     if registry.add_filter(filter).is_err() {
         return Err(AllocError.into());
     }
-    see_chosen(&rt, rt.alloc(), &registry, &WITHOUT_ENUMS)?;
-    Ok(())
+    see_asked(&rt, rt.alloc(), &registry, &WITHOUT_ENUMS)
 }
 
 #[test]
 fn a_filter_by_name(rt: HostRuntime) -> Result<(), Fail> {
+    let filter = NamePrefix::filter(rt.alloc(), "E")?;
+    let filter = Box::new(rt.alloc(), filter)?;
     let mut registry = Registry::new(rt.alloc());
-    let filter = Box::new(rt.alloc(), NamePrefix::filter(rt.alloc(), "E")?)?;
     if registry.add_filter(filter).is_err() {
         return Err(AllocError.into());
     }
-    see_chosen(&rt, rt.alloc(), &registry, &UNDER_E)?;
-    Ok(())
+    see_asked(&rt, rt.alloc(), &registry, &UNDER_E)
 }
 
 #[test]
 fn a_filter_that_alternates(rt: HostRuntime) -> Result<(), Fail> {
-    let mut registry = Registry::new(rt.alloc());
     let callback = EachSecond {
         asked: AtomicU64::new(0),
     };
     let filter = Box::new(rt.alloc(), Filter::new(AnyAnswer, callback))?;
+    let mut registry = Registry::new(rt.alloc());
     if registry.add_filter(filter).is_err() {
         return Err(AllocError.into());
     }
-    see_chosen(&rt, rt.alloc(), &registry, &SECOND_ONES)?;
-    Ok(())
+    see_asked(&rt, rt.alloc(), &registry, &SECOND_ONES)
 }
 
 #[test]
 fn a_documentation_rule(rt: HostRuntime) -> Result<(), Fail> {
-    let mut registry = Registry::new(rt.alloc());
     let rule = Box::new(rt.alloc(), DocAlways(DocChoice::Both).rule())?;
+    let mut registry = Registry::new(rt.alloc());
     if registry.add_doc(rule).is_err() {
         return Err(AllocError.into());
     }
-    see_chosen(&rt, rt.alloc(), &registry, &BOTH_TEXTS)?;
-    Ok(())
+    see_asked(&rt, rt.alloc(), &registry, &BOTH_TEXTS)
 }

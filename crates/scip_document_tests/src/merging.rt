@@ -12,7 +12,7 @@ use std::test::Fail;
 
 /// Paths of pieces, each with a mark of its own, and what is due: a fault, or the marks in the order
 /// of the paths a.proto and b.proto.
-const CASES: [(&[(&str, i32)], Option<MergeFault>, &[i32]); 11] = [
+static CASES: [(&[(&str, i32)], Option<MergeFault>, &[i32]); 11] = [
     (&[("b.proto", 7), ("a.proto", 8)], None, &[8, 7]),
     (&[("a.proto", 7), ("b.proto", 8)], None, &[7, 8]),
     (
@@ -61,11 +61,21 @@ fn piece(alloc: Global, path: &str, mark: i32) -> Result<Document, AllocError> {
     })
 }
 
+fn add_piece(
+    alloc: Global,
+    pieces: &mut Vec<Document>,
+    path: &str,
+    mark: i32,
+) -> Result<(), AllocError> {
+    let piece = piece(alloc, path, mark)?;
+    pieces.push(piece)?;
+    Ok(())
+}
+
 fn pieces_of(alloc: Global, paths: &[(&str, i32)]) -> Result<Vec<Document>, AllocError> {
     let mut pieces = Vec::with_capacity(alloc, paths.len())?;
     for (path, mark) in paths {
-        let piece = piece(alloc, *path, *mark)?;
-        pieces.push(piece)?;
+        add_piece(alloc, &mut pieces, *path, *mark)?;
     }
     Ok(pieces)
 }
@@ -117,13 +127,14 @@ fn merged_again(
 }
 
 fn have_marks(pieces: &[Document], marks: &[i32]) -> bool {
-    for (index, mark) in marks.iter().enumerate() {
-        match pieces.get(index) {
-            Some(piece) if piece.position_encoding == *mark => {}
+    let mut rest = pieces;
+    for mark in marks {
+        match rest {
+            [piece, others @ ..] if piece.position_encoding == *mark => rest = others,
             _ => return false,
         }
     }
-    pieces.len() == marks.len()
+    rest.is_empty()
 }
 
 fn is_the_entry(externals: &[Info]) -> bool {
@@ -140,6 +151,26 @@ fn has_metadata(index: &Index) -> bool {
     }
 }
 
+/// Whether an index has these pieces in order, the metadata and the entry.
+fn is_merged(index: &Index, marks: &[i32]) -> bool {
+    has_metadata(index)
+        && have_marks(index.documents.as_slice(), marks)
+        && is_the_entry(index.external_symbols.as_slice())
+}
+
+/// Whether these pieces and the entry come back as they were.
+fn are_back(unmerged: &Unmerged, marks: &[i32]) -> bool {
+    have_marks(&unmerged.pieces, marks) && is_the_entry(unmerged.externals.as_slice())
+}
+
+/// Whether pieces are put together, or refused for this fault.
+fn is_due(answer: &Result<Index, Unmerged>, fault: Option<MergeFault>, marks: &[i32]) -> bool {
+    match answer {
+        Ok(index) => fault.is_none() && is_merged(index, marks),
+        Err(unmerged) => Some(unmerged.fault) == fault && are_back(unmerged, marks),
+    }
+}
+
 fn see_case(
     rt: &impl Abort,
     alloc: Global,
@@ -149,23 +180,12 @@ fn see_case(
 ) -> Result<(), AllocError> {
     let externals = externals_of(alloc)?;
     let pieces = pieces_of(alloc, paths)?;
-    match merged_again(alloc, pieces, externals) {
-        Ok(index) => {
-            see(rt, fault.is_none(), "put together");
-            see(rt, has_metadata(&index), "the metadata");
-            see(
-                rt,
-                have_marks(index.documents.as_slice(), marks),
-                "in order",
-            );
-            see(rt, is_the_entry(index.external_symbols.as_slice()), "kept");
-        }
-        Err(unmerged) => {
-            see(rt, Some(unmerged.fault) == fault, "refused");
-            see(rt, have_marks(&unmerged.pieces, marks), "as they were");
-            see(rt, is_the_entry(unmerged.externals.as_slice()), "kept");
-        }
-    }
+    let answer = merged_again(alloc, pieces, externals);
+    see(
+        rt,
+        is_due(&answer, fault, marks),
+        "put together, or refused",
+    );
     Ok(())
 }
 
@@ -173,8 +193,8 @@ fn see_case(
 fn pieces_in_any_order(rt: HostRuntime) -> Result<(), Fail> {
     one_merge_refusal();
     one_merged_list();
-    for (paths, fault, marks) in CASES {
-        see_case(&rt, rt.alloc(), paths, fault, marks)?;
+    for (paths, fault, marks) in &CASES {
+        see_case(&rt, rt.alloc(), *paths, *fault, *marks)?;
     }
     Ok(())
 }

@@ -4,7 +4,7 @@ use crate::documents::Due::Document;
 use crate::documents::{Case, PLAIN, see_cases};
 use std::test::Fail;
 
-const CASES: [Case<'static>; 13] = [
+static OF_DECLARATIONS: [Case<'static>; 4] = [
     Case {
         name: "a message",
         settings: PLAIN,
@@ -15,6 +15,95 @@ const CASES: [Case<'static>; 13] = [
             &["A#|A", "`a.proto`/|a.proto"],
         )],
     },
+    Case {
+        name: "a field of its type's name",
+        settings: PLAIN,
+        sources: &[(
+            "a.proto",
+            "syntax = \"proto3\";\npackage p;\nmessage Foo {}\nmessage M { string Foo = 1; Foo x = 2; }\n",
+            false,
+        )],
+        due: &[Document(
+            0,
+            &[
+                "0 0 0 0 1 `a.proto`/",
+                "1 8 1 9 1 p/",
+                "2 8 2 11 1 p/Foo#",
+                "3 8 3 9 1 p/M#",
+                "3 19 3 22 1 p/M#Foo.",
+                "3 28 3 31 0 p/Foo#",
+                "3 32 3 33 1 p/M#x.",
+            ],
+            &[
+                "`a.proto`/|a.proto",
+                "p/|p",
+                "p/Foo#|Foo",
+                "p/M#|M",
+                "p/M#Foo.|Foo",
+                "p/M#x.|x",
+            ],
+        )],
+    },
+    Case {
+        name: "a method of its type's name",
+        settings: PLAIN,
+        sources: &[(
+            "a.proto",
+            "syntax = \"proto3\";\nmessage Foo {}\nservice S { rpc Foo(Foo) returns (stream Foo); }\n",
+            false,
+        )],
+        due: &[Document(
+            0,
+            &[
+                "0 0 0 0 1 `a.proto`/",
+                "1 8 1 11 1 Foo#",
+                "2 8 2 9 1 S#",
+                "2 16 2 19 1 S#Foo().",
+                "2 20 2 23 0 Foo#",
+                "2 41 2 44 0 Foo#",
+            ],
+            &["Foo#|Foo", "S#|S", "S#Foo().|Foo", "`a.proto`/|a.proto"],
+        )],
+    },
+    Case {
+        name: "names with gaps",
+        settings: PLAIN,
+        sources: &[(
+            "a.proto",
+            "syntax = \"proto3\";\npackage a . /* . */ b;\nmessage A {}\nmessage M { b\n  . A x = 1; }\n",
+            false,
+        )],
+        due: &[Document(
+            0,
+            &[
+                "0 0 0 0 1 `a.proto`/",
+                "1 8 1 9 1 a/",
+                "1 20 1 21 1 a/b/",
+                "2 8 2 9 1 a/b/A#",
+                "3 8 3 9 1 a/b/M#",
+                "3 12 3 13 0 a/b/",
+                "4 4 4 5 0 a/b/A#",
+                "4 6 4 7 1 a/b/M#x.",
+            ],
+            &[
+                "`a.proto`/|a.proto",
+                "a/|a",
+                "a/b/|a.b",
+                "a/b/A#|A",
+                "a/b/M#|M",
+                "a/b/M#x.|x",
+            ],
+        )],
+    },
+];
+
+#[test]
+fn documents_of_declarations(rt: HostRuntime) -> Result<(), Fail> {
+    see_cases(&rt, rt.alloc(), &OF_DECLARATIONS)?;
+    Ok(())
+}
+
+static OF_PACKAGES: [Case<'static>; 2] = [
     Case {
         name: "packages and types of other files",
         settings: PLAIN,
@@ -87,55 +176,24 @@ const CASES: [Case<'static>; 13] = [
         ],
     },
     Case {
-        name: "a field of its type's name",
+        name: "a package of equal components",
         settings: PLAIN,
-        sources: &[(
-            "a.proto",
-            "syntax = \"proto3\";\npackage p;\nmessage Foo {}\nmessage M { string Foo = 1; Foo x = 2; }\n",
-            false,
-        )],
+        sources: &[("a.proto", "syntax = \"proto3\";\npackage a.a;\n", false)],
         due: &[Document(
             0,
-            &[
-                "0 0 0 0 1 `a.proto`/",
-                "1 8 1 9 1 p/",
-                "2 8 2 11 1 p/Foo#",
-                "3 8 3 9 1 p/M#",
-                "3 19 3 22 1 p/M#Foo.",
-                "3 28 3 31 0 p/Foo#",
-                "3 32 3 33 1 p/M#x.",
-            ],
-            &[
-                "`a.proto`/|a.proto",
-                "p/|p",
-                "p/Foo#|Foo",
-                "p/M#|M",
-                "p/M#Foo.|Foo",
-                "p/M#x.|x",
-            ],
+            &["0 0 0 0 1 `a.proto`/", "1 8 1 9 1 a/", "1 10 1 11 1 a/a/"],
+            &["`a.proto`/|a.proto", "a/|a", "a/a/|a.a"],
         )],
     },
-    Case {
-        name: "a method of its type's name",
-        settings: PLAIN,
-        sources: &[(
-            "a.proto",
-            "syntax = \"proto3\";\nmessage Foo {}\nservice S { rpc Foo(Foo) returns (stream Foo); }\n",
-            false,
-        )],
-        due: &[Document(
-            0,
-            &[
-                "0 0 0 0 1 `a.proto`/",
-                "1 8 1 11 1 Foo#",
-                "2 8 2 9 1 S#",
-                "2 16 2 19 1 S#Foo().",
-                "2 20 2 23 0 Foo#",
-                "2 41 2 44 0 Foo#",
-            ],
-            &["Foo#|Foo", "S#|S", "S#Foo().|Foo", "`a.proto`/|a.proto"],
-        )],
-    },
+];
+
+#[test]
+fn documents_of_packages(rt: HostRuntime) -> Result<(), Fail> {
+    see_cases(&rt, rt.alloc(), &OF_PACKAGES)?;
+    Ok(())
+}
+
+static OF_IMPORTS: [Case<'static>; 4] = [
     Case {
         name: "files that import each other",
         settings: PLAIN,
@@ -232,16 +290,15 @@ const CASES: [Case<'static>; 13] = [
             &["`a.proto`/|a.proto"],
         )],
     },
-    Case {
-        name: "a package of equal components",
-        settings: PLAIN,
-        sources: &[("a.proto", "syntax = \"proto3\";\npackage a.a;\n", false)],
-        due: &[Document(
-            0,
-            &["0 0 0 0 1 `a.proto`/", "1 8 1 9 1 a/", "1 10 1 11 1 a/a/"],
-            &["`a.proto`/|a.proto", "a/|a", "a/a/|a.a"],
-        )],
-    },
+];
+
+#[test]
+fn documents_of_imports(rt: HostRuntime) -> Result<(), Fail> {
+    see_cases(&rt, rt.alloc(), &OF_IMPORTS)?;
+    Ok(())
+}
+
+static OF_NAMES: [Case<'static>; 3] = [
     Case {
         name: "one package of two files",
         settings: PLAIN,
@@ -325,36 +382,6 @@ const CASES: [Case<'static>; 13] = [
         )],
     },
     Case {
-        name: "names with gaps",
-        settings: PLAIN,
-        sources: &[(
-            "a.proto",
-            "syntax = \"proto3\";\npackage a . /* . */ b;\nmessage A {}\nmessage M { b\n  . A x = 1; }\n",
-            false,
-        )],
-        due: &[Document(
-            0,
-            &[
-                "0 0 0 0 1 `a.proto`/",
-                "1 8 1 9 1 a/",
-                "1 20 1 21 1 a/b/",
-                "2 8 2 9 1 a/b/A#",
-                "3 8 3 9 1 a/b/M#",
-                "3 12 3 13 0 a/b/",
-                "4 4 4 5 0 a/b/A#",
-                "4 6 4 7 1 a/b/M#x.",
-            ],
-            &[
-                "`a.proto`/|a.proto",
-                "a/|a",
-                "a/b/|a.b",
-                "a/b/A#|A",
-                "a/b/M#|M",
-                "a/b/M#x.|x",
-            ],
-        )],
-    },
-    Case {
         name: "a path with a space",
         settings: PLAIN,
         sources: &[("x/a b.proto", "syntax = \"proto3\";\nmessage A {}\n", false)],
@@ -367,7 +394,7 @@ const CASES: [Case<'static>; 13] = [
 ];
 
 #[test]
-fn documents_of_sources(rt: HostRuntime) -> Result<(), Fail> {
-    see_cases(&rt, rt.alloc(), &CASES)?;
+fn documents_of_names(rt: HostRuntime) -> Result<(), Fail> {
+    see_cases(&rt, rt.alloc(), &OF_NAMES)?;
     Ok(())
 }

@@ -4,7 +4,7 @@ use crate::documents::Due::Document;
 use crate::documents::{Case, PLAIN, Settings, see_cases};
 use std::test::Fail;
 
-const CASES: [Case<'static>; 4] = [
+static CASES: [Case<'static>; 4] = [
     Case {
         name: "a type of an included file",
         settings: PLAIN,

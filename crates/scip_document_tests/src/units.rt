@@ -5,7 +5,7 @@ use crate::documents::{Case, PLAIN, Settings, see_cases};
 use proto_lex::Encoding;
 use std::test::Fail;
 
-const CASES: [Case<'static>; 9] = [
+static CASES: [Case<'static>; 9] = [
     Case {
         name: "a package with spaces",
         settings: Settings {

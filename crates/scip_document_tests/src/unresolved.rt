@@ -4,7 +4,7 @@ use crate::documents::Due::Unresolved;
 use crate::documents::{Case, PLAIN, Settings, see_cases};
 use std::test::Fail;
 
-const CASES: [Case<'static>; 5] = [
+static CASES: [Case<'static>; 5] = [
     Case {
         name: "a package that is seen, and no type",
         sources: &[

@@ -1,5 +1,6 @@
 -- Faults of a tree exclude one another, and where it is indexed there is none.
 use Rattle.std.proofs.Common.{◌≡◌, ◌≢◌, ◌∙◌, ◌⊎◌, inl, inr, ℕ, ◌<◌, ◌≤◌, List, length, ap, sym, subst, refl, arith}
+use Rattle.proto_lex.specs.declared.fault.LexFault.{LexFault}
 use Rattle.proto_decl.specs.Seen.{Seen}
 use Rattle.proto_link.specs.declared.fault.LinkFault.{LinkFault}
 use Rattle.proto_link.specs.declared.fault.LinkFault.TheVariants as link
@@ -8,15 +9,17 @@ use Rattle.source_tree.specs.Files.{TreeFile}
 use Rattle.scip_document.specs.Chosen.{Chosen}
 use Rattle.scip_model.specs.declared.records.Index.{Index}
 use Rattle.scip_build.specs.Builds.{IsBuilt, IsBuildFault}
-use Rattle.scip_build.specs.BuildLaws.{cause_of, BuiltHasNoFault, OneBuildFault, OneBuilt}
+use Rattle.scip_build.specs.BuildLaws.{cause_of, BuiltHasNoFault, OneBuildFault, FileFaultsAreAlike, OneBuilt}
 use Rattle.scip_build.specs.declared.built.Built.{Built}
 use Rattle.scip_build.specs.declared.settings.Settings.{Settings}
 use Rattle.scip_build.specs.declared.fault.BuildFault.{BuildFault}
 use Rattle.scip_build.specs.declared.fault.BuildFault.TheVariants as build
+use Rattle.scip_build.specs.declared.fault.FileFault.{FileFault}
 use Rattle.scip_build.specs.declared.fault.FileFault.TheVariants as file
+use Rattle.scip_build.specs.Laws.{AreAlike}
 use Rattle.scip_wire.specs.Spelling.{spelling_of, max_index_len}
 use Rattle.protoscip.specs.Indexes.{IsIndexed, IsRefused}
-use Rattle.protoscip.specs.IndexLaws.{Reason, unreadable, duplicate, missing_import, unresolved, too_large, outside, reason_of, OneReason, IndexedHasNoFault, AllowOneChoice, OneIndexing, OneIndexingHasNoFault}
+use Rattle.protoscip.specs.IndexLaws.{Reason, unreadable, duplicate, missing_import, unresolved, too_large, outside, reason_of, OneReason, OneFileFault, IndexedHasNoFault, AllowOneChoice, OneIndexing, OneIndexingHasNoFault}
 use Rattle.protoscip.specs.declared.fault.Fault.{Fault}
 use Rattle.protoscip.specs.declared.fault.Fault.TheVariants as fault
 
@@ -67,6 +70,37 @@ module _ (allows others : Seen → Choice → Type 0) where
           | inr again ↦ built.reason ∙ (ap reason_of_cause (one settings.custom_options tree workers more built.because again.because built.is again.is built.named again.named) ∙ sym again.reason)
         ]
       ]
+
+  module _ (one : OneReason allows others) (alike : FileFaultsAreAlike allows others) where
+    -- two files that can't be read are one, and two faults of its lexing one fault
+    of_one : (settings : Settings) (tree : List TreeFile) (workers more number again : ℕ) (because : LexFault) (other : FileFault) → IsRefused allows settings tree workers (fault.Lex number because)
+        → IsBuildFault others settings.custom_options tree more (build.File again other) → unreadable number ≡ unreadable again → (number ≡ again) × AreAlike (file.Lex because) other
+    of_one settings tree workers more number again because other is also same =
+        let it : number ≡ again = cc in
+        (it, alike settings.custom_options tree workers more again (file.Lex because) other (subst (λ (n : ℕ). IsRefused allows settings tree workers (fault.Lex n because)) it is) also)
+
+    pub one_file_fault : OneFileFault allows others
+    one_file_fault settings tree workers more number because fault.Spawn is also named = absurd (named refl)
+    one_file_fault settings tree workers more number because fault.Memory is also named = absurd (named refl)
+    one_file_fault settings tree workers more number because (fault.Lex again other) is also named =
+        let same = of_one settings tree workers more number again because (file.Lex other) is also (one settings tree workers more (fault.Lex number because) (fault.Lex again other) is also (λ never. cc) named) in
+        let number_is = same.0 in
+        let fault_is = same.1 in
+        cc
+    one_file_fault settings tree workers more number because (fault.Syntax again other) is also named =
+        let same = of_one settings tree workers more number again because (file.Syntax other) is also (one settings tree workers more (fault.Lex number because) (fault.Syntax again other) is also (λ never. cc) named) in
+        absurd same.1
+    one_file_fault settings tree workers more number because (fault.Duplicate first second) is also named =
+        absurd (let same = one settings tree workers more (fault.Lex number because) (fault.Duplicate first second) is also (λ never. cc) named in cc)
+    one_file_fault settings tree workers more number because (fault.MissingImport place) is also named =
+        absurd (let same = one settings tree workers more (fault.Lex number because) (fault.MissingImport place) is also (λ never. cc) named in cc)
+    one_file_fault settings tree workers more number because (fault.Unresolved place) is also named =
+        absurd (let same = one settings tree workers more (fault.Lex number because) (fault.Unresolved place) is also (λ never. cc) named in cc)
+    one_file_fault settings tree workers more number because fault.TooLarge is also named =
+        absurd (let same = one settings tree workers more (fault.Lex number because) fault.TooLarge is also (λ never. cc) named in cc)
+    one_file_fault settings tree workers more number because (fault.Write count) is also named = absurd also
+    one_file_fault settings tree workers more number because fault.Read is also named = absurd also
+    one_file_fault settings tree workers more number because (fault.Answer count) is also named = absurd also
 
   pub indexed_has_no_fault : BuiltHasNoFault allows others → IndexedHasNoFault allows others
   indexed_has_no_fault none settings tree workers choices bytes fault.Spawn indexed is = inl refl

@@ -1,6 +1,7 @@
 -- What the definitions say of indexes of trees, whatever the code does. `allows` and `others` say which choices may come, by one
 -- chooser and by another, or by one that is asked twice.
 use Rattle.std.specs.Prelude.{◌≡◌, ◌≢◌, ◌⊎◌, ℕ, List}
+use Rattle.proto_lex.specs.declared.fault.LexFault.{LexFault}
 use Rattle.proto_decl.specs.Seen.{Seen}
 use Rattle.proto_link.specs.declared.place.FilePlace.{FilePlace}
 use Rattle.index_hooks.specs.declared.choice.Choice.{Choice}
@@ -39,6 +40,13 @@ abbrev pub OneReason : (allows others : Seen → Choice → Type 0) → Type 0
 OneReason allows others =
     (settings : Settings) (tree : List TreeFile) (workers more : ℕ) (fault other : Fault) → IsRefused allows settings tree workers fault → IsRefused others settings tree more other
     → reason_of fault ≢ outside → reason_of other ≢ outside → reason_of fault ≡ reason_of other
+
+-- Where a file's text can't be lexed, that is the one fault of the tree; so no fault of syntax stands beside it. (Of the faults of syntax of
+-- one file tests show which comes.)
+abbrev pub OneFileFault : (allows others : Seen → Choice → Type 0) → Type 0
+OneFileFault allows others =
+    (settings : Settings) (tree : List TreeFile) (workers more number : ℕ) (because : LexFault) (other : Fault) → IsRefused allows settings tree workers (Lex number because) → IsRefused others settings tree more other
+    → reason_of other ≢ outside → other ≡ Lex number because
 
 -- a tree that is indexed has no fault, but that by other choices its index may have too many bytes
 abbrev pub IndexedHasNoFault : (allows others : Seen → Choice → Type 0) → Type 0

@@ -3,11 +3,11 @@
 
 ghost use Rattle.protoscip.specs.DumpLaws.{OneListing, ListedUnlessMemory};
 ghost use Rattle.protoscip.specs.Headline.{Headline};
-ghost use Rattle.protoscip.specs.IndexLaws.{OneReason, IndexedHasNoFault, OneIndexing, OneIndexingHasNoFault};
+ghost use Rattle.protoscip.specs.IndexLaws.{OneReason, OneFileFault, IndexedHasNoFault, OneIndexing, OneIndexingHasNoFault};
 
 use crate::dumping::DefaultChoices;
 use index_hooks::Chooses;
-use scip_build::{built_has_no_fault, one_build_fault, one_built};
+use scip_build::{built_has_no_fault, file_faults_are_alike, one_build_fault, one_built};
 
 /// Two faults of a tree name the same, whatever was chosen.
 pub fn one_reason<C: Chooses, D: Chooses>(chooser: &C, other: &D)
@@ -16,6 +16,15 @@ pub fn one_reason<C: Chooses, D: Chooses>(chooser: &C, other: &D)
     one_build_fault(chooser, other);
     built_has_no_fault(chooser, other);
     built_has_no_fault(other, chooser);
+}
+
+/// Where a file's text has no lexing, that is the one fault of a tree, whatever was chosen; so no fault of
+/// syntax stands beside it.
+pub fn one_file_fault<C: Chooses, D: Chooses>(chooser: &C, other: &D)
+    ensures { OneFileFault (C.allows chooser.now) (D.allows other.now) }
+{
+    one_reason(chooser, other);
+    file_faults_are_alike(chooser, other);
 }
 
 /// A tree that is indexed has no fault, whatever was chosen; but by other choices its index may have too

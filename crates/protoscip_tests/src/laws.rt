@@ -2,7 +2,8 @@
 
 use index_hooks::Registry;
 use protoscip::{
-    headline, indexed_has_no_fault, listed_unless_memory, one_indexing, one_listing, one_reason,
+    headline, indexed_has_no_fault, listed_unless_memory, one_file_fault, one_indexing, one_listing,
+    one_reason,
 };
 
 #[test]
@@ -11,6 +12,7 @@ fn laws_of_indexes(rt: HostRuntime) {
     let other = Registry::new(rt.alloc());
     headline(&registry);
     one_reason(&registry, &other);
+    one_file_fault(&registry, &other);
     indexed_has_no_fault(&registry, &other);
     one_indexing(&registry, &other);
     one_listing();

@@ -74,7 +74,7 @@ module _ {allows : Seen → Choice → Type 0} {settings : Settings} {tree : Lis
     pub stands : occurrence_in named.document (record { line = line; column = column }) ≡ Some occurrence
     pub is : IsOf entity named.document occurrence
 
-  -- What is answered about a position: just the sites that are wanted of the entity there; and nothing where there is none.
+  -- What is answered about a position: just the sites that are wanted of the entity there; it is refused only where there is none.
   abbrev pub Answers : (IsWanted : Entity → Site → Type 0) → (path : List ℕ) → (line column : ℕ) → {E : Type 0} → Result (List Site) E → Type 0
   Answers IsWanted path line column (Ok sites) = (entity : Entity) × IsAt path line column entity × ((site : Site) → Contains sites site ↔ IsWanted entity site)
   Answers IsWanted path line column (Err miss) = (entity : Entity) → IsAt path line column entity → ⊥

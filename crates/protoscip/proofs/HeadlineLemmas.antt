@@ -1,151 +1,171 @@
--- Queries over the index of a tree answer exactly the occurrences of the symbol asked.
-use Rattle.std.proofs.Common.{◌≡◌, ◌∙◌, ◌↔◌, ℕ, zero, suc, ◌+◌, List, [], ◌∷◌, Option, Some, None, Result, Ok, Err, ap, sym, subst, refl}
-use Rattle.std.specs.Prelude.{Bool, true, false, not, ◌&&◌, ◌||◌, ◌==◌, map, Contains}
-use Rattle.std.specs.Bool.{Decides}
-use Rattle.std.specs.List.{slice_get, filter, find, enumerate_from}
+-- Queries over the index of a tree answer exactly the occurrences of the entity asked.
+use Rattle.std.proofs.Common.{◌≡◌, ◌∙◌, ◌↔◌, ℕ, List, Option, Result, Ok, Err, ap, sym, subst, refl}
+use Rattle.std.specs.Prelude.{true, false, ◌&&◌, Contains}
 use Rattle.std.specs.Result.{result_map_both}
-use Rattle.std.specs.Str.{bytes_eq}
-use Rattle.std.proofs.lemmas.Bool.Decides.{Decides-and, Decides-like}
-use Rattle.std.proofs.lemmas.Option.{same_Some, none-some}
-use Rattle.std.proofs.lemmas.Slice.Eq.{bytes_eq-Decides}
-use Rattle.proto_lex.specs.declared.position.Encoding.{Encoding}
 use Rattle.proto_decl.specs.Seen.{Seen}
-use Rattle.proto_link.specs.Files.{File}
+use Rattle.proto_link.specs.Files.{File, IsSource, HaveOrigins}
 use Rattle.index_hooks.specs.declared.choice.Choice.{Choice}
 use Rattle.source_tree.specs.Files.{TreeFile}
-use Rattle.scip_symbol.specs.Package.{Package}
-use Rattle.scip_symbol.specs.Entities.{Entity, OfFile}
-use Rattle.scip_document.specs.Chosen.{Chosen}
-use Rattle.scip_document.specs.Indexes.{IsIndexOf}
-use Rattle.scip_document.specs.Named.{text_of, package_at, declaration_at}
-use Rattle.scip_document.specs.Occurs.{Occurs, of_file, of_import, of_package, of_declaration, of_component}
-use Rattle.scip_model.specs.declared.records.Index.{Index}
+use Rattle.source_tree.specs.Trees.{IsTree}
+use Rattle.scip_symbol.specs.Package.{Package, IsPackage}
+use Rattle.scip_symbol.specs.Entities.{Entity}
+use Rattle.scip_document.specs.Conditions.{HaveGoodPaths}
+use Rattle.scip_document.specs.Indexes.{HasDocument}
+use Rattle.scip_document.specs.Named.{text_of}
 use Rattle.scip_model.specs.declared.records.Document.{Document}
 use Rattle.scip_model.specs.declared.records.Occurrence.{Occurrence}
-use Rattle.scip_query.specs.OccurrenceAt.{Subject, subject_at, subject_in, subject_of, occurrence_in, stands_at}
+use Rattle.scip_query.specs.OccurrenceAt.{Subject, subject_at, subject_in, subject_of}
 use Rattle.scip_query.specs.References.{is_local, is_of, is_definition, references_of, definitions_of, references_at, definitions_at}
-use Rattle.scip_query.specs.Sites.{Site, Numbered, numbered_documents, sites_of, document_named}
+use Rattle.scip_query.specs.Sites.{Site, Numbered, sites_of}
+use Rattle.scip_build.specs.Builds.{IsBuilt}
+use Rattle.scip_build.specs.Documents.{texts_of}
+use Rattle.scip_build.specs.Linking.{linked_files}
+use Rattle.scip_build.specs.declared.built.Built.{Built}
 use Rattle.scip_build.specs.declared.settings.Settings.{Settings}
-use Rattle.protoscip.specs.Indexes.{IsIndexed}
-use Rattle.protoscip.specs.Headline.{HasSymbol, AnswersNames, Navigates, Headline}
-use Rattle.protoscip.proofs.ListLemmas.{place_of, contained, behind, filtered, kept, found}
+use Rattle.protoscip.specs.Headline.{IsEntityOf, entity_of, IsOf, IsSiteOf, IsDefinitionOf, IsAt, Answers, AnswersNames, Headline}
+use Rattle.protoscip.proofs.EntityLemmas.{Laws, entity_is, symbol_is, one_entity}
+use Rattle.protoscip.proofs.LinkedLemmas.{have_origins, good_paths}
+use Rattle.protoscip.proofs.SiteLemmas.{standing, IsAsked, asked, of_symbol, defining, just}
 
--- ---- an index of a tree has no local symbols
-
-entity_of : (files : List File) (chosen : Chosen) (id : Package) (encoding : Encoding) (source : ℕ) (text : List ℕ) (o : Occurrence) → Occurs files chosen id encoding source text o
-    → (entity : Entity) × (o.symbol ≡ text_of id entity)
-entity_of files chosen id encoding source text _ (of_file {file = file} at) = (OfFile file.path, refl)
-entity_of files chosen id encoding source text _ (of_import {imported = imported} has listed) = (OfFile imported.path, refl)
-entity_of files chosen id encoding source text _ (of_package {facts = facts} index has at) = (package_at facts (index + 1), refl)
-entity_of files chosen id encoding source text _ (of_declaration {facts = facts} index {declared = declared} has keeps) = (declaration_at facts declared, refl)
-entity_of files chosen id encoding source text _ (of_component {entity = entity} names shown) = (entity, refl)
-
+-- no symbol of an entity is local
 not_local : (id : Package) (entity : Entity) → is_local (text_of id entity) ≡ false
 unfolding text_of
 not_local id entity = refl
 
--- no occurrence of a document has a local symbol
-abbrev pub IsGlobal : Index → Type 0
-IsGlobal index = (document : Document) → Contains index.documents document → (o : Occurrence) → Contains document.occurrences o → is_local o.symbol ≡ false
+module _ {allows : Seen → Choice → Type 0} {settings : Settings} {tree : List TreeFile} {result : Built} (built : IsBuilt allows settings tree result)
+    (origins : HaveOrigins (linked_files built.readings)) (good : HaveGoodPaths (linked_files built.readings)) (is_package : IsPackage settings.package) (laws : Laws) where
+  Files : List File
+  Files = linked_files built.readings
 
-global_index : (files : List File) (texts : List (List ℕ)) (chosen : Chosen) (id : Package) (encoding : Encoding) (root : List ℕ) (index : Index)
-    → IsIndexOf files texts chosen id encoding root index → IsGlobal index
-global_index files texts chosen id encoding root index is document listed o there =
-    let has = (is.documents.exact document).0 listed in
-    let occurs = (has.is.occurrences.exact o).0 there in
-    let entity = entity_of files chosen id encoding has.source has.text o occurs in
-    ap is_local entity.1 ∙ not_local id entity.0
+  -- ---- the entity of an occurrence
 
--- ---- what is asked about
+  source_of : (document : Document) (has : HasDocument (linked_files built.readings) (texts_of built.readings) result.choices settings.package settings.encoding document) → IsSource (linked_files built.readings) has.source
+  source_of document has = record { file = has.is.file; numbered = has.is.numbered; source = has.is.is_source }
 
-abbrev pub numbering : ℕ × Document → Numbered
-numbering d = record { number = d.0; document = d.1 }
+  of_files : (entity : Entity) (document : Document) (o : Occurrence) → IsOf built entity document o → IsEntityOf (linked_files built.readings) entity
+  of_files entity document o is =
+      subst (IsEntityOf (linked_files built.readings)) is.is
+      (entity_is (linked_files built.readings) built.linked origins laws result.choices settings.package settings.encoding is.of_source.source is.of_source.text (source_of document is.of_source) o is.occurs)
 
-numbered_in : (n : ℕ) (documents : List Document) (k : ℕ) (d : Numbered) → slice_get (map numbering (enumerate_from n documents)) k ≡ Some d → Contains documents d.document
-numbered_in n [] k d at = absurd (none-some d at)
-numbered_in n (x ∷ xs) zero d at = contained (x ∷ xs) zero d.document (ap Some (ap (λ (e : Numbered). e.document) (same_Some (numbering (n, x)) d at)))
-numbered_in n (x ∷ xs) (suc k) d at = behind x xs d.document (numbered_in (n + 1) xs k d at)
+  symbol_of : (entity : Entity) (document : Document) (o : Occurrence) → IsOf built entity document o → o.symbol ≡ text_of settings.package entity
+  symbol_of entity document o is =
+      symbol_is (linked_files built.readings) built.linked origins laws result.choices settings.package settings.encoding is.of_source.source is.of_source.text o is.occurs
+      ∙ ap (text_of settings.package) is.is
 
-symbol_or : {E : Type 0} → Result Subject E → List ℕ
-symbol_or (Ok subject) = subject.symbol
-symbol_or (Err miss) = []
+  entity_at : (document : Document) (o : Occurrence) → Contains result.index.documents document → Contains document.occurrences o → (entity : Entity) × IsOf built entity document o
+  entity_at document o listed there =
+      let has = (built.index.documents.exact document).0 listed in
+      let occurs = (has.is.occurrences.exact o).0 there in
+      (entity_of occurs, record { of_source = has; occurs = occurs; is = refl })
 
-in_document : (d : Numbered) (here : Option Occurrence) (subject : Subject) → subject_in d here ≡ Ok subject → (o : Occurrence) × (here ≡ Some o) × (o.symbol ≡ subject.symbol)
-unfolding symbol_or
-in_document d None subject is = absurd (cc)
-in_document d (Some o) subject is = (o, refl, ap symbol_or is)
+  same_entity : (entity other : Entity) → IsEntityOf (linked_files built.readings) entity → IsEntityOf (linked_files built.readings) other
+      → text_of settings.package entity ≡ text_of settings.package other → entity ≡ other
+  same_entity = one_entity (linked_files built.readings) origins good built.linked.clear laws settings.package is_package
 
-of_document : (named : Option Numbered) (line column : ℕ) (subject : Subject) → subject_of named (record { line = line; column = column }) ≡ Ok subject
-    → (d : Numbered) × (named ≡ Some d) × ((o : Occurrence) × (occurrence_in d.document (record { line = line; column = column }) ≡ Some o) × (o.symbol ≡ subject.symbol))
-of_document None line column subject is = absurd (cc)
-of_document (Some d) line column subject is = (d, refl, in_document d (occurrence_in d.document (record { line = line; column = column })) subject is)
+  -- occurrences with one symbol are of one entity
+  by_symbol : (entity other : Entity) (document another : Document) (o also : Occurrence) → IsOf built entity document o → IsOf built other another also → o.symbol ≡ also.symbol → other ≡ entity
+  by_symbol entity other document another o also is its same =
+      same_entity other entity (of_files other another also its) (of_files entity document o is)
+      (sym (symbol_of other another also its) ∙ (sym same ∙ symbol_of entity document o is))
 
-global_subject : (index : Index) (path : List ℕ) (line column : ℕ) (subject : Subject) → IsGlobal index → subject_at index path (record { line = line; column = column }) ≡ Ok subject → is_local subject.symbol ≡ false
-global_subject index path line column subject global is =
-    let of = of_document (document_named index path) line column subject is in
-    let named = found (λ (d : Numbered). bytes_eq d.document.relative_path path) (numbered_documents index) of.0 of.1 in
-    let listed = numbered_in 0 index.documents named.0 of.0 (place_of (numbered_documents index) of.0 named) in
-    let o = of.2.0 in
-    let standing = found _ (filter (stands_at (record { line = line; column = column })) of.0.document.occurrences) o of.2.1 in
-    let there = filtered (stands_at (record { line = line; column = column })) of.0.document.occurrences o standing in
-    ap is_local (sym of.2.2) ∙ global of.0.document listed o there.0
-
--- ---- answers
-
-module _ (subject : Subject) (global : is_local subject.symbol ≡ false) where
-  of_symbol : (site : Site) → Decides (is_of subject site) (site.occurrence.symbol ≡ subject.symbol)
-  of_symbol site =
-      let own : Bool = site.place.document == subject.asked.number in
-      let anywhere : (not (is_local subject.symbol) || own) ≡ true = ap (λ (b : Bool). not b || own) global in
-      let Same : Type 0 = site.occurrence.symbol ≡ subject.symbol in
-      Decides-like {P = Same × Unit {0}} {Q = Same} (is_of subject site) (λ both. both.0) (λ same. (same, tt))
-      (Decides-and {P = Same} {Q = Unit {0}} (bytes_eq site.occurrence.symbol subject.symbol) (not (is_local subject.symbol) || own) (bytes_eq-Decides site.occurrence.symbol subject.symbol) (λ _. tt, λ _. anywhere))
-
-  defining : (site : Site) → Decides (is_of subject site && is_definition site.occurrence) ((site.occurrence.symbol ≡ subject.symbol) × (is_definition site.occurrence ≡ true))
-  defining site = Decides-and (is_of subject site) (is_definition site.occurrence) (of_symbol site) (λ e. e, λ e. e)
-
-just : (index : Index) (test : Site → Bool) (P : Site → Type 0) → ((site : Site) → Decides (test site) (P site)) → (site : Site)
-    → Contains (filter test (sites_of index)) site ↔ (Contains (sites_of index) site × P site)
-just index test P decides site = (
-  λ there. let f = filtered test (sites_of index) site there in (f.0, (decides site).0 f.1),
-  λ both. kept test (sites_of index) both.0.0 site (place_of (sites_of index) site both.0) ((decides site).1 both.1),
-)
-
-sites_or : {E : Type 0} → Result (List Site) E → List Site
-sites_or (Ok sites) = sites
-sites_or (Err miss) = []
-
-mapped : {E : Type 0} (f : Subject → List Site) (r : Result Subject E) (sites : List Site) → result_map_both f (λ miss. miss) r ≡ Ok sites → (subject : Subject) × (r ≡ Ok subject) × (f subject ≡ sites)
-unfolding sites_or
-mapped f (Ok subject) sites is = (subject, refl, ap sites_or is)
-mapped f (Err miss) sites is = absurd (cc)
-
-names : (index : Index) → IsGlobal index → AnswersNames index
-names index global = record {
-  references = λ path line column sites is.
-      let of = mapped (references_of index) (subject_at index path (record { line = line; column = column })) sites is in
-      let Symbol : Site → Type 0 = λ site. site.occurrence.symbol ≡ of.0.symbol in
-      let local = global_subject index path line column of.0 global of.1 in
-      (of.0, of.1, λ site. subst (λ (found_sites : List Site). Contains found_sites site ↔ HasSymbol index of.0.symbol site) of.2 (just index (is_of of.0) Symbol (of_symbol of.0 local) site));
-  definitions = λ path line column sites is.
-      let of = mapped (definitions_of index) (subject_at index path (record { line = line; column = column })) sites is in
-      let local = global_subject index path line column of.0 global of.1 in
-      let Defined : Site → Type 0 = λ site. (site.occurrence.symbol ≡ of.0.symbol) × (is_definition site.occurrence ≡ true) in
-      let exact = just index (λ site. is_of of.0 site && is_definition site.occurrence) Defined (defining of.0 local) in (
+  each : (site : Site) → Contains (sites_of result.index) site
+      → (entity : Entity) × IsEntityOf (linked_files built.readings) entity × IsSiteOf built entity site × ((other : Entity) → IsSiteOf built other site → other ≡ entity)
+  each site there =
+      let stands = standing result.index site there in
+      let of = entity_at site.document site.occurrence stands.0 stands.1 in (
         of.0,
-        of.1,
-        λ site. subst (λ (found_sites : List Site). Contains found_sites site ↔ (HasSymbol index of.0.symbol site × (is_definition site.occurrence ≡ true))) of.2 (
-          λ there. let both = (exact site).0 there in ((both.0, both.1.0), both.1.1),
-          λ both. (exact site).1 (both.0.0, (both.0.1, both.1)),
-        ),
-      );
-}
+        of_files of.0 site.document site.occurrence of.1,
+        (there, of.1),
+        λ other is. by_symbol of.0 other site.document site.document site.occurrence site.occurrence of.1 is.1 refl,
+      )
 
-pub headline : (allows : Seen → Choice → Type 0) → Headline allows
-headline allows settings tree choices bytes indexed = record {
-  index = indexed.index;
-  decodes = indexed.spelled.decodes;
-  alone = indexed.spelled.alone;
-  given = indexed.built;
-  names = names indexed.index (global_index _ _ _ _ _ _ indexed.index indexed.built.index);
-}
+  -- ---- the sites of what is asked
+
+  module _ (path : List ℕ) (line column : ℕ) where
+    -- the sites with the symbol asked are those of the entity there
+    of_entity : (subject : Subject) (of : IsAsked result.index path line column subject) (entity : Entity) → IsOf built entity of.named.document of.occurrence → (site : Site)
+        → (Contains (sites_of result.index) site × (site.occurrence.symbol ≡ subject.symbol)) ↔ IsSiteOf built entity site
+    of_entity subject of entity is site = (
+      λ both.
+          let its = each site both.0 in
+          let same = by_symbol entity its.0 of.named.document site.document of.occurrence site.occurrence is its.2.1 (of.symbol ∙ sym both.1) in
+          (both.0, subst (λ (e : Entity). IsOf built e site.document site.occurrence) same its.2.1),
+      λ its. (its.0, symbol_of entity site.document site.occurrence its.1 ∙ (sym (symbol_of entity of.named.document of.occurrence is) ∙ of.symbol)),
+    )
+
+    is_global : (subject : Subject) (of : IsAsked result.index path line column subject) (entity : Entity) → IsOf built entity of.named.document of.occurrence → is_local subject.symbol ≡ false
+    is_global subject of entity is = ap is_local (sym of.symbol ∙ symbol_of entity of.named.document of.occurrence is) ∙ not_local settings.package entity
+
+    at_position : (subject : Subject) (of : IsAsked result.index path line column subject) (entity : Entity) → IsOf built entity of.named.document of.occurrence → IsAt built path line column entity
+    at_position subject of entity is = record { named = of.named; occurrence = of.occurrence; document_is = of.document_is; stands = of.stands; is = is }
+
+    -- a position with an entity has a subject
+    subject_of_entity : (entity : Entity) → IsAt built path line column entity → (subject : Subject) × (subject_at result.index path (record { line = line; column = column }) ≡ Ok subject)
+    subject_of_entity entity at = (
+      record { asked = at.named; symbol = at.occurrence.symbol },
+      ap (λ (named : Option Numbered). subject_of named (record { line = line; column = column })) at.document_is ∙ ap (subject_in at.named) at.stands,
+    )
+
+    -- an answer by what is found for the subject
+    answers : {E : Type 0} (IsWanted : Entity → Site → Type 0) (sites : Subject → List Site) (r : Result Subject E)
+        → ((subject : Subject) → r ≡ Ok subject → (entity : Entity) × IsAt built path line column entity × ((site : Site) → Contains (sites subject) site ↔ IsWanted entity site))
+        → ((entity : Entity) → IsAt built path line column entity → (subject : Subject) × (r ≡ Ok subject))
+        → Answers built IsWanted path line column (result_map_both sites (λ miss. miss) r)
+    answers IsWanted sites (Ok subject) some none = some subject refl
+    answers IsWanted sites (Err miss) some none = λ entity at. let of = none entity at in absurd (never of.0 of.1)
+      where
+        never : (subject : Subject) → Err miss ≡ Ok subject → ⊥
+        never subject e = cc
+
+    references : Answers built (IsSiteOf built) path line column (references_at result.index path (record { line = line; column = column }))
+    references = answers (IsSiteOf built) (references_of result.index) (subject_at result.index path (record { line = line; column = column }))
+        (λ subject is.
+        let of = asked result.index path line column subject is in
+        let entity = entity_at of.named.document of.occurrence of.listed of.there in
+        let global = is_global subject of entity.0 entity.1 in
+        let Same : Site → Type 0 = λ site. site.occurrence.symbol ≡ subject.symbol in (
+          entity.0,
+          at_position subject of entity.0 entity.1,
+          λ site.
+              let exact = just result.index (is_of subject) Same (of_symbol subject global) site in
+              let by_entity = of_entity subject of entity.0 entity.1 site in
+              (λ there. by_entity.0 (exact.0 there), λ its. exact.1 (by_entity.1 its)),
+        ))
+        subject_of_entity
+
+    definitions : Answers built (IsDefinitionOf built) path line column (definitions_at result.index path (record { line = line; column = column }))
+    definitions = answers (IsDefinitionOf built) (definitions_of result.index) (subject_at result.index path (record { line = line; column = column }))
+        (λ subject is.
+        let of = asked result.index path line column subject is in
+        let entity = entity_at of.named.document of.occurrence of.listed of.there in
+        let global = is_global subject of entity.0 entity.1 in
+        let Same : Site → Type 0 = λ site. (site.occurrence.symbol ≡ subject.symbol) × (is_definition site.occurrence ≡ true) in (
+          entity.0,
+          at_position subject of entity.0 entity.1,
+          λ site.
+              let exact = just result.index (λ s. is_of subject s && is_definition s.occurrence) Same (defining subject global) site in
+              let by_entity = of_entity subject of entity.0 entity.1 site in
+              (λ there. let both = exact.0 there in (by_entity.0 (both.0, both.1.0), both.1.1), λ its. let both = by_entity.1 its.0 in exact.1 (both.0, (both.1, its.1))),
+        ))
+        subject_of_entity
+
+  pub answers_names : AnswersNames built
+  answers_names = record {
+    each = each;
+    symbol = λ entity site is. symbol_of entity site.document site.occurrence is.1;
+    one_to_one = same_entity;
+    references = references;
+    definitions = definitions;
+  }
+
+pub headline : (allows : Seen → Choice → Type 0) (settings : Settings) (tree : List TreeFile) → IsTree tree → IsPackage settings.package → Laws → Headline allows settings tree
+headline allows settings tree is_tree is_package laws choices bytes indexed =
+    let built = indexed.built in
+    let origins = have_origins settings.custom_options allows tree built.readings built.read in
+    let good = good_paths settings.custom_options allows tree built.readings built.read is_tree.good in
+    record {
+      decodes = indexed.spelled.decodes;
+      alone = indexed.spelled.alone;
+      built = built;
+      names = answers_names built origins good is_package laws;
+    }

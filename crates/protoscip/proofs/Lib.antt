@@ -12,5 +12,10 @@ mod DumpLemmas
 mod SessionLemmas
 -- the laws
 mod LawLemmas
+-- the headline: files as they are linked, their entities, and the sites of an index
+mod DottedLemmas
+mod LinkedLemmas
+mod EntityLemmas
+mod SiteLemmas
 mod HeadlineLemmas
 mod DumpLawLemmas

@@ -1,41 +1,106 @@
 -- The headline: what holds of the bytes of a tree's index, and of queries over them.
-use Rattle.std.specs.Prelude.{◌≡◌, ◌↔◌, ℕ, true, List, Ok, Contains}
+use Rattle.std.specs.Prelude.{◌≡◌, ◌↔◌, ◌<◌, ◌≤◌, ℕ, ◌+◌, true, Some, Result, Ok, Err, List, length, Contains}
+use Rattle.std.specs.List.{slice_get}
+use Rattle.proto_lex.specs.declared.position.Encoding.{Encoding}
+use Rattle.proto_decl.specs.Facts.{Facts}
 use Rattle.proto_decl.specs.Seen.{Seen}
+use Rattle.proto_decl.specs.declared.declaration.Declaration.{Declaration}
+use Rattle.proto_link.specs.Files.{File, HasFacts}
+use Rattle.proto_link.specs.Sees.{Counts}
 use Rattle.index_hooks.specs.declared.choice.Choice.{Choice}
 use Rattle.source_tree.specs.Files.{TreeFile}
+use Rattle.scip_symbol.specs.Entities.{Entity, OfFile}
+use Rattle.scip_symbol.specs.Package.{Package}
 use Rattle.scip_document.specs.Chosen.{Chosen}
+use Rattle.scip_document.specs.Indexes.{HasDocument}
+use Rattle.scip_document.specs.Named.{HasDeclaration, text_of, package_at, declaration_at}
+use Rattle.scip_document.specs.Occurs.{Occurs}
+use Rattle.scip_document.specs.Occurs as rule
 use Rattle.scip_model.specs.declared.records.Index.{Index}
+use Rattle.scip_model.specs.declared.records.Document.{Document}
+use Rattle.scip_model.specs.declared.records.Occurrence.{Occurrence}
 use Rattle.scip_build.specs.Builds.{IsBuilt}
+use Rattle.scip_build.specs.Documents.{texts_of}
+use Rattle.scip_build.specs.Linking.{linked_files}
+use Rattle.scip_build.specs.declared.built.Built.{Built}
 use Rattle.scip_build.specs.declared.settings.Settings.{Settings}
-use Rattle.scip_query.specs.OccurrenceAt.{Subject, subject_at}
+use Rattle.scip_query.specs.OccurrenceAt.{occurrence_in}
 use Rattle.scip_query.specs.References.{definitions_at, references_at, is_definition}
-use Rattle.scip_query.specs.Sites.{Site, sites_of}
+use Rattle.scip_query.specs.Sites.{Site, Numbered, sites_of, document_named}
 use Rattle.scip_wire.specs.Decodes.{Decodes}
 use Rattle.protoscip.specs.Indexes.{IsIndexed}
 
--- an occurrence of the index, in any of its documents, with this symbol
-abbrev pub HasSymbol : Index → List ℕ → Site → Type 0
-HasSymbol index symbol site = Contains (sites_of index) site × (site.occurrence.symbol ≡ symbol)
+-- ---- what is named
 
--- The symbol at a position has these references and definitions: all of its occurrences, and those of them that define it, and nothing else.
-pub record AnswersNames (index : Index) : Type 0 where
-  pub references : (path : List ℕ) (line column : ℕ) (sites : List Site) → references_at index path (record { line = line; column = column }) ≡ Ok sites
-      → (subject : Subject) × (subject_at index path (record { line = line; column = column }) ≡ Ok subject) × ((site : Site) → Contains sites site ↔ HasSymbol index subject.symbol site)
-  pub definitions : (path : List ℕ) (line column : ℕ) (sites : List Site) → definitions_at index path (record { line = line; column = column }) ≡ Ok sites
-      → (subject : Subject) × (subject_at index path (record { line = line; column = column }) ≡ Ok subject)
-      × ((site : Site) → Contains sites site ↔ (HasSymbol index subject.symbol site × (is_definition site.occurrence ≡ true)))
+-- The entities of linked files: each file that counts, its package with those above it, and what it declares.
+pub data IsEntityOf (files : List File) : Entity → Type 0 where
+  of_file : {number : ℕ} {file : File} → Counts files number → slice_get files number ≡ Some file → IsEntityOf files (OfFile file.path)
+  of_package : {number count : ℕ} {facts : Facts} → Counts files number → HasFacts files number facts → 0 < count → count ≤ length facts.package_name
+      → IsEntityOf files (package_at facts count)
+  of_declaration : {number index : ℕ} {facts : Facts} {declared : Declaration} → Counts files number → HasDeclaration files number index facts declared
+      → IsEntityOf files (declaration_at facts declared)
 
--- The bytes decode to one index only; it is the one that the grammar, the scoping rules, the recorded choices, which are allowed, and the
--- settings give the tree; and a query over it answers exactly the occurrences of the name asked.
-pub record Navigates (allows : Seen → Choice → Type 0) (settings : Settings) (tree : List TreeFile) (choices : Chosen) (bytes : List ℕ) : Type 0 where
-  pub index : Index
+-- the entity that an occurrence names: the one of the rule by which it occurs
+abbrev pub entity_of : {files : List File} {chosen : Chosen} {id : Package} {encoding : Encoding} {source : ℕ} {text : List ℕ} {occurrence : Occurrence}
+    → Occurs files chosen id encoding source text occurrence → Entity
+entity_of (rule.of_file {file = file} numbered) = OfFile file.path
+entity_of (rule.of_import {imported = imported} has listed) = OfFile imported.path
+entity_of (rule.of_package {facts = facts} index has stands) = package_at facts (index + 1)
+entity_of (rule.of_declaration {facts = facts} index {declared = declared} has kept) = declaration_at facts declared
+entity_of (rule.of_component {entity = entity} names shown) = entity
+
+-- of what was built from a tree
+module _ {allows : Seen → Choice → Type 0} {settings : Settings} {tree : List TreeFile} {result : Built} (built : IsBuilt allows settings tree result) where
+  -- An occurrence of a document is one of an entity: the document is that of a source, and a rule by which it occurs there names this
+  -- entity.
+  pub record IsOf (entity : Entity) (document : Document) (occurrence : Occurrence) : Type 0 where
+    pub of_source : HasDocument (linked_files built.readings) (texts_of built.readings) result.choices settings.package settings.encoding document
+    pub occurs : Occurs (linked_files built.readings) result.choices settings.package settings.encoding of_source.source of_source.text occurrence
+    pub is : entity_of occurs ≡ entity
+
+  -- a site of the index is one of an entity
+  abbrev pub IsSiteOf : Entity → Site → Type 0
+  IsSiteOf entity site = Contains (sites_of result.index) site × IsOf entity site.document site.occurrence
+
+  -- a site that defines an entity
+  abbrev pub IsDefinitionOf : Entity → Site → Type 0
+  IsDefinitionOf entity site = IsSiteOf entity site × (is_definition site.occurrence ≡ true)
+
+  -- At a position of the document that a path names an occurrence of an entity stands.
+  pub record IsAt (path : List ℕ) (line column : ℕ) (entity : Entity) : Type 0 where
+    pub named : Numbered
+    pub occurrence : Occurrence
+    pub document_is : document_named result.index path ≡ Some named
+    pub stands : occurrence_in named.document (record { line = line; column = column }) ≡ Some occurrence
+    pub is : IsOf entity named.document occurrence
+
+  -- What is answered about a position: just the sites that are wanted of the entity there; it is refused only where there is none.
+  abbrev pub Answers : (IsWanted : Entity → Site → Type 0) → (path : List ℕ) → (line column : ℕ) → {E : Type 0} → Result (List Site) E → Type 0
+  Answers IsWanted path line column (Ok sites) = (entity : Entity) × IsAt path line column entity × ((site : Site) → Contains sites site ↔ IsWanted entity site)
+  Answers IsWanted path line column (Err miss) = (entity : Entity) → IsAt path line column entity → ⊥
+
+  -- Each site is one of an entity of the files, and of no other; entities and symbols are one to one; and a query answers the
+  -- occurrences of the entity asked, or its definitions among them, all of them and nothing else.
+  pub record AnswersNames : Type 0 where
+    pub each : (site : Site) → Contains (sites_of result.index) site
+        → (entity : Entity) × IsEntityOf (linked_files built.readings) entity × IsSiteOf entity site × ((other : Entity) → IsSiteOf other site → other ≡ entity)
+    pub symbol : (entity : Entity) (site : Site) → IsSiteOf entity site → site.occurrence.symbol ≡ text_of settings.package entity
+    pub one_to_one : (entity other : Entity) → IsEntityOf (linked_files built.readings) entity → IsEntityOf (linked_files built.readings) other
+        → text_of settings.package entity ≡ text_of settings.package other → entity ≡ other
+    pub references : (path : List ℕ) (line column : ℕ) → Answers IsSiteOf path line column (references_at result.index path (record { line = line; column = column }))
+    pub definitions : (path : List ℕ) (line column : ℕ) → Answers IsDefinitionOf path line column (definitions_at result.index path (record { line = line; column = column }))
+
+-- ---- the headline
+
+-- The bytes decode to one index only: the one that the grammar, the scoping rules, the recorded choices, which are allowed, and the
+-- settings give the tree. And each query about references or definitions over it answers exactly the occurrences of the name asked.
+pub record Navigates (allows : Seen → Choice → Type 0) (settings : Settings) (tree : List TreeFile) (choices : Chosen) (bytes : List ℕ) (index : Index) : Type 0 where
   pub decodes : Decodes bytes index
   pub alone : (other : Index) → Decodes bytes other → other ≡ index
-  pub given : IsBuilt allows settings tree (record { index = index; choices = choices })
-  pub names : AnswersNames index
+  pub built : IsBuilt allows settings tree (record { index = index; choices = choices })
+  pub names : AnswersNames built
 
--- this holds of all that `index_tree` writes, and of all that a session answers from
-abbrev pub Headline : (allows : Seen → Choice → Type 0) → Type 0
-Headline allows =
-    (settings : Settings) (tree : List TreeFile) (choices : Chosen) (bytes : List ℕ) → IsIndexed allows settings tree choices bytes
-    → Navigates allows settings tree choices bytes
+-- This holds of all that `index_tree` writes, and of all that a session answers from.
+abbrev pub Headline : (allows : Seen → Choice → Type 0) → Settings → List TreeFile → Type 0
+Headline allows settings tree =
+    (choices : Chosen) (bytes : List ℕ) → (indexed : IsIndexed allows settings tree choices bytes) → Navigates allows settings tree choices bytes indexed.index

@@ -1,20 +1,25 @@
 //! Laws, each called at a chooser and another.
 
+use crate::calls::{PLAIN, settings_of, tree_of};
 use index_hooks::Registry;
 use protoscip::{
     headline, indexed_has_no_fault, listed_unless_memory, one_file_fault, one_indexing, one_listing,
     one_reason,
 };
+use std::test::Fail;
 
 #[test]
-fn laws_of_indexes(rt: HostRuntime) {
+fn laws_of_indexes(rt: HostRuntime) -> Result<(), Fail> {
+    let tree = tree_of(&rt, rt.alloc(), &[])?;
+    let settings = settings_of(&rt, rt.alloc(), &PLAIN)?;
     let registry = Registry::new(rt.alloc());
     let other = Registry::new(rt.alloc());
-    headline(&registry);
+    headline(&registry, &tree, &settings);
     one_reason(&registry, &other);
     one_file_fault(&registry, &other);
     indexed_has_no_fault(&registry, &other);
     one_indexing(&registry, &other);
     one_listing();
     listed_unless_memory();
+    Ok(())
 }

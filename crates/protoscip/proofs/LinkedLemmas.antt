@@ -1,0 +1,76 @@
+-- Files that were read are linked with facts of their texts, and under the tree's paths.
+use Rattle.std.proofs.Common.{◌≡◌, ◌∙◌, ℕ, zero, suc, ◌<◌, List, [], ◌∷◌, length, map, Some, Result, Ok, Err, ap, sym, refl, subst, arith}
+use Rattle.std.specs.Prelude.{All}
+use Rattle.std.specs.List.{slice_get}
+use Rattle.std.proofs.lemmas.Option.{same_Some, none-some, slice_get_within}
+use Rattle.std.proofs.lemmas.List.Elements.{All-contains}
+use Rattle.proto_grammar.specs.declared.tree.CustomOptions.{CustomOptions}
+use Rattle.proto_decl.specs.Facts.{Facts, AreFactsOf, AreOfSomeFile}
+use Rattle.proto_decl.specs.Seen.{Seen}
+use Rattle.index_hooks.specs.declared.choice.Choice.{Choice}
+use Rattle.proto_link.specs.Files.{File, HaveOrigins}
+use Rattle.scip_symbol.specs.Path.{IsGoodPath}
+use Rattle.scip_document.specs.Conditions.{HaveGoodPaths}
+use Rattle.source_tree.specs.Files.{TreeFile}
+use Rattle.scip_build.specs.declared.fault.FileFault.{FileFault}
+use Rattle.scip_build.specs.Parsed.{AreFactsIn}
+use Rattle.scip_build.specs.Files.{FileContents, ReadFile}
+use Rattle.scip_build.specs.Readings.{HasContents, IsReadingOf, AreReadingsOf}
+use Rattle.scip_build.specs.Linking.{facts_in, linked_file, linked_files}
+use Rattle.protoscip.proofs.ListLemmas.{contained}
+
+-- what a list has at a number below its length
+at_number : {X : Type 0} (xs : List X) (k : ℕ) → k < length xs → (x : X) × (slice_get xs k ≡ Some x)
+at_number [] k within = absurd (omega (arith, within))
+at_number (x ∷ xs) zero within = (x, refl)
+at_number (x ∷ xs) (suc k) within = at_number xs k (omega (arith, within))
+
+-- what a mapped list has at a number
+pub mapped_at : {A B : Type 0} (f : A → B) (xs : List A) (k : ℕ) (y : B) → slice_get (map f xs) k ≡ Some y → (x : A) × (slice_get xs k ≡ Some x) × (y ≡ f x)
+mapped_at f [] k y at = absurd (none-some y at)
+mapped_at f (x ∷ xs) zero y at = (x, refl, sym (same_Some (f x) y at))
+mapped_at f (x ∷ xs) (suc k) y at = mapped_at f xs k y at
+
+module _ (custom : CustomOptions) (allows : Seen → Choice → Type 0) (tree : List TreeFile) (readings : List ReadFile) (are : AreReadingsOf custom allows tree readings) where
+  -- a linked file, as it was read and as it is in the tree
+  record IsLinkedAt (number : ℕ) (file : File) : Type 0 where
+    reading : ReadFile
+    of : TreeFile
+    linked : file ≡ linked_file reading
+    numbered : slice_get tree number ≡ Some of
+    is : IsReadingOf custom allows number of reading
+
+  linked_at : (number : ℕ) (file : File) → slice_get (linked_files readings) number ≡ Some file → IsLinkedAt number file
+  linked_at number file at =
+      let read = mapped_at linked_file readings number file at in
+      let within : number < length tree = rw (sym are.one_each) (slice_get_within readings number read.0 read.1) in
+      let there = at_number tree number within in
+      record { reading = read.0; of = there.0; linked = read.2; numbered = there.1; is = are.each number there.0 read.0 there.1 read.1 }
+
+  of_some_file : (number : ℕ) (bytes : List ℕ) (facts : Facts) → AreFactsIn custom number bytes facts → AreOfSomeFile facts
+  of_some_file number bytes facts has =
+      let Of : ℕ → Type 0 = λ n. AreFactsOf n has.lexed has.tree facts in
+      record {
+        lexed = has.lexed;
+        file = has.tree;
+        custom = custom;
+        is_lexed = has.lexing.is_lexed;
+        derives = has.derives;
+        of_file = subst Of (sym has.of_tree.numbered) has.of_tree;
+      }
+
+  origin_in : (number : ℕ) (file : TreeFile) (contents : Result FileContents FileFault) → HasContents custom allows number file contents → (facts : Facts) → facts_in contents ≡ Some facts → AreOfSomeFile facts
+  origin_in number file (Ok contents) has facts known = subst AreOfSomeFile (same_Some contents.facts facts known) (of_some_file number file.bytes contents.facts has.1.facts_in)
+  origin_in number file (Err fault) has facts known = absurd (none-some facts known)
+
+  pub have_origins : HaveOrigins (linked_files readings)
+  have_origins number facts has =
+      let at = linked_at number has.file has.numbered in
+      origin_in number at.of at.reading.contents at.is.contents facts (sym (ap (λ (f : File). f.facts) at.linked) ∙ has.known)
+
+  pub good_paths : All (λ (file : TreeFile). IsGoodPath file.path) tree → HaveGoodPaths (linked_files readings)
+  good_paths good number file at =
+      let here = linked_at number file at in
+      let Good : TreeFile → Type 0 = λ f. IsGoodPath f.path in
+      let path = ap (λ (f : File). f.path) here.linked ∙ here.is.path in
+      subst IsGoodPath (sym path) (All-contains Good tree here.of good (contained tree number here.of here.numbered))

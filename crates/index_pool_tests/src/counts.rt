@@ -81,17 +81,23 @@ fn no_counts(alloc: Global) -> Result<Counts, AllocError> {
 
 /// How many of the counts are this number.
 fn how_many(counts: &Vec<AtomicU64>, wanted: u64) -> usize {
-    counts
-        .iter()
-        .filter(|count| count.load(Ordering::SeqCst) == wanted)
-        .count()
+    let mut found = 0usize;
+    for count in counts {
+        if count.load(Ordering::SeqCst) == wanted {
+            found = found.wrapping_add(1);
+        }
+    }
+    found
 }
 
 /// Whether each answer is twice its number.
 fn are_doubled(outs: &Vec<usize>) -> bool {
-    outs.iter()
-        .enumerate()
-        .all(|(i, out)| *out / 2 == i && *out % 2 == 0)
+    for number in 0..outs.len() {
+        if outs[number] / 2 != number || outs[number] % 2 != 0 {
+            return false;
+        }
+    }
+    true
 }
 
 /// Whether a phase of so many inputs (`INPUTS` at most) gives twice each number, and calls the job
@@ -118,8 +124,12 @@ fn runs_each_once<R: Threads + Wait>(
 
 /// Whether the counts below this number are 1, and the others 0.
 fn once_below(counts: &Vec<AtomicU64>, inputs: usize) -> bool {
-    counts.iter().enumerate().all(|(i, count)| count.load(Ordering::SeqCst)
-        == u64::from(i < inputs))
+    for number in 0..counts.len() {
+        if counts[number].load(Ordering::SeqCst) != u64::from(number < inputs) {
+            return false;
+        }
+    }
+    true
 }
 
 #[test]

@@ -49,9 +49,9 @@ impl Tally {
 /// the input awaits were entered: a bit for each. It keeps the order in which inputs are entered, how
 /// many waits ran out, and the calls for each input.
 #[derive(Drop)]
-struct Waiting<C> {
+struct Waiting<'a, C> {
     clock: C,
-    awaited: Vec<u64>,
+    awaited: &'a [u64],
     order: Vec<AtomicU64>,
     run_outs: AtomicU64,
     before: Tally,
@@ -59,7 +59,7 @@ struct Waiting<C> {
     after: Tally,
 }
 
-impl<C: Clock + Sync> Job for Waiting<C> {
+impl<'a, C: Clock + Sync> Job for Waiting<'a, C> {
     type Out = ();
 
     type Fault = ();
@@ -74,7 +74,7 @@ impl<C: Clock + Sync> Job for Waiting<C> {
     }
 }
 
-impl<C: Clock + Sync> Gate for Waiting<C> {
+impl<'a, C: Clock + Sync> Gate for Waiting<'a, C> {
     fn before(&self, number: usize) {
         let ticket = self.before.add(number);
         if number < self.order.len() {
@@ -99,23 +99,24 @@ fn bit_of(number: usize) -> u64 {
     if number < 64 { 1 << number } else { 0 }
 }
 
-fn waiting_gate<C: Drop>(
-    alloc: Global,
-    clock: C,
-    awaited: &[u64],
-) -> Result<Waiting<C>, AllocError> {
+/// A ticket for each of so many inputs.
+fn tickets(alloc: Global, inputs: usize) -> Result<Vec<AtomicU64>, AllocError> {
     let mut order = Vec::new(alloc);
-    for _ in awaited {
+    for _ in 0..inputs {
         order.push(AtomicU64::new(0))?;
     }
-    let mut masks = Vec::new(alloc);
-    for mask in awaited {
-        masks.push(*mask)?;
-    }
+    Ok(order)
+}
+
+fn waiting_gate<'a, C: Drop>(
+    alloc: Global,
+    clock: C,
+    awaited: &'a [u64],
+) -> Result<Waiting<'a, C>, AllocError> {
     Ok(Waiting {
         clock,
-        awaited: masks,
-        order,
+        awaited,
+        order: tickets(alloc, awaited.len())?,
         run_outs: AtomicU64::new(0),
         before: Tally::new(),
         runs: Tally::new(),
@@ -124,37 +125,39 @@ fn waiting_gate<C: Drop>(
 }
 
 /// Whether no wait ran out, and the job and the gate were called once for each of so many inputs.
-fn is_each_once<C>(gate: &Waiting<C>, inputs: usize) -> bool {
+fn is_each_once<C>(gate: &Waiting<'_, C>, inputs: usize) -> bool {
     gate.before.is_each_once(inputs)
         && gate.runs.is_each_once(inputs)
         && gate.after.is_each_once(inputs)
         && gate.run_outs.load(Ordering::SeqCst) == 0
 }
 
-/// The order in which the inputs were entered.
-fn order_of(alloc: Global, tickets: &Vec<AtomicU64>) -> Result<Vec<u64>, AllocError> {
-    let mut order = Vec::new(alloc);
-    for ticket in tickets.iter() {
-        order.push(ticket.load(Ordering::SeqCst))?;
+/// When the first six inputs were entered; `u64::MAX` of those that there aren't.
+fn tickets_of(order: &Vec<AtomicU64>) -> [u64; 6] {
+    let mut found = [u64::MAX; 6];
+    for (number, ticket) in found.iter_mut().enumerate() {
+        if number < order.len() {
+            *ticket = order[number].load(Ordering::SeqCst);
+        }
     }
-    Ok(order)
+    found
 }
 
-/// The order in which the inputs were entered, where the phase answers, no wait ran out, and the job
-/// and the gate were called once for each input.
+/// When the first six inputs were entered, where the phase answers, no wait ran out, and the job and
+/// the gate were called once for each input.
 fn entry_order<R: Threads + Wait + Clock + Sync>(
     rt: &R,
     alloc: Global,
     workers: Workers,
     awaited: &[u64],
-) -> Result<Option<Vec<u64>>, AllocError>
+) -> Result<Option<[u64; 6]>, AllocError>
     requires { length awaited.now ≤ 64 }
 {
     let gate = waiting_gate(alloc, rt, awaited)?;
     let inputs = awaited.len();
-    let answer = run_phase(rt, alloc, &gate, inputs, workers, &gate);
-    if answer.is_ok() && is_each_once(&gate, inputs) {
-        Ok(Some(order_of(alloc, &gate.order)?))
+    let answered = run_phase(rt, alloc, &gate, inputs, workers, &gate).is_ok();
+    if answered && is_each_once(&gate, inputs) {
+        Ok(Some(tickets_of(&gate.order)))
     } else {
         Ok(None)
     }
@@ -181,10 +184,7 @@ fn sixteen_workers_wait_for_all(rt: HostRuntime) -> Result<(), Fail> {
 }
 
 /// Whether the inputs but 0 were entered in the order 1, 3, 5, 2, 4.
-fn own_lane_then_stolen(order: &[u64]) -> bool {
-    if order.len() != 6 {
-        return false;
-    }
+fn own_lane_then_stolen(order: [u64; 6]) -> bool {
     order[1] < order[3] && order[3] < order[5] && order[5] < order[2] && order[2] < order[4]
 }
 
@@ -192,11 +192,14 @@ fn own_lane_then_stolen(order: &[u64]) -> bool {
 fn a_worker_empties_its_lane_and_then_steals(rt: HostRuntime) -> Result<(), Fail> {
     let two = workers(&rt, 2);
     let awaited = [0b1_0000, 0, 0, 0, 0, 0];
-    let mut order = entry_order(&rt, rt.alloc(), two, &awaited)?;
-    if order.is_none() {
-        order = entry_order(&rt, rt.alloc(), two, &awaited)?;
-    }
-    let kept = order.is_some_and(|order| own_lane_then_stolen(&order));
+    let order = match entry_order(&rt, rt.alloc(), two, &awaited)? {
+        None => entry_order(&rt, rt.alloc(), two, &awaited)?,
+        order => order,
+    };
+    let kept = match order {
+        Some(order) => own_lane_then_stolen(order),
+        None => false,
+    };
     see(&rt, kept, "own lane, then stolen");
     Ok(())
 }

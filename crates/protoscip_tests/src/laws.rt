@@ -2,8 +2,8 @@
 
 use index_hooks::Registry;
 use protoscip::{
-    headline, indexed_has_no_fault, listed_unless_memory, one_file_fault, one_indexing, one_listing,
-    one_reason,
+    headline, indexed_has_no_fault, listed_unless_memory, one_file_fault, one_indexing,
+    one_listing, one_reason,
 };
 
 #[test]

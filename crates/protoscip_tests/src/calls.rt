@@ -1,7 +1,7 @@
 //! What several tests share.
 
 use crate::streams::Failing;
-use index_hooks::Registry;
+use index_hooks::Chooses;
 use index_pool::{NoGate, Workers};
 use proto_lex::Encoding;
 use proto_parse::CustomOptions;
@@ -118,16 +118,16 @@ pub(crate) fn settings_of(
 
 /// What one call of `index_tree` answers: nothing, or the line and the status of its fault; and what its
 /// writer then has, which takes so many bytes.
-fn indexed_once<R: Threads + Wait>(
+fn indexed_once<R: Threads + Wait, C: Chooses + Sync>(
     rt: &R,
     alloc: Global,
     tree: &Tree,
+    chooser: &C,
     settings: &Settings,
     workers: Workers,
     out: &mut Std<Failing>,
 ) -> Result<Option<(String, u8)>, AllocError> {
-    let registry = Registry::new(alloc);
-    match index_tree(rt, alloc, tree, &registry, workers, settings, &NoGate, out) {
+    match index_tree(rt, alloc, tree, chooser, workers, settings, &NoGate, out) {
         Ok(_) => Ok(None),
         Err(Fault::Memory) | Err(Fault::Spawn) => Err(AllocError),
         Err(fault) => Ok(Some((fault_line(alloc, tree, &fault)?, fault.status()))),
@@ -136,25 +136,38 @@ fn indexed_once<R: Threads + Wait>(
 
 /// What `index_tree` answers, and what its writer then has. After want of memory or of a thread, when
 /// nothing may be written, it is called again, and the second answer counts.
-pub(crate) fn indexed<R: Threads + Wait + Abort>(
+pub(crate) fn indexed<R: Threads + Wait + Abort, C: Chooses + Sync>(
     rt: &R,
     alloc: Global,
     tree: &Tree,
+    chooser: &C,
     settings: &Settings,
     workers: Workers,
     out: &mut Std<Failing>,
 ) -> Result<Option<(String, u8)>, AllocError> {
-    match indexed_once(rt, alloc, tree, settings, workers, out) {
+    match indexed_once(rt, alloc, tree, chooser, settings, workers, out) {
         Ok(answer) => Ok(answer),
-        Err(_) => indexed_once(rt, alloc, tree, settings, workers, out),
+        Err(_) => indexed_once(rt, alloc, tree, chooser, settings, workers, out),
     }
 }
 
-/// A writer that takes so many bytes, and then fails at each call. It has the memory for them.
-pub(crate) fn writer(alloc: Global, room: usize) -> Result<Std<Failing>, AllocError> {
+/// A writer that takes so many bytes, at most `most` a call, and then fails at each call or takes nothing
+/// more. It has the memory for them.
+pub(crate) fn slow_writer(
+    alloc: Global,
+    room: usize,
+    most: usize,
+    takes_nothing: bool,
+) -> Result<Std<Failing>, AllocError> {
     Ok(Std::new(Failing {
         bytes: Vec::with_capacity(alloc, room)?,
         before: room,
-        failures_left: usize::MAX,
+        most,
+        takes_nothing,
     }))
+}
+
+/// A writer that takes so many bytes, and then fails at each call.
+pub(crate) fn writer(alloc: Global, room: usize) -> Result<Std<Failing>, AllocError> {
+    slow_writer(alloc, room, usize::MAX, false)
 }

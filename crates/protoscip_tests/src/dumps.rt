@@ -1,6 +1,6 @@
 //! Sources dumped, by lines worked out by hand, and readers and writers that fail.
 
-use crate::calls::see;
+use crate::calls::{see, writer};
 use crate::streams::{Dripping, Endless, Failing};
 use proto_parse::CustomOptions;
 use protoscip::{Fault, dump, dump_tree, fault_line};
@@ -29,11 +29,7 @@ fn dumped_once<R: Threads + Wait, S: Read + Drop>(
     room: usize,
 ) -> Result<(Result<(), Fault>, Vec<u8>), AllocError> {
     let mut input = Std::new(reader);
-    let mut output = Std::new(Failing {
-        bytes: Vec::with_capacity(alloc, room)?,
-        before: room,
-        failures_left: usize::MAX,
-    });
+    let mut output = writer(alloc, room)?;
     let answer = dump(rt, alloc, custom, &mut input, &mut output);
     Ok((answer, output.into_inner().bytes))
 }
@@ -137,11 +133,7 @@ fn see_refused<R: Threads + Wait + Abort>(
     source: &[u8],
     line: &str,
 ) -> Result<(), AllocError> {
-    let mut out = Std::new(Failing {
-        bytes: Vec::with_capacity(alloc, ROOM)?,
-        before: ROOM,
-        failures_left: usize::MAX,
-    });
+    let mut out = writer(alloc, ROOM)?;
     let said = match refused_once(rt, alloc, source, &mut out) {
         Ok(said) => said,
         Err(AllocError) => refused_once(rt, alloc, source, &mut out)?,

@@ -1,10 +1,16 @@
 //! Trees indexed, by whole bytes.
 
 use crate::bytes::{
-    COMPOUND, EACH_OTHER, IN_UTF16, INCLUDED, JOINED_IMPORT, NO_FILES, ONE_MESSAGE, OTHER_SETTINGS,
+    CHAIN, COMPOUND, EACH_OTHER, IN_UTF16, INCLUDED, JOINED_IMPORT, NO_FILES, ONE_M, ONE_MESSAGE,
+    OTHER_SETTINGS, OWN_NAME, SERVICE,
 };
-use crate::calls::{COUNTS, File, PLAIN, Set, indexed, see, settings_of, tree_of, workers, writer};
+use crate::calls::{
+    COUNTS, File, PLAIN, Set, indexed, see, settings_of, slow_writer, tree_of, workers, writer,
+};
+use index_hooks::{Chooses, Registry};
 use proto_lex::Encoding;
+use scip_build::Settings;
+use source_tree::Tree;
 use std::alloc::{AllocError, Global};
 use std::process::Abort;
 use std::sync::Wait;
@@ -13,7 +19,7 @@ use std::thread::Threads;
 
 const ONE: [File<'static>; 1] = [("a.proto", "syntax = \"proto3\";\nmessage A {}\n", false)];
 
-const PACKAGES: [File<'static>; 3] = [
+pub(crate) const PACKAGES: [File<'static>; 3] = [
     (
         "t.proto",
         "syntax = \"proto3\";\npackage google.protobuf;\nmessage Timestamp {}\n",
@@ -80,16 +86,57 @@ const EACH: [File<'static>; 2] = [
     ),
 ];
 
+pub(crate) const FIELDS: [File<'static>; 1] = [(
+    "a.proto",
+    "syntax = \"proto3\";\npackage p;\nmessage Foo {}\nmessage M { string Foo = 1; Foo x = 2; }\n",
+    false,
+)];
+
+const METHOD: [File<'static>; 1] = [(
+    "a.proto",
+    "syntax = \"proto3\";\nmessage Foo {}\nservice S { rpc Foo(Foo) returns (stream Foo); }\n",
+    false,
+)];
+
+const PUBLIC_CHAIN: [File<'static>; 4] = [
+    ("d.proto", "syntax = \"proto3\";\nmessage D {}\n", false),
+    (
+        "c.proto",
+        "syntax = \"proto3\";\nimport public \"d.proto\";\n",
+        false,
+    ),
+    (
+        "b.proto",
+        "syntax = \"proto3\";\nimport public \"c.proto\";\n",
+        false,
+    ),
+    (
+        "a.proto",
+        "syntax = \"proto3\";\nimport \"b.proto\";\nmessage M { D d = 1; }\n",
+        false,
+    ),
+];
+
+const UNSEEN: [File<'static>; 2] = [
+    ("a.proto", "syntax = \"proto3\";\nmessage M {}\n", false),
+    ("t.proto", "syntax = \"proto3\";\nmessage M {}\n", true),
+];
+
+const INCLUDED_ALONE: [File<'static>; 2] = [
+    ("t.proto", "syntax = \"proto3\";\nmessage M {}\n", true),
+    ("u.proto", "syntax = \"proto2\";\n", true),
+];
+
 /// Files, settings, and the bytes that are due.
 #[derive(Clone, Copy, Drop)]
-struct Case<'a> {
-    name: &'a str,
-    files: &'a [File<'a>],
-    set: Set<'a>,
-    due: &'a [u8],
+pub(crate) struct Case<'a> {
+    pub(crate) name: &'a str,
+    pub(crate) files: &'a [File<'a>],
+    pub(crate) set: Set<'a>,
+    pub(crate) due: &'a [u8],
 }
 
-const CASES: [Case<'static>; 9] = [
+const CASES: [Case<'static>; 14] = [
     Case {
         name: "no files",
         files: &[],
@@ -151,31 +198,108 @@ const CASES: [Case<'static>; 9] = [
         set: PLAIN,
         due: EACH_OTHER,
     },
+    Case {
+        name: "a field named like its type",
+        files: &FIELDS,
+        set: PLAIN,
+        due: OWN_NAME,
+    },
+    Case {
+        name: "a service",
+        files: &METHOD,
+        set: PLAIN,
+        due: SERVICE,
+    },
+    Case {
+        name: "a chain of public imports",
+        files: &PUBLIC_CHAIN,
+        set: PLAIN,
+        due: CHAIN,
+    },
+    Case {
+        name: "an included file that nobody sees has the same message",
+        files: &UNSEEN,
+        set: PLAIN,
+        due: ONE_M,
+    },
+    Case {
+        name: "included files alone",
+        files: &INCLUDED_ALONE,
+        set: PLAIN,
+        due: NO_FILES,
+    },
 ];
 
 /// Sees that a tree's index has the bytes that are due, by so many workers.
-fn see_case<R: Threads + Wait + Abort>(
+fn see_case<R: Threads + Wait + Abort, C: Chooses + Sync>(
     rt: &R,
     alloc: Global,
+    chooser: &C,
     case: &Case<'_>,
     count: usize,
 ) -> Result<(), AllocError> {
     let tree = tree_of(rt, alloc, case.files)?;
     let settings = settings_of(rt, alloc, &case.set)?;
     let mut out = writer(alloc, case.due.len())?;
-    let answer = indexed(rt, alloc, &tree, &settings, workers(rt, count), &mut out)?;
+    let workers = workers(rt, count);
+    let answer = indexed(rt, alloc, &tree, chooser, &settings, workers, &mut out)?;
     see(rt, answer.is_none(), case.name);
     see(rt, out.into_inner().bytes.as_slice() == case.due, case.name);
     Ok(())
 }
 
+/// Sees that indexes have the bytes that are due, by the empty registry, and by so many workers.
+pub(crate) fn see_cases<R: Threads + Wait + Abort>(
+    rt: &R,
+    alloc: Global,
+    cases: &[Case<'_>],
+    count: usize,
+) -> Result<(), AllocError> {
+    let registry = Registry::new(alloc);
+    for case in cases {
+        see_case(rt, alloc, &registry, case, count)?;
+    }
+    Ok(())
+}
+
 #[test]
 fn bytes_of_indexes(rt: HostRuntime) -> Result<(), Fail> {
-    for case in &CASES {
-        for count in COUNTS {
-            see_case(&rt, rt.alloc(), case, count)?;
-        }
+    for count in COUNTS {
+        see_cases(&rt, rt.alloc(), &CASES, count)?;
     }
+    Ok(())
+}
+
+const COMPOUND_NAME: [Case<'static>; 1] = [Case {
+    name: "a compound name",
+    files: &PACKAGES,
+    set: PLAIN,
+    due: COMPOUND,
+}];
+
+#[test]
+fn a_compound_name_on_1_and_4_workers(rt: HostRuntime) -> Result<(), Fail> {
+    see_cases(&rt, rt.alloc(), &COMPOUND_NAME, 1)?;
+    see_cases(&rt, rt.alloc(), &COMPOUND_NAME, 4)?;
+    Ok(())
+}
+
+/// Sees that a writer with so much room has the first bytes of the index of no files, and what is answered.
+fn see_cut<R: Threads + Wait + Abort>(
+    rt: &R,
+    alloc: Global,
+    tree: &Tree,
+    settings: &Settings,
+    room: usize,
+    most: usize,
+) -> Result<(), AllocError> {
+    let registry = Registry::new(alloc);
+    let mut out = slow_writer(alloc, room, most, room % 2 == 0)?;
+    let one = workers(rt, 1);
+    let answer = indexed(rt, alloc, tree, &registry, settings, one, &mut out)?;
+    see(rt, answer.is_none() == (room == 30), "a write fails");
+    let is_front = out.into_inner().bytes.as_slice() == &NO_FILES[..room.min(30)];
+    see(rt, is_front, "the first bytes");
     Ok(())
 }
 
@@ -184,15 +308,9 @@ fn writers_that_fail(rt: HostRuntime) -> Result<(), Fail> {
     let tree = tree_of(&rt, rt.alloc(), &[])?;
     let settings = settings_of(&rt, rt.alloc(), &PLAIN)?;
     for room in 0..31 {
-        let mut out = writer(rt.alloc(), room)?;
-        let answer = indexed(&rt, rt.alloc(), &tree, &settings, workers(&rt, 1), &mut out)?;
-        see(&rt, answer.is_none() == (room == 30), "a write fails");
-        let written = out.into_inner().bytes;
-        see(
-            &rt,
-            written.as_slice() == &NO_FILES[..room],
-            "the first bytes",
-        );
+        see_cut(&rt, rt.alloc(), &tree, &settings, room, 1)?;
+        see_cut(&rt, rt.alloc(), &tree, &settings, room, 7)?;
+        see_cut(&rt, rt.alloc(), &tree, &settings, room, usize::MAX)?;
     }
     Ok(())
 }

@@ -3,8 +3,8 @@
 use crate::calls::{PLAIN, settings_of, tree_of};
 use index_hooks::Registry;
 use protoscip::{
-    headline, indexed_has_no_fault, listed_unless_memory, one_file_fault, one_indexing, one_listing,
-    one_reason,
+    headline, indexed_has_no_fault, listed_unless_memory, one_file_fault, one_indexing,
+    one_listing, one_reason,
 };
 use std::test::Fail;
 

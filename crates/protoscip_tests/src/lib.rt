@@ -8,6 +8,8 @@ mod calls;
 #[cfg(test)]
 mod dumps;
 #[cfg(test)]
+mod hooks;
+#[cfg(test)]
 mod indexes;
 #[cfg(test)]
 mod laws;
@@ -17,3 +19,5 @@ mod lines;
 mod streams;
 #[cfg(test)]
 mod talks;
+#[cfg(test)]
+mod units;

@@ -1,6 +1,7 @@
 //! The lines of faults, as a user sees them, and their statuses.
 
 use crate::calls::{COUNTS, File, PLAIN, indexed, see, settings_of, tree_of, workers, writer};
+use index_hooks::Registry;
 use std::alloc::{AllocError, Global};
 use std::process::Abort;
 use std::sync::Wait;
@@ -8,7 +9,7 @@ use std::test::Fail;
 use std::thread::Threads;
 
 /// Sources that aren't read, each with the line that is said of it as `a.proto`.
-const SOURCES: [(&str, &str); 16] = [
+const SOURCES: [(&str, &str); 17] = [
     ("@", "protoscip: a.proto@0: BadByte"),
     ("\"abc", "protoscip: a.proto@0: OpenString"),
     ("/* x", "protoscip: a.proto@0: OpenComment"),
@@ -41,6 +42,10 @@ const SOURCES: [(&str, &str); 16] = [
         "protoscip: a.proto@27: Grammar",
     ),
     (
+        "syntax = \"proto3\";\nmessage A{message A{message A{message A{message A{message A{message A{message A{message A{message A{message A{message A{message A{message A{message A{message A{message A{message A{message A{message A{message A{message A{message A{message A{message A{message A{message A{message A{message A{message A{message A{message A{message A{message A{message A{message A{message A{message A{message A{message A{message A{message A{message A{message A{message A{message A{message A{message A{message A{message A{message A{message A{message A{message A{message A{message A{message A{message A{message A{message A{message A{message A{message A{message A{message A{}}}}}}}}}}}}}}}}}}}}}}}}}}}}}}}}}}}}}}}}}}}}}}}}}}}}}}}}}}}}}}}}}",
+        "protoscip: a.proto@659: TooDeep",
+    ),
+    (
         "syntax = \"proto3\";\nmessage M {\n  enum A { ZERO = 0; }\n  enum B { ZERO = 0; }\n}\n",
         "protoscip: a.proto@65: Duplicate of a.proto@42",
     ),
@@ -55,7 +60,7 @@ const SOURCES: [(&str, &str); 16] = [
 ];
 
 /// Files, each list with the line that is said of it.
-const TREES: [(&[File<'static>], &str); 7] = [
+pub(crate) const TREES: [(&[File<'static>], &str); 8] = [
     (
         &[
             ("b.proto", "@", false),
@@ -166,6 +171,21 @@ const TREES: [(&[File<'static>], &str); 7] = [
         ],
         "protoscip: t.proto@27: Duplicate of a.proto@45",
     ),
+    (
+        &[
+            (
+                "a.proto",
+                "syntax = \"proto3\";\nimport \"t.proto\";\nmessage M { lib.T t = 1; }\n",
+                false,
+            ),
+            (
+                "t.proto",
+                "syntax = \"proto3\";\npackage lib;\nmessage T {}\nimport public \"gone.proto\";\n",
+                true,
+            ),
+        ],
+        "protoscip: t.proto@59: MissingImport",
+    ),
 ];
 
 /// Sees that files are refused with this line, with status 1 and nothing written, by so many workers.
@@ -179,7 +199,9 @@ fn see_line<R: Threads + Wait + Abort>(
     let tree = tree_of(rt, alloc, files)?;
     let settings = settings_of(rt, alloc, &PLAIN)?;
     let mut out = writer(alloc, 4096)?;
-    let answer = indexed(rt, alloc, &tree, &settings, workers(rt, count), &mut out)?;
+    let registry = Registry::new(alloc);
+    let workers = workers(rt, count);
+    let answer = indexed(rt, alloc, &tree, &registry, &settings, workers, &mut out)?;
     let (said, status) = answer.expect(rt, "a fault");
     see(rt, said.as_str() == line, line);
     see(rt, status == 1, line);

@@ -43,25 +43,21 @@ impl Read for Endless {
     }
 }
 
-/// A writer that takes so many bytes, and then fails: at each call, or once, after which it takes
-/// all.
+/// A writer that takes so many bytes, and at most `most` a call; then it fails at each call, or takes
+/// nothing more.
 #[derive(Drop)]
 pub struct Failing {
     pub bytes: Vec<u8>,
     pub before: usize,
-    pub failures_left: usize,
+    pub most: usize,
+    pub takes_nothing: bool,
 }
 
 impl Write for Failing {
     fn write(&mut self, bytes: &[u8]) -> io::Result<usize> {
-        if self.failures_left == 0 {
-            self.bytes.extend_from_slice(bytes)?;
-            return Ok(bytes.len());
-        }
-        let count = bytes.len().min(self.before);
+        let count = bytes.len().min(self.before).min(self.most);
         if count == 0 {
-            self.failures_left -= 1;
-            return Err(io::Error::from(ErrorKind::Other));
+            return self.refused();
         }
         self.bytes.extend_from_slice(bytes.split_at(count).0)?;
         self.before -= count;
@@ -70,5 +66,14 @@ impl Write for Failing {
 
     fn flush(&mut self) -> io::Result<()> {
         Ok(())
+    }
+}
+
+impl Failing {
+    fn refused(&self) -> io::Result<usize> {
+        if self.takes_nothing {
+            return Ok(0);
+        }
+        Err(io::Error::from(ErrorKind::Other))
     }
 }

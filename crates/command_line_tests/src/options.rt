@@ -259,11 +259,9 @@ fn all_options_at_once(rt: HostRuntime) -> Result<(), Fail> {
     see_lines(
         &rt,
         rt.alloc(),
-        &[
-            (
-                "index --workers 2 --project-root u --manager m --package p --release r --only o --doc both --include i --positions utf16 --custom-options skip api out",
-                "index \"out\" \"api\" 2 \"u\" \"m\" \"p\" \"r\" Some(\"o\") Some(Both) [\"i\"] Utf16 Skip",
-            ),
-        ],
+        &[(
+            "index --workers 2 --project-root u --manager m --package p --release r --only o --doc both --include i --positions utf16 --custom-options skip api out",
+            "index \"out\" \"api\" 2 \"u\" \"m\" \"p\" \"r\" Some(\"o\") Some(Both) [\"i\"] Utf16 Skip",
+        )],
     )
 }

@@ -30,6 +30,6 @@ loop-root-preserved g c =
     let root = string_bytes c.root-item.result in
     let here = c.in_ok-here.here.items in
     let next = map_more string_bytes roots number c.root-item.result c.loop-root-test.true
-      ∙ ap (λ item. map string_bytes (take number roots) ++ string_bytes item ∷ []) (sym c.root-item.is) in
+    ∙ ap (λ item. map string_bytes (take number roots) ++ string_bytes item ∷ []) (sym c.root-item.is) in
     let below = subst (λ r. AreBelow lists gives r here) c.as_str.ensures.value c.in_ok-here.ensures.ok in
     rw (next, c.in_ok-append.ensures.items) (below_more lists gives root here c.loop-root.invariant below)

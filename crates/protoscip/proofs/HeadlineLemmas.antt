@@ -1,36 +1,57 @@
 -- Queries over the index of a tree answer exactly the occurrences of the entity asked.
 use Rattle.std.proofs.Common.{◌≡◌, ◌∙◌, ◌↔◌, ℕ, List, Option, Result, Ok, Err, ap, sym, subst, refl}
 use Rattle.std.specs.Prelude.{true, false, ◌&&◌, Contains}
+use Rattle.std.specs.declared.cmp.Ordering.{Ordering}
 use Rattle.std.specs.Result.{result_map_both}
+use Rattle.proto_lex.specs.declared.position.Encoding.{Encoding}
 use Rattle.proto_decl.specs.Seen.{Seen}
 use Rattle.proto_link.specs.Files.{File, IsSource, HaveOrigins}
 use Rattle.index_hooks.specs.declared.choice.Choice.{Choice}
 use Rattle.source_tree.specs.Files.{TreeFile}
-use Rattle.source_tree.specs.Trees.{IsTree}
 use Rattle.scip_symbol.specs.Package.{Package, IsPackage}
 use Rattle.scip_symbol.specs.Entities.{Entity}
+use Rattle.scip_document.specs.Chosen.{Chosen}
 use Rattle.scip_document.specs.Conditions.{HaveGoodPaths}
-use Rattle.scip_document.specs.Indexes.{HasDocument}
+use Rattle.scip_document.specs.Indexes.{HasDocument, IsAscendingListOf}
 use Rattle.scip_document.specs.Named.{text_of}
+use Rattle.scip_document.specs.Occurs.{Occurs}
+use Rattle.scip_document.specs.Occurs as rule
 use Rattle.scip_model.specs.declared.records.Document.{Document}
 use Rattle.scip_model.specs.declared.records.Occurrence.{Occurrence}
 use Rattle.scip_query.specs.OccurrenceAt.{Subject, subject_at, subject_in, subject_of}
 use Rattle.scip_query.specs.References.{is_local, is_of, is_definition, references_of, definitions_of, references_at, definitions_at}
-use Rattle.scip_query.specs.Sites.{Site, Numbered, sites_of}
+use Rattle.scip_query.specs.Sites.{Site, Numbered}
 use Rattle.scip_build.specs.Builds.{IsBuilt}
 use Rattle.scip_build.specs.Documents.{texts_of}
 use Rattle.scip_build.specs.Linking.{linked_files}
 use Rattle.scip_build.specs.declared.built.Built.{Built}
 use Rattle.scip_build.specs.declared.settings.Settings.{Settings}
-use Rattle.protoscip.specs.Headline.{IsEntityOf, entity_of, IsOf, IsSiteOf, IsDefinitionOf, IsAt, Answers, AnswersNames, Headline}
+use Rattle.protoscip.specs.Headline.{IsEntityOf, entity_of, defines, IsSite, site_cmp, IsOf, IsSiteOf, IsDefinitionOf, IsAt, Answers, AnswersNames, Headline}
 use Rattle.protoscip.proofs.EntityLemmas.{Laws, entity_is, symbol_is, one_entity}
 use Rattle.protoscip.proofs.LinkedLemmas.{have_origins, good_paths}
-use Rattle.protoscip.proofs.SiteLemmas.{standing, IsAsked, asked, of_symbol, defining, just}
+use Rattle.protoscip.proofs.ListLemmas.{contained}
+use Rattle.protoscip.proofs.SiteLemmas.{IsAsked, asked, of_symbol, defining, just}
 
 -- no symbol of an entity is local
 not_local : (id : Package) (entity : Entity) → is_local (text_of id entity) ≡ false
 unfolding text_of
 not_local id entity = refl
+
+-- the role of what occurs is that of the rule
+role_is : {files : List File} {chosen : Chosen} {id : Package} {encoding : Encoding} {source : ℕ} {text : List ℕ} {o : Occurrence}
+    → (occurs : Occurs files chosen id encoding source text o) → is_definition o ≡ defines occurs
+role_is (rule.of_file numbered) = refl
+role_is (rule.of_import has listed) = refl
+role_is (rule.of_package index has stands) = refl
+role_is (rule.of_declaration index has kept) = refl
+role_is (rule.of_component names shown) = refl
+
+-- a list of one set is that of the same, told otherwise
+alike : {X : Type 0} {cmp : X → X → Ordering} {P Q : X → Type 0} {list : List X} → ((x : X) → P x ↔ Q x) → IsAscendingListOf cmp P list → IsAscendingListOf cmp Q list
+alike same of = record {
+  exact = λ x. (λ there. (same x).0 ((of.exact x).0 there), λ its. (of.exact x).1 ((same x).1 its));
+  ascends = of.ascends;
+}
 
 module _ {allows : Seen → Choice → Type 0} {settings : Settings} {tree : List TreeFile} {result : Built} (built : IsBuilt allows settings tree result)
     (origins : HaveOrigins (linked_files built.readings)) (good : HaveGoodPaths (linked_files built.readings)) (is_package : IsPackage settings.package) (laws : Laws) where
@@ -68,23 +89,34 @@ module _ {allows : Seen → Choice → Type 0} {settings : Settings} {tree : Lis
       same_entity other entity (of_files other another also its) (of_files entity document o is)
       (sym (symbol_of other another also its) ∙ (sym same ∙ symbol_of entity document o is))
 
-  each : (site : Site) → Contains (sites_of result.index) site
+  each : (site : Site) → IsSite result.index site
       → (entity : Entity) × IsEntityOf (linked_files built.readings) entity × IsSiteOf built entity site × ((other : Entity) → IsSiteOf built other site → other ≡ entity)
   each site there =
-      let stands = standing result.index site there in
-      let of = entity_at site.document site.occurrence stands.0 stands.1 in (
+      let listed = contained result.index.documents site.place.document site.document there.document_is in
+      let of = entity_at site.document site.occurrence listed (contained site.document.occurrences site.place.occurrence site.occurrence there.occurrence_is) in (
         of.0,
         of_files of.0 site.document site.occurrence of.1,
         (there, of.1),
         λ other is. by_symbol of.0 other site.document site.document site.occurrence site.occurrence of.1 is.1 refl,
       )
 
+  -- a site has the definition's role just where it defines
+  role : (entity : Entity) (site : Site) → (of : IsSiteOf built entity site) → is_definition site.occurrence ≡ defines of.1.occurs
+  role entity site of = role_is of.1.occurs
+
+  by_role : (entity : Entity) (site : Site) → (of : IsSiteOf built entity site) → (is_definition site.occurrence ≡ true) ↔ (defines of.1.occurs ≡ true)
+  by_role entity site of =
+      let bit = is_definition site.occurrence in
+      let rules = defines of.1.occurs in
+      let same : bit ≡ rules = role entity site of in
+      (λ e. sym {a = bit} {b = rules} same ∙ e, λ e. same ∙ e)
+
   -- ---- the sites of what is asked
 
   module _ (path : List ℕ) (line column : ℕ) where
     -- the sites with the symbol asked are those of the entity there
     of_entity : (subject : Subject) (of : IsAsked result.index path line column subject) (entity : Entity) → IsOf built entity of.named.document of.occurrence → (site : Site)
-        → (Contains (sites_of result.index) site × (site.occurrence.symbol ≡ subject.symbol)) ↔ IsSiteOf built entity site
+        → (IsSite result.index site × (site.occurrence.symbol ≡ subject.symbol)) ↔ IsSiteOf built entity site
     of_entity subject of entity is site = (
       λ both.
           let its = each site both.0 in
@@ -108,7 +140,7 @@ module _ {allows : Seen → Choice → Type 0} {settings : Settings} {tree : Lis
 
     -- an answer by what is found for the subject
     answers : {E : Type 0} (IsWanted : Entity → Site → Type 0) (sites : Subject → List Site) (r : Result Subject E)
-        → ((subject : Subject) → r ≡ Ok subject → (entity : Entity) × IsAt built path line column entity × ((site : Site) → Contains (sites subject) site ↔ IsWanted entity site))
+        → ((subject : Subject) → r ≡ Ok subject → (entity : Entity) × IsAt built path line column entity × IsAscendingListOf site_cmp (IsWanted entity) (sites subject))
         → ((entity : Entity) → IsAt built path line column entity → (subject : Subject) × (r ≡ Ok subject))
         → Answers built IsWanted path line column (result_map_both sites (λ miss. miss) r)
     answers IsWanted sites (Ok subject) some none = some subject refl
@@ -126,10 +158,7 @@ module _ {allows : Seen → Choice → Type 0} {settings : Settings} {tree : Lis
         let Same : Site → Type 0 = λ site. site.occurrence.symbol ≡ subject.symbol in (
           entity.0,
           at_position subject of entity.0 entity.1,
-          λ site.
-              let exact = just result.index (is_of subject) Same (of_symbol subject global) site in
-              let by_entity = of_entity subject of entity.0 entity.1 site in
-              (λ there. by_entity.0 (exact.0 there), λ its. exact.1 (by_entity.1 its)),
+          alike (λ site. of_entity subject of entity.0 entity.1 site) (just result.index (is_of subject) Same (of_symbol subject global)),
         ))
         subject_of_entity
 
@@ -142,10 +171,13 @@ module _ {allows : Seen → Choice → Type 0} {settings : Settings} {tree : Lis
         let Same : Site → Type 0 = λ site. (site.occurrence.symbol ≡ subject.symbol) × (is_definition site.occurrence ≡ true) in (
           entity.0,
           at_position subject of entity.0 entity.1,
-          λ site.
-              let exact = just result.index (λ s. is_of subject s && is_definition s.occurrence) Same (defining subject global) site in
-              let by_entity = of_entity subject of entity.0 entity.1 site in
-              (λ there. let both = exact.0 there in (by_entity.0 (both.0, both.1.0), both.1.1), λ its. let both = by_entity.1 its.0 in exact.1 (both.0, (both.1, its.1))),
+          alike
+              (λ site.
+              let by_entity = of_entity subject of entity.0 entity.1 site in (
+                λ both. let its = by_entity.0 (both.0, both.1.0) in (its, (by_role entity.0 site its).0 both.1.1),
+                λ its. let both = by_entity.1 its.0 in (both.0, (both.1, (by_role entity.0 site its.0).1 its.1)),
+              ))
+              (just result.index (λ s. is_of subject s && is_definition s.occurrence) Same (defining subject global)),
         ))
         subject_of_entity
 
@@ -154,12 +186,13 @@ module _ {allows : Seen → Choice → Type 0} {settings : Settings} {tree : Lis
     each = each;
     symbol = λ entity site is. symbol_of entity site.document site.occurrence is.1;
     one_to_one = same_entity;
+    role = role;
     references = references;
     definitions = definitions;
   }
 
-pub headline : (allows : Seen → Choice → Type 0) (settings : Settings) (tree : List TreeFile) → IsTree tree → IsPackage settings.package → Laws → Headline allows settings tree
-headline allows settings tree is_tree is_package laws choices bytes indexed =
+pub headline : (allows : Seen → Choice → Type 0) → Laws → Headline allows
+headline allows laws settings tree is_tree is_package choices bytes indexed =
     let built = indexed.built in
     let origins = have_origins settings.custom_options allows tree built.readings built.read in
     let good = good_paths settings.custom_options allows tree built.readings built.read is_tree.good in

@@ -16,6 +16,9 @@ mod LawLemmas
 mod DottedLemmas
 mod LinkedLemmas
 mod EntityLemmas
+mod RisingLemmas
 mod SiteLemmas
 mod HeadlineLemmas
 mod DumpLawLemmas
+-- trees of files are trees, to which the headline applies
+pub mod TreeLemmas

@@ -1,61 +1,127 @@
 -- The sites of an index, and the symbol that a query about a position asks for.
-use Rattle.std.proofs.Common.{◌≡◌, ◌↔◌, inl, inr, ℕ, zero, suc, ◌+◌, List, [], ◌∷◌, Option, Some, None, Result, Ok, Err, ap, refl, subst, arith}
+use Rattle.std.proofs.Common.{◌≡◌, ◌∙◌, ℕ, ◌+◌, ◌<◌, List, [], ◌∷◌, Option, Some, None, Result, Ok, Err, ap, sym, refl, subst, arith}
 use Rattle.std.specs.Prelude.{Bool, true, false, not, ◌&&◌, ◌||◌, ◌==◌, map, Contains}
+use Rattle.std.specs.declared.cmp.Ordering.{Ordering}
+use Rattle.std.specs.declared.cmp.Ordering.TheVariants.{Less}
+use Rattle.std.specs.Ordering.{nat_cmp, ordering_then}
 use Rattle.std.specs.Bool.{Decides}
 use Rattle.std.specs.List.{slice_get, flat_map, filter, enumerate_from}
+use Rattle.std.specs.List.Sorted.{IsStrictlySortedBy}
 use Rattle.std.specs.Str.{bytes_eq}
 use Rattle.std.proofs.lemmas.Bool.Decides.{Decides-and, Decides-like}
-use Rattle.std.proofs.lemmas.List.Elements.{Contains-append_cases}
-use Rattle.std.proofs.lemmas.Option.{same_Some, none-some}
 use Rattle.std.proofs.lemmas.Slice.Eq.{bytes_eq-Decides}
 use Rattle.scip_model.specs.declared.records.Index.{Index}
 use Rattle.scip_model.specs.declared.records.Document.{Document}
 use Rattle.scip_model.specs.declared.records.Occurrence.{Occurrence}
+use Rattle.scip_document.specs.Indexes.{IsAscendingListOf}
 use Rattle.scip_query.specs.OccurrenceAt.{Subject, subject_at, subject_in, subject_of, occurrence_in, stands_at}
 use Rattle.scip_query.specs.References.{is_local, is_of, is_definition}
 use Rattle.scip_query.specs.Sites.{Site, Numbered, numbered_documents, sites_in, sites_of, document_named}
-use Rattle.protoscip.proofs.ListLemmas.{place_of, contained, behind, filtered, kept, found}
+use Rattle.protoscip.specs.Headline.{IsSite, site_cmp}
+use Rattle.protoscip.proofs.ListLemmas.{place_of, contained, filtered, kept, found}
+use Rattle.protoscip.proofs.RisingLemmas.{from_numbered, to_numbered, from_flat, to_flat, below, level, before_all, rising_append, rising_filter}
 
 -- ---- what stands in an index
 
 abbrev pub numbering : ℕ × Document → Numbered
 numbering d = record { number = d.0; document = d.1 }
 
-numbered_in : (n : ℕ) (documents : List Document) (k : ℕ) (d : Numbered) → slice_get (map numbering (enumerate_from n documents)) k ≡ Some d → Contains documents d.document
-numbered_in n [] k d at = absurd (none-some d at)
-numbered_in n (x ∷ xs) zero d at = contained (x ∷ xs) zero d.document (ap Some (ap (λ (e : Numbered). e.document) (same_Some (numbering (n, x)) d at)))
-numbered_in n (x ∷ xs) (suc k) d at = behind x xs d.document (numbered_in (n + 1) xs k d at)
+-- a numbered document stands at its number, from some number on
+numbered_in : (n : ℕ) (documents : List Document) (d : Numbered) → Contains (map numbering (enumerate_from n documents)) d
+    → (k : ℕ) × (d.number ≡ n + k) × (slice_get documents k ≡ Some d.document)
+numbered_in n documents d there =
+    let of = from_numbered numbering n documents there.0 d (place_of (map numbering (enumerate_from n documents)) d there) in
+    (there.0, ap (λ (e : Numbered). e.number) of.2, of.1 ∙ ap Some (sym (ap (λ (e : Numbered). e.document) of.2)))
 
-numbered : (index : Index) (d : Numbered) → Contains (numbered_documents index) d → Contains index.documents d.document
-numbered index d there = numbered_in 0 index.documents there.0 d (place_of (numbered_documents index) d there)
+numbered : (index : Index) (d : Numbered) → Contains (numbered_documents index) d → slice_get index.documents d.number ≡ Some d.document
+numbered index d there =
+    let of = numbered_in 0 index.documents d there in
+    let same : of.0 ≡ d.number = omega (arith, of.1) in
+    let At : ℕ → Type 0 = λ k. slice_get index.documents k ≡ Some d.document in
+    subst At same of.2
 
 abbrev pub siting : Numbered → ℕ × Occurrence → Site
 siting d o = record { place = record { document = d.number; occurrence = o.0 }; document = d.document; occurrence = o.1 }
 
-sited_in : (d : Numbered) (n : ℕ) (occurrences : List Occurrence) (k : ℕ) (site : Site) → slice_get (map (siting d) (enumerate_from n occurrences)) k ≡ Some site
-    → (d.document ≡ site.document) × Contains occurrences site.occurrence
-sited_in d n [] k site at = absurd (none-some site at)
-sited_in d n (x ∷ xs) zero site at =
-    let same = same_Some (siting d (n, x)) site at in
-    (ap (λ (s : Site). s.document) same, contained (x ∷ xs) zero site.occurrence (ap Some (ap (λ (s : Site). s.occurrence) same)))
-sited_in d n (x ∷ xs) (suc k) site at = let others = sited_in d (n + 1) xs k site at in (others.0, behind x xs site.occurrence others.1)
+-- a site of some of a document's occurrences, from some number on
+record IsSited (d : Numbered) (n : ℕ) (occurrences : List Occurrence) (site : Site) : Type 0 where
+  k : ℕ
+  of_number : site.place.document ≡ d.number
+  of_document : site.document ≡ d.document
+  place : site.place.occurrence ≡ n + k
+  at : slice_get occurrences k ≡ Some site.occurrence
 
-from_flat : {X A : Type 0} (f : X → List A) (xs : List X) (y : A) → Contains (flat_map f xs) y → (x : X) × Contains xs x × Contains (f x) y
-from_flat f [] y there = absurd (omega (arith, there.1))
-from_flat f (x ∷ xs) y there = elim (Contains-append_cases (f x) (flat_map f xs) y there) [
-  | inl here ↦ (x, contained (x ∷ xs) zero x refl, here)
-  | inr others ↦ (let of = from_flat f xs y others in (of.0, behind x xs of.0 of.1, of.2))
-]
+sited_in : (d : Numbered) (n : ℕ) (occurrences : List Occurrence) (site : Site) → Contains (map (siting d) (enumerate_from n occurrences)) site → IsSited d n occurrences site
+sited_in d n occurrences site there =
+    let of = from_numbered (siting d) n occurrences there.0 site (place_of (map (siting d) (enumerate_from n occurrences)) site there) in
+    record {
+      k = there.0;
+      of_number = ap (λ (s : Site). s.place.document) of.2;
+      of_document = ap (λ (s : Site). s.document) of.2;
+      place = ap (λ (s : Site). s.place.occurrence) of.2;
+      at = of.1 ∙ ap Some (sym (ap (λ (s : Site). s.occurrence) of.2));
+    }
 
--- a site has a document of the index, and an occurrence of that
-pub standing : (index : Index) (site : Site) → Contains (sites_of index) site → Contains index.documents site.document × Contains site.document.occurrences site.occurrence
-standing index site there =
+-- what an index lists as a site is one,
+site_from : (index : Index) (site : Site) → Contains (sites_of index) site → IsSite index site
+site_from index site there =
     let of = from_flat sites_in (numbered_documents index) site there in
-    let listed = numbered index of.0 of.1 in
-    let sited = sited_in of.0 0 of.0.document.occurrences of.2.0 site (place_of (sites_in of.0) site of.2) in
-    let In : Document → Type 0 = λ d. Contains index.documents d in
-    let Has : Document → Type 0 = λ d. Contains d.occurrences site.occurrence in
-    (subst In sited.0 listed, subst Has sited.0 sited.1)
+    let is = sited_in of.0 0 of.0.document.occurrences site of.2 in
+    let same : is.k ≡ site.place.occurrence = omega (arith, is.place) in
+    let At : ℕ → Type 0 = λ n. slice_get index.documents n ≡ Some of.0.document in
+    let Has : ℕ → Type 0 = λ n. slice_get of.0.document.occurrences n ≡ Some site.occurrence in
+    let In : Document → Type 0 = λ d. slice_get d.occurrences site.place.occurrence ≡ Some site.occurrence in
+    record {
+      document_is = subst At (sym is.of_number) (numbered index of.0 of.1) ∙ ap Some (sym is.of_document);
+      occurrence_is = subst In (sym is.of_document) (subst Has same is.at);
+    }
+
+-- and each site is listed
+site_to : (index : Index) (site : Site) → IsSite index site → Contains (sites_of index) site
+site_to index site is =
+    let d : Numbered = record { number = site.place.document; document = site.document } in
+    let listed = to_numbered numbering 0 index.documents site.place.document site.document is.document_is in
+    let there = to_numbered (siting d) 0 site.document.occurrences site.place.occurrence site.occurrence is.occurrence_is in
+    let first : 0 + site.place.document ≡ site.place.document = omega arith in
+    let second : 0 + site.place.occurrence ≡ site.place.occurrence = omega arith in
+    let At : ℕ → Type 0 = λ n. slice_get (numbered_documents index) site.place.document ≡ Some (numbering (n, site.document)) in
+    let Has : ℕ → Type 0 = λ n. slice_get (sites_in d) site.place.occurrence ≡ Some (siting d (n, site.occurrence)) in
+    to_flat sites_in (numbered_documents index) site.place.document d site (subst At first listed) (contained (sites_in d) site.place.occurrence site (subst Has second there))
+
+-- ---- the sites rise
+
+earlier_document : (a b : Site) → a.place.document < b.place.document → site_cmp a b ≡ Less
+earlier_document a b less = ap (λ (o : Ordering). ordering_then o (nat_cmp a.place.occurrence b.place.occurrence)) (below a.place.document b.place.document less)
+
+earlier_place : (a b : Site) → a.place.document ≡ b.place.document → a.place.occurrence < b.place.occurrence → site_cmp a b ≡ Less
+earlier_place a b same less =
+    ap (λ (n : ℕ). ordering_then (nat_cmp a.place.document n) (nat_cmp a.place.occurrence b.place.occurrence)) (sym same)
+    ∙ (ap (λ (o : Ordering). ordering_then o (nat_cmp a.place.occurrence b.place.occurrence)) (level a.place.document)
+    ∙ below a.place.occurrence b.place.occurrence less)
+
+rising_in : (d : Numbered) (n : ℕ) (occurrences : List Occurrence) → IsStrictlySortedBy site_cmp (map (siting d) (enumerate_from n occurrences))
+unfolding IsStrictlySortedBy
+rising_in d n [] = tt
+rising_in d n (x ∷ xs) = (
+  before_all site_cmp (siting d (n, x)) (map (siting d) (enumerate_from (n + 1) xs)) (λ y there.
+      let is = sited_in d (n + 1) xs y there in
+      let later : n < y.place.occurrence = omega (arith, is.place) in
+      earlier_place (siting d (n, x)) y (sym is.of_number) later),
+  rising_in d (n + 1) xs,
+)
+
+rising_from : (n : ℕ) (documents : List Document) → IsStrictlySortedBy site_cmp (flat_map sites_in (map numbering (enumerate_from n documents)))
+unfolding IsStrictlySortedBy
+rising_from n [] = tt
+rising_from n (x ∷ xs) =
+    let d : Numbered = numbering (n, x) in
+    rising_append site_cmp (sites_in d) (flat_map sites_in (map numbering (enumerate_from (n + 1) xs))) (rising_in d 0 x.occurrences) (rising_from (n + 1) xs) (λ a b here there.
+    let first = sited_in d 0 x.occurrences a here in
+    let of = from_flat sites_in (map numbering (enumerate_from (n + 1) xs)) b there in
+    let number = numbered_in (n + 1) xs of.0 of.1 in
+    let second = sited_in of.0 0 of.0.document.occurrences b of.2 in
+    let later : a.place.document < b.place.document = omega (arith, first.of_number, second.of_number, number.1) in
+    earlier_document a b later)
 
 -- ---- what is asked about
 
@@ -94,7 +160,7 @@ asked index path line column subject is =
       occurrence = o;
       document_is = of.1;
       stands = of.2.1;
-      listed = numbered index of.0 among;
+      listed = contained index.documents of.0.number of.0.document (numbered index of.0 among);
       there = (filtered (stands_at (record { line = line; column = column })) of.0.document.occurrences o innermost).0;
       symbol = of.2.2;
     }
@@ -113,9 +179,15 @@ module _ (subject : Subject) (global : is_local subject.symbol ≡ false) where
   pub defining : (site : Site) → Decides (is_of subject site && is_definition site.occurrence) ((site.occurrence.symbol ≡ subject.symbol) × (is_definition site.occurrence ≡ true))
   defining site = Decides-and (is_of subject site) (is_definition site.occurrence) (of_symbol site) (λ e. e, λ e. e)
 
-pub just : (index : Index) (test : Site → Bool) (P : Site → Type 0) → ((site : Site) → Decides (test site) (P site)) → (site : Site)
-    → Contains (filter test (sites_of index)) site ↔ (Contains (sites_of index) site × P site)
-just index test P decides site = (
-  λ there. let f = filtered test (sites_of index) site there in (f.0, (decides site).0 f.1),
-  λ both. kept test (sites_of index) both.0.0 site (place_of (sites_of index) site both.0) ((decides site).1 both.1),
-)
+-- just the sites that pass a test, in order
+pub just : (index : Index) (test : Site → Bool) (P : Site → Type 0) → ((site : Site) → Decides (test site) (P site))
+    → IsAscendingListOf site_cmp (λ site. IsSite index site × P site) (filter test (sites_of index))
+just index test P decides = record {
+  exact = λ site. (
+    λ there. let f = filtered test (sites_of index) site there in (site_from index site f.0, (decides site).0 f.1),
+    λ both.
+        let there = site_to index site both.0 in
+        kept test (sites_of index) there.0 site (place_of (sites_of index) site there) ((decides site).1 both.1),
+  );
+  ascends = rising_filter site_cmp test (sites_of index) (rising_from 0 index.documents);
+}

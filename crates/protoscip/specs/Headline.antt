@@ -1,5 +1,7 @@
 -- The headline: what holds of the bytes of a tree's index, and of queries over them.
-use Rattle.std.specs.Prelude.{◌≡◌, ◌↔◌, ◌<◌, ◌≤◌, ℕ, ◌+◌, true, Some, Result, Ok, Err, List, length, Contains}
+use Rattle.std.specs.Prelude.{◌≡◌, ◌<◌, ◌≤◌, ℕ, ◌+◌, Bool, true, false, Some, Result, Ok, Err, List, length}
+use Rattle.std.specs.declared.cmp.Ordering.{Ordering}
+use Rattle.std.specs.Ordering.{nat_cmp, on, then_cmp}
 use Rattle.std.specs.List.{slice_get}
 use Rattle.proto_lex.specs.declared.position.Encoding.{Encoding}
 use Rattle.proto_decl.specs.Facts.{Facts}
@@ -9,10 +11,11 @@ use Rattle.proto_link.specs.Files.{File, HasFacts}
 use Rattle.proto_link.specs.Sees.{Counts}
 use Rattle.index_hooks.specs.declared.choice.Choice.{Choice}
 use Rattle.source_tree.specs.Files.{TreeFile}
+use Rattle.source_tree.specs.Trees.{IsTree}
 use Rattle.scip_symbol.specs.Entities.{Entity, OfFile}
-use Rattle.scip_symbol.specs.Package.{Package}
+use Rattle.scip_symbol.specs.Package.{Package, IsPackage}
 use Rattle.scip_document.specs.Chosen.{Chosen}
-use Rattle.scip_document.specs.Indexes.{HasDocument}
+use Rattle.scip_document.specs.Indexes.{HasDocument, IsAscendingListOf}
 use Rattle.scip_document.specs.Named.{HasDeclaration, text_of, package_at, declaration_at}
 use Rattle.scip_document.specs.Occurs.{Occurs}
 use Rattle.scip_document.specs.Occurs as rule
@@ -26,7 +29,7 @@ use Rattle.scip_build.specs.declared.built.Built.{Built}
 use Rattle.scip_build.specs.declared.settings.Settings.{Settings}
 use Rattle.scip_query.specs.OccurrenceAt.{occurrence_in}
 use Rattle.scip_query.specs.References.{definitions_at, references_at, is_definition}
-use Rattle.scip_query.specs.Sites.{Site, Numbered, sites_of, document_named}
+use Rattle.scip_query.specs.Sites.{Site, Numbered, document_named}
 use Rattle.scip_wire.specs.Decodes.{Decodes}
 use Rattle.protoscip.specs.Indexes.{IsIndexed}
 
@@ -49,6 +52,26 @@ entity_of (rule.of_package {facts = facts} index has stands) = package_at facts 
 entity_of (rule.of_declaration {facts = facts} index {declared = declared} has kept) = declaration_at facts declared
 entity_of (rule.of_component {entity = entity} names shown) = entity
 
+-- whether it defines that entity: the file itself does, and each component of its package's name and each declaration
+abbrev pub defines : {files : List File} {chosen : Chosen} {id : Package} {encoding : Encoding} {source : ℕ} {text : List ℕ} {occurrence : Occurrence}
+    → Occurs files chosen id encoding source text occurrence → Bool
+defines (rule.of_file numbered) = true
+defines (rule.of_import has listed) = false
+defines (rule.of_package index has stands) = true
+defines (rule.of_declaration index has kept) = true
+defines (rule.of_component names shown) = false
+
+-- ---- what is answered
+
+-- A site of an index: its place has its document, and in that its occurrence.
+pub record IsSite (index : Index) (site : Site) : Type 0 where
+  pub document_is : slice_get index.documents site.place.document ≡ Some site.document
+  pub occurrence_is : slice_get site.document.occurrences site.place.occurrence ≡ Some site.occurrence
+
+-- by document, then by place in it
+abbrev pub site_cmp : Site → Site → Ordering
+site_cmp = then_cmp (on (λ (s : Site). s.place.document) nat_cmp) (on (λ (s : Site). s.place.occurrence) nat_cmp)
+
 -- of what was built from a tree
 module _ {allows : Seen → Choice → Type 0} {settings : Settings} {tree : List TreeFile} {result : Built} (built : IsBuilt allows settings tree result) where
   -- An occurrence of a document is one of an entity: the document is that of a source, and a rule by which it occurs there names this
@@ -60,11 +83,11 @@ module _ {allows : Seen → Choice → Type 0} {settings : Settings} {tree : Lis
 
   -- a site of the index is one of an entity
   abbrev pub IsSiteOf : Entity → Site → Type 0
-  IsSiteOf entity site = Contains (sites_of result.index) site × IsOf entity site.document site.occurrence
+  IsSiteOf entity site = IsSite result.index site × IsOf entity site.document site.occurrence
 
-  -- a site that defines an entity
+  -- a site that defines an entity, by the rule by which its occurrence occurs
   abbrev pub IsDefinitionOf : Entity → Site → Type 0
-  IsDefinitionOf entity site = IsSiteOf entity site × (is_definition site.occurrence ≡ true)
+  IsDefinitionOf entity site = (of : IsSiteOf entity site) × (defines of.1.occurs ≡ true)
 
   -- At a position of the document that a path names an occurrence of an entity stands.
   pub record IsAt (path : List ℕ) (line column : ℕ) (entity : Entity) : Type 0 where
@@ -74,19 +97,22 @@ module _ {allows : Seen → Choice → Type 0} {settings : Settings} {tree : Lis
     pub stands : occurrence_in named.document (record { line = line; column = column }) ≡ Some occurrence
     pub is : IsOf entity named.document occurrence
 
-  -- What is answered about a position: just the sites that are wanted of the entity there; it is refused only where there is none.
+  -- What is answered about a position: just the sites that are wanted of the entity there, each once, in the index's order; it is refused
+  -- only where there is none.
   abbrev pub Answers : (IsWanted : Entity → Site → Type 0) → (path : List ℕ) → (line column : ℕ) → {E : Type 0} → Result (List Site) E → Type 0
-  Answers IsWanted path line column (Ok sites) = (entity : Entity) × IsAt path line column entity × ((site : Site) → Contains sites site ↔ IsWanted entity site)
+  Answers IsWanted path line column (Ok sites) = (entity : Entity) × IsAt path line column entity × IsAscendingListOf site_cmp (IsWanted entity) sites
   Answers IsWanted path line column (Err miss) = (entity : Entity) → IsAt path line column entity → ⊥
 
-  -- Each site is one of an entity of the files, and of no other; entities and symbols are one to one; and a query answers the
-  -- occurrences of the entity asked, or its definitions among them, all of them and nothing else.
+  -- Each site is one of an entity of the files, and of no other; entities and symbols are one to one; a site has the definition's role just
+  -- where it defines its entity; and a query answers the occurrences of the entity asked, or its definitions among them, all of them and
+  -- nothing else.
   pub record AnswersNames : Type 0 where
-    pub each : (site : Site) → Contains (sites_of result.index) site
+    pub each : (site : Site) → IsSite result.index site
         → (entity : Entity) × IsEntityOf (linked_files built.readings) entity × IsSiteOf entity site × ((other : Entity) → IsSiteOf other site → other ≡ entity)
     pub symbol : (entity : Entity) (site : Site) → IsSiteOf entity site → site.occurrence.symbol ≡ text_of settings.package entity
     pub one_to_one : (entity other : Entity) → IsEntityOf (linked_files built.readings) entity → IsEntityOf (linked_files built.readings) other
         → text_of settings.package entity ≡ text_of settings.package other → entity ≡ other
+    pub role : (entity : Entity) (site : Site) → (of : IsSiteOf entity site) → is_definition site.occurrence ≡ defines of.1.occurs
     pub references : (path : List ℕ) (line column : ℕ) → Answers IsSiteOf path line column (references_at result.index path (record { line = line; column = column }))
     pub definitions : (path : List ℕ) (line column : ℕ) → Answers IsDefinitionOf path line column (definitions_at result.index path (record { line = line; column = column }))
 
@@ -100,7 +126,9 @@ pub record Navigates (allows : Seen → Choice → Type 0) (settings : Settings)
   pub built : IsBuilt allows settings tree (record { index = index; choices = choices })
   pub names : AnswersNames built
 
--- This holds of all that `index_tree` writes, and of all that a session answers from.
-abbrev pub Headline : (allows : Seen → Choice → Type 0) → Settings → List TreeFile → Type 0
-Headline allows settings tree =
-    (choices : Chosen) (bytes : List ℕ) → (indexed : IsIndexed allows settings tree choices bytes) → Navigates allows settings tree choices bytes indexed.index
+-- This holds of every tree, and of all settings whose package's parts are good: of all that `index_tree` writes, and of all that a session
+-- answers from.
+abbrev pub Headline : (allows : Seen → Choice → Type 0) → Type 0
+Headline allows =
+    (settings : Settings) (tree : List TreeFile) → IsTree tree → IsPackage settings.package
+    → (choices : Chosen) (bytes : List ℕ) → (indexed : IsIndexed allows settings tree choices bytes) → Navigates allows settings tree choices bytes indexed.index

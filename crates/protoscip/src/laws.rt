@@ -9,9 +9,8 @@ use crate::dumping::DefaultChoices;
 use index_hooks::Chooses;
 use proto_decl::{names_are_identifiers, scopes_are_known};
 use proto_link::one_declaration_a_name;
-use scip_build::{Settings, built_has_no_fault, file_faults_are_alike, one_build_fault, one_built};
+use scip_build::{built_has_no_fault, file_faults_are_alike, one_build_fault, one_built};
 use scip_symbol::{files_are_without_clash, symbols_name_one_entity};
-use source_tree::Tree;
 
 /// Two faults of a tree name the same, whatever was chosen.
 pub fn one_reason<C: Chooses, D: Chooses>(chooser: &C, other: &D)
@@ -49,21 +48,20 @@ pub fn one_indexing<C: Chooses, D: Chooses>(chooser: &C, other: &D)
     indexed_has_no_fault(chooser, other);
 }
 
-/// The headline. The bytes of a tree's index, which `index_tree` writes and a session answers from,
-/// decode to one index only: the one that the grammar, the scoping rules and allowed choices give the
-/// tree. Each of its occurrences is one of exactly one entity of the tree's files, and entities and
-/// symbols are one to one; so each query for references or definitions over it answers exactly the
-/// occurrences of the entity asked, or its definitions among them, and nothing else.
-pub fn headline<C: Chooses>(chooser: &C, tree: &Tree, settings: &Settings)
-    ensures { Headline (C.allows chooser.now) settings.now tree.now }
+/// The headline, for every tree and all settings. The bytes of a tree's index, which `index_tree` writes
+/// and a session answers from, decode to one index only: the one that the grammar, the scoping rules and
+/// allowed choices give the tree. Each of its occurrences is one of exactly one entity of the tree's
+/// files, and entities and symbols are one to one; so each query for references or definitions over it
+/// answers exactly the occurrences of the entity asked, or its definitions among them, each once and in
+/// the index's order, and nothing else.
+pub fn headline<C: Chooses>(chooser: &C)
+    ensures { Headline (C.allows chooser.now) }
 {
     names_are_identifiers();
     scopes_are_known();
     one_declaration_a_name();
     symbols_name_one_entity();
     files_are_without_clash();
-    let _files = tree.file_count();
-    let _manager = settings.package.manager();
 }
 
 /// A source has one listing at most.

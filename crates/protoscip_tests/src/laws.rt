@@ -1,6 +1,5 @@
 //! Laws, each called at a chooser and another.
 
-use crate::calls::{PLAIN, settings_of, tree_of};
 use index_hooks::Registry;
 use protoscip::{
     headline, indexed_has_no_fault, listed_unless_memory, one_file_fault, one_indexing,
@@ -10,11 +9,9 @@ use std::test::Fail;
 
 #[test]
 fn laws_of_indexes(rt: HostRuntime) -> Result<(), Fail> {
-    let tree = tree_of(&rt, rt.alloc(), &[])?;
-    let settings = settings_of(&rt, rt.alloc(), &PLAIN)?;
     let registry = Registry::new(rt.alloc());
     let other = Registry::new(rt.alloc());
-    headline(&registry, &tree, &settings);
+    headline(&registry);
     one_reason(&registry, &other);
     one_file_fault(&registry, &other);
     indexed_has_no_fault(&registry, &other);

@@ -14,4 +14,4 @@ returns g c =
       spelled = spelled;
       simple = c.scopes_are_known.ensures.package_name;
     } in
-    headline (g.C.Chooses.allows c.args.chooser.now) c.args.settings.now c.args.tree.now c.file_count-files.ensures.tree c.manager-manager.ensures.known laws
+    headline (g.C.Chooses.allows c.args.chooser.now) laws

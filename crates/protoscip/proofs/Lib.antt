@@ -15,10 +15,10 @@ mod LawLemmas
 -- the headline: files as they are linked, their entities, and the sites of an index
 mod DottedLemmas
 mod LinkedLemmas
-mod EntityLemmas
+pub mod EntityLemmas
 mod RisingLemmas
 mod SiteLemmas
-mod HeadlineLemmas
+pub mod HeadlineLemmas
 mod DumpLawLemmas
 -- trees of files are trees, to which the headline applies
 pub mod TreeLemmas

@@ -57,7 +57,10 @@ impl Write for Failing {
     fn write(&mut self, bytes: &[u8]) -> io::Result<usize> {
         let count = bytes.len().min(self.before).min(self.most);
         if count == 0 {
-            return self.refused();
+            if self.takes_nothing {
+                return Ok(0);
+            }
+            return Err(io::Error::from(ErrorKind::Other));
         }
         self.bytes.extend_from_slice(bytes.split_at(count).0)?;
         self.before -= count;
@@ -66,14 +69,5 @@ impl Write for Failing {
 
     fn flush(&mut self) -> io::Result<()> {
         Ok(())
-    }
-}
-
-impl Failing {
-    fn refused(&self) -> io::Result<usize> {
-        if self.takes_nothing {
-            return Ok(0);
-        }
-        Err(io::Error::from(ErrorKind::Other))
     }
 }

@@ -281,14 +281,14 @@ fn writers_of_answers_that_fail(rt: HostRuntime) -> Result<(), Fail> {
 const BOTH_ANSWERS: &str =
     "2 8 2 11 1 a.proto\n= 1\n2 8 2 11 1 a.proto\n3 28 3 31 0 a.proto\n= 2\n";
 
-/// How many bytes answer the commands of `readers_of_commands_that_fail` that have ended after so many reads.
-fn answered_after(calls: usize) -> usize {
+/// What answers the commands of `readers_of_commands_that_fail` that have ended after so many reads.
+fn answered_after(calls: usize) -> &'static str {
     if calls < 17 {
-        0
+        ""
     } else if calls < 34 {
-        23
+        DEFINITION
     } else {
-        66
+        BOTH_ANSWERS
     }
 }
 
@@ -304,7 +304,7 @@ fn readers_of_commands_that_fail(rt: HostRuntime) -> Result<(), Fail> {
         } else {
             Some(Fault::Read)
         };
-        let part = &BOTH_ANSWERS.as_bytes()[..answered_after(calls_left)];
+        let part = answered_after(calls_left).as_bytes();
         see_part(&rt, rt.alloc(), commands, 100, fault, part)?;
     }
     Ok(())

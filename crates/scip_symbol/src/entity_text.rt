@@ -14,8 +14,8 @@ use crate::printer::{front_text, push_doubled, push_name, push_part, push_suffix
 use proto_decl::{Component, DeclarationStep};
 use std::alloc::{AllocError, Global};
 
-/// The bytes that a text has room for before it grows: most need no more. What is left is given back.
-const ROOM: usize = 128;
+/// The bytes that a text has room for before it grows: most need no more.
+const ROOM: usize = 64;
 
 /// Appends the scheme and these parts of a package.
 fn push_parts(out: &mut String, manager: &str, name: &str, version: &str) -> Result<(), AllocError>
@@ -87,7 +87,6 @@ pub fn print_file(alloc: Global, id: &PackageId, path: &str) -> Result<String, A
     let mut text = String::with_capacity(alloc, ROOM)?;
     push_front(&mut text, id)?;
     push_namespace(&mut text, path)?;
-    text.shrink_to_fit();
     Ok(text)
 }
 
@@ -102,7 +101,6 @@ pub fn print_package(
     let mut text = String::with_capacity(alloc, ROOM)?;
     push_front(&mut text, id)?;
     push_namespaces(&mut text, components)?;
-    text.shrink_to_fit();
     Ok(text)
 }
 
@@ -117,7 +115,6 @@ pub fn print_package_named(
     let mut text = String::with_capacity(alloc, ROOM)?;
     push_front(&mut text, id)?;
     push_names(&mut text, names)?;
-    text.shrink_to_fit();
     Ok(text)
 }
 
@@ -135,6 +132,5 @@ pub fn print_declaration(
     push_front(&mut text, id)?;
     push_namespaces(&mut text, components)?;
     push_steps(&mut text, way)?;
-    text.shrink_to_fit();
     Ok(text)
 }

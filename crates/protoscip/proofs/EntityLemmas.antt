@@ -1,17 +1,17 @@
 -- The entities of files that can be linked: what occurs names one, and a symbol's text is that of one.
-use Rattle.std.proofs.Common.{◌≡◌, ◌∙◌, ◌⊎◌, inl, inr, ℕ, zero, ◌<◌, Some, List, [], ◌∷◌, map, take, sym, ap, refl, subst, arith}
+use Rattle.std.proofs.Common.{◌≡◌, ◌∙◌, ◌⊎◌, inl, inr, ℕ, zero, ◌<◌, Some, List, [], ◌∷◌, ◌++◌, map, take, sym, ap, refl, subst, arith}
 use Rattle.std.specs.Prelude.{All, Contains}
 use Rattle.std.specs.List.{slice_get}
 use Rattle.std.specs.Str.{bytes_eq}
 use Rattle.std.proofs.lemmas.Bool.{cases_Bool, false≢true}
 use Rattle.std.proofs.lemmas.Option.{slice_get_within}
-use Rattle.std.proofs.lemmas.List.Elements.{All-nil, Contains-append_cases}
+use Rattle.std.proofs.lemmas.List.Elements.{All-nil, All-contains, Contains-append_cases}
 use Rattle.std.proofs.lemmas.Slice.Eq.{bytes_eq-Decides}
 use Rattle.proto_lex.specs.declared.position.Encoding.{Encoding}
 use Rattle.proto_decl.specs.Names.{dotted, components_of, front_of}
 use Rattle.proto_decl.specs.Names as names
 use Rattle.proto_decl.specs.Facts.{Facts, AreOfSomeFile}
-use Rattle.proto_decl.specs.Ways.{AreHeld}
+use Rattle.proto_decl.specs.Ways.{names_of, component_names, AreHeld}
 use Rattle.proto_decl.specs.declared.imported.Imported.{Imported}
 use Rattle.proto_decl.specs.declared.declaration.Declaration.{Declaration}
 use Rattle.proto_decl.specs.declared.type_use.Component.{Component}
@@ -33,12 +33,12 @@ use Rattle.proto_link.specs.Sees.Counts.{seen}
 use Rattle.proto_link.specs.Targets.{IsNamed}
 use Rattle.proto_link.specs.Targets.IsNamed.{packaged as named_package, declared as named_declared}
 use Rattle.scip_symbol.specs.Package.{Package, IsPackage}
-use Rattle.scip_symbol.specs.Entities.{Entity, OfFile, OfPackage, IsEntity}
+use Rattle.scip_symbol.specs.Entities.{Entity, OfFile, OfPackage, OfDeclaration, IsEntity}
 use Rattle.scip_symbol.specs.OneEntity.{Declaration as Way, declarations_of, AreWithoutClash, IsAmong}
 use Rattle.scip_symbol.proofs.ClashLemmas.{put}
 use Rattle.scip_document.specs.Chosen.{Chosen}
 use Rattle.scip_document.specs.Conditions.{HaveGoodPaths}
-use Rattle.scip_document.specs.Named.{NamesIn, text_of, declaration_at}
+use Rattle.scip_document.specs.Named.{HasDeclaration, NamesIn, text_of, declaration_at}
 use Rattle.scip_document.specs.Occurs.{Occurs}
 use Rattle.scip_document.specs.Occurs as rule
 use Rattle.scip_document.proofs.ApartLemmas.{SymbolsNameOne, WithoutClash, AreIdentifiers, AreCounted, one-text}
@@ -46,6 +46,7 @@ use Rattle.scip_document.proofs.EntityLemmas.{package-is, declaration-is}
 use Rattle.scip_document.proofs.EntryLemmas.{nothing-in, alone-in, first-in, behind-in}
 use Rattle.scip_document.proofs.LinkedLemmas.{source-counts}
 use Rattle.scip_model.specs.declared.records.Occurrence.{Occurrence}
+use Rattle.protoscip.specs.UseLaws.{EachUseHasATarget}
 use Rattle.protoscip.specs.Headline.{IsEntityOf, of_file, of_package, of_declaration, entity_of}
 use Rattle.protoscip.proofs.DottedLemmas.{same_front}
 use Rattle.protoscip.proofs.LinkedLemmas.{mapped_at}
@@ -56,6 +57,7 @@ pub record Laws : Type 0 where
   pub symbols : SymbolsNameOne
   pub unclashed : WithoutClash
   pub one_name : OneDeclarationAName
+  pub targets : EachUseHasATarget
   pub spelled : AreIdentifiers
   pub simple : (facts : Facts) → AreOfSomeFile facts → All (λ (component : Component). names.IsSimple component.name) facts.package_name
 
@@ -230,3 +232,23 @@ module _ (files : List File) (origins : HaveOrigins files) (good : HaveGoodPaths
     -- entities of the files with one symbol are one
     pub one_entity : (entity other : Entity) → IsEntityOf files entity → IsEntityOf files other → text_of id entity ≡ text_of id other → entity ≡ other
     one_entity entity other its also same = one_by entity other (is_entity entity its) (is_entity other also) (kind_of entity its) (kind_of other also) same
+
+  -- ---- a declaration's entity is its own
+
+  abbrev full_name_in : Entity → List ℕ
+  full_name_in (OfFile path) = []
+  full_name_in (OfPackage components) = []
+  full_name_in (OfDeclaration components way) = dotted (components ++ names_of way)
+
+  full_name_is : (number index : ℕ) (facts : Facts) (declared : Declaration) → HasDeclaration files number index facts declared → declared.full_name ≡ full_name_in (declaration_at facts declared)
+  full_name_is number index facts declared has =
+      let Is : Declaration → Type 0 = λ d. d.full_name ≡ dotted (component_names facts.package_name ++ names_of d.path) in
+      All-contains Is facts.declarations declared (laws.spelled.held facts (origins number facts has.has_facts)).full_names (contained facts.declarations index declared has.numbered)
+
+  pub own_entity : (number index other its : ℕ) (facts more : Facts) (a b : Declaration) → Counts files number → Counts files other
+      → HasDeclaration files number index facts a → HasDeclaration files other its more b → declaration_at facts a ≡ declaration_at more b → (number ≡ other) × (index ≡ its)
+  own_entity number index other its facts more a b counts also has there same =
+      laws.one_name files origins clear number index other its a b
+      (record { facts = facts; counts = counts; known = has.has_facts; stands = has.numbered })
+      (record { facts = more; counts = also; known = there.has_facts; stands = there.numbered })
+      (full_name_is number index facts a has ∙ (ap full_name_in same ∙ sym (full_name_is other its more b there)))

@@ -27,9 +27,10 @@ use Rattle.scip_build.specs.Linking.{linked_files}
 use Rattle.scip_build.specs.declared.built.Built.{Built}
 use Rattle.scip_build.specs.declared.settings.Settings.{Settings}
 use Rattle.protoscip.specs.Headline.{IsEntityOf, entity_of, defines, IsSite, site_cmp, IsOf, IsSiteOf, IsDefinitionOf, IsAt, Answers, AnswersNames, Headline}
-use Rattle.protoscip.proofs.EntityLemmas.{Laws, entity_is, symbol_is, one_entity}
+use Rattle.protoscip.proofs.EntityLemmas.{Laws, entity_is, symbol_is, one_entity, own_entity}
 use Rattle.protoscip.proofs.LinkedLemmas.{have_origins, good_paths}
 use Rattle.protoscip.proofs.ListLemmas.{contained}
+use Rattle.protoscip.proofs.UseLemmas.{component_names}
 use Rattle.protoscip.proofs.SiteLemmas.{IsAsked, asked, of_symbol, defining, just}
 
 -- no symbol of an entity is local
@@ -183,9 +184,11 @@ module _ {allows : Seen → Choice → Type 0} {settings : Settings} {tree : Lis
 
   pub answers_names : AnswersNames built
   answers_names = record {
+    used = λ source. component_names (linked_files built.readings) source laws.targets origins built.resolved;
     each = each;
     symbol = λ entity site is. symbol_of entity site.document site.occurrence is.1;
     one_to_one = same_entity;
+    own = own_entity (linked_files built.readings) origins good built.linked.clear laws;
     role = role;
     references = references;
     definitions = definitions;

@@ -15,6 +15,7 @@ mod LawLemmas
 -- the headline: files as they are linked, their entities, and the sites of an index
 mod DottedLemmas
 mod LinkedLemmas
+mod UseLemmas
 pub mod EntityLemmas
 mod RisingLemmas
 mod SiteLemmas

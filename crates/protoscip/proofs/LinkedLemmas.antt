@@ -20,7 +20,7 @@ use Rattle.scip_build.specs.Linking.{facts_in, linked_file, linked_files}
 use Rattle.protoscip.proofs.ListLemmas.{contained}
 
 -- what a list has at a number below its length
-at_number : {X : Type 0} (xs : List X) (k : ℕ) → k < length xs → (x : X) × (slice_get xs k ≡ Some x)
+pub at_number : {X : Type 0} (xs : List X) (k : ℕ) → k < length xs → (x : X) × (slice_get xs k ≡ Some x)
 at_number [] k within = absurd (omega (arith, within))
 at_number (x ∷ xs) zero within = (x, refl)
 at_number (x ∷ xs) (suc k) within = at_number xs k (omega (arith, within))

@@ -1,5 +1,5 @@
 -- The headline: what holds of the bytes of a tree's index, and of queries over them.
-use Rattle.std.specs.Prelude.{◌≡◌, ◌<◌, ◌≤◌, ℕ, ◌+◌, Bool, true, false, Some, Result, Ok, Err, List, length}
+use Rattle.std.specs.Prelude.{◌≡◌, ◌<◌, ◌≤◌, ℕ, ◌+◌, Bool, true, false, Some, Result, Ok, Err, List, length, Contains}
 use Rattle.std.specs.declared.cmp.Ordering.{Ordering}
 use Rattle.std.specs.Ordering.{nat_cmp, on, then_cmp}
 use Rattle.std.specs.List.{slice_get}
@@ -7,7 +7,10 @@ use Rattle.proto_lex.specs.declared.position.Encoding.{Encoding}
 use Rattle.proto_decl.specs.Facts.{Facts}
 use Rattle.proto_decl.specs.Seen.{Seen}
 use Rattle.proto_decl.specs.declared.declaration.Declaration.{Declaration}
-use Rattle.proto_link.specs.Files.{File, HasFacts}
+use Rattle.proto_decl.specs.declared.type_use.Component.{Component}
+use Rattle.proto_decl.specs.declared.type_use.Use.{Use}
+use Rattle.proto_link.specs.declared.target.Entity.{Entity as Part}
+use Rattle.proto_link.specs.Files.{File, HasFacts, IsSource}
 use Rattle.proto_link.specs.Sees.{Counts}
 use Rattle.index_hooks.specs.declared.choice.Choice.{Choice}
 use Rattle.source_tree.specs.Files.{TreeFile}
@@ -16,7 +19,7 @@ use Rattle.scip_symbol.specs.Entities.{Entity, OfFile}
 use Rattle.scip_symbol.specs.Package.{Package, IsPackage}
 use Rattle.scip_document.specs.Chosen.{Chosen}
 use Rattle.scip_document.specs.Indexes.{HasDocument, IsAscendingListOf}
-use Rattle.scip_document.specs.Named.{HasDeclaration, text_of, package_at, declaration_at}
+use Rattle.scip_document.specs.Named.{HasDeclaration, NamesIn, text_of, package_at, declaration_at}
 use Rattle.scip_document.specs.Occurs.{Occurs}
 use Rattle.scip_document.specs.Occurs as rule
 use Rattle.scip_model.specs.declared.records.Index.{Index}
@@ -103,15 +106,21 @@ module _ {allows : Seen → Choice → Type 0} {settings : Settings} {tree : Lis
   Answers IsWanted path line column (Ok sites) = (entity : Entity) × IsAt path line column entity × IsAscendingListOf site_cmp (IsWanted entity) sites
   Answers IsWanted path line column (Err miss) = (entity : Entity) → IsAt path line column entity → ⊥
 
-  -- Each site is one of an entity of the files, and of no other; entities and symbols are one to one; a site has the definition's role just
-  -- where it defines its entity; and a query answers the occurrences of the entity asked, or its definitions among them, all of them and
-  -- nothing else.
+  -- Each component of a use in a source names an entity, so that it occurs unless what it names isn't kept. Each site is one of an entity of
+  -- the files, and of no other; entities and symbols are one to one, and a declaration's entity is its own; a site has the definition's role
+  -- just where it defines its entity; and a query answers the occurrences of the entity asked, or its definitions among them, all of them
+  -- and nothing else.
   pub record AnswersNames : Type 0 where
+    pub used : (source : ℕ) (facts : Facts) (type_use : Use) (component : Component) → IsSource (linked_files built.readings) source → HasFacts (linked_files built.readings) source facts
+        → Contains facts.uses type_use → Contains type_use.components component → (part : Part) × (entity : Entity) × NamesIn (linked_files built.readings) source component part entity
     pub each : (site : Site) → IsSite result.index site
         → (entity : Entity) × IsEntityOf (linked_files built.readings) entity × IsSiteOf entity site × ((other : Entity) → IsSiteOf other site → other ≡ entity)
     pub symbol : (entity : Entity) (site : Site) → IsSiteOf entity site → site.occurrence.symbol ≡ text_of settings.package entity
     pub one_to_one : (entity other : Entity) → IsEntityOf (linked_files built.readings) entity → IsEntityOf (linked_files built.readings) other
         → text_of settings.package entity ≡ text_of settings.package other → entity ≡ other
+    pub own : (number index other its : ℕ) (facts more : Facts) (a b : Declaration) → Counts (linked_files built.readings) number → Counts (linked_files built.readings) other
+        → HasDeclaration (linked_files built.readings) number index facts a → HasDeclaration (linked_files built.readings) other its more b
+        → declaration_at facts a ≡ declaration_at more b → (number ≡ other) × (index ≡ its)
     pub role : (entity : Entity) (site : Site) → (of : IsSiteOf entity site) → is_definition site.occurrence ≡ defines of.1.occurs
     pub references : (path : List ℕ) (line column : ℕ) → Answers IsSiteOf path line column (references_at result.index path (record { line = line; column = column }))
     pub definitions : (path : List ℕ) (line column : ℕ) → Answers IsDefinitionOf path line column (definitions_at result.index path (record { line = line; column = column }))

@@ -9,6 +9,7 @@ pub mod Statuses
 pub mod Indexes
 pub mod Writing
 pub mod IndexLaws
+pub mod UseLaws
 -- the listing of one source
 pub mod DumpText
 pub mod Dump

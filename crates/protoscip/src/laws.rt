@@ -4,10 +4,11 @@
 ghost use Rattle.protoscip.specs.DumpLaws.{OneListing, ListedUnlessMemory};
 ghost use Rattle.protoscip.specs.Headline.{Headline};
 ghost use Rattle.protoscip.specs.IndexLaws.{OneReason, OneFileFault, IndexedHasNoFault, OneIndexing, OneIndexingHasNoFault};
+ghost use Rattle.protoscip.specs.UseLaws.{EachUseHasATarget};
 
 use crate::dumping::DefaultChoices;
 use index_hooks::Chooses;
-use proto_decl::{names_are_identifiers, scopes_are_known};
+use proto_decl::{fronts_are_entities, names_are_identifiers, scopes_are_known};
 use proto_link::one_declaration_a_name;
 use scip_build::{built_has_no_fault, file_faults_are_alike, one_build_fault, one_built};
 use scip_symbol::{files_are_without_clash, symbols_name_one_entity};
@@ -48,18 +49,27 @@ pub fn one_indexing<C: Chooses, D: Chooses>(chooser: &C, other: &D)
     indexed_has_no_fault(chooser, other);
 }
 
+/// A use that names a type has a target: each of its components names an entity.
+pub fn each_use_has_a_target()
+    ensures { EachUseHasATarget }
+{
+    fronts_are_entities();
+}
+
 /// The headline, for every tree and all settings. The bytes of a tree's index, which `index_tree` writes
 /// and a session answers from, decode to one index only: the one that the grammar, the scoping rules and
-/// allowed choices give the tree. Each of its occurrences is one of exactly one entity of the tree's
-/// files, and entities and symbols are one to one; so each query for references or definitions over it
-/// answers exactly the occurrences of the entity asked, or its definitions among them, each once and in
-/// the index's order, and nothing else.
+/// allowed choices give the tree. Each component of a use in a source names an entity, so that it occurs
+/// unless what it names isn't kept. Each occurrence is one of exactly one entity of the tree's files, a
+/// declaration's entity is its own, and entities and symbols are one to one; so each query for references
+/// or definitions over it answers exactly the occurrences of the entity asked, or its definitions among
+/// them, each once and in the index's order, and nothing else.
 pub fn headline<C: Chooses>(chooser: &C)
     ensures { Headline (C.allows chooser.now) }
 {
     names_are_identifiers();
     scopes_are_known();
     one_declaration_a_name();
+    each_use_has_a_target();
     symbols_name_one_entity();
     files_are_without_clash();
 }

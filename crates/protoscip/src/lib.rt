@@ -25,8 +25,8 @@ pub use fault::Fault;
 pub use fault_lines::fault_line;
 pub use indexing::index_tree;
 pub use laws::{
-    headline, indexed_has_no_fault, listed_unless_memory, one_file_fault, one_indexing,
-    one_listing, one_reason,
+    each_use_has_a_target, headline, indexed_has_no_fault, listed_unless_memory, one_file_fault,
+    one_indexing, one_listing, one_reason,
 };
 pub use output::write_text;
 pub use sessions::session;

@@ -2,8 +2,8 @@
 
 use index_hooks::Registry;
 use protoscip::{
-    headline, indexed_has_no_fault, listed_unless_memory, one_file_fault, one_indexing,
-    one_listing, one_reason,
+    each_use_has_a_target, headline, indexed_has_no_fault, listed_unless_memory, one_file_fault,
+    one_indexing, one_listing, one_reason,
 };
 use std::test::Fail;
 
@@ -12,6 +12,7 @@ fn laws_of_indexes(rt: HostRuntime) -> Result<(), Fail> {
     let registry = Registry::new(rt.alloc());
     let other = Registry::new(rt.alloc());
     headline(&registry);
+    each_use_has_a_target();
     one_reason(&registry, &other);
     one_file_fault(&registry, &other);
     indexed_has_no_fault(&registry, &other);

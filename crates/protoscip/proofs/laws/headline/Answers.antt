@@ -11,6 +11,7 @@ returns g c =
       symbols = c.symbols_name_one_entity.ensures;
       unclashed = c.files_are_without_clash.ensures;
       one_name = c.one_declaration_a_name.ensures.declarations;
+      targets = c.each_use_has_a_target.ensures;
       spelled = spelled;
       simple = c.scopes_are_known.ensures.package_name;
     } in

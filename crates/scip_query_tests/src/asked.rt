@@ -7,7 +7,6 @@ use scip_query::{AnswerFault, Place, Queries, QueryFault};
 use scip_wire::{WireFault, read_index};
 use std::alloc::{AllocError, Global};
 use std::process::Abort;
-use std::test::Fail;
 
 fn read(alloc: Global, bytes: &[u8]) -> Result<Index, WireFault> {
     match read_index(alloc, bytes) {
@@ -16,12 +15,30 @@ fn read(alloc: Global, bytes: &[u8]) -> Result<Index, WireFault> {
     }
 }
 
+/// The index that bytes spell.
+fn index(rt: &impl Abort, alloc: Global, bytes: &[u8]) -> Result<Index, AllocError> {
+    match read(alloc, bytes) {
+        Ok(index) => Ok(index),
+        Err(fault) => {
+            see(rt, fault == WireFault::Memory, "bytes of an index");
+            Err(AllocError)
+        }
+    }
+}
+
+fn queries_again(alloc: Global, index: Index) -> Result<Queries, AllocError> {
+    match Queries::new(alloc, index) {
+        Ok(queries) => Ok(queries),
+        Err(_) => Err(AllocError),
+    }
+}
+
 /// The queries of the index that bytes spell. Where memory runs out, the index comes back and is
 /// taken again.
-pub fn queries(alloc: Global, bytes: &[u8]) -> Result<Queries, Fail> {
-    match Queries::new(alloc, read(alloc, bytes)?) {
+pub fn queries(rt: &impl Abort, alloc: Global, bytes: &[u8]) -> Result<Queries, AllocError> {
+    match Queries::new(alloc, index(rt, alloc, bytes)?) {
         Ok(queries) => Ok(queries),
-        Err(refused) => Ok(Queries::new(alloc, refused.value)?),
+        Err(refused) => queries_again(alloc, refused.value),
     }
 }
 
@@ -127,10 +144,11 @@ pub fn see_answer(
     alloc: Global,
     asked: &Queries,
     command: &[u8],
-    due: &str,
+    due: &[u8],
+    case: &str,
 ) -> Result<(), AllocError> {
     let answer = answer(rt, alloc, asked, command)?;
-    see(rt, answer.as_slice() == due.as_bytes(), due);
+    see(rt, answer.as_slice() == due, case);
     Ok(())
 }
 
@@ -142,7 +160,8 @@ pub fn see_answers(
     cases: &[(&str, &str)],
 ) -> Result<(), AllocError> {
     for (command, due) in cases {
-        see_answer(rt, alloc, asked, command.as_bytes(), *due)?;
+        let case = *command;
+        see_answer(rt, alloc, asked, case.as_bytes(), due.as_bytes(), case)?;
     }
     Ok(())
 }

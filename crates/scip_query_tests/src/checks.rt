@@ -12,7 +12,6 @@ use crate::spelled::{Style, spelled};
 use scip_query::Queries;
 use std::alloc::{AllocError, Global};
 use std::process::Abort;
-use std::test::Fail;
 
 /// What is seen.
 #[derive(Clone, Copy)]
@@ -74,9 +73,9 @@ pub fn see_bytes(
     alloc: Global,
     bytes: &[u8],
     check: Check<'_>,
-) -> Result<(), Fail> {
-    let asked = queries(alloc, bytes)?;
-    Ok(see_check(rt, alloc, &asked, check)?)
+) -> Result<(), AllocError> {
+    let asked = queries(rt, alloc, bytes)?;
+    see_check(rt, alloc, &asked, check)
 }
 
 /// Sees this of a planned index.
@@ -86,7 +85,7 @@ pub fn see_plan(
     plan: &Plan<'_>,
     style: Style,
     check: Check<'_>,
-) -> Result<(), Fail> {
+) -> Result<(), AllocError> {
     let bytes = spelled(alloc, plan, style)?;
     see_bytes(rt, alloc, bytes.as_slice(), check)
 }

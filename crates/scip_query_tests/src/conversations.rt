@@ -17,33 +17,38 @@ const COMMANDS: &[u8] =
     b"def 3 28 a.proto\nref 3 28 a.proto\n\nref 3 28\nsym z\ndef 9 9 a.proto\r\ndoc 3 28 a.proto";
 
 /// The answers to the lines of `COMMANDS`.
-const ANSWERS: [&str; 7] = [
-    "2 8 2 11 1 a.proto\n= 1\n",
-    "2 8 2 11 1 a.proto\n3 28 3 31 0 a.proto\n= 2\n",
-    "? bad command\n",
-    "? bad command\n",
-    "? no document\n",
-    "? no document\n",
-    "= 0\n",
-];
+const ANSWERS: &[u8] = b"2 8 2 11 1 a.proto\n= 1\n\
+2 8 2 11 1 a.proto\n3 28 3 31 0 a.proto\n= 2\n\
+? bad command\n\
+? bad command\n\
+? no document\n\
+? no document\n\
+= 0\n";
 
-/// The first answers.
-fn first_answers(alloc: Global, count: usize) -> Result<String, AllocError> {
-    let mut text = String::with_capacity(alloc, ROOM)?;
-    for answer in ANSWERS.iter().take(count) {
-        text.push_str(*answer)?;
+/// Where the first answers end, none to all of them.
+const ENDS: [usize; 8] = [0, 23, 66, 80, 94, 108, 122, 126];
+
+/// The first bytes of the answers, or all of them.
+fn first_bytes(count: usize) -> &'static [u8] {
+    ANSWERS.split_at(count.min(ANSWERS.len())).0
+}
+
+/// The first answers, so many.
+fn first_answers(count: usize) -> &'static [u8] {
+    match ENDS.get(count) {
+        Some(end) => first_bytes(*end),
+        None => ANSWERS,
     }
-    Ok(text)
 }
 
 /// Whether these are the first answers, whole.
-fn are_whole_answers(alloc: Global, bytes: &[u8]) -> Result<bool, AllocError> {
-    for count in 0..=ANSWERS.len() {
-        if first_answers(alloc, count)?.as_str().as_bytes() == bytes {
-            return Ok(true);
+fn are_whole_answers(bytes: &[u8]) -> bool {
+    for end in &ENDS {
+        if first_bytes(*end) == bytes {
+            return true;
         }
     }
-    Ok(false)
+    false
 }
 
 /// What `answer_all` answers, and what its writer then has. After `Memory`, which has to come behind
@@ -59,9 +64,24 @@ fn conversation(
     if first.0 != Err(AnswerFault::Memory) {
         return Ok(first);
     }
-    let whole = are_whole_answers(alloc, first.1.as_slice())?;
+    let whole = are_whole_answers(first.1.as_slice());
     see(rt, whole, "Memory comes behind whole answers");
     conversed(alloc, asked, reader, limits)
+}
+
+/// Sees what `answer_all` answers, and what its writer then has.
+fn see_conversation(
+    rt: &impl Abort,
+    alloc: Global,
+    asked: &Queries,
+    reader: Dripping<'_>,
+    limits: Limits,
+    due: (Result<(), AnswerFault>, &[u8]),
+) -> Result<(), AllocError> {
+    let (answer, bytes) = conversation(rt, alloc, asked, reader, limits)?;
+    see(rt, answer == due.0, "answered");
+    see(rt, bytes.as_slice() == due.1, "written");
+    Ok(())
 }
 
 fn whole(bytes: &[u8]) -> Dripping<'_> {
@@ -73,25 +93,19 @@ fn whole(bytes: &[u8]) -> Dripping<'_> {
     }
 }
 
-/// Sees what is answered to the end of some commands: the first answers, so many.
-fn see_conversation(
-    rt: &impl Abort,
-    alloc: Global,
-    asked: &Queries,
-    commands: &[u8],
-    count: usize,
-) -> Result<(), AllocError> {
-    let (answer, bytes) = conversation(rt, alloc, asked, whole(commands), WIDE)?;
-    see(rt, answer == Ok(()), "answered");
-    see_first(rt, alloc, bytes.as_slice(), count)
-}
-
-/// Sees that bytes are the first answers, so many.
-fn see_first(rt: &impl Abort, alloc: Global, bytes: &[u8], count: usize) -> Result<(), AllocError> {
-    let due = first_answers(alloc, count)?;
-    see(rt, bytes == due.as_str().as_bytes(), "the first answers");
-    Ok(())
-}
+/// Commands, and how many of the answers are due, to their end.
+const CASES: [(&[u8], usize); 7] = [
+    (b"", 0),
+    (b"def 3 28 a.proto", 1),
+    (b"def 3 28 a.proto\n", 1),
+    (b"def 3 28 a.proto\nref 3 28 a.proto", 2),
+    (b"def 3 28 a.proto\nref 3 28 a.proto\n\n", 3),
+    (COMMANDS, 7),
+    (
+        b"def 03 28 a.proto\nref 003 28 a.proto\nx\n \nsym y\nsym x\ndoc 3 28 a.proto\n",
+        7,
+    ),
+];
 
 /// Sees what is answered to several commands.
 pub fn see_conversations(
@@ -99,20 +113,9 @@ pub fn see_conversations(
     alloc: Global,
     asked: &Queries,
 ) -> Result<(), AllocError> {
-    let cases: [(&[u8], usize); 7] = [
-        (b"", 0),
-        (b"def 3 28 a.proto", 1),
-        (b"def 3 28 a.proto\n", 1),
-        (b"def 3 28 a.proto\nref 3 28 a.proto", 2),
-        (b"def 3 28 a.proto\nref 3 28 a.proto\n\n", 3),
-        (COMMANDS, 7),
-        (
-            b"def 03 28 a.proto\nref 003 28 a.proto\nx\n \nsym y\nsym x\ndoc 3 28 a.proto\n",
-            7,
-        ),
-    ];
-    for (commands, count) in cases {
-        see_conversation(rt, alloc, asked, commands, count)?;
+    for (commands, count) in &CASES {
+        let due = (Ok(()), first_answers(*count));
+        see_conversation(rt, alloc, asked, whole(*commands), WIDE, due)?;
     }
     Ok(())
 }
@@ -120,7 +123,7 @@ pub fn see_conversations(
 #[test]
 fn every_line_is_answered(rt: HostRuntime) -> Result<(), Fail> {
     let plan = &FIELD_NAMED_LIKE_A_TYPE;
-    see_plan(&rt, rt.alloc(), plan, Style::Packed, Check::Conversations)
+    Ok(see_plan(&rt, rt.alloc(), plan, Style::Packed, Check::Conversations)?)
 }
 
 /// How many lines have ended in some bytes.
@@ -145,14 +148,13 @@ fn see_read(
     };
     let read = calls.saturating_mul(a_call).min(COMMANDS.len());
     let is_over = calls.saturating_sub(1).saturating_mul(a_call) >= COMMANDS.len();
-    let (expected, count) = if is_over {
-        (Ok(()), ANSWERS.len())
+    let due = if is_over {
+        (Ok(()), ANSWERS)
     } else {
-        (Err(AnswerFault::Read), ended(COMMANDS.split_at(read).0))
+        let count = ended(COMMANDS.split_at(read).0);
+        (Err(AnswerFault::Read), first_answers(count))
     };
-    let (answer, bytes) = conversation(rt, alloc, asked, reader, WIDE)?;
-    see(rt, answer == expected, "read");
-    see_first(rt, alloc, bytes.as_slice(), count)
+    see_conversation(rt, alloc, asked, reader, WIDE, due)
 }
 
 /// Sees what is answered where a reader fails at each call.
@@ -168,28 +170,24 @@ pub fn see_reads(rt: &impl Abort, alloc: Global, asked: &Queries) -> Result<(), 
 #[test]
 fn readers_that_fail_at_each_call(rt: HostRuntime) -> Result<(), Fail> {
     let plan = &FIELD_NAMED_LIKE_A_TYPE;
-    see_plan(&rt, rt.alloc(), plan, Style::Packed, Check::Reads)
+    Ok(see_plan(&rt, rt.alloc(), plan, Style::Packed, Check::Reads)?)
 }
 
-/// Sees that a writer that takes so many bytes gets the first of what is due, and that the answer
+/// Sees that a writer that takes so many bytes gets the first of the answers, and that the answer
 /// names how many. One that takes all of them gets all.
 fn see_cut_off(
     rt: &impl Abort,
     alloc: Global,
     asked: &Queries,
-    due: &[u8],
     limits: Limits,
 ) -> Result<(), AllocError> {
-    let expected = if limits.in_all < due.len() {
+    let answer = if limits.in_all < ANSWERS.len() {
         Err(AnswerFault::Write(limits.in_all as u64))
     } else {
         Ok(())
     };
-    let (answer, bytes) = conversation(rt, alloc, asked, whole(COMMANDS), limits)?;
-    see(rt, answer == expected, "how many");
-    let first = due.split_at(limits.in_all.min(due.len())).0;
-    see(rt, bytes.as_slice() == first, "the first bytes");
-    Ok(())
+    let due = (answer, first_bytes(limits.in_all));
+    see_conversation(rt, alloc, asked, whole(COMMANDS), limits, due)
 }
 
 /// Sees writers that stop at each byte.
@@ -200,24 +198,23 @@ fn see_writers_of(
     a_call: usize,
     at_end: AtEnd,
 ) -> Result<(), AllocError> {
-    let due = first_answers(alloc, ANSWERS.len())?;
+    see(rt, ANSWERS.len() < 130, "each byte");
     for in_all in 0..130 {
         let limits = Limits {
             a_call,
             in_all,
             at_end,
         };
-        see_cut_off(rt, alloc, asked, due.as_str().as_bytes(), limits)?;
+        see_cut_off(rt, alloc, asked, limits)?;
     }
-    see(rt, due.len() < 130, "each byte");
     Ok(())
 }
 
 /// Sees writers that take little, and then fail or take nothing.
 pub fn see_writers(rt: &impl Abort, alloc: Global, asked: &Queries) -> Result<(), AllocError> {
-    for a_call in [1, 7, ROOM] {
-        see_writers_of(rt, alloc, asked, a_call, AtEnd::Fails)?;
-        see_writers_of(rt, alloc, asked, a_call, AtEnd::TakesNothing)?;
+    for a_call in &[1, 7, ROOM] {
+        see_writers_of(rt, alloc, asked, *a_call, AtEnd::Fails)?;
+        see_writers_of(rt, alloc, asked, *a_call, AtEnd::TakesNothing)?;
     }
     Ok(())
 }
@@ -225,7 +222,7 @@ pub fn see_writers(rt: &impl Abort, alloc: Global, asked: &Queries) -> Result<()
 #[test]
 fn writers_that_take_little_and_stop_at_each_byte(rt: HostRuntime) -> Result<(), Fail> {
     let plan = &FIELD_NAMED_LIKE_A_TYPE;
-    see_plan(&rt, rt.alloc(), plan, Style::Packed, Check::Writers)
+    Ok(see_plan(&rt, rt.alloc(), plan, Style::Packed, Check::Writers)?)
 }
 
 /// Sees that reading stops at a reader that never ends, behind the first answer.
@@ -236,15 +233,14 @@ pub fn see_no_end(rt: &impl Abort, alloc: Global, asked: &Queries) -> Result<(),
         calls_left: usize::MAX,
         ends: false,
     };
-    let (answer, bytes) = conversation(rt, alloc, asked, reader, WIDE)?;
-    see(rt, answer == Err(AnswerFault::Read), "no end");
-    see_first(rt, alloc, bytes.as_slice(), 1)
+    let due = (Err(AnswerFault::Read), first_answers(1));
+    see_conversation(rt, alloc, asked, reader, WIDE, due)
 }
 
 #[test]
 fn a_reader_without_an_end(rt: HostRuntime) -> Result<(), Fail> {
     let plan = &FIELD_NAMED_LIKE_A_TYPE;
-    see_plan(&rt, rt.alloc(), plan, Style::Packed, Check::NoEnd)
+    Ok(see_plan(&rt, rt.alloc(), plan, Style::Packed, Check::NoEnd)?)
 }
 
 /// Sees that one answer is cut off at each byte.
@@ -271,5 +267,5 @@ pub fn see_one_answer(rt: &impl Abort, alloc: Global, asked: &Queries) -> Result
 #[test]
 fn one_answer_is_cut_off_at_each_byte(rt: HostRuntime) -> Result<(), Fail> {
     let plan = &FIELD_NAMED_LIKE_A_TYPE;
-    see_plan(&rt, rt.alloc(), plan, Style::Packed, Check::OneAnswer)
+    Ok(see_plan(&rt, rt.alloc(), plan, Style::Packed, Check::OneAnswer)?)
 }

@@ -25,57 +25,65 @@ const UNPACKED: &[u8; 23] =
 /// One document `a` with an occurrence whose end lies before its start.
 const REVERSED: &[u8; 15] = b"\x12\x0D\x0A\x01a\x12\x08\x0A\x03\x01\x09\x08\x12\x01x";
 
-#[test]
-fn bytes_of_indexes(rt: HostRuntime) -> Result<(), Fail> {
-    let cases: [(&[u8], &str, &str); 6] = [
-        (MESSAGE, "def 1 8 a.proto", "1 8 1 9 1 a.proto\n= 1\n"),
-        (UNPACKED, "ref 1 8 a", "1 8 1 9 1 a\n= 1\n"),
-        (REVERSED, "ref 1 8 a", "? nothing there\n"),
-        (REVERSED, "ref 1 9 a", "? nothing there\n"),
-        (b"", "sym a", "? no document\n"),
-        (b"\x12\x00", "sym a", "? no document\n"),
-    ];
-    for (bytes, command, due) in cases {
-        see_bytes(&rt, rt.alloc(), bytes, Check::Answers(&[(command, due)]))?;
+const BYTES: [(&[u8], &str, &str); 6] = [
+    (MESSAGE, "def 1 8 a.proto", "1 8 1 9 1 a.proto\n= 1\n"),
+    (UNPACKED, "ref 1 8 a", "1 8 1 9 1 a\n= 1\n"),
+    (REVERSED, "ref 1 8 a", "? nothing there\n"),
+    (REVERSED, "ref 1 9 a", "? nothing there\n"),
+    (b"", "sym a", "? no document\n"),
+    (b"\x12\x00", "sym a", "? no document\n"),
+];
+
+fn see_each(rt: &impl Abort, alloc: Global) -> Result<(), AllocError> {
+    for (bytes, command, due) in &BYTES {
+        see_bytes(rt, alloc, *bytes, Check::Answers(&[(*command, *due)]))?;
     }
     Ok(())
 }
 
-/// Sees that the two spellings differ.
-fn see_two_spellings(rt: &impl Abort, alloc: Global) -> Result<(), AllocError> {
-    let packed = spelled(alloc, &FOREIGN, Style::Packed)?;
-    let mixed = spelled(alloc, &FOREIGN, Style::Mixed)?;
-    see(rt, packed.as_slice() != mixed.as_slice(), "two spellings");
-    Ok(())
+#[test]
+fn bytes_of_indexes(rt: HostRuntime) -> Result<(), Fail> {
+    Ok(see_each(&rt, rt.alloc())?)
+}
+
+const LISTED: [(&str, &str); 18] = [
+    (
+        "ref 0 0 a",
+        "0 4 0 5 -1 b\n0 0 0 1 1 a\n0 4 0 5 -2147483648 a\n0 6 0 7 3 a\n= 4\n",
+    ),
+    ("def 0 0 a", "0 4 0 5 -1 b\n0 0 0 1 1 a\n0 6 0 7 3 a\n= 3\n"),
+    ("ref 0 4 a", "? nothing there\n"),
+    ("ref 1 0 a", "1 0 1 3 2 a\n= 1\n"),
+    ("def 1 2 a", "= 0\n"),
+    ("ref 1 4 a", "? nothing there\n"),
+    ("ref 2 1 a", "? nothing there\n"),
+    ("ref 2 5 a", "? nothing there\n"),
+    ("def 3 4 a", "3 4 100 2 2147483647 a\n= 1\n"),
+    ("ref 4 1 a", "4 0 4 2 0 a\n= 1\n"),
+    ("ref 99 5000 a", "3 4 100 2 2147483647 a\n= 1\n"),
+    ("ref 100 2 a", "? nothing there\n"),
+    ("doc 0 0 a", "| first\n| two\n| \n| lines\n| \n= 2\n"),
+    ("doc 0 0 b", "| \n= 1\n"),
+    ("doc 4 0 a", "| outside\n| é\n= 2\n"),
+    ("doc 3 4 a", "= 0\n"),
+    ("sym a", "y\n= 1\n"),
+    ("sym b", "x\n= 1\n"),
+];
+
+/// How many bytes spell what other producers list.
+fn length(alloc: Global, style: Style) -> Result<usize, AllocError> {
+    Ok(spelled(alloc, &FOREIGN, style)?.len())
+}
+
+/// Sees the answers in both spellings, which differ.
+fn see_listed(rt: &impl Abort, alloc: Global) -> Result<(), AllocError> {
+    let packed = length(alloc, Style::Packed)?;
+    see(rt, packed != length(alloc, Style::Mixed)?, "two spellings");
+    see_plan(rt, alloc, &FOREIGN, Style::Packed, Check::Answers(&LISTED))?;
+    see_plan(rt, alloc, &FOREIGN, Style::Mixed, Check::Answers(&LISTED))
 }
 
 #[test]
 fn what_other_producers_list(rt: HostRuntime) -> Result<(), Fail> {
-    let cases = [
-        (
-            "ref 0 0 a",
-            "0 4 0 5 -1 b\n0 0 0 1 1 a\n0 4 0 5 -2147483648 a\n0 6 0 7 3 a\n= 4\n",
-        ),
-        ("def 0 0 a", "0 4 0 5 -1 b\n0 0 0 1 1 a\n0 6 0 7 3 a\n= 3\n"),
-        ("ref 0 4 a", "? nothing there\n"),
-        ("ref 1 0 a", "1 0 1 3 2 a\n= 1\n"),
-        ("def 1 2 a", "= 0\n"),
-        ("ref 1 4 a", "? nothing there\n"),
-        ("ref 2 1 a", "? nothing there\n"),
-        ("ref 2 5 a", "? nothing there\n"),
-        ("def 3 4 a", "3 4 100 2 2147483647 a\n= 1\n"),
-        ("ref 4 1 a", "4 0 4 2 0 a\n= 1\n"),
-        ("ref 99 5000 a", "3 4 100 2 2147483647 a\n= 1\n"),
-        ("ref 100 2 a", "? nothing there\n"),
-        ("doc 0 0 a", "| first\n| two\n| \n| lines\n| \n= 2\n"),
-        ("doc 0 0 b", "| \n= 1\n"),
-        ("doc 4 0 a", "| outside\n| é\n= 2\n"),
-        ("doc 3 4 a", "= 0\n"),
-        ("sym a", "y\n= 1\n"),
-        ("sym b", "x\n= 1\n"),
-    ];
-    for style in [Style::Packed, Style::Mixed] {
-        see_plan(&rt, rt.alloc(), &FOREIGN, style, Check::Answers(&cases))?;
-    }
-    Ok(see_two_spellings(&rt, rt.alloc())?)
+    Ok(see_listed(&rt, rt.alloc())?)
 }

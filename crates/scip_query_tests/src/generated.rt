@@ -121,6 +121,49 @@ fn see_at(rt: &impl Abort, plan: &Plan<'_>, asked: &Queries, path: &str, positio
     see(rt, same, "at");
 }
 
+/// Sees the answer to `def`, `ref` or `doc` with a position and a path, or to `sym` with a path.
+fn see_command(
+    rt: &impl Abort,
+    alloc: Global,
+    asked: &Queries,
+    word: &str,
+    position: (u32, u32),
+    path: &str,
+    due: &[u8],
+) -> Result<(), AllocError> {
+    let command = command(alloc, word, position, path)?;
+    let text = command.as_str();
+    see_answer(rt, alloc, asked, text.as_bytes(), due, text)
+}
+
+fn command(
+    alloc: Global,
+    word: &str,
+    position: (u32, u32),
+    path: &str,
+) -> Result<String, AllocError> {
+    let (line, column) = position;
+    match word {
+        "sym" => format!(in alloc; "sym {path}"),
+        _ => format!(in alloc; "{word} {line} {column} {path}"),
+    }
+}
+
+/// Sees that a command is answered as scans of the plan answer it.
+fn see_word(
+    rt: &impl Abort,
+    alloc: Global,
+    plan: &Plan<'_>,
+    asked: &Queries,
+    word: &str,
+    position: (u32, u32),
+    path: &str,
+) -> Result<(), AllocError> {
+    let due = scans::answer(alloc, plan, word, position, path)?;
+    let bytes = due.as_str().as_bytes();
+    see_command(rt, alloc, asked, word, position, path, bytes)
+}
+
 /// Sees what is answered about a position.
 fn see_position(
     rt: &impl Abort,
@@ -130,58 +173,54 @@ fn see_position(
     path: &str,
     position: (u32, u32),
 ) -> Result<(), AllocError> {
-    let (line, column) = position;
     see_at(rt, plan, asked, path, position);
-    for word in ["def", "ref", "doc"] {
-        let command = format!(in alloc; "{word} {line} {column} {path}")?;
-        let due = scans::answer(alloc, plan, word, position, path)?;
-        see_answer(rt, alloc, asked, command.as_str().as_bytes(), due.as_str())?;
-    }
-    Ok(())
+    see_word(rt, alloc, plan, asked, "def", position, path)?;
+    see_word(rt, alloc, plan, asked, "ref", position, path)?;
+    see_word(rt, alloc, plan, asked, "doc", position, path)
 }
 
-/// Sees which symbols a path has.
-fn see_symbols(
+/// Sees what is answered about each position of a path, and about the path.
+fn see_path(
     rt: &impl Abort,
     alloc: Global,
     plan: &Plan<'_>,
     asked: &Queries,
     path: &str,
 ) -> Result<(), AllocError> {
-    let command = format!(in alloc; "sym {path}")?;
-    let due = scans::symbols(alloc, plan, path)?;
-    see_answer(rt, alloc, asked, command.as_str().as_bytes(), due.as_str())
+    for place in 0..28u32 {
+        see_position(rt, alloc, plan, asked, path, (place / 7, place % 7))?;
+    }
+    see_word(rt, alloc, plan, asked, "sym", (0, 0), path)
 }
 
-/// Sees what is answered about each position of each path, and about each path.
+/// Sees what is answered about each path, one of no document among them.
 pub fn see_positions(
     rt: &impl Abort,
     alloc: Global,
     plan: &Plan<'_>,
     asked: &Queries,
 ) -> Result<(), AllocError> {
-    for path in ["a", "b"] {
-        for place in 0..28u32 {
-            see_position(rt, alloc, plan, asked, path, (place / 7, place % 7))?;
-        }
-        see_symbols(rt, alloc, plan, asked, path)?;
-    }
-    see_position(rt, alloc, plan, asked, "z", (0, 0))?;
-    see_symbols(rt, alloc, plan, asked, "z")
+    see_path(rt, alloc, plan, asked, "a")?;
+    see_path(rt, alloc, plan, asked, "b")?;
+    see_path(rt, alloc, plan, asked, "z")
 }
 
-/// Sees the answers of a generated index.
-fn see_generated(rt: &impl Abort, alloc: Global, seed: u32) -> Result<(), Fail> {
-    let mut dice = Dice { state: seed };
-    let rows = rows(alloc, &mut dice)?;
-    let entries = entries(alloc, &mut dice)?;
+/// Sees the answers of a generated index with these occurrences.
+fn see_rows(
+    rt: &impl Abort,
+    alloc: Global,
+    seed: u32,
+    dice: &mut Dice,
+    rows: &[Row],
+) -> Result<(), AllocError> {
+    let entries = entries(alloc, dice)?;
     let plan = Plan {
         paths: if seed % 2 == 0 {
             &["b", "a", "a"]
         } else {
             &["a", "b", "c"]
         },
-        rows: rows.as_slice(),
+        rows,
         entries: entries.as_slice(),
     };
     let style = if seed % 3 == 0 {
@@ -190,6 +229,13 @@ fn see_generated(rt: &impl Abort, alloc: Global, seed: u32) -> Result<(), Fail> 
         Style::Packed
     };
     see_plan(rt, alloc, &plan, style, Check::Positions(&plan))
+}
+
+/// Sees the answers of a generated index.
+fn see_generated(rt: &impl Abort, alloc: Global, seed: u32) -> Result<(), AllocError> {
+    let mut dice = Dice { state: seed };
+    let rows = rows(alloc, &mut dice)?;
+    see_rows(rt, alloc, seed, &mut dice, rows.as_slice())
 }
 
 #[test]
@@ -201,17 +247,20 @@ fn generated_indexes(rt: HostRuntime) -> Result<(), Fail> {
 }
 
 /// Sees the answers of a planned index, in both spellings.
-fn see_worked<'a>(rt: &impl Abort, alloc: Global, plan: &'a Plan<'a>) -> Result<(), Fail> {
-    for style in [Style::Packed, Style::Mixed] {
-        see_plan(rt, alloc, plan, style, Check::Positions(plan))?;
-    }
-    Ok(())
+fn see_worked<'a>(rt: &impl Abort, alloc: Global, plan: &'a Plan<'a>) -> Result<(), AllocError> {
+    see_plan(rt, alloc, plan, Style::Packed, Check::Positions(plan))?;
+    see_plan(rt, alloc, plan, Style::Mixed, Check::Positions(plan))
+}
+
+/// Sees the answers of all planned indexes.
+fn see_all_worked(rt: &impl Abort, alloc: Global) -> Result<(), AllocError> {
+    see_worked(rt, alloc, &LOCAL_IN_TWO_DOCUMENTS)?;
+    see_worked(rt, alloc, &OVERLAPPING)?;
+    see_worked(rt, alloc, &EXTERNAL)?;
+    see_worked(rt, alloc, &FOREIGN)
 }
 
 #[test]
 fn worked_indexes(rt: HostRuntime) -> Result<(), Fail> {
-    for plan in [&LOCAL_IN_TWO_DOCUMENTS, &OVERLAPPING, &EXTERNAL, &FOREIGN] {
-        see_worked(&rt, rt.alloc(), plan)?;
-    }
-    Ok(())
+    Ok(see_all_worked(&rt, rt.alloc())?)
 }

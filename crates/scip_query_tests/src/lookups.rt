@@ -5,6 +5,7 @@ use crate::checks::{Check, see_plan};
 use crate::samples::{FOREIGN, LOCAL_IN_TWO_DOCUMENTS};
 use crate::see::see;
 use crate::spelled::Style;
+use scip_model::Info;
 use scip_query::{Place, Queries, QueryFault};
 use std::alloc::{AllocError, Global};
 use std::process::Abort;
@@ -26,18 +27,22 @@ fn are_places(places: &[Place], due: &[(usize, usize)]) -> bool {
         })
 }
 
-/// Sees the texts and entries of a symbol of several documents.
-fn see_texts(rt: &impl Abort, alloc: Global, asked: &Queries) {
-    let texts = match documentation(alloc, asked, "a", (0, 0)) {
-        Ok(texts) => texts.as_slice() == ["first", "two\n\nlines\n"].as_slice(),
+/// Sees which texts are answered.
+fn see_texts(rt: &impl Abort, texts: Result<Vec<&str>, QueryFault>, due: &[&str]) {
+    let are = match texts {
+        Ok(texts) => texts.as_slice() == due,
         Err(_) => false,
     };
-    see(rt, texts, "texts");
-    let entries = match symbols(alloc, asked, "a") {
-        Ok(entries) => entries.len() == 1 && entries[0].symbol.as_str() == "y",
+    see(rt, are, "texts");
+}
+
+/// Sees that the one entry of this symbol is answered.
+fn see_entry(rt: &impl Abort, entries: Result<Vec<&Info>, QueryFault>, due: &str) {
+    let is = match entries {
+        Ok(entries) => entries.len() == 1 && entries[0].symbol.as_str() == due,
         Err(_) => false,
     };
-    see(rt, entries, "entries");
+    see(rt, is, "entries");
 }
 
 /// Sees the places, texts and entries of a symbol of several documents.
@@ -46,13 +51,15 @@ pub fn see_several(rt: &impl Abort, alloc: Global, asked: &Queries) -> Result<()
     see_places(rt, places, &[(0, 1), (1, 0), (2, 1), (2, 2)]);
     let places = definitions(alloc, asked, "a", (0, 0));
     see_places(rt, places, &[(0, 1), (1, 0), (2, 2)]);
-    see_texts(rt, alloc, asked);
+    let texts = documentation(alloc, asked, "a", (0, 0));
+    see_texts(rt, texts, &["first", "two\n\nlines\n"]);
+    see_entry(rt, symbols(alloc, asked, "a"), "y");
     Ok(())
 }
 
 #[test]
 fn places_and_texts(rt: HostRuntime) -> Result<(), Fail> {
-    see_plan(&rt, rt.alloc(), &FOREIGN, Style::Packed, Check::Several)
+    Ok(see_plan(&rt, rt.alloc(), &FOREIGN, Style::Packed, Check::Several)?)
 }
 
 /// Sees the places of a local symbol.
@@ -67,7 +74,7 @@ pub fn see_local(rt: &impl Abort, alloc: Global, asked: &Queries) -> Result<(), 
 #[test]
 fn places_of_local_symbols(rt: HostRuntime) -> Result<(), Fail> {
     let plan = &LOCAL_IN_TWO_DOCUMENTS;
-    see_plan(&rt, rt.alloc(), plan, Style::Packed, Check::Local)
+    Ok(see_plan(&rt, rt.alloc(), plan, Style::Packed, Check::Local)?)
 }
 
 /// Sees that a question is refused so.
@@ -100,5 +107,5 @@ pub fn see_refusals(rt: &impl Abort, alloc: Global, asked: &Queries) -> Result<(
 
 #[test]
 fn refusals_in_their_order(rt: HostRuntime) -> Result<(), Fail> {
-    see_plan(&rt, rt.alloc(), &FOREIGN, Style::Packed, Check::Refusals)
+    Ok(see_plan(&rt, rt.alloc(), &FOREIGN, Style::Packed, Check::Refusals)?)
 }

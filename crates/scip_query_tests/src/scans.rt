@@ -1,6 +1,6 @@
 //! A slow reference: answers by scans of what an index lists, over and over.
 
-use crate::plan::{Plan, Row};
+use crate::plan::{Entry, Plan, Row};
 use std::alloc::{AllocError, Global};
 
 /// A line and column as one number.
@@ -58,91 +58,161 @@ pub fn row_at<'a>(plan: &Plan<'a>, document: usize, line: u32, column: u32) -> O
     found
 }
 
-/// The symbol that is asked about, and the number of the document where it is.
+/// The symbol that is asked about, the number of the document where it is, and whether its
+/// definitions alone are wanted.
 #[derive(Clone, Copy)]
-pub struct Asked {
-    pub symbol: &'static str,
-    pub document: usize,
-}
-
-/// Whether a symbol is looked for in a document.
-fn is_looked_for(asked: Asked, document: usize) -> bool {
-    document == asked.document || !asked.symbol.starts_with("local ")
-}
-
-/// Appends the occurrences of a symbol, or its definitions alone, and how many they are.
-pub fn push_rows(
-    out: &mut String,
-    plan: &Plan<'_>,
-    asked: Asked,
+struct Asked {
+    symbol: &'static str,
+    document: usize,
     definitions_alone: bool,
-) -> Result<(), AllocError> {
-    let mut count = 0u32;
-    for (number, path) in plan.paths.iter().enumerate() {
-        for row in plan.rows {
-            let defines = row.3 % 2 != 0;
-            if row.0 == number
-                && row.2 == asked.symbol
-                && is_looked_for(asked, number)
-                && (defines || !definitions_alone)
-            {
-                let [line, column, end_line, end_column] = row.1;
-                let (roles, path) = (row.3, *path);
-                writeln!(
-                    out,
-                    "{line} {column} {end_line} {end_column} {roles} {path}"
-                )?;
+}
+
+impl Asked {
+    /// Whether the symbol is looked for in a document.
+    fn is_looked_for_in(self, document: usize) -> bool {
+        document == self.document || !self.symbol.starts_with("local ")
+    }
+
+    /// Whether an occurrence of a document is wanted.
+    fn wants(self, row: &Row, document: usize) -> bool {
+        row.0 == document
+            && row.2 == self.symbol
+            && self.is_looked_for_in(document)
+            && (row.3 % 2 != 0 || !self.definitions_alone)
+    }
+
+    /// Whether an entry of a list is the symbol's.
+    fn has(self, entry: &Entry, list: usize) -> bool {
+        entry.0 == list && entry.1 == self.symbol && self.is_looked_for_in(list)
+    }
+
+    /// The texts of the first entry with the symbol.
+    fn texts(self, plan: &Plan<'_>) -> &'static [&'static str] {
+        for list in 0..=plan.paths.len() {
+            for entry in plan.entries {
+                if self.has(entry, list) {
+                    return entry.2;
+                }
+            }
+        }
+        &[]
+    }
+}
+
+/// An answer in the making. Where memory runs out it takes no more, and is no text at its end.
+#[derive(Drop)]
+struct Draft {
+    text: String,
+    is_cut: bool,
+}
+
+impl Draft {
+    fn keep(&mut self, written: Result<(), AllocError>) {
+        if written.is_err() {
+            self.is_cut = true;
+        }
+    }
+
+    fn add(&mut self, text: &str) {
+        let written = self.text.push_str(text);
+        self.keep(written);
+    }
+
+    /// Adds how many things were answered.
+    fn add_count(&mut self, count: usize) {
+        let written = writeln!(self.text, "= {count}");
+        self.keep(written);
+    }
+
+    fn add_row(&mut self, row: &Row, path: &str) {
+        let [line, column, end_line, end_column] = row.1;
+        let roles = row.3;
+        let written = writeln!(
+            self.text,
+            "{line} {column} {end_line} {end_column} {roles} {path}"
+        );
+        self.keep(written);
+    }
+
+    /// Adds the occurrences that are wanted, and how many they are.
+    fn add_rows(&mut self, plan: &Plan<'_>, asked: Asked) {
+        let mut count = 0usize;
+        for (number, path) in plan.paths.iter().enumerate() {
+            for row in plan.rows {
+                if asked.wants(row, number) {
+                    self.add_row(row, *path);
+                    count = count.wrapping_add(1);
+                }
+            }
+        }
+        self.add_count(count);
+    }
+
+    fn add_lines(&mut self, text: &str) {
+        for line in text.split('\n') {
+            self.add("| ");
+            self.add(line);
+            self.add("\n");
+        }
+    }
+
+    /// Adds documentation, line by line, and how many texts it has.
+    fn add_texts(&mut self, texts: &[&str]) {
+        for text in texts {
+            self.add_lines(*text);
+        }
+        self.add_count(texts.len());
+    }
+
+    /// Adds the symbols of a document's entries, and how many they are.
+    fn add_symbols(&mut self, plan: &Plan<'_>, document: usize) {
+        let mut count = 0usize;
+        for entry in plan.entries {
+            if entry.0 == document {
+                self.add(entry.1);
+                self.add("\n");
                 count = count.wrapping_add(1);
             }
         }
+        self.add_count(count);
     }
-    writeln!(out, "= {count}")
-}
 
-/// The texts of the first entry with a symbol.
-fn texts_of(plan: &Plan<'_>, asked: Asked) -> &'static [&'static str] {
-    for list in 0..=plan.paths.len() {
-        for entry in plan.entries {
-            if entry.0 == list && entry.1 == asked.symbol && is_looked_for(asked, list) {
-                return entry.2;
-            }
+    /// Adds what is answered about a position of a document.
+    fn add_position(&mut self, plan: &Plan<'_>, word: &str, position: (u32, u32), document: usize) {
+        let Some(row) = row_at(plan, document, position.0, position.1) else {
+            self.add("? nothing there\n");
+            return;
+        };
+        let asked = Asked {
+            symbol: row.2,
+            document,
+            definitions_alone: word == "def",
+        };
+        if word == "doc" {
+            self.add_texts(asked.texts(plan));
+        } else {
+            self.add_rows(plan, asked);
         }
     }
-    &[]
-}
 
-/// Appends the documentation of a symbol, line by line, and how many texts it has.
-pub fn push_texts(out: &mut String, plan: &Plan<'_>, asked: Asked) -> Result<(), AllocError> {
-    let texts = texts_of(plan, asked);
-    for text in texts {
-        for line in text.split('\n') {
-            writeln!(out, "| {line}")?;
+    fn add_answer(&mut self, plan: &Plan<'_>, word: &str, position: (u32, u32), path: &str) {
+        match document_named(plan, path) {
+            None => self.add("? no document\n"),
+            Some(document) if word == "sym" => self.add_symbols(plan, document),
+            Some(document) => self.add_position(plan, word, position, document),
         }
     }
-    let count = texts.len();
-    writeln!(out, "= {count}")
-}
 
-/// The answer to `sym` with a path.
-pub fn symbols(alloc: Global, plan: &Plan<'_>, path: &str) -> Result<String, AllocError> {
-    let mut out = String::new(alloc);
-    let Some(document) = document_named(plan, path) else {
-        out.push_str("? no document\n")?;
-        return Ok(out);
-    };
-    let mut count = 0u32;
-    for entry in plan.entries {
-        if entry.0 == document {
-            let symbol = entry.1;
-            writeln!(out, "{symbol}")?;
-            count = count.wrapping_add(1);
+    fn finish(self) -> Result<String, AllocError> {
+        if self.is_cut {
+            Err(AllocError)
+        } else {
+            Ok(self.text)
         }
     }
-    writeln!(out, "= {count}")?;
-    Ok(out)
 }
 
-/// The answer to `def`, `ref` or `doc` with a position and a path.
+/// The answer to `def`, `ref` or `doc` with a position and a path, or to `sym` with a path.
 pub fn answer(
     alloc: Global,
     plan: &Plan<'_>,
@@ -150,22 +220,10 @@ pub fn answer(
     position: (u32, u32),
     path: &str,
 ) -> Result<String, AllocError> {
-    let mut out = String::new(alloc);
-    let Some(document) = document_named(plan, path) else {
-        out.push_str("? no document\n")?;
-        return Ok(out);
+    let mut draft = Draft {
+        text: String::new(alloc),
+        is_cut: false,
     };
-    let Some(row) = row_at(plan, document, position.0, position.1) else {
-        out.push_str("? nothing there\n")?;
-        return Ok(out);
-    };
-    let asked = Asked {
-        symbol: row.2,
-        document,
-    };
-    match word {
-        "doc" => push_texts(&mut out, plan, asked)?,
-        _ => push_rows(&mut out, plan, asked, word == "def")?,
-    }
-    Ok(out)
+    draft.add_answer(plan, word, position, path);
+    draft.finish()
 }

@@ -1,7 +1,7 @@
 //! Calls of the encoding that are made again after want of memory, where the second answer counts.
 
 use scip_model::Index;
-use scip_wire::{SpellFault, WireFault, read_index, spell_index};
+use scip_wire::{SpellFault, WireFault, encoded_len, read_index, spell_index};
 use std::alloc::Global;
 
 /// The index that the bytes decode to. They are read again after `Memory`.
@@ -17,5 +17,21 @@ pub fn spelled(alloc: Global, index: &Index) -> Result<Vec<u8>, SpellFault> {
     match spell_index(alloc, index) {
         Err(SpellFault::Memory) => spell_index(alloc, index),
         answer => answer,
+    }
+}
+
+/// Whether an index is spelled as these bytes.
+pub fn is_spelled(alloc: Global, index: &Index, want: &[u8]) -> bool {
+    match spelled(alloc, index) {
+        Ok(bytes) => *bytes == *want,
+        Err(_) => false,
+    }
+}
+
+/// Whether an index has so many bytes.
+pub fn is_long(index: &Index, size: usize) -> bool {
+    match encoded_len(index) {
+        Ok(length) => length as usize == size,
+        Err(_) => false,
     }
 }

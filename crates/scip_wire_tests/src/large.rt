@@ -1,12 +1,10 @@
 //! An index with a text of 100,000 bytes, which no call may refuse for its size, and whose writing
 //! asks for no more memory than it needs.
 
-use crate::decoded::spelled;
-use crate::fields::decodes_to;
-use crate::sample::{SampleDocument, SampleIndex, index_of};
+use crate::decoded::{decoded, is_long, spelled};
 use crate::see::see;
 use scip_model::{Index, Std};
-use scip_wire::{WriteFault, encoded_len, write_index};
+use scip_wire::{WriteFault, write_index};
 use std::alloc::{AllocError, Global};
 use std::io;
 use std::io::Write;
@@ -39,13 +37,16 @@ impl Write for Counting {
     }
 }
 
-/// A text of so many bytes.
-fn text_of(alloc: Global, size: usize) -> Result<String, AllocError> {
-    let mut text = String::with_capacity(alloc, size)?;
-    for _ in 0..size {
-        text.push('x')?;
+/// The bytes of the index: the heads of the document's record and of the text's, and the text.
+fn bytes_of_index(alloc: Global) -> Result<Vec<u8>, AllocError> {
+    let mut bytes = Vec::with_capacity(alloc, INDEX)?;
+    for byte in b"\x12\xA4\x8D\x06\x0A\xA0\x8D\x06" {
+        bytes.push(*byte)?;
     }
-    Ok(text)
+    for _ in 0..TEXT {
+        bytes.push(b'x')?;
+    }
+    Ok(bytes)
 }
 
 /// What `write_index` answers, and its writer. After `Memory` it is called again with a new one.
@@ -61,48 +62,47 @@ fn written(alloc: Global, index: &Index) -> (Result<(), WriteFault>, Counting) {
 /// Sees that a writer gets an index at once.
 fn see_one_write(rt: &impl Abort, alloc: Global, index: &Index) {
     let (answer, writer) = written(alloc, index);
-    let length = encoded_len(index).map(|length| length as usize);
-    see(rt, length == Ok(INDEX), "length");
     see(rt, answer == Ok(()), "written");
     see(rt, writer.calls == 1, "one write");
     see(rt, writer.bytes == INDEX, "all bytes");
 }
 
-/// Sees that an index is written at once, as the bytes that it is spelled as.
-fn see_large(rt: &impl Abort, alloc: Global, sample: &SampleIndex<'_>) -> Result<(), Fail> {
-    let index = index_of(alloc, sample)?;
-    see_one_write(rt, alloc, &index);
-    see_spelled(rt, alloc, &index, sample)
+/// Whether an index has one document, and its path these bytes.
+fn has_path(index: &Index, path: &[u8]) -> bool {
+    match index.documents.as_slice() {
+        [document] => *document.relative_path.as_str().as_bytes() == *path,
+        _ => false,
+    }
 }
 
-/// Sees that an index is spelled without more memory than it needs, and read.
-fn see_spelled(
-    rt: &impl Abort,
-    alloc: Global,
-    index: &Index,
-    sample: &SampleIndex<'_>,
-) -> Result<(), Fail> {
-    let bytes = spelled(alloc, index)?;
-    see(rt, bytes.len() == INDEX, "spelled");
-    see(rt, bytes.capacity() < 2 * INDEX, "memory");
-    see(rt, decodes_to(alloc, &bytes, sample), "read");
-    Ok(())
+/// Whether an index is spelled as these bytes, without more memory than it needs.
+fn is_spelled_in_place(alloc: Global, index: &Index, want: &[u8]) -> bool {
+    match spelled(alloc, index) {
+        Ok(bytes) => *bytes == *want && bytes.capacity() < 2 * INDEX,
+        Err(_) => false,
+    }
+}
+
+/// Sees that an index has a path of this text, and is written at once as these bytes.
+fn see_index(rt: &impl Abort, alloc: Global, index: &Index, bytes: &[u8]) {
+    let (_, text) = bytes.split_at(bytes.len().min(INDEX - TEXT));
+    see(rt, has_path(index, text), "read");
+    see(rt, is_long(index, INDEX), "length");
+    see_one_write(rt, alloc, index);
+    see(rt, is_spelled_in_place(alloc, index, bytes), "spelled");
+}
+
+/// Sees that bytes are read, and what is read is written at once as they.
+fn see_large(rt: &impl Abort, alloc: Global, bytes: &[u8]) {
+    match decoded(alloc, bytes) {
+        Ok(index) => see_index(rt, alloc, &index, bytes),
+        Err(_) => see(rt, false, "read"),
+    }
 }
 
 #[test]
-fn a_long_text_is_written_at_once_and_read(rt: HostRuntime) -> Result<(), Fail> {
-    let text = text_of(rt.alloc(), TEXT)?;
-    let document = SampleDocument {
-        relative_path: text.as_str(),
-        occurrences: &[],
-        symbols: &[],
-        language: "",
-        position_encoding: 0,
-    };
-    let sample = SampleIndex {
-        metadata: None,
-        documents: &[document],
-        external_symbols: &[],
-    };
-    see_large(&rt, rt.alloc(), &sample)
+fn a_long_text_is_read_and_written_at_once(rt: HostRuntime) -> Result<(), Fail> {
+    let bytes = bytes_of_index(rt.alloc())?;
+    see_large(&rt, rt.alloc(), &bytes);
+    Ok(())
 }

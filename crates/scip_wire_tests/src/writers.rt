@@ -1,7 +1,7 @@
 //! Writers that take little or fail.
 
-use crate::sample::{SampleIndex, index_of};
-use crate::samples::{MESSAGE, MESSAGE_INDEX, NO_DOCUMENT, NO_DOCUMENT_INDEX};
+use crate::decoded::decoded;
+use crate::samples::{MESSAGE, NO_DOCUMENT};
 use crate::see::see;
 use scip_model::{Index, Std};
 use scip_wire::{WriteFault, write_index};
@@ -9,7 +9,6 @@ use std::alloc::Global;
 use std::io;
 use std::io::{ErrorKind, Write};
 use std::process::Abort;
-use std::test::Fail;
 
 /// What a writer does once it has no room left.
 #[derive(Clone, Copy, PartialEq, Eq)]
@@ -62,7 +61,7 @@ fn written_once(
 
 /// What `write_index` answers, and how many bytes its writer then has. After `Memory`, which has to
 /// come with nothing written, it is called again, and the second answer counts.
-pub fn written(
+fn written(
     rt: &impl Abort,
     alloc: Global,
     index: &Index,
@@ -77,10 +76,12 @@ pub fn written(
     written_once(alloc, index, room, limits)
 }
 
-/// Sees that a writer with room for these first bytes gets them, and that the answer is this.
-fn see_first(
+/// Sees that a writer with room for these first bytes, which are 200 at most, gets them, and that the
+/// answer is this.
+pub fn see_first(
     rt: &impl Abort,
     alloc: Global,
+    case: &str,
     index: &Index,
     first: &[u8],
     limits: Limits,
@@ -89,12 +90,8 @@ fn see_first(
     let mut room = [0u8; 200];
     let (room, _) = room.split_at_mut(first.len().min(200));
     let (answer, count) = written(rt, alloc, index, room, limits);
-    see(
-        rt,
-        count == first.len() && *room == *first,
-        "the first bytes",
-    );
-    see(rt, answer == want, "how many");
+    see(rt, count == first.len() && *room == *first, case);
+    see(rt, answer == want, case);
 }
 
 /// Sees that a writer that takes less than all of the bytes gets the first of them, and that the
@@ -102,39 +99,38 @@ fn see_first(
 fn see_cut_off(rt: &impl Abort, alloc: Global, index: &Index, bytes: &[u8], limits: Limits) {
     for count in 0..bytes.len() {
         let want = Err(WriteFault::Write(count));
-        see_first(rt, alloc, index, &bytes[..count], limits, want);
+        see_first(rt, alloc, "cut off", index, &bytes[..count], limits, want);
     }
-    see_first(rt, alloc, index, bytes, limits, Ok(()));
+    see_first(rt, alloc, "whole", index, bytes, limits, Ok(()));
 }
 
-/// Sees how a sample is cut off by writers that take so many bytes a call.
-fn see_sample(
-    rt: &impl Abort,
-    alloc: Global,
-    sample: &SampleIndex<'_>,
-    bytes: &[u8],
-    a_call: usize,
-) -> Result<(), Fail> {
-    let index = index_of(alloc, sample)?;
-    for at_end in &[AtEnd::Fails, AtEnd::TakesNothing] {
-        let limits = Limits {
-            a_call,
-            at_end: *at_end,
-        };
-        see_cut_off(rt, alloc, &index, bytes, limits);
-    }
-    Ok(())
+/// Sees how an index is cut off by writers that take so many bytes a call.
+fn see_both_ends(rt: &impl Abort, alloc: Global, index: &Index, bytes: &[u8], a_call: usize) {
+    let at_end = AtEnd::Fails;
+    see_cut_off(rt, alloc, index, bytes, Limits { a_call, at_end });
+    let at_end = AtEnd::TakesNothing;
+    see_cut_off(rt, alloc, index, bytes, Limits { a_call, at_end });
 }
 
-#[test]
-fn writers_that_take_little_or_fail(rt: HostRuntime) -> Result<(), Fail> {
-    for a_call in &[1, 7, 100] {
-        see_sample(&rt, rt.alloc(), &NO_DOCUMENT_INDEX, NO_DOCUMENT, *a_call)?;
+/// Sees how what these bytes decode to is cut off.
+fn see_sample(rt: &impl Abort, alloc: Global, bytes: &[u8], a_call: usize) {
+    match decoded(alloc, bytes) {
+        Ok(index) => see_both_ends(rt, alloc, &index, bytes, a_call),
+        Err(_) => see(rt, false, "read"),
     }
-    Ok(())
 }
+
+/// The bytes of indexes, and how many of them a writer takes a call.
+const CASES: [(&[u8], usize); 4] = [
+    (NO_DOCUMENT, 1),
+    (NO_DOCUMENT, 7),
+    (NO_DOCUMENT, 100),
+    (MESSAGE, usize::MAX),
+];
 
 #[test]
-fn writers_that_take_all_and_stop_at_each_byte(rt: HostRuntime) -> Result<(), Fail> {
-    see_sample(&rt, rt.alloc(), &MESSAGE_INDEX, MESSAGE, usize::MAX)
+fn writers_that_take_little_or_fail_and_stop_at_each_byte(rt: HostRuntime) {
+    for (bytes, a_call) in &CASES {
+        see_sample(&rt, rt.alloc(), bytes, *a_call);
+    }
 }

@@ -37,6 +37,7 @@ pub refuses : (r : Request) → Prints kind.ValueValidation r → IsRefused r
 refuses (request.Dump custom_options) p = absurd p
 refuses (request.Query index) p = absurd p
 refuses (request.Index options out) p = absurd p
+refuses (request.Shell options) p = absurd p
 refuses (request.Print text) (inl help) = absurd cc
 refuses (request.Print text) (inr version) = absurd cc
 refuses (request.Refuse text) p = tt

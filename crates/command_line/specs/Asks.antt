@@ -16,14 +16,17 @@ use Rattle.command_line.specs.declared.request.Request.TheVariants as request
 abbrev pub name_of : Option (Text × List Row) → Option Text
 name_of program = option_map (λ p. p.0) program
 
--- the program, with what it is given: `index`, `query`, and else `dump`, the only other one
+-- the program, with what it is given: `index`, `shell`, `query`, and else `dump`, the only other one
 abbrev pub Names : Option (Text × List Row) → Request → Type 0
 Names program (request.Index options out) = (name_of program ≡ Some (codes "index"))
     × Carries (rows_in program) options
     × (string_bytes out ≡ text_of (codes "OUT") (rows_in program))
+Names program (request.Shell options) = (name_of program ≡ Some (codes "shell"))
+    × Carries (rows_in program) options
 Names program (request.Query index) = (name_of program ≡ Some (codes "query"))
     × (string_bytes index ≡ text_of (codes "INDEX") (rows_in program))
 Names program (request.Dump custom_options) = (name_of program ≢ Some (codes "index"))
+    × (name_of program ≢ Some (codes "shell"))
     × (name_of program ≢ Some (codes "query"))
     × (custom_options ≡ custom_options_of (rows_in program))
 Names program (request.Print text) = ⊥

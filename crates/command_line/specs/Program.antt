@@ -57,7 +57,7 @@ choice_rules lists = option_rule (codes "only")
     ∷ custom_options_rule lists.custom_options
     ∷ []
 
--- the options of `index`
+-- the options of `index` and of `shell`
 abbrev pub tree_rules : WordLists → List Rule
 tree_rules lists = setting_rules ++ choice_rules lists
 
@@ -71,6 +71,10 @@ abbrev pub index_line : WordLists → Shape
 index_line lists = (with_rules (new_app (codes "index"))
     (required_rule (codes "ROOT") ∷ required_rule (codes "OUT") ∷ tree_rules lists)).top
 
+-- `shell` wants the folder alone
+abbrev pub shell_line : WordLists → Shape
+shell_line lists = (with_rules (new_app (codes "shell")) (required_rule (codes "ROOT") ∷ tree_rules lists)).top
+
 -- `query` wants one argument, the path of an index
 abbrev pub query_line : Shape
 query_line = (with_rule (new_app (codes "query")) (required_rule (codes "INDEX"))).top
@@ -83,7 +87,7 @@ dump_line lists =
 abbrev pub command_line : WordLists → App
 command_line lists =
     let plain = (new_app (codes "protoscip")).top in
-    with_subcommand (with_subcommand (with_subcommand (record {
+    with_subcommand (with_subcommand (with_subcommand (with_subcommand (record {
       top = record plain { has_version = true; subcommand_required = true };
       subs = [];
-    }) (index_line lists)) query_line) (dump_line lists)
+    }) (index_line lists)) (shell_line lists)) query_line) (dump_line lists)

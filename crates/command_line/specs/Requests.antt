@@ -48,3 +48,8 @@ index_options _ = None
 abbrev pub out_path : Request → Option Text
 out_path (request.Index options out) = Some (string_bytes out)
 out_path _ = None
+
+-- the options of the index about which commands are to be answered, and which no file holds
+abbrev pub shell_options : Request → Option IndexOptions
+shell_options (request.Shell options) = Some options
+shell_options _ = None

@@ -6,12 +6,15 @@ pub(crate) const INDEX: &str = "index";
 
 pub(crate) const QUERY: &str = "query";
 
+pub(crate) const SHELL: &str = "shell";
+
 /// The argument that `query` wants.
 pub(crate) const INDEX_FILE: &str = "INDEX";
 
-/// The arguments that `index` wants.
+/// The argument that `index` and `shell` want.
 pub(crate) const ROOT: &str = "ROOT";
 
+/// The other argument that `index` wants.
 pub(crate) const OUT: &str = "OUT";
 
 pub(crate) const WORKERS: &str = "workers";

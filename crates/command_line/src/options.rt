@@ -1,8 +1,8 @@
-//! What `index` is told of a tree.
+//! What `index` and `shell` are told of a tree.
 
 ghost use Rattle.std.specs.Prelude.{◌≤◌};
 
-/// The values of the arguments and options of `index`. An option that isn't given has its default.
+/// The values of the argument ROOT and of the options of `index` and `shell`. An option that isn't given has its default.
 #[derive(Debug, Drop)]
 pub struct IndexOptions {
     /// The path of the folder whose sources are indexed, as it was written.

@@ -8,9 +8,10 @@ ghost use Rattle.command_line.specs.Program.{
   dump_line,
   index_line,
   query_line,
+  shell_line,
 };
 
-use crate::names::{DUMP, INDEX, INDEX_FILE, OUT, QUERY, ROOT};
+use crate::names::{DUMP, INDEX, INDEX_FILE, OUT, QUERY, ROOT, SHELL};
 use crate::tree::{custom_options, required, with_tree_options};
 use crate::words::WordLists;
 use clap::Command;
@@ -20,6 +21,17 @@ const INDEX_EXAMPLE: &str =
     "Example, the sources below api with those below vendor for their imports:
 
   protoscip index --include vendor --package api --release 1.2 api api.scip";
+
+const SHELL_EXAMPLE: &str =
+    "Example session, in which the lines that begin with a word are typed, and Ctrl-D ends it:
+
+  $ protoscip shell examples/library
+  def 24 10 library/lending/loan.proto
+  13 8 13 12 1 library/calendar.proto
+  = 1
+  doc 24 10 library/lending/loan.proto
+  | The days from the first to the last, both included.
+  = 1";
 
 const QUERY_EXAMPLE: &str = "Example, the symbols of a document:
 
@@ -41,6 +53,19 @@ fn index_program<'a>(alloc: Global, lists: WordLists<'a>) -> Result<Command<'a>,
         .after_help(INDEX_EXAMPLE)
         .arg(root)?
         .arg(out)?;
+    with_tree_options(alloc, program, lists)
+}
+
+/// The command line of `shell`.
+fn shell_program<'a>(alloc: Global, lists: WordLists<'a>) -> Result<Command<'a>, AllocError>
+    ensures line { IfOk result (λ c. (app_of c).top ≡ shell_line lists.entry) }
+    ensures local { IfOk result (λ c. (fields_of c).has_globals ≡ false) }
+{
+    let root = required(alloc, ROOT, "The folder whose sources are indexed");
+    let program = Command::new(alloc, SHELL)
+        .about("Indexes the sources below a folder and answers commands, from standard input")
+        .after_help(SHELL_EXAMPLE)
+        .arg(root)?;
     with_tree_options(alloc, program, lists)
 }
 
@@ -76,6 +101,7 @@ pub(crate) fn program<'a>(alloc: Global, lists: WordLists<'a>) -> Result<Command
         .about("Indexes proto3 sources and writes SCIP")
         .subcommand_required(true)
         .subcommand(index_program(alloc, lists)?)?
+        .subcommand(shell_program(alloc, lists)?)?
         .subcommand(query_program(alloc)?)?
         .subcommand(dump_program(alloc, lists)?)
 }

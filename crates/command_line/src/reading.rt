@@ -9,7 +9,7 @@ ghost use Rattle.command_line.specs.Given.{custom_options_of, rows_in};
 ghost use Rattle.command_line.specs.Requests.{IsRefused, Prints};
 
 use crate::given::{custom_options_of, options_of, text_of};
-use crate::names::{INDEX, INDEX_FILE, OUT, QUERY};
+use crate::names::{INDEX, INDEX_FILE, OUT, QUERY, SHELL};
 use crate::options::CustomOptionsWord;
 use crate::program::program;
 use crate::request::Request;
@@ -39,6 +39,9 @@ fn named(alloc: Global, matches: &ArgMatches<'_>) -> Result<Request, AllocError>
     if let Some(given) = matches.subcommand_matches(INDEX) {
         let options = options_of(alloc, given)?;
         return Ok(Request::Index(options, text_of(alloc, given, OUT)?));
+    }
+    if let Some(given) = matches.subcommand_matches(SHELL) {
+        return Ok(Request::Shell(options_of(alloc, given)?));
     }
     if let Some(given) = matches.subcommand_matches(QUERY) {
         return Ok(Request::Query(text_of(alloc, given, INDEX_FILE)?));

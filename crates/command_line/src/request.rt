@@ -11,6 +11,8 @@ pub enum Request {
     Query(String),
     /// The program `index`, whose index goes to the file with this path.
     Index(IndexOptions, String),
+    /// The program `shell`, about the index of the tree that the options tell.
+    Shell(IndexOptions),
     /// A text for standard output: help or the version.
     Print(String),
     /// A text for standard error: what is wrong with the command line.

@@ -7,13 +7,17 @@ use std::alloc::Global;
 use std::process::Abort;
 use std::test::Fail;
 
-/// A program with its options, in one line: OUT stands behind `index`, and then come root, workers,
-/// project root, the package's three parts, prefix, comments, included folders, unit and custom options.
+/// A program with its options, in one line: OUT stands behind `index`, and then, as behind `shell`, come
+/// root, workers, project root, the package's three parts, prefix, comments, included folders, unit and custom options.
 fn line_of(alloc: Global, request: &Request) -> Result<String, Fail> {
     match request {
         Request::Index(options, out) => {
             let line = options_line(alloc, options)?;
             Ok(format!(in alloc; "index {out:?} {line}")?)
+        }
+        Request::Shell(options) => {
+            let line = options_line(alloc, options)?;
+            Ok(format!(in alloc; "shell {line}")?)
         }
         Request::Query(index) => Ok(format!(in alloc; "query {index:?}")?),
         Request::Dump(custom_options) => Ok(format!(in alloc; "dump {custom_options:?}")?),
@@ -68,6 +72,18 @@ fn arguments_and_defaults(rt: HostRuntime) -> Result<(), Fail> {
             (
                 "index index shell",
                 "index \"shell\" \"index\" 4 \"file:///\" \"\" \"\" \"\" None None [] Utf8 Refuse",
+            ),
+            (
+                "shell api",
+                "shell \"api\" 4 \"file:///\" \"\" \"\" \"\" None None [] Utf8 Refuse",
+            ),
+            (
+                "shell shell",
+                "shell \"shell\" 4 \"file:///\" \"\" \"\" \"\" None None [] Utf8 Refuse",
+            ),
+            (
+                "shell -- --workers",
+                "shell \"--workers\" 4 \"file:///\" \"\" \"\" \"\" None None [] Utf8 Refuse",
             ),
             ("query a.scip", "query \"a.scip\""),
             ("query dump", "query \"dump\""),
@@ -259,9 +275,15 @@ fn all_options_at_once(rt: HostRuntime) -> Result<(), Fail> {
     see_lines(
         &rt,
         rt.alloc(),
-        &[(
-            "index --workers 2 --project-root u --manager m --package p --release r --only o --doc both --include i --positions utf16 --custom-options skip api out",
-            "index \"out\" \"api\" 2 \"u\" \"m\" \"p\" \"r\" Some(\"o\") Some(Both) [\"i\"] Utf16 Skip",
-        )],
+        &[
+            (
+                "index --workers 2 --project-root u --manager m --package p --release r --only o --doc both --include i --positions utf16 --custom-options skip api out",
+                "index \"out\" \"api\" 2 \"u\" \"m\" \"p\" \"r\" Some(\"o\") Some(Both) [\"i\"] Utf16 Skip",
+            ),
+            (
+                "shell --workers 2 --project-root u --manager m --package p --release r --only o --doc both --include i --positions utf16 --custom-options skip api",
+                "shell \"api\" 2 \"u\" \"m\" \"p\" \"r\" Some(\"o\") Some(Both) [\"i\"] Utf16 Skip",
+            ),
+        ],
     )
 }

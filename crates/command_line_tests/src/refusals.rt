@@ -80,6 +80,15 @@ fn other_words_are_refused(rt: HostRuntime) -> Result<(), Fail> {
                 "error: unexpected argument 'more' found\n",
             ),
             (
+                "shell",
+                "error: the following required arguments were not provided:\n  <ROOT>\n",
+            ),
+            ("shell api out", "error: unexpected argument 'out' found\n"),
+            (
+                "shell api --out out",
+                "error: unexpected argument '--out' found\n",
+            ),
+            (
                 "index --out out api",
                 "error: unexpected argument '--out' found\n",
             ),
@@ -150,6 +159,10 @@ fn numbers_of_workers_are_refused(rt: HostRuntime) -> Result<(), Fail> {
                 "error: unexpected argument '-1' found\n",
             ),
             (
+                "shell api --workers 17",
+                "error: invalid value '17' for '--workers <N>': 17 is not in 1..=16\n",
+            ),
+            (
                 "index api out --workers 18446744073709551617",
                 "error: invalid value '18446744073709551617' for '--workers <N>': number too large to fit in target type\n",
             ),
@@ -187,6 +200,10 @@ fn words_that_are_not_listed_are_refused(rt: HostRuntime) -> Result<(), Fail> {
             (
                 "index api out --custom-options take",
                 "error: invalid value 'take' for '--custom-options <WORD>'\n  [possible values: refuse, skip]\n",
+            ),
+            (
+                "shell api --doc none",
+                "error: invalid value 'none' for '--doc <WORD>'\n  [possible values: leading, trailing, both, nothing]\n",
             ),
             (
                 "dump --custom-options keep",
@@ -243,6 +260,10 @@ fn options_that_are_given_twice_are_refused(rt: HostRuntime) -> Result<(), Fail>
                 "error: the argument '--custom-options <WORD>' cannot be used multiple times\n",
             ),
             (
+                "shell --only a --only a api",
+                "error: the argument '--only <PREFIX>' cannot be used multiple times\n",
+            ),
+            (
                 "dump --custom-options skip --custom-options skip",
                 "error: the argument '--custom-options <WORD>' cannot be used multiple times\n",
             ),
@@ -294,6 +315,10 @@ fn options_without_a_value_are_refused(rt: HostRuntime) -> Result<(), Fail> {
             ),
             (
                 "index api out --include",
+                "error: a value is required for '--include <DIR>' but none was supplied\n",
+            ),
+            (
+                "shell api --include",
                 "error: a value is required for '--include <DIR>' but none was supplied\n",
             ),
             (

@@ -1,4 +1,4 @@
--- What the options of `index` choose for each declaration.
+-- What the options of `index` and `shell` choose for each declaration.
 use Rattle.std.specs.Prelude.{◌≡◌, ◌↔◌, ℕ, Bool, true, IsTrue, List, Option, Some, None}
 use Rattle.proto_decl.specs.Seen.{Seen}
 use Rattle.index_hooks.specs.IsUnder.{IsUnder}

@@ -5,9 +5,12 @@ pub mod Printing
 pub mod QueryFaults
 pub mod Queries
 pub mod Answering
--- `index`: what its options say, why there is no package or no tree, and what it does
+-- `index` and `shell`: what their options say, why there is no package or no tree, and what they do
 pub mod Choices
 pub mod Settings
 pub mod PackageFaults
 pub mod LoadLines
+pub mod Starting
+pub mod TreeRuns
 pub mod Indexing
+pub mod Serving

@@ -1,4 +1,4 @@
--- What the options of `index` say of the run.
+-- What the options of `index` and `shell` say of the run.
 use Rattle.std.specs.Prelude.{string_bytes}
 use Rattle.std.specs.Option.{option_map}
 use Rattle.proto_lex.specs.declared.position.Encoding.{Encoding}

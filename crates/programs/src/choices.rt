@@ -1,4 +1,4 @@
-//! What the options of `index` choose for each declaration.
+//! What the options of `index` and `shell` choose for each declaration.
 
 ghost use Rattle.std.specs.Prelude.{◌≡◌, IfOk};
 ghost use Rattle.std.specs.Option.{option_map};

@@ -5,8 +5,8 @@ ghost use Rattle.scip_model.specs.WholeReads.{IsReadBriefly};
 ghost use Rattle.protoscip.specs.declared.fault.Fault.{Fault};
 ghost use Rattle.protoscip.specs.Dump.{Dumps, LeavesReader, LeavesWriter, dump_tree};
 ghost use Rattle.protoscip.specs.FaultLines.{HasFilesOf, line_of};
-ghost use Rattle.programs.specs.Indexing.{Ends};
 ghost use Rattle.programs.specs.Settings.{custom_options_of};
+ghost use Rattle.programs.specs.TreeRuns.{Ends};
 
 use crate::messages::report;
 use crate::settings::custom_options_of;

@@ -7,28 +7,20 @@ ghost use Rattle.programs.specs.Indexing.{Indexed};
 ghost use Rattle.programs.specs.Settings.{allowed_by, package_in, settings_in};
 
 use crate::choices::OptionChoices;
-use crate::load_line::{load_line, load_status};
 use crate::messages::report;
-use crate::package::package_of;
-use crate::settings::{only_of, settings_of};
+use crate::settings::{only_of, settings_of, workers_of};
+use crate::starting::start;
 use command_line::IndexOptions;
-use index_pool::{NoGate, Workers};
+use index_pool::NoGate;
 use protoscip::{Fault, fault_line, index_tree};
 use scip_document::Choices;
 use scip_model::Sink;
 use scip_symbol::PackageId;
-use source_files::{ReadFiles, load_tree};
+use source_files::ReadFiles;
 use source_tree::Tree;
 use std::alloc::Global;
 use std::sync::Wait;
 use std::thread::Threads;
-
-/// So many workers as options say.
-fn workers_of(options: &IndexOptions) -> Workers
-    ensures { result ≡ options.now.workers }
-{
-    Workers::new(options.workers).unwrap()
-}
 
 /// Builds the index of a tree, as options say, and writes its bytes.
 fn index_by_options<R: Threads + Wait, W: Sink>(
@@ -65,13 +57,9 @@ pub(crate) fn index<R: Threads + Wait, F: ReadFiles, W: Sink, M: Sink>(
 ) -> u8
     ensures { Indexed (F.lists files.now) (F.gives files.now) W.contents W.failures M.contents M.failures options.now out.old out.new messages.old messages.new result }
 {
-    let id = match package_of(alloc, options) {
-        Ok(id) => id,
+    let (id, tree) = match start(alloc, options, files) {
+        Ok(start) => start,
         Err(fault) => return report(fault.line(alloc), fault.status(), messages),
-    };
-    let tree = match load_tree(alloc, files, options.root.as_str(), &options.include) {
-        Ok(tree) => tree,
-        Err(fault) => return report(load_line(alloc, &fault), load_status(&fault), messages),
     };
     match index_by_options(rt, alloc, options, id, &tree, out) {
         Ok(_) => 0,

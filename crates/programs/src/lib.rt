@@ -11,12 +11,18 @@ mod dumping;
 mod query_fault;
 mod querying;
 
-// `index`: what its options say of the run, why there is no package or no tree, and what it does.
+// The programs about a tree: what their options say of the run, and why there is no package or no tree.
 mod choices;
-mod indexing;
 mod load_line;
 mod package;
 mod settings;
+mod starting;
+
+// `index`: the index of a tree goes to a file.
+mod indexing;
+
+// `shell`: the index of a tree answers commands.
+mod serving;
 
 // What is printed and said.
 mod messages;

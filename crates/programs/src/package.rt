@@ -1,4 +1,4 @@
-//! The package that the options of `index` name.
+//! The package that the options of `index` and `shell` name.
 
 ghost use Rattle.std.specs.Prelude.{◌≡◌, IfOk, string_bytes};
 ghost use Rattle.programs.specs.declared.package.PackageFault.TheVariants.{BadPart};

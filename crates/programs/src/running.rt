@@ -2,17 +2,27 @@
 
 ghost use Rattle.std.specs.Prelude.{◌≡◌, ℕ, List, [], Some, Result, IfSome, IfOk, IfErr};
 ghost use Rattle.std.specs.Io.KnownBytes.{Appends};
-ghost use Rattle.command_line.specs.Requests.{dump_options, index_options, index_path, out_path, printed_text, refused_text};
+ghost use Rattle.command_line.specs.Requests.{
+  dump_options,
+  index_options,
+  index_path,
+  out_path,
+  printed_text,
+  refused_text,
+  shell_options,
+};
 ghost use Rattle.scip_model.specs.WholeReads.{IsReadBriefly};
 ghost use Rattle.protoscip.specs.declared.fault.Fault.{Fault};
 ghost use Rattle.protoscip.specs.Dump.{Dumps, LeavesReader, LeavesWriter, dump_tree};
 ghost use Rattle.programs.specs.declared.query_fault.QueryFault.{QueryFault};
 ghost use Rattle.programs.specs.Answering.{Answers};
-ghost use Rattle.programs.specs.Indexing.{Ends, Indexed};
+ghost use Rattle.programs.specs.Indexing.{Indexed};
 ghost use Rattle.programs.specs.Messages.{Heard, Tells, memory_line, memory_status};
 ghost use Rattle.programs.specs.Printing.{Prints};
 ghost use Rattle.programs.specs.Queries.{Queried};
+ghost use Rattle.programs.specs.Serving.{Served};
 ghost use Rattle.programs.specs.Settings.{custom_options_of};
+ghost use Rattle.programs.specs.TreeRuns.{Ends};
 
 use crate::dumping::dump_source;
 use crate::indexing::index;
@@ -20,6 +30,7 @@ use crate::messages::{MEMORY_STATUS, report};
 use crate::output::print;
 use crate::package::COMMAND_LINE_STATUS;
 use crate::querying::query;
+use crate::serving::shell;
 use command_line::Request;
 use scip_model::{Feed, Sink, write_all};
 use source_files::ReadFiles;
@@ -104,6 +115,10 @@ pub fn run<R: Threads + Wait, F: ReadFiles, I: Feed, W: Sink, O: Sink, M: Sink>(
     ensures indexed { IfOk asked.now (λ request. IfSome (index_options request) (λ options.
         Indexed (F.lists files.now) (F.gives files.now) O.contents O.failures M.contents M.failures options file.old file.new messages.old messages.new result
         × (input.new ≡ input.old) × (out.new ≡ out.old))) }
+    // What `shell` does.
+    ensures served { IfOk asked.now (λ request. IfSome (shell_options request) (λ options.
+        Served (F.lists files.now) (F.gives files.now) I.remaining I.failures I.reads I.ends W.contents W.failures M.contents M.failures options input.old input.new out.old out.new messages.old messages.new result
+        × (file.new ≡ file.old))) }
     // Nothing was asked for, since memory ran out, and that is said.
     ensures unknown { IfErr asked.now (λ _. Tells M.contents M.failures memory_line memory_status messages.old messages.new result
         × (input.new ≡ input.old) × (out.new ≡ out.old) × (file.new ≡ file.old)) }
@@ -113,6 +128,7 @@ pub fn run<R: Threads + Wait, F: ReadFiles, I: Feed, W: Sink, O: Sink, M: Sink>(
             Request::Dump(word) => dump_source(rt, alloc, *word, input, out, messages),
             Request::Query(path) => answer(alloc, files, path.as_str(), input, out, messages),
             Request::Index(options, _) => index(rt, alloc, options, files, file, messages),
+            Request::Shell(options) => shell(rt, alloc, options, files, input, out, messages),
             Request::Print(text) => print(alloc, text.as_str(), out, messages),
             Request::Refuse(text) => refuse(text.as_str(), messages),
         },

@@ -6,6 +6,7 @@ ghost use Rattle.std.specs.String.{string_bytes};
 ghost use Rattle.programs.specs.Settings.{custom_options_of, encoding_of, package_in, settings_in};
 
 use command_line::{CustomOptionsWord, IndexOptions, PositionsWord};
+use index_pool::Workers;
 use proto_grammar::CustomOptions;
 use proto_lex::Encoding;
 use scip_build::Settings;
@@ -48,6 +49,13 @@ pub(crate) fn settings_of(
         encoding: encoding_of(options.positions),
         custom_options: custom_options_of(options.custom_options),
     })
+}
+
+/// So many workers as options say.
+pub(crate) fn workers_of(options: &IndexOptions) -> Workers
+    ensures { result ≡ options.now.workers }
+{
+    Workers::new(options.workers).unwrap()
 }
 
 /// The full name of `--only`.

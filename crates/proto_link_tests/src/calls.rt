@@ -11,13 +11,20 @@ pub(crate) fn see(rt: &impl Abort, so: bool, what: &str) {
     assert!(rt; so, "{what}");
 }
 
+fn some(facts: Result<FileFacts, AllocError>) -> Result<Option<FileFacts>, AllocError> {
+    match facts {
+        Ok(facts) => Ok(Some(facts)),
+        Err(fault) => Err(fault),
+    }
+}
+
 fn facts_of_tokens(
     alloc: Global,
     number: usize,
     tokens: &Tokens<'_>,
 ) -> Result<Option<FileFacts>, AllocError> {
     match parse(alloc, tokens) {
-        Ok(file) => Ok(Some(declare(alloc, number, tokens, &file)?)),
+        Ok(file) => some(declare(alloc, number, tokens, &file)),
         Err(SyntaxFault::Memory) => Err(AllocError),
         Err(_) => Ok(None),
     }

@@ -27,19 +27,26 @@ fn text_of(alloc: Global, number: u8, plain: bool) -> Result<String, AllocError>
     } else {
         "syntax = \"proto3\";\nimport public \"f"
     };
-    let mut text = String::from_str(alloc, front)?;
-    text.push(char::from(b'0' + number / 10 % 10))?;
-    text.push(char::from(b'0' + number % 10))?;
-    text.push_str(".proto\";\n")?;
-    Ok(text)
+    let (tens, ones) = (number / 10, number % 10);
+    format!(in alloc; "{front}{tens}{ones}.proto\";\n")
+}
+
+fn add_text(
+    alloc: Global,
+    texts: &mut Vec<String>,
+    number: u8,
+    plain: bool,
+) -> Result<(), AllocError> {
+    let text = text_of(alloc, number, plain)?;
+    texts.push(text)?;
+    Ok(())
 }
 
 /// The texts of all files but the last; that of one file imports plainly.
 fn texts_of(alloc: Global, plain: u8) -> Result<Vec<String>, AllocError> {
     let mut texts = Vec::new(alloc);
     for number in 1..100 {
-        let text = text_of(alloc, number, number - 1 == plain)?;
-        texts.push(text)?;
+        add_text(alloc, &mut texts, number, number - 1 == plain)?;
     }
     Ok(texts)
 }
@@ -60,6 +67,17 @@ fn sources_of<'a>(alloc: Global, texts: &'a [String]) -> Result<Vec<Source<'a>>,
     Ok(sources)
 }
 
+fn see_texts(
+    rt: &impl Abort,
+    alloc: Global,
+    texts: &[String],
+    sights: &[Sight],
+) -> Result<(), AllocError> {
+    let sources = sources_of(alloc, texts)?;
+    let due = Due::Sights(sights);
+    see_tree(rt, alloc, sources.as_slice(), due, "a chain")
+}
+
 fn see_chain(
     rt: &impl Abort,
     alloc: Global,
@@ -67,14 +85,7 @@ fn see_chain(
     sights: &[Sight],
 ) -> Result<(), AllocError> {
     let texts = texts_of(alloc, plain)?;
-    let sources = sources_of(alloc, texts.as_slice())?;
-    see_tree(
-        rt,
-        alloc,
-        sources.as_slice(),
-        Due::Sights(sights),
-        "a chain",
-    )
+    see_texts(rt, alloc, texts.as_slice(), sights)
 }
 
 #[test]

@@ -3,7 +3,7 @@
 use crate::trees::{Case, Due, see_cases};
 use std::test::Fail;
 
-const CASES: [Case<'static>; 17] = [
+static CASES: [Case<'static>; 17] = [
     Case {
         name: "values of two enums",
         sources: &[(
@@ -224,6 +224,5 @@ const CASES: [Case<'static>; 17] = [
 
 #[test]
 fn clashes_of_names(rt: HostRuntime) -> Result<(), Fail> {
-    see_cases(&rt, rt.alloc(), &CASES)?;
-    Ok(())
+    Ok(see_cases(&rt, rt.alloc(), &CASES)?)
 }

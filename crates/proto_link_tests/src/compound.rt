@@ -6,7 +6,7 @@ use crate::trees::{Case, see_cases};
 use proto_link::Entity::{Declared, Package};
 use std::test::Fail;
 
-const CASES: [Case<'static>; 8] = [
+static CASES: [Case<'static>; 8] = [
     Case {
         name: "a message that lacks the rest",
         sources: &[(
@@ -166,6 +166,5 @@ const CASES: [Case<'static>; 8] = [
 
 #[test]
 fn compound_names(rt: HostRuntime) -> Result<(), Fail> {
-    see_cases(&rt, rt.alloc(), &CASES)?;
-    Ok(())
+    Ok(see_cases(&rt, rt.alloc(), &CASES)?)
 }

@@ -44,6 +44,13 @@ fn full_name(alloc: Global, scope: &str, name: &str) -> Result<String, AllocErro
     draft.finish()
 }
 
+/// Keeps the full name of a type in a scope.
+fn keep(alloc: Global, types: &mut Vec<String>, scope: &str, name: &str) -> Result<(), AllocError> {
+    let kept = full_name(alloc, scope, name)?;
+    types.push(kept)?;
+    Ok(())
+}
+
 /// Keeps the full names of a message of a package, and of a message in it.
 fn keep_messages(
     alloc: Global,
@@ -52,11 +59,9 @@ fn keep_messages(
     outer: &str,
     inner: &str,
 ) -> Result<(), AllocError> {
+    keep(alloc, types, package, outer)?;
     let scope = full_name(alloc, package, outer)?;
-    let name = full_name(alloc, scope.as_str(), inner)?;
-    types.push(scope)?;
-    types.push(name)?;
-    Ok(())
+    keep(alloc, types, scope.as_str(), inner)
 }
 
 /// Adds one to three words with dots between them.
@@ -141,9 +146,7 @@ pub(crate) fn add_enum(
     draft.add(" { ");
     draft.add(dice.word());
     draft.add(" = 0; }\n");
-    let kept = full_name(alloc, package, name)?;
-    types.push(kept)?;
-    Ok(())
+    keep(alloc, types, package, name)
 }
 
 pub(crate) fn add_service(draft: &mut Draft, dice: &mut Dice, types: &[String]) {

@@ -50,12 +50,17 @@ fn add_part(
     types: &mut Vec<String>,
 ) -> Result<(), AllocError> {
     match dice.below(12) {
-        0 | 1 => add_message(alloc, draft, dice, package, types)?,
-        2 => add_enum(alloc, draft, dice, package, types)?,
-        3 => add_service(draft, dice, types.as_slice()),
-        _ => add_import(draft, dice, files),
+        0 | 1 => add_message(alloc, draft, dice, package, types),
+        2 => add_enum(alloc, draft, dice, package, types),
+        3 => {
+            add_service(draft, dice, types.as_slice());
+            Ok(())
+        }
+        _ => {
+            add_import(draft, dice, files);
+            Ok(())
+        }
     }
-    Ok(())
 }
 
 /// Adds the package statement of a file, where it has a package, and its other statements.
@@ -81,27 +86,59 @@ fn add_parts(
     Ok(())
 }
 
-/// The text of one of so many files, which may use all these types; its own are added to them.
+/// The text of one of so many files, of a package, which may use all these types; its own are added
+/// to them.
 fn text_of(
+    alloc: Global,
+    dice: &mut Dice,
+    files: u8,
+    package: &str,
+    types: &mut Vec<String>,
+) -> Result<String, AllocError> {
+    let mut draft = Draft::new(alloc);
+    draft.add("syntax = \"proto3\";\n");
+    add_parts(alloc, &mut draft, dice, files, package, types)?;
+    draft.finish()
+}
+
+fn text_of_any(
     alloc: Global,
     dice: &mut Dice,
     files: u8,
     types: &mut Vec<String>,
 ) -> Result<String, AllocError> {
     let package = package_of(alloc, dice)?;
-    let mut draft = Draft::new(alloc);
-    draft.add("syntax = \"proto3\";\n");
-    add_parts(alloc, &mut draft, dice, files, package.as_str(), types)?;
-    draft.finish()
+    text_of(alloc, dice, files, package.as_str(), types)
+}
+
+fn add_text(
+    alloc: Global,
+    texts: &mut Vec<String>,
+    dice: &mut Dice,
+    files: u8,
+    types: &mut Vec<String>,
+) -> Result<(), AllocError> {
+    let text = text_of_any(alloc, dice, files, types)?;
+    texts.push(text)?;
+    Ok(())
+}
+
+fn add_texts(
+    alloc: Global,
+    texts: &mut Vec<String>,
+    dice: &mut Dice,
+    files: u8,
+) -> Result<(), AllocError> {
+    let mut types = Vec::new(alloc);
+    for _ in 0..files {
+        add_text(alloc, texts, dice, files, &mut types)?;
+    }
+    Ok(())
 }
 
 fn texts_of(alloc: Global, dice: &mut Dice, files: u8) -> Result<Vec<String>, AllocError> {
     let mut texts = Vec::new(alloc);
-    let mut types = Vec::new(alloc);
-    for _ in 0..files {
-        let text = text_of(alloc, dice, files, &mut types)?;
-        texts.push(text)?;
-    }
+    add_texts(alloc, &mut texts, dice, files)?;
     Ok(texts)
 }
 
@@ -118,20 +155,25 @@ fn sources_of<'a>(
     Ok(sources)
 }
 
+/// Sees that files with these texts are linked as scans tell; those from a number on are included.
+fn see_texts(
+    rt: &impl Abort,
+    alloc: Global,
+    texts: &[String],
+    included: usize,
+) -> Result<(), AllocError> {
+    let sources = sources_of(alloc, texts, included)?;
+    let due = Due::Scanned;
+    see_tree(rt, alloc, sources.as_slice(), due, "a generated tree")
+}
+
 /// Sees that a generated tree is linked as scans tell.
 fn see_generated(rt: &impl Abort, alloc: Global, seed: u32) -> Result<(), AllocError> {
     let mut dice = Dice::new(seed);
     let files = dice.below(13).max(1);
     let included = if seed % 2 == 0 { 12 } else { dice.below(files) };
     let texts = texts_of(alloc, &mut dice, files)?;
-    let sources = sources_of(alloc, texts.as_slice(), included as usize)?;
-    see_tree(
-        rt,
-        alloc,
-        sources.as_slice(),
-        Due::Scanned,
-        "a generated tree",
-    )
+    see_texts(rt, alloc, texts.as_slice(), included as usize)
 }
 
 #[test]

@@ -3,7 +3,7 @@
 use crate::trees::{Case, Due, see_cases};
 use std::test::Fail;
 
-const CASES: [Case<'static>; 16] = [
+static CASES: [Case<'static>; 16] = [
     Case {
         name: "public imports lead on",
         sources: &[
@@ -270,6 +270,5 @@ const CASES: [Case<'static>; 16] = [
 
 #[test]
 fn imports_of_files(rt: HostRuntime) -> Result<(), Fail> {
-    see_cases(&rt, rt.alloc(), &CASES)?;
-    Ok(())
+    Ok(see_cases(&rt, rt.alloc(), &CASES)?)
 }

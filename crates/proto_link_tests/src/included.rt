@@ -3,7 +3,7 @@
 use crate::trees::{Case, Due, see_cases};
 use std::test::Fail;
 
-const CASES: [Case<'static>; 14] = [
+static CASES: [Case<'static>; 14] = [
     Case {
         name: "an included file that is seen",
         sources: &[
@@ -203,6 +203,5 @@ const CASES: [Case<'static>; 14] = [
 
 #[test]
 fn included_files(rt: HostRuntime) -> Result<(), Fail> {
-    see_cases(&rt, rt.alloc(), &CASES)?;
-    Ok(())
+    Ok(see_cases(&rt, rt.alloc(), &CASES)?)
 }

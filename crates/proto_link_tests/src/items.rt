@@ -3,7 +3,6 @@
 use crate::scans::{counts, is_before};
 use crate::trees::Sight;
 use proto_decl::Component;
-use proto_lex::Span;
 use proto_link::{FilePlace, LinkFile};
 use std::alloc::{AllocError, Global};
 
@@ -15,19 +14,20 @@ pub(crate) struct Item {
     is_declaration: bool,
 }
 
-fn item_of(
+fn add_item(
     alloc: Global,
-    file: usize,
-    span: Span,
+    items: &mut Vec<Item>,
+    place: FilePlace,
     full_name: &str,
     is_declaration: bool,
-) -> Result<Item, AllocError> {
+) -> Result<(), AllocError> {
     let full_name = String::from_str(alloc, full_name)?;
-    Ok(Item {
-        place: FilePlace { file, span },
+    items.push(Item {
+        place,
         full_name,
         is_declaration,
-    })
+    })?;
+    Ok(())
 }
 
 fn add_package(
@@ -39,8 +39,8 @@ fn add_package(
     let mut name = String::new(alloc);
     for component in components {
         name.push_str(component.name.as_str())?;
-        let item = item_of(alloc, file, component.span, name.as_str(), false)?;
-        items.push(item)?;
+        let span = component.span;
+        add_item(alloc, items, FilePlace { file, span }, name.as_str(), false)?;
         name.push_str(".")?;
     }
     Ok(())
@@ -56,9 +56,11 @@ fn add_items(
         return Ok(());
     };
     for declaration in facts.declarations() {
-        let name = declaration.full_name.as_str();
-        let item = item_of(alloc, number, declaration.name, name, true)?;
-        items.push(item)?;
+        let place = FilePlace {
+            file: number,
+            span: declaration.name,
+        };
+        add_item(alloc, items, place, declaration.full_name.as_str(), true)?;
     }
     add_package(alloc, items, number, facts.package_name())
 }

@@ -6,7 +6,7 @@ use crate::trees::{Case, see_cases};
 use proto_link::Entity::{Declared, Package};
 use std::test::Fail;
 
-const CASES: [Case<'static>; 10] = [
+static CASES: [Case<'static>; 10] = [
     Case {
         name: "a package that lacks the rest",
         sources: &[
@@ -222,6 +222,5 @@ const CASES: [Case<'static>; 10] = [
 
 #[test]
 fn kinds_of_names(rt: HostRuntime) -> Result<(), Fail> {
-    see_cases(&rt, rt.alloc(), &CASES)?;
-    Ok(())
+    Ok(see_cases(&rt, rt.alloc(), &CASES)?)
 }

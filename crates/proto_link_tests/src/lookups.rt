@@ -35,19 +35,42 @@ fn means(answer: &Result<Target, LinkFault>, meaning: Meaning) -> bool {
     }
 }
 
-/// Whether this answer is due of the use with this number, where that is said.
-fn is_meant(
-    answer: &Result<Target, LinkFault>,
-    meanings: Option<&[Meaning]>,
-    index: usize,
-) -> bool {
-    let Some(meanings) = meanings else {
-        return true;
-    };
-    match meanings.get(index) {
-        Some(meaning) => means(answer, *meaning),
-        None => false,
+/// What is due of the use with this number, where that is said.
+fn meaning_of<'a>(meanings: Option<&'a [Meaning<'a>]>, index: usize) -> Option<Meaning<'a>> {
+    match meanings {
+        Some(meanings) => meanings.get(index).copied(),
+        None => None,
     }
+}
+
+/// Whether this answer of a use is due, where that is said, and what scans tell.
+fn is_right(
+    alloc: Global,
+    file: usize,
+    type_use: &Use,
+    known: &[Known],
+    meaning: Option<Meaning>,
+    answer: &Result<Target, LinkFault>,
+) -> Result<bool, AllocError> {
+    match meaning {
+        Some(meaning) if !means(answer, meaning) => Ok(false),
+        _ => is_due(alloc, known, file, type_use, answer),
+    }
+}
+
+/// Whether a use of a file, which knows these names, has the answer that is due.
+fn is_answered(
+    alloc: Global,
+    linker: &Linker,
+    file: usize,
+    type_use: &Use,
+    known: &[Known],
+    meaning: Option<Meaning>,
+) -> Result<bool, AllocError>
+    requires { file < length linker.now }
+{
+    let answer = resolved(alloc, linker, file, type_use);
+    is_right(alloc, file, type_use, known, meaning, &answer)
 }
 
 /// Whether the uses of a file, which knows these names, have the answers that are due, and those that
@@ -63,11 +86,8 @@ fn are_answered(
     requires { file < length linker.now }
 {
     for (index, type_use) in uses.iter().enumerate() {
-        let answer = resolved(alloc, linker, file, type_use);
-        if !is_meant(&answer, meanings, index) {
-            return Ok(false);
-        }
-        if !is_due(alloc, known, file, type_use, &answer)? {
+        let meaning = meaning_of(meanings, index);
+        if !is_answered(alloc, linker, file, type_use, known, meaning)? {
             return Ok(false);
         }
     }
@@ -93,6 +113,26 @@ fn is_count(uses: &[Use], meanings: Option<&[Meaning]>) -> bool {
     }
 }
 
+/// Whether the uses of a file name what is due, and what scans tell.
+fn file_resolves(
+    alloc: Global,
+    linker: &Linker,
+    files: &[LinkFile],
+    sights: &[Sight],
+    number: usize,
+    uses: &[Use],
+    due: Due,
+) -> Result<bool, AllocError>
+    requires { number < length linker.now }
+{
+    let meanings = meanings_of(due, number);
+    if !is_count(uses, meanings) {
+        return Ok(false);
+    }
+    let known = known_to(alloc, files, sights, number)?;
+    are_answered(alloc, linker, number, uses, known.as_slice(), meanings)
+}
+
 /// Whether the uses of all files name what is due, and what scans tell.
 pub(crate) fn resolve_as_due(
     alloc: Global,
@@ -105,12 +145,7 @@ pub(crate) fn resolve_as_due(
 {
     for (number, file) in files.iter().enumerate() {
         if let Some(facts) = file.facts {
-            let known = known_to(alloc, files, sights, number)?;
-            let meanings = meanings_of(due, number);
-            let uses = facts.uses();
-            if !is_count(uses, meanings)
-                || !are_answered(alloc, linker, number, uses, known.as_slice(), meanings)?
-            {
+            if !file_resolves(alloc, linker, files, sights, number, facts.uses(), due)? {
                 return Ok(false);
             }
         }

@@ -20,14 +20,16 @@ pub(crate) struct Known {
     entity: Entity,
 }
 
-fn known_of(
+fn add_known(
     alloc: Global,
+    known: &mut Vec<Known>,
     name: &str,
     kind: Option<DeclarationKind>,
     entity: Entity,
-) -> Result<Known, AllocError> {
+) -> Result<(), AllocError> {
     let name = String::from_str(alloc, name)?;
-    Ok(Known { name, kind, entity })
+    known.push(Known { name, kind, entity })?;
+    Ok(())
 }
 
 fn add_packages(
@@ -38,8 +40,13 @@ fn add_packages(
     let mut name = String::new(alloc);
     for (index, component) in components.iter().enumerate() {
         name.push_str(component.name.as_str())?;
-        let package = known_of(alloc, name.as_str(), None, Entity::Package(index + 1))?;
-        known.push(package)?;
+        add_known(
+            alloc,
+            known,
+            name.as_str(),
+            None,
+            Entity::Package(index + 1),
+        )?;
         name.push_str(".")?;
     }
     Ok(())
@@ -54,8 +61,7 @@ fn add_declarations(
     for (index, declaration) in declarations.iter().enumerate() {
         let name = declaration.full_name.as_str();
         let entity = Entity::Declared(number, index);
-        let declared = known_of(alloc, name, Some(declaration.kind), entity)?;
-        known.push(declared)?;
+        add_known(alloc, known, name, Some(declaration.kind), entity)?;
     }
     Ok(())
 }
@@ -153,6 +159,19 @@ fn name_in(
     Ok(name)
 }
 
+/// Whether components are known in the scope of so many words.
+fn is_known_in(
+    alloc: Global,
+    known: &[Known],
+    scope: &[&str],
+    count: usize,
+    components: &[Component],
+    role: Role,
+) -> Result<bool, AllocError> {
+    let name = name_in(alloc, scope, count, components)?;
+    Ok(is_known(known, name.as_str(), role))
+}
+
 /// With how many words the scope is the innermost one in which components are known: all scopes are
 /// tried, from the root on, and the last one counts.
 fn innermost(
@@ -164,8 +183,7 @@ fn innermost(
 ) -> Result<Option<usize>, AllocError> {
     let mut found = None;
     for count in 0..=scope.len() {
-        let name = name_in(alloc, scope, count, components)?;
-        if is_known(known, name.as_str(), role) {
+        if is_known_in(alloc, known, scope, count, components, role)? {
             found = Some(count);
         }
     }
@@ -193,38 +211,92 @@ fn start_of(
     }
 }
 
-/// The full name of the type that a use names.
-fn name_of(alloc: Global, known: &[Known], type_use: &Use) -> Result<Option<String>, AllocError> {
-    let scope = words_of(alloc, type_use.scope.as_str())?;
-    let Some(count) = start_of(alloc, known, scope.as_slice(), type_use)? else {
-        return Ok(None);
-    };
+/// The full name of the type that a use in a scope names.
+fn name_in_scope(
+    alloc: Global,
+    known: &[Known],
+    scope: &[&str],
+    type_use: &Use,
+) -> Result<Option<String>, AllocError> {
     let components = type_use.components.as_slice();
-    let name = name_in(alloc, scope.as_slice(), count, components)?;
-    if is_known(known, name.as_str(), Role::Type) {
-        Ok(Some(name))
-    } else {
-        Ok(None)
+    match start_of(alloc, known, scope, type_use)? {
+        Some(count) if is_known_in(alloc, known, scope, count, components, Role::Type)? => {
+            Ok(Some(name_in(alloc, scope, count, components)?))
+        }
+        _ => Ok(None),
     }
 }
 
-/// Whether each part is known by the name up to it.
+/// The full name of the type that a use names.
+fn name_of(alloc: Global, known: &[Known], type_use: &Use) -> Result<Option<String>, AllocError> {
+    let scope = words_of(alloc, type_use.scope.as_str())?;
+    name_in_scope(alloc, known, scope.as_slice(), type_use)
+}
+
+fn is_part(
+    alloc: Global,
+    known: &[Known],
+    words: &[&str],
+    count: usize,
+    part: Entity,
+) -> Result<bool, AllocError> {
+    let front = front_of(alloc, words, count)?;
+    Ok(is_known_as(known, front.as_str(), part))
+}
+
+/// Whether each part is known by the words up to it.
 fn are_parts(
     alloc: Global,
     known: &[Known],
-    name: &str,
+    words: &[&str],
     parts: &[Entity],
 ) -> Result<bool, AllocError> {
-    let words = words_of(alloc, name)?;
     let before = words.len().saturating_sub(parts.len());
     for (index, part) in parts.iter().enumerate() {
         let count = before.saturating_add(index + 1);
-        let front = front_of(alloc, words.as_slice(), count)?;
-        if !is_known_as(known, front.as_str(), *part) {
+        if !is_part(alloc, known, words, count, *part)? {
             return Ok(false);
         }
     }
     Ok(true)
+}
+
+/// Whether a target has this name and so many parts, each known by the name up to it.
+fn is_target(
+    alloc: Global,
+    known: &[Known],
+    target: &Target,
+    name: &str,
+    count: usize,
+) -> Result<bool, AllocError> {
+    let parts = target.parts.as_slice();
+    if parts.len() != count || target.name.as_str() != name {
+        return Ok(false);
+    }
+    let words = words_of(alloc, name)?;
+    are_parts(alloc, known, words.as_slice(), parts)
+}
+
+/// Whether a use of a file that names a type with this name, or none, has this answer.
+fn is_due_of(
+    alloc: Global,
+    known: &[Known],
+    file: usize,
+    type_use: &Use,
+    answer: &Result<Target, LinkFault>,
+    name: Option<&String>,
+) -> Result<bool, AllocError> {
+    match (answer, name) {
+        (Ok(target), Some(name)) => {
+            let count = type_use.components.as_slice().len();
+            is_target(alloc, known, target, name.as_str(), count)
+        }
+        (Err(fault), None) => {
+            let span = type_use.span;
+            Ok(*fault == LinkFault::Unresolved(FilePlace { file, span }))
+        }
+        _ => Ok(false),
+    }
 }
 
 /// Whether a use of a file, which knows these names, has this answer.
@@ -236,17 +308,5 @@ pub(crate) fn is_due(
     answer: &Result<Target, LinkFault>,
 ) -> Result<bool, AllocError> {
     let name = name_of(alloc, known, type_use)?;
-    match (answer, name) {
-        (Ok(target), Some(name)) => {
-            let parts = target.parts.as_slice();
-            let counted = parts.len() == type_use.components.as_slice().len();
-            let named = are_parts(alloc, known, name.as_str(), parts)?;
-            Ok(target.name.as_str() == name.as_str() && counted && named)
-        }
-        (Err(fault), None) => {
-            let span = type_use.span;
-            Ok(*fault == LinkFault::Unresolved(FilePlace { file, span }))
-        }
-        _ => Ok(false),
-    }
+    is_due_of(alloc, known, file, type_use, answer, name.as_ref())
 }

@@ -6,7 +6,7 @@ use crate::trees::{Case, see_cases};
 use proto_link::Entity::{Declared, Package};
 use std::test::Fail;
 
-const CASES: [Case<'static>; 4] = [
+static CASES: [Case<'static>; 4] = [
     Case {
         name: "scopes of nested messages",
         sources: &[(
@@ -80,6 +80,5 @@ const CASES: [Case<'static>; 4] = [
 
 #[test]
 fn nested_scopes(rt: HostRuntime) -> Result<(), Fail> {
-    see_cases(&rt, rt.alloc(), &CASES)?;
-    Ok(())
+    Ok(see_cases(&rt, rt.alloc(), &CASES)?)
 }

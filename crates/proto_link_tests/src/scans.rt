@@ -1,6 +1,6 @@
 //! What linking answers, found by scans of all files.
 
-use crate::items::{first_clash, items_of};
+use crate::items::{Item, first_clash, items_of};
 use crate::trees::Sight;
 use proto_link::{FilePlace, LinkFault, LinkFile};
 use proto_parse::ImportKind;
@@ -46,16 +46,33 @@ fn add_public(files: &[LinkFile], seen: &mut Vec<usize>) -> Result<(), AllocErro
     Ok(())
 }
 
-/// What a file sees: itself, what it imports, and, as often as there are files, what those publicly
-/// import.
+/// Adds what a file sees: itself, what it imports, and, as often as there are files, what those
+/// publicly import.
+fn add_seen(files: &[LinkFile], file: usize, seen: &mut Vec<usize>) -> Result<(), AllocError> {
+    seen.push(file)?;
+    add_imported(files, file, seen)?;
+    for _ in files {
+        add_public(files, seen)?;
+    }
+    Ok(())
+}
+
 fn seen_by(alloc: Global, files: &[LinkFile], file: usize) -> Result<Vec<usize>, AllocError> {
     let mut seen = Vec::new(alloc);
-    seen.push(file)?;
-    add_imported(files, file, &mut seen)?;
-    for _ in files {
-        add_public(files, &mut seen)?;
-    }
+    add_seen(files, file, &mut seen)?;
     Ok(seen)
+}
+
+fn add_sights_of(
+    files: &[LinkFile],
+    file: usize,
+    seen: &[usize],
+    sights: &mut Vec<Sight>,
+) -> Result<(), AllocError> {
+    for other in 0..files.len() {
+        sights.push((file, other, seen.contains(&other)))?;
+    }
+    Ok(())
 }
 
 fn add_sights(
@@ -65,10 +82,7 @@ fn add_sights(
     sights: &mut Vec<Sight>,
 ) -> Result<(), AllocError> {
     let seen = seen_by(alloc, files, file)?;
-    for other in 0..files.len() {
-        sights.push((file, other, seen.contains(&other)))?;
-    }
-    Ok(())
+    add_sights_of(files, file, seen.as_slice(), sights)
 }
 
 /// Whether each file sees each other one.
@@ -161,6 +175,17 @@ fn first_absent(files: &[LinkFile], sights: &[Sight]) -> Option<FilePlace> {
     least
 }
 
+/// Why files with these items, which are all read, can't be linked, if they can't.
+fn fault_of(files: &[LinkFile], sights: &[Sight], items: &[Item]) -> Option<LinkFault> {
+    match first_clash(items) {
+        Some((first, second)) => Some(LinkFault::Duplicate(first, second)),
+        None => match first_absent(files, sights) {
+            Some(place) => Some(LinkFault::MissingImport(place)),
+            None => None,
+        },
+    }
+}
+
 /// Why files can't be linked, if they can't.
 pub(crate) fn fault(
     alloc: Global,
@@ -171,11 +196,5 @@ pub(crate) fn fault(
         return Ok(Some(LinkFault::Broken(file)));
     }
     let items = items_of(alloc, files, sights)?;
-    if let Some((first, second)) = first_clash(items.as_slice()) {
-        return Ok(Some(LinkFault::Duplicate(first, second)));
-    }
-    match first_absent(files, sights) {
-        Some(place) => Ok(Some(LinkFault::MissingImport(place))),
-        None => Ok(None),
-    }
+    Ok(fault_of(files, sights, items.as_slice()))
 }

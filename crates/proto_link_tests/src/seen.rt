@@ -6,7 +6,7 @@ use crate::trees::{Case, see_cases};
 use proto_link::Entity::{Declared, Package};
 use std::test::Fail;
 
-const CASES: [Case<'static>; 8] = [
+static CASES: [Case<'static>; 8] = [
     Case {
         name: "one package without an import",
         sources: &[
@@ -199,6 +199,5 @@ const CASES: [Case<'static>; 8] = [
 
 #[test]
 fn names_of_seen_files(rt: HostRuntime) -> Result<(), Fail> {
-    see_cases(&rt, rt.alloc(), &CASES)?;
-    Ok(())
+    Ok(see_cases(&rt, rt.alloc(), &CASES)?)
 }

@@ -74,12 +74,23 @@ fn is_refusal(fault: LinkFault, due: Due) -> bool {
     }
 }
 
+/// Adds the facts of a source.
+fn add_facts(
+    alloc: Global,
+    all: &mut Vec<Option<FileFacts>>,
+    number: usize,
+    source: &str,
+) -> Result<(), AllocError> {
+    let facts = accepted(alloc, number, source)?;
+    all.push(facts)?;
+    Ok(())
+}
+
 /// The facts of each source.
 fn facts_of_all(alloc: Global, sources: &[Source]) -> Result<Vec<Option<FileFacts>>, AllocError> {
     let mut all = Vec::with_capacity(alloc, sources.len())?;
     for (number, source) in sources.iter().enumerate() {
-        let facts = accepted(alloc, number, source.1)?;
-        all.push(facts)?;
+        add_facts(alloc, &mut all, number, source.1)?;
     }
     Ok(all)
 }
@@ -179,10 +190,12 @@ fn see_as_due(linker: &Linker, files: usize, due: Due) -> bool
     }
 }
 
+/// Whether a linker of files answers what is due, where scans tell this fault of them.
 fn is_linked_as_due(
     alloc: Global,
     linker: &Linker,
     files: &[LinkFile],
+    fault: Option<LinkFault>,
     sights: &[Sight],
     due: Due,
 ) -> Result<bool, AllocError>
@@ -190,7 +203,8 @@ fn is_linked_as_due(
 {
     linker.linked();
     let count = files.len();
-    if !see_as_due(linker, count, due) || !see_each_other(linker, count, sights) {
+    let seen = see_as_due(linker, count, due) && see_each_other(linker, count, sights);
+    if fault.is_some() || !seen {
         return Ok(false);
     }
     resolve_as_due(alloc, linker, files, sights, due)
@@ -215,12 +229,22 @@ fn is_linked_or_refused(
     requires { HaveOwnPaths files.now }
 {
     match link(alloc, files) {
-        Ok(linker) => {
-            let linked = is_linked_as_due(alloc, &linker, files, sights, due)?;
-            Ok(linked && fault.is_none())
-        }
+        Ok(linker) => is_linked_as_due(alloc, &linker, files, fault, sights, due),
         Err(found) => Ok(is_refusal(found, due) && fault == Some(found)),
     }
+}
+
+/// Whether linking answers what is due to files that have paths of their own and see each other so.
+fn is_answered_to(
+    alloc: Global,
+    files: &[LinkFile],
+    sights: &[Sight],
+    due: Due,
+) -> Result<bool, AllocError>
+    requires { HaveOwnPaths files.now }
+{
+    let fault = scans::fault(alloc, files, sights)?;
+    is_linked_or_refused(alloc, files, fault, sights, due)
 }
 
 /// Whether linking answers to files what is due, and what scans tell.
@@ -229,8 +253,31 @@ fn is_answered(alloc: Global, files: &[LinkFile], due: Due) -> Result<bool, Allo
         return Ok(false);
     }
     let sights = scanned(alloc, files, due)?;
-    let fault = scans::fault(alloc, files, sights.as_slice())?;
-    is_linked_or_refused(alloc, files, fault, sights.as_slice(), due)
+    is_answered_to(alloc, files, sights.as_slice(), due)
+}
+
+fn see_files(
+    rt: &impl Abort,
+    alloc: Global,
+    files: &[LinkFile],
+    due: Due,
+    name: &str,
+) -> Result<(), AllocError> {
+    see(rt, is_answered(alloc, files, due)?, name);
+    Ok(())
+}
+
+/// Sees that linking answers to sources with these facts what is due, and what scans tell.
+fn see_facts(
+    rt: &impl Abort,
+    alloc: Global,
+    sources: &[Source],
+    facts: &[Option<FileFacts>],
+    due: Due,
+    name: &str,
+) -> Result<(), AllocError> {
+    let files = files_of(alloc, sources, facts)?;
+    see_files(rt, alloc, files.as_slice(), due, name)
 }
 
 /// Sees that linking answers to sources what is due, and what scans tell.
@@ -242,9 +289,7 @@ pub(crate) fn see_tree(
     name: &str,
 ) -> Result<(), AllocError> {
     let facts = facts_of_all(alloc, sources)?;
-    let files = files_of(alloc, sources, facts.as_slice())?;
-    see(rt, is_answered(alloc, files.as_slice(), due)?, name);
-    Ok(())
+    see_facts(rt, alloc, sources, facts.as_slice(), due, name)
 }
 
 /// Sees that cases are answered as they say, and as scans do.

@@ -1,6 +1,6 @@
 //! Filters and rules that are added: the room of a registry, and what comes back.
 
-use crate::shared::{chooses, message, see};
+use crate::shared::{chooses, message, see, see_added};
 use index_hooks::{
     AnyAnswer, BoxedFilter, BoxedRule, DocAlways, DocChoice, DocHook, Filter, FilterCallback,
     FilterHook, HookFault, MAX_HOOKS, Registry, one_choice,
@@ -42,7 +42,7 @@ fn seventeenth_filter_comes_back(rt: HostRuntime) -> Result<(), Fail> {
     for _ in 0..16 {
         let filter = Box::new(alloc, Filter::new(AnyAnswer, Fixed(true)))?;
         if let Err((filter, _)) = registry.add_filter(filter) {
-            see(&rt, registry.add_filter(filter).is_ok(), "added again");
+            see_added(&rt, registry.add_filter(filter));
         }
     }
     see(
@@ -51,7 +51,7 @@ fn seventeenth_filter_comes_back(rt: HostRuntime) -> Result<(), Fail> {
         "the filter that came back",
     );
     if let Err((rule, _)) = registry.add_doc(rule) {
-        see(&rt, registry.add_doc(rule).is_ok(), "added again");
+        see_added(&rt, registry.add_doc(rule));
     }
     see(
         &rt,
@@ -78,7 +78,7 @@ fn seventeenth_rule_comes_back(rt: HostRuntime) -> Result<(), Fail> {
     for _ in 0..MAX_HOOKS {
         let rule = Box::new(alloc, DocAlways(DocChoice::Pass).rule())?;
         if let Err((rule, _)) = registry.add_doc(rule) {
-            see(&rt, registry.add_doc(rule).is_ok(), "added again");
+            see_added(&rt, registry.add_doc(rule));
         }
     }
     see(
@@ -87,7 +87,7 @@ fn seventeenth_rule_comes_back(rt: HostRuntime) -> Result<(), Fail> {
         "the rule that came back",
     );
     if let Err((filter, _)) = registry.add_filter(filter) {
-        see(&rt, registry.add_filter(filter).is_ok(), "added again");
+        see_added(&rt, registry.add_filter(filter));
     }
     see(
         &rt,

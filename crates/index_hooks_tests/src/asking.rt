@@ -1,63 +1,63 @@
 //! What a registry asks, in which order and how often.
 
-use crate::shared::{chooses, counting_filter, counting_rule, counts, message, no_calls, see};
+use crate::shared::{chooses, counting_filter, counting_rule, message, no_calls, see, see_added};
 use index_hooks::{AnyAnswer, Chooses, DocChoice, Filter, FilterCallback, Registry};
 use proto_decl::DeclView;
 use std::sync::atomic::{AtomicU64, Ordering};
 use std::test::Fail;
 use std::thread::join;
 
-static FILTERED: [bool; 3] = [true, false, true];
+// Answers of filters, and what a call of each adds.
+const FILTERED: [(bool, u64); 3] = [(true, 1), (false, 0x10), (true, 0x100)];
 
 #[test]
 fn the_first_false_ends_the_asking(rt: HostRuntime) -> Result<(), Fail> {
     let alloc = rt.alloc();
     let calls = no_calls(alloc)?;
     let mut registry = Registry::new(alloc);
-    for (at, answer) in FILTERED.iter().enumerate() {
-        let filter = counting_filter(alloc, *answer, at, &calls)?;
+    for (answer, adds) in &FILTERED {
+        let filter = counting_filter(alloc, *answer, *adds, &calls)?;
         if let Err((filter, _)) = registry.add_filter(filter) {
-            see(&rt, registry.add_filter(filter).is_ok(), "added again");
+            see_added(&rt, registry.add_filter(filter));
         }
     }
+    let so = chooses(&registry, false, DocChoice::Leading, 4);
+    see(&rt, so, "not kept");
     see(
         &rt,
-        chooses(&registry, false, DocChoice::Leading, 4),
-        "not kept",
-    );
-    see(
-        &rt,
-        counts(&calls) == [4, 4, 0, 0],
+        calls.load(Ordering::SeqCst) == 0x044,
         "once for each choice that comes to it",
     );
     Ok(())
 }
 
-static DOCUMENTED: [DocChoice; 3] = [DocChoice::Pass, DocChoice::Trailing, DocChoice::Both];
+// Answers of rules, and what a call of each adds.
+const DOCUMENTED: [(DocChoice, u64); 3] = [
+    (DocChoice::Pass, 1),
+    (DocChoice::Trailing, 0x10),
+    (DocChoice::Both, 0x100),
+];
 
 #[test]
 fn the_first_answer_of_a_rule_counts_also_for_what_is_dropped(rt: HostRuntime) -> Result<(), Fail> {
     let alloc = rt.alloc();
     let calls = no_calls(alloc)?;
-    let filter = counting_filter(alloc, false, 3, &calls)?;
+    let filter = counting_filter(alloc, false, 0x1000, &calls)?;
     let mut registry = Registry::new(alloc);
     if let Err((filter, _)) = registry.add_filter(filter) {
-        see(&rt, registry.add_filter(filter).is_ok(), "added again");
+        see_added(&rt, registry.add_filter(filter));
     }
-    for (at, answer) in DOCUMENTED.iter().enumerate() {
-        let rule = counting_rule(alloc, *answer, at, &calls)?;
+    for (answer, adds) in &DOCUMENTED {
+        let rule = counting_rule(alloc, *answer, *adds, &calls)?;
         if let Err((rule, _)) = registry.add_doc(rule) {
-            see(&rt, registry.add_doc(rule).is_ok(), "added again");
+            see_added(&rt, registry.add_doc(rule));
         }
     }
+    let so = chooses(&registry, false, DocChoice::Trailing, 4);
+    see(&rt, so, "the second rule's");
     see(
         &rt,
-        chooses(&registry, false, DocChoice::Trailing, 4),
-        "the second rule's",
-    );
-    see(
-        &rt,
-        counts(&calls) == [4, 4, 0, 4],
+        calls.load(Ordering::SeqCst) == 0x4044,
         "once for each choice that comes to it",
     );
     Ok(())
@@ -75,6 +75,8 @@ impl FilterCallback for Alternating {
     }
 }
 
+const TURNS: [bool; 4] = [true, false, true, false];
+
 #[test]
 fn a_filter_may_alternate(rt: HostRuntime) -> Result<(), Fail> {
     let alloc = rt.alloc();
@@ -84,10 +86,10 @@ fn a_filter_may_alternate(rt: HostRuntime) -> Result<(), Fail> {
     let filter = Box::new(alloc, Filter::new(AnyAnswer, callback))?;
     let mut registry = Registry::new(alloc);
     if let Err((filter, _)) = registry.add_filter(filter) {
-        see(&rt, registry.add_filter(filter).is_ok(), "added again");
+        see_added(&rt, registry.add_filter(filter));
     }
-    for keep in [true, false, true, false] {
-        see(&rt, registry.choose(&message()).keep == keep, "in turn");
+    for keep in &TURNS {
+        see(&rt, registry.choose(&message()).keep == *keep, "in turn");
     }
     Ok(())
 }
@@ -96,10 +98,10 @@ fn a_filter_may_alternate(rt: HostRuntime) -> Result<(), Fail> {
 fn threads_share_a_registry(rt: HostRuntime) -> Result<(), Fail> {
     let alloc = rt.alloc();
     let calls = no_calls(alloc)?;
-    let filter = counting_filter(alloc, false, 0, &calls)?;
+    let filter = counting_filter(alloc, false, 1, &calls)?;
     let mut registry = Registry::new(alloc);
     if let Err((filter, _)) = registry.add_filter(filter) {
-        see(&rt, registry.add_filter(filter).is_ok(), "added again");
+        see_added(&rt, registry.add_filter(filter));
     }
     let (one, other) = join(
         &rt,
@@ -107,6 +109,6 @@ fn threads_share_a_registry(rt: HostRuntime) -> Result<(), Fail> {
         || registry.choose(&message()).keep,
     );
     see(&rt, !one && !other, "both asked");
-    see(&rt, counts(&calls) == [2, 0, 0, 0], "once each");
+    see(&rt, calls.load(Ordering::SeqCst) == 2, "once each");
     Ok(())
 }

@@ -2,7 +2,7 @@
 
 ghost use Rattle.std.specs.Prelude.{◌≢◌, ◌↔◌, [], IsTrue};
 
-use crate::shared::see;
+use crate::shared::{see, see_added};
 use index_hooks::{
     AnyAnswer, Choice, Chooses, DocCallback, DocChoice, DocRule, Filter, FilterCallback,
     FilterPromise, Registry,
@@ -47,7 +47,7 @@ impl FilterPromise for OnlyCommented {
     }
 }
 
-static CASES: [(DeclarationKind, &str, bool, DocChoice); 4] = [
+const CASES: [(DeclarationKind, &str, bool, DocChoice); 4] = [
     (
         DeclarationKind::Value,
         "A value.",
@@ -61,7 +61,7 @@ static CASES: [(DeclarationKind, &str, bool, DocChoice); 4] = [
 
 /// Whether the registry chooses for each declaration as the list says.
 fn chooses_as_listed(registry: &Registry) -> bool {
-    for (kind, leading, keep, doc) in CASES.iter() {
+    for (kind, leading, keep, doc) in &CASES {
         let view = DeclView::new(*kind, "A", "a.A", leading, "");
         let (keep, doc) = (*keep, *doc);
         if registry.choose(&view) != (Choice { keep, doc }) {
@@ -78,31 +78,22 @@ fn a_filter_and_a_rule_of_ones_own(rt: HostRuntime) -> Result<(), Fail> {
     let rule = Box::new(alloc, DocRule::new(AnyAnswer, BehindValues))?;
     let mut registry = Registry::new(alloc);
     if let Err((filter, _)) = registry.add_filter(filter) {
-        see(&rt, registry.add_filter(filter).is_ok(), "added again");
+        see_added(&rt, registry.add_filter(filter));
     }
     if let Err((rule, _)) = registry.add_doc(rule) {
-        see(&rt, registry.add_doc(rule).is_ok(), "added again");
+        see_added(&rt, registry.add_doc(rule));
     }
     see(&rt, chooses_as_listed(&registry), "the choices listed");
     Ok(())
 }
 
-/// Whether the registry keeps each declaration where the list says so.
-fn keeps_as_listed(registry: &Registry) -> bool {
-    for (kind, leading, keep, _) in CASES.iter() {
+/// Whether the registry keeps each declaration where the list says so, and the promise allows that
+/// answer, and not the other one.
+fn promises_as_listed(registry: &Registry) -> bool {
+    for (kind, leading, keep, _) in &CASES {
         let view = DeclView::new(*kind, "A", "a.A", leading, "");
-        if registry.choose(&view).keep != *keep {
-            return false;
-        }
-    }
-    true
-}
-
-/// Whether the promise allows the answer of the list, and not the other one.
-fn allows_as_listed() -> bool {
-    for (kind, leading, keep, _) in CASES.iter() {
-        let view = DeclView::new(*kind, "A", "a.A", leading, "");
-        if !OnlyCommented.allows(&view, *keep) || OnlyCommented.allows(&view, !*keep) {
+        let promised = OnlyCommented.allows(&view, *keep) && !OnlyCommented.allows(&view, !*keep);
+        if !promised || registry.choose(&view).keep != *keep {
             return false;
         }
     }
@@ -115,9 +106,9 @@ fn a_promise_of_ones_own(rt: HostRuntime) -> Result<(), Fail> {
     let filter = Box::new(alloc, Filter::new(OnlyCommented, Commented))?;
     let mut registry = Registry::new(alloc);
     if let Err((filter, _)) = registry.add_filter(filter) {
-        see(&rt, registry.add_filter(filter).is_ok(), "added again");
+        see_added(&rt, registry.add_filter(filter));
     }
-    see(&rt, keeps_as_listed(&registry), "the answers listed");
-    see(&rt, allows_as_listed(), "what is promised");
+    let so = promises_as_listed(&registry);
+    see(&rt, so, "the answers listed, and no others");
     Ok(())
 }

@@ -31,13 +31,9 @@ static KINDS: [DeclarationKind; 7] = [
 #[test]
 fn any_answer_allows_all(rt: HostRuntime) {
     let view = message();
-    for keep in &[false, true] {
-        see(
-            &rt,
-            FilterPromise::allows(&AnyAnswer, &view, *keep),
-            "a filter's",
-        );
-    }
+    let no = FilterPromise::allows(&AnyAnswer, &view, false);
+    let yes = FilterPromise::allows(&AnyAnswer, &view, true);
+    see(&rt, no && yes, "a filter's");
     for answer in &ANSWERS {
         see(
             &rt,
@@ -48,7 +44,7 @@ fn any_answer_allows_all(rt: HostRuntime) {
 }
 
 // A text, a full name, and whether the name is the text or begins with it and a dot.
-static NAMES: [(&str, &str, bool); 12] = [
+const NAMES: [(&str, &str, bool); 12] = [
     ("E", "E", true),
     ("E", "E.ZERO", true),
     ("E", "ZERO", false),
@@ -63,31 +59,21 @@ static NAMES: [(&str, &str, bool); 12] = [
     ("", "a", false),
 ];
 
-/// Whether the promise of a prefix allows this answer for a view, and not the other one.
-fn is_promised(
-    alloc: Global,
-    prefix: &str,
-    view: &DeclView<'_>,
-    keep: bool,
-) -> Result<bool, AllocError> {
+/// Whether the filter of a prefix answers so for this name, and the promise of the prefix allows that
+/// answer, and not the other one.
+fn answers(alloc: Global, prefix: &str, name: &str, keep: bool) -> Result<bool, AllocError> {
+    let view = DeclView::new(DeclarationKind::Message, "M", name, "", "");
     let promise = NamePrefix(String::from_str(alloc, prefix)?);
-    Ok(promise.allows(view, keep) && !promise.allows(view, !keep))
-}
-
-/// Whether the filter of a prefix keeps a view.
-fn is_kept(alloc: Global, prefix: &str, view: &DeclView<'_>) -> Result<bool, AllocError> {
     let filter = NamePrefix::filter(alloc, prefix)?;
-    Ok(filter.ask(view))
+    let promised = promise.allows(&view, keep) && !promise.allows(&view, !keep);
+    Ok(promised && filter.ask(&view) == keep)
 }
 
 #[test]
 fn a_name_is_the_prefix_or_goes_on_with_a_dot(rt: HostRuntime) -> Result<(), Fail> {
-    for (prefix, name, keep) in NAMES.iter() {
-        let view = DeclView::new(DeclarationKind::Message, "M", name, "", "");
-        let promised = is_promised(rt.alloc(), prefix, &view, *keep)?;
-        see(&rt, promised, prefix);
-        let kept = is_kept(rt.alloc(), prefix, &view)?;
-        see(&rt, kept == *keep, prefix);
+    for (prefix, name, keep) in &NAMES {
+        let so = answers(rt.alloc(), prefix, name, *keep)?;
+        see(&rt, so, prefix);
     }
     Ok(())
 }
@@ -123,9 +109,7 @@ fn see_without(rt: &impl Abort, left_out: DeclarationKind) {
 fn kinds_are_those_listed(rt: HostRuntime) {
     for left_out in &KINDS {
         see_without(&rt, *left_out);
-    }
-    for kind in &KINDS {
-        see(&rt, !Kinds::of(&[]).contains(*kind), "no kinds");
+        see(&rt, !Kinds::of(&[]).contains(*left_out), "no kinds");
     }
 }
 
@@ -154,11 +138,8 @@ fn a_rule_that_always_answers_so(rt: HostRuntime) {
 
 /// The promise of the first so many answers.
 fn first_answers(alloc: Global, count: usize) -> Result<DocOneOf, AllocError> {
-    let mut answers = Vec::new(alloc);
-    for answer in ANSWERS.iter().take(count) {
-        answers.push(*answer)?;
-    }
-    Ok(DocOneOf(answers))
+    let first = ANSWERS.split_at(count.min(5)).0;
+    Ok(DocOneOf(Vec::from_slice(alloc, first)?))
 }
 
 /// Whether a promise allows the first so many answers, and no others.
@@ -181,17 +162,13 @@ fn a_rule_with_some_answers(rt: HostRuntime) -> Result<(), Fail> {
     Ok(())
 }
 
-/// Whether a fault is printed so.
-fn is_printed(alloc: Global, fault: HookFault, name: &str) -> Result<bool, AllocError> {
-    let text = format!(in alloc; "{fault}")?;
-    Ok(text.as_str() == name)
-}
+const FAULTS: [(HookFault, &str); 2] = [(HookFault::Full, "Full"), (HookFault::Memory, "Memory")];
 
 #[test]
 fn faults_are_printed_by_their_names(rt: HostRuntime) -> Result<(), Fail> {
-    let full = is_printed(rt.alloc(), HookFault::Full, "Full")?;
-    see(&rt, full, "Full");
-    let memory = is_printed(rt.alloc(), HookFault::Memory, "Memory")?;
-    see(&rt, memory, "Memory");
+    for (fault, name) in &FAULTS {
+        let text = format!(in rt.alloc(); "{fault}")?;
+        see(&rt, text.as_str() == *name, name);
+    }
     Ok(())
 }

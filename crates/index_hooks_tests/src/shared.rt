@@ -1,7 +1,8 @@
 //! What several tests share.
 
 use index_hooks::{
-    AnyAnswer, Choice, Chooses, DocCallback, DocChoice, DocRule, Filter, FilterCallback, Registry,
+    AnyAnswer, Choice, Chooses, DocCallback, DocChoice, DocRule, Filter, FilterCallback, HookFault,
+    Registry,
 };
 use proto_decl::{DeclView, DeclarationKind};
 use std::alloc::{AllocError, Global};
@@ -14,75 +15,57 @@ pub(crate) fn see(rt: &impl Abort, holds: bool, what: &str) {
     assert!(rt; holds, "{what}");
 }
 
+/// Fails the test where a filter or a rule isn't taken that was handed in again.
+pub(crate) fn see_added<T: Drop>(rt: &impl Abort, answer: Result<(), (T, HookFault)>) {
+    see(rt, answer.is_ok(), "added again");
+}
+
 /// The view of a message.
 pub(crate) fn message() -> DeclView<'static> {
     DeclView::new(DeclarationKind::Message, "M", "a.M", "before", "behind")
 }
 
-/// How often each of four callbacks is called.
-pub(crate) type Calls = Arc<[AtomicU64; 4]>;
+/// How often each callback is called: each has a hexadecimal digit of its own.
+pub(crate) type Calls = Arc<AtomicU64>;
 
 /// Counts of no calls.
 pub(crate) fn no_calls(alloc: Global) -> Result<Calls, AllocError> {
-    let counts = [
-        AtomicU64::new(0),
-        AtomicU64::new(0),
-        AtomicU64::new(0),
-        AtomicU64::new(0),
-    ];
-    Ok(Arc::new(alloc, counts)?)
+    Ok(Arc::new(alloc, AtomicU64::new(0))?)
 }
 
-/// How often the callbacks were called.
-pub(crate) fn counts(calls: &Calls) -> [u64; 4] {
-    [
-        calls[0].load(Ordering::SeqCst),
-        calls[1].load(Ordering::SeqCst),
-        calls[2].load(Ordering::SeqCst),
-        calls[3].load(Ordering::SeqCst),
-    ]
-}
-
-/// Gives this answer, and counts its calls, as those of the callback with this number.
+/// Gives this answer, and counts its calls: each of them adds so much.
 #[derive(Drop)]
 pub(crate) struct Counting<T> {
     pub answer: T,
-    pub number: usize,
+    pub adds: u64,
     pub calls: Calls,
-}
-
-/// Counts a call of the callback with this number.
-fn count(calls: &Calls, number: usize) {
-    if number < 4 {
-        calls[number].fetch_add(1, Ordering::SeqCst);
-    }
 }
 
 impl FilterCallback for Counting<bool> {
     fn call(&self, _view: &DeclView<'_>) -> bool {
-        count(&self.calls, self.number);
+        self.calls.fetch_add(self.adds, Ordering::SeqCst);
         self.answer
     }
 }
 
 impl DocCallback for Counting<DocChoice> {
     fn call(&self, _view: &DeclView<'_>) -> DocChoice {
-        count(&self.calls, self.number);
+        self.calls.fetch_add(self.adds, Ordering::SeqCst);
         self.answer
     }
 }
 
-/// A filter that gives this answer, and counts its calls, as those of the callback with this number.
+/// A filter that gives this answer, and counts its calls by what each adds.
 pub(crate) fn counting_filter(
     alloc: Global,
     answer: bool,
-    number: usize,
+    adds: u64,
     calls: &Calls,
 ) -> Result<Box<Filter<AnyAnswer, Counting<bool>>>, AllocError> {
     let calls = Arc::try_clone(calls)?;
     let callback = Counting {
         answer,
-        number,
+        adds,
         calls,
     };
     Ok(Box::new(alloc, Filter::new(AnyAnswer, callback))?)
@@ -92,13 +75,13 @@ pub(crate) fn counting_filter(
 pub(crate) fn counting_rule(
     alloc: Global,
     answer: DocChoice,
-    number: usize,
+    adds: u64,
     calls: &Calls,
 ) -> Result<Box<DocRule<AnyAnswer, Counting<DocChoice>>>, AllocError> {
     let calls = Arc::try_clone(calls)?;
     let callback = Counting {
         answer,
-        number,
+        adds,
         calls,
     };
     Ok(Box::new(alloc, DocRule::new(AnyAnswer, callback))?)

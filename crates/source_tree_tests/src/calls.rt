@@ -4,9 +4,6 @@ use source_tree::{Source, Tree, TreeFault};
 use std::alloc::{AllocError, Global};
 use std::process::Abort;
 
-/// The files of a list by their paths and texts.
-pub(crate) type Files<'a> = &'a [(&'a str, &'a str)];
-
 /// What becomes of sources and included files.
 pub(crate) type Answer = Result<Tree, ((Vec<Source>, Vec<Source>), TreeFault)>;
 
@@ -20,20 +17,36 @@ pub(crate) fn see_text(rt: &impl Abort, found: &str, due: &str) {
     assert!(rt; found == due, "{found} in place of {due}");
 }
 
+/// Ends the test where an answer isn't the text due.
+pub(crate) fn see_answer(
+    rt: &impl Abort,
+    found: Result<String, AllocError>,
+    due: &str,
+) -> Result<(), AllocError> {
+    see_text(rt, found?.as_str(), due);
+    Ok(())
+}
+
 /// A file that holds a text.
 pub(crate) fn source(alloc: Global, path: &str, text: &str) -> Result<Source, AllocError> {
     let path = String::from_str(alloc, path)?;
-    let mut bytes = Vec::new(alloc);
-    for byte in text.as_bytes() {
-        bytes.push(*byte)?;
-    }
+    let bytes = Vec::from_slice(alloc, text.as_bytes())?;
     Ok(Source { path, bytes })
 }
 
-pub(crate) fn sources(alloc: Global, files: Files<'_>) -> Result<Vec<Source>, AllocError> {
-    let mut sources = Vec::new(alloc);
-    for (path, text) in files {
+/// Appends the file of a text `path=text`, if it is one.
+fn add_file(alloc: Global, sources: &mut Vec<Source>, file: &str) -> Result<(), AllocError> {
+    if let Some((path, text)) = file.split_once('=') {
         sources.push(source(alloc, path, text)?)?;
+    }
+    Ok(())
+}
+
+/// The files of a text: `path=text;` for each.
+pub(crate) fn sources(alloc: Global, files: &str) -> Result<Vec<Source>, AllocError> {
+    let mut sources = Vec::new(alloc);
+    for file in files.split(';') {
+        add_file(alloc, &mut sources, file)?;
     }
     Ok(sources)
 }
@@ -71,7 +84,7 @@ fn tell_file(text: &mut String, path: &str, bytes: &[u8]) -> Result<(), AllocErr
     for byte in bytes {
         text.push(char::from(*byte))?;
     }
-    text.push(' ')?;
+    text.push(';')?;
     Ok(())
 }
 
@@ -82,7 +95,7 @@ fn tell_files(text: &mut String, files: &[Source]) -> Result<(), AllocError> {
     Ok(())
 }
 
-/// The files of a tree in order of their numbers, each as `path=text`, an included one with a `+`
+/// The files of a tree in order of their numbers, each as `path=text;`, an included one with a `+`
 /// before it; then the number of sources.
 pub(crate) fn tree_text(alloc: Global, tree: &Tree) -> Result<String, AllocError> {
     let mut text = String::new(alloc);
@@ -114,8 +127,8 @@ fn refused_text(
 /// What `Tree::with_included` answers, as a text.
 pub(crate) fn answer_text(
     alloc: Global,
-    sources_of: Files<'_>,
-    included_of: Files<'_>,
+    sources_of: &str,
+    included_of: &str,
 ) -> Result<String, AllocError> {
     let answer = with_included_again(
         alloc,
@@ -132,7 +145,7 @@ pub(crate) fn answer_text(
 }
 
 /// What `Tree::new` answers, as a text.
-pub(crate) fn new_text(alloc: Global, sources_of: Files<'_>) -> Result<String, AllocError> {
+pub(crate) fn new_text(alloc: Global, sources_of: &str) -> Result<String, AllocError> {
     match new_again(alloc, sources(alloc, sources_of)?) {
         Ok(tree) => tree_text(alloc, &tree),
         Err((sources, fault)) => refused_text(alloc, fault, &sources, &[]),

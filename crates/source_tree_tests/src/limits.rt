@@ -1,7 +1,7 @@
 //! The most files of a tree.
 
 use crate::calls::{see, with_included_again};
-use source_tree::{MAX_FILES, Source, TreeFault};
+use source_tree::{MAX_FILES, Source, Tree, TreeFault};
 use std::alloc::{AllocError, Global};
 use std::test::Fail;
 
@@ -18,40 +18,41 @@ fn nameless(alloc: Global, count: usize) -> Result<Vec<Source>, AllocError> {
     Ok(files)
 }
 
-/// What so many files without a path are refused for, and whether all came back.
-fn refusal(
+/// Whether so many files without a path are refused for this, and all come back.
+fn are_refused(
     alloc: Global,
     sources: usize,
     included: usize,
-) -> Result<Option<(TreeFault, bool)>, AllocError> {
+    due: TreeFault,
+) -> Result<bool, AllocError> {
     let of_sources = nameless(alloc, sources)?;
     let of_included = nameless(alloc, included)?;
     match with_included_again(alloc, of_sources, of_included) {
-        Ok(_) => Ok(None),
+        Ok(_) => Ok(false),
         Err((lists, fault)) => {
-            let (of_sources, of_included) = lists;
-            let whole = of_sources.len() == sources && of_included.len() == included;
-            Ok(Some((fault, whole)))
+            let whole = lists.0.len() == sources && lists.1.len() == included;
+            Ok(whole && fault == due)
         }
     }
 }
 
+/// So many sources, so many included files, and what they are refused for.
+const REFUSED: [(usize, usize, TreeFault); 7] = [
+    (65_536, 0, TreeFault::BadPath(0)),
+    (65_537, 0, TreeFault::TooMany),
+    (0, 65_536, TreeFault::BadPath(0)),
+    (0, 65_537, TreeFault::TooMany),
+    (40_000, 25_536, TreeFault::BadPath(0)),
+    (40_000, 25_537, TreeFault::TooMany),
+    (65_536, 1, TreeFault::TooMany),
+];
+
 #[test]
 fn most_files(rt: HostRuntime) -> Result<(), Fail> {
-    let alloc = rt.alloc();
     see(&rt, MAX_FILES == 65_536, "the number");
-    let bad = Some((TreeFault::BadPath(0), true));
-    let many = Some((TreeFault::TooMany, true));
-    for (sources, included, due) in [
-        (65_536, 0, bad),
-        (65_537, 0, many),
-        (0, 65_536, bad),
-        (0, 65_537, many),
-        (40_000, 25_536, bad),
-        (40_000, 25_537, many),
-        (65_536, 1, many),
-    ] {
-        see(&rt, refusal(alloc, sources, included)? == due, "too many");
+    for (sources, included, due) in &REFUSED {
+        let so = are_refused(rt.alloc(), *sources, *included, *due)?;
+        see(&rt, so, "too many");
     }
     Ok(())
 }
@@ -69,23 +70,22 @@ fn numbered(alloc: Global, count: usize) -> Result<Vec<Source>, AllocError> {
     Ok(files)
 }
 
+/// Whether a tree has 40,000 sources and no other file. Each included file has the path of a source.
+fn is_whole(tree: &Tree) -> bool {
+    let count = tree.file_count();
+    if tree.source_count() != 40_000 || count != 40_000 {
+        return false;
+    }
+    tree.path(0) == "00001.proto" && tree.path(39_999) == "40000.proto"
+}
+
 #[test]
 fn whole_tree(rt: HostRuntime) -> Result<(), Fail> {
-    let alloc = rt.alloc();
-    let sources = numbered(alloc, 40_000)?;
-    let included = numbered(alloc, 25_536)?;
-    let answer = with_included_again(alloc, sources, included);
-    if let Ok(tree) = answer {
-        // Each included file has the path of a source.
-        see(&rt, tree.source_count() == 40_000, "sources");
-        let count = tree.file_count();
-        see(&rt, count == 40_000, "files");
-        if count == 40_000 {
-            see(&rt, tree.path(0) == "00001.proto", "first");
-            see(&rt, tree.path(39_999) == "40000.proto", "last");
-        }
-    } else {
-        see(&rt, false, "refused");
+    let sources = numbered(rt.alloc(), 40_000)?;
+    let included = numbered(rt.alloc(), 25_536)?;
+    match with_included_again(rt.alloc(), sources, included) {
+        Ok(tree) => see(&rt, is_whole(&tree), "whole"),
+        Err(_) => see(&rt, false, "refused"),
     }
     Ok(())
 }

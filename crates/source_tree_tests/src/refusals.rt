@@ -5,70 +5,59 @@ use source_tree::TreeFault;
 use std::alloc::{AllocError, Global};
 use std::test::Fail;
 
-const GOOD: [&str; 13] = [
-    "a.proto",
-    "a/b/c.proto",
-    "a..b.proto",
-    "a..proto",
-    "..a.proto",
-    "...proto",
-    ".../a.proto",
-    ".a/.proto",
-    ".proto",
-    " .proto",
-    "\u{7f}\u{e9}.proto",
-    "a\\b.proto",
-    "a.txt/b:.proto",
+/// Paths, and whether each is a good one.
+const PATHS: [(&str, bool); 34] = [
+    ("a.proto", true),
+    ("a/b/c.proto", true),
+    ("a..b.proto", true),
+    ("a..proto", true),
+    ("..a.proto", true),
+    ("...proto", true),
+    (".../a.proto", true),
+    (".a/.proto", true),
+    (".proto", true),
+    (" .proto", true),
+    ("\u{7f}\u{e9}.proto", true),
+    ("a\\b.proto", true),
+    ("a.txt/b:.proto", true),
+    ("", false),
+    ("/", false),
+    ("/a.proto", false),
+    ("//a.proto", false),
+    ("a//b.proto", false),
+    ("a.proto/", false),
+    (".", false),
+    ("..", false),
+    ("../a.proto", false),
+    ("./a.proto", false),
+    ("a/../b.proto", false),
+    ("a/./b.proto", false),
+    ("a/..", false),
+    ("a.txt", false),
+    ("a.PROTO", false),
+    ("proto", false),
+    ("aproto", false),
+    ("a.proto ", false),
+    ("a\n.proto", false),
+    ("\u{1f}.proto", false),
+    ("\u{0}.proto", false),
 ];
 
-const BAD: [&str; 21] = [
-    "",
-    "/",
-    "/a.proto",
-    "//a.proto",
-    "a//b.proto",
-    "a.proto/",
-    ".",
-    "..",
-    "../a.proto",
-    "./a.proto",
-    "a/../b.proto",
-    "a/./b.proto",
-    "a/..",
-    "a.txt",
-    "a.PROTO",
-    "proto",
-    "aproto",
-    "a.proto ",
-    "a\n.proto",
-    "\u{1f}.proto",
-    "\u{0}.proto",
-];
-
-/// What one source with this path is refused for.
-fn refusal(alloc: Global, path: &str) -> Result<Option<TreeFault>, AllocError> {
+/// Whether one source with this path makes a tree, or is refused as a bad one.
+fn is_answered(alloc: Global, path: &str, good: bool) -> Result<bool, AllocError> {
     let mut sources = Vec::new(alloc);
     sources.push(source(alloc, path, "1")?)?;
     match new_again(alloc, sources) {
-        Ok(_) => Ok(None),
-        Err((_, fault)) => Ok(Some(fault)),
+        Ok(_) => Ok(good),
+        Err((_, fault)) => Ok(!good && fault == TreeFault::BadPath(0)),
     }
 }
 
 #[test]
-fn good_paths(rt: HostRuntime) -> Result<(), Fail> {
-    for path in &GOOD {
-        let fault = refusal(rt.alloc(), path)?;
-        see(&rt, fault.is_none(), path);
-    }
-    Ok(())
-}
-
-#[test]
-fn bad_paths(rt: HostRuntime) -> Result<(), Fail> {
-    for path in &BAD {
-        let fault = refusal(rt.alloc(), path)?;
-        see(&rt, fault == Some(TreeFault::BadPath(0)), path);
+fn paths(rt: HostRuntime) -> Result<(), Fail> {
+    for (path, good) in &PATHS {
+        let so = is_answered(rt.alloc(), path, *good)?;
+        see(&rt, so, path);
     }
     Ok(())
 }
@@ -83,13 +72,15 @@ fn long_path(alloc: Global, before: usize) -> Result<String, AllocError> {
     Ok(path)
 }
 
+/// The longest path has 4,096 bytes.
+const LENGTHS: [(usize, bool); 2] = [(4_090, true), (4_091, false)];
+
 #[test]
 fn longest_path(rt: HostRuntime) -> Result<(), Fail> {
-    let alloc = rt.alloc();
-    let longest = long_path(alloc, 4_090)?;
-    see(&rt, refusal(alloc, longest.as_str())?.is_none(), "4,096");
-    let longer = long_path(alloc, 4_091)?;
-    let fault = refusal(alloc, longer.as_str())?;
-    see(&rt, fault == Some(TreeFault::BadPath(0)), "4,097");
+    for (before, good) in &LENGTHS {
+        let path = long_path(rt.alloc(), *before)?;
+        let so = is_answered(rt.alloc(), path.as_str(), *good)?;
+        see(&rt, so, "the longest path");
+    }
     Ok(())
 }

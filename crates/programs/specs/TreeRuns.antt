@@ -1,7 +1,7 @@
 -- What the programs about a tree do: `index` and `shell`.
 -- `lists` and `gives` are what the system of files gives, `said` and `unsaid` the contents and failures of the stream of messages;
 -- `before` and `after` are that stream around the call.
-use Rattle.std.specs.Prelude.{◌≡◌, ℕ, List, Option, Result, Ok, Err, map, string_bytes}
+use Rattle.std.specs.Prelude.{ℕ, List, Option, Result, Ok, Err, map, string_bytes}
 use Rattle.source_tree.specs.Files.{TreeFile}
 use Rattle.source_files.specs.declared.file_fault.FileFault.{FileFault}
 use Rattle.source_files.specs.Loads.{IsTreeBelow}

@@ -15,3 +15,5 @@ mod run;
 mod running;
 #[cfg(test)]
 mod see;
+#[cfg(test)]
+mod sessions;

@@ -133,12 +133,12 @@ fn a_refused_command_line_is_told(rt: HostRuntime) -> Result<(), Fail> {
 fn want_of_memory_for_the_command_line(rt: HostRuntime) -> Result<(), Fail> {
     let mut printed = [0u8; 8];
     let mut file = [0u8; 8];
-    let ended = ran_asked(
+    let (ended, _) = ran_asked(
         &rt,
         rt.alloc(),
         &Err(AllocError),
         &NONE,
-        b"syntax = \"proto3\";",
+        b"syntax = \"proto3\";".as_slice(),
         printed.as_mut_slice(),
         file.as_mut_slice(),
     )?;

@@ -9,6 +9,7 @@ use command_line::{Request, request_of};
 use programs::run;
 use scip_model::Std;
 use std::alloc::{AllocError, Global};
+use std::io::Read;
 use std::process::Abort;
 use std::sync::Wait;
 use std::test::Fail;
@@ -42,16 +43,16 @@ fn words_of(alloc: Global, line: &str) -> Result<Vec<String>, AllocError> {
     Ok(words)
 }
 
-/// Runs once what was asked for, with this room for the output and for a file.
-pub(crate) fn ran_asked<R: Threads + Wait>(
+/// Runs once what was asked for, with this room for the output and for a file, and gives the input back.
+pub(crate) fn ran_asked<R: Threads + Wait, S: Read + Drop>(
     rt: &R,
     alloc: Global,
     asked: &Result<Request, AllocError>,
     files: &Files,
-    input: &[u8],
+    input: S,
     printed: &mut [u8],
     written: &mut [u8],
-) -> Result<Ended, Fail> {
+) -> Result<(Ended, S), Fail> {
     let mut input = Std::new(input);
     let mut out = Std::new(printed);
     let mut file = Std::new(written);
@@ -69,14 +70,35 @@ pub(crate) fn ran_asked<R: Threads + Wait>(
     );
     let left = messages.into_inner().len().min(ROOM);
     let said = std::str::from_utf8(&told[..ROOM - left])?;
-    Ok(Ended {
-        status,
-        said: String::from_str(alloc, said)?,
-    })
+    let said = String::from_str(alloc, said)?;
+    Ok((Ended { status, said }, input.into_inner()))
 }
 
-/// Runs a command line. Where memory was refused, which has to be what was said, it is run again with
-/// empty streams, and the second run counts.
+/// Runs a command line over an input, which is given back. Where memory was refused, which has to be what
+/// was said, it is run again with empty streams, and the second run counts.
+pub(crate) fn ran_over<R: Abort + Threads + Wait, S: Read + Drop + Copy>(
+    rt: &R,
+    alloc: Global,
+    files: &Files,
+    words: &str,
+    input: S,
+    printed: &mut [u8],
+    written: &mut [u8],
+) -> Result<(Ended, S), Fail> {
+    let words = words_of(alloc, words)?;
+    let asked = request_of(alloc, &words);
+    let (ended, rest) = ran_asked(rt, alloc, &asked, files, input, printed, written)?;
+    if ended.status != 4 {
+        return Ok((ended, rest));
+    }
+    see(rt, ended.said.as_str() == "protoscip: Memory\n", "Memory");
+    see(rt, written.iter().all(|byte| *byte == 0), "Memory");
+    printed.fill(0);
+    let asked = request_of(alloc, &words);
+    ran_asked(rt, alloc, &asked, files, input, printed, written)
+}
+
+/// Runs a command line, as `ran_over` does.
 pub(crate) fn ran<R: Abort + Threads + Wait>(
     rt: &R,
     alloc: Global,
@@ -84,16 +106,7 @@ pub(crate) fn ran<R: Abort + Threads + Wait>(
     printed: &mut [u8],
     written: &mut [u8],
 ) -> Result<Ended, Fail> {
-    let words = words_of(alloc, what.words)?;
-    let asked = request_of(alloc, &words);
     let input = what.input.as_bytes();
-    let ended = ran_asked(rt, alloc, &asked, &what.files, input, printed, written)?;
-    if ended.status != 4 {
-        return Ok(ended);
-    }
-    see(rt, ended.said.as_str() == "protoscip: Memory\n", "Memory");
-    see(rt, written.iter().all(|byte| *byte == 0), "Memory");
-    printed.fill(0);
-    let asked = request_of(alloc, &words);
-    ran_asked(rt, alloc, &asked, &what.files, input, printed, written)
+    let (ended, _) = ran_over(rt, alloc, &what.files, what.words, input, printed, written)?;
+    Ok(ended)
 }

@@ -1,7 +1,7 @@
 //! What callbacks choose for an index, and how often they are asked.
 
 use crate::calls::{see, tree_of, workers};
-use crate::expected::{Case, Due, PLAIN, is_due, settings_of};
+use crate::expected::{Case, PLAIN, is_due, settings_of};
 use index_hooks::{
     Choice, Chooses, DocAlways, DocChoice, Filter, FilterCallback, KindIn, Kinds, Registry,
 };
@@ -85,13 +85,15 @@ fn asked_for<R: Threads + Wait>(
     registry: &Registry,
     workers: Workers,
     settings: &Settings,
-    case: &Case,
+    due: &str,
 ) -> Option<u64> {
     let asking = Asking {
         registry,
         asked: AtomicU64::new(0),
     };
-    match is_due(rt, alloc, tree, &asking, workers, settings, &NoGate, case) {
+    match is_due(
+        rt, alloc, tree, &asking, workers, settings, &NoGate, &PLAIN, due,
+    ) {
         Some(true) => Some(asking.asked.load(Ordering::SeqCst)),
         _ => None,
     }
@@ -103,121 +105,52 @@ fn see_asked<R: Threads + Wait + Abort>(
     rt: &R,
     alloc: Global,
     registry: &Registry,
-    case: &Case,
+    case: Case,
     times: u64,
 ) -> Result<(), Fail> {
-    let tree = tree_of(rt, alloc, case.files)?;
-    let settings = settings_of(alloc, &case.set)?;
+    let (name, files, due) = case;
+    let tree = tree_of(rt, alloc, files)?;
+    let settings = settings_of(alloc, &PLAIN)?;
     for count in [1, 2, 16] {
         let workers = workers(rt, count);
-        let asked = match asked_for(rt, alloc, &tree, registry, workers, &settings, case) {
-            None => asked_for(rt, alloc, &tree, registry, workers, &settings, case),
+        let asked = match asked_for(rt, alloc, &tree, registry, workers, &settings, due) {
+            None => asked_for(rt, alloc, &tree, registry, workers, &settings, due),
             asked => asked,
         };
-        see(rt, asked == Some(times), case.name);
+        see(rt, asked == Some(times), name);
     }
     Ok(())
 }
 
-static WITHOUT_ENUMS: Case<'static> = Case {
-    name: "all kinds but enums",
-    set: PLAIN,
-    files: &[(
-        "a.proto",
-        "syntax = \"proto3\";\nenum E { ZERO = 0; }\nmessage M { E e = 1; }\n",
-        false,
-    )],
-    due: Due::Index(
-        &[(
-            "a.proto",
-            &[
-                ([0, 0, 0, 0], "`a.proto`/", 1),
-                ([1, 9, 1, 13], "E#ZERO.", 1),
-                ([2, 8, 2, 9], "M#", 1),
-                ([2, 14, 2, 15], "M#e.", 1),
-            ],
-            &[
-                ("E#ZERO.", "ZERO", &[]),
-                ("M#", "M", &[]),
-                ("M#e.", "e", &[]),
-                ("`a.proto`/", "a.proto", &[]),
-            ],
-        )],
-        &[],
-    ),
-};
+const WITHOUT_ENUMS: Case<'static> = (
+    "all kinds but enums",
+    "a.proto\nsyntax = \"proto3\";\nenum E { ZERO = 0; }\nmessage M { E e = 1; }\n",
+    "a.proto\n\
+    0 0 0 0 1 `a.proto`/;1 9 1 13 1 E#ZERO.;2 8 2 9 1 M#;2 14 2 15 1 M#e.;\n\
+    E#ZERO.|ZERO|;M#|M|;M#e.|e|;`a.proto`/|a.proto|;=",
+);
 
-static SECOND_ONES: Case<'static> = Case {
-    name: "each second declaration, of both files",
-    set: PLAIN,
-    files: &[
-        (
-            "a.proto",
-            "syntax = \"proto3\";\nmessage A {}\nmessage B {}\n",
-            false,
-        ),
-        (
-            "b.proto",
-            "syntax = \"proto3\";\nimport \"a.proto\";\nmessage C { A a = 1; B b = 2; }\n",
-            false,
-        ),
-    ],
-    due: Due::Index(
-        &[
-            (
-                "a.proto",
-                &[([0, 0, 0, 0], "`a.proto`/", 1), ([2, 8, 2, 9], "B#", 1)],
-                &[("B#", "B", &[]), ("`a.proto`/", "a.proto", &[])],
-            ),
-            (
-                "b.proto",
-                &[
-                    ([0, 0, 0, 0], "`b.proto`/", 1),
-                    ([1, 7, 1, 16], "`a.proto`/", 2),
-                    ([2, 14, 2, 15], "C#a.", 1),
-                    ([2, 21, 2, 22], "B#", 0),
-                ],
-                &[("C#a.", "a", &[]), ("`b.proto`/", "b.proto", &[])],
-            ),
-        ],
-        &[],
-    ),
-};
+const SECOND_ONES: Case<'static> = (
+    "each second declaration, of both files",
+    "a.proto\nsyntax = \"proto3\";\nmessage A {}\nmessage B {}\n|\
+    b.proto\nsyntax = \"proto3\";\nimport \"a.proto\";\nmessage C { A a = 1; B b = 2; }\n",
+    "a.proto\n\
+    0 0 0 0 1 `a.proto`/;2 8 2 9 1 B#;\n\
+    B#|B|;`a.proto`/|a.proto|;=\
+    b.proto\n\
+    0 0 0 0 1 `b.proto`/;1 7 1 16 2 `a.proto`/;2 14 2 15 1 C#a.;2 21 2 22 0 B#;\n\
+    C#a.|a|;`b.proto`/|b.proto|;=",
+);
 
-static BOTH_TEXTS: Case<'static> = Case {
-    name: "both texts, in a source and in an included file",
-    set: PLAIN,
-    files: &[
-        (
-            "a.proto",
-            "syntax = \"proto3\";\nimport \"t.proto\";\n// One.\n// Two.\nmessage A { // tail\n  T x = 1; /* unit */\n}\n",
-            false,
-        ),
-        (
-            "t.proto",
-            "syntax = \"proto3\";\n// A thing.\nmessage T { // of a kind\n}\n",
-            true,
-        ),
-    ],
-    due: Due::Index(
-        &[(
-            "a.proto",
-            &[
-                ([0, 0, 0, 0], "`a.proto`/", 1),
-                ([1, 7, 1, 16], "`t.proto`/", 2),
-                ([4, 8, 4, 9], "A#", 1),
-                ([5, 2, 5, 3], "T#", 0),
-                ([5, 4, 5, 5], "A#x.", 1),
-            ],
-            &[
-                ("A#", "A", &["One.\nTwo.", "tail"]),
-                ("A#x.", "x", &[" unit "]),
-                ("`a.proto`/", "a.proto", &[]),
-            ],
-        )],
-        &[("T#", "T", &["A thing.", "of a kind"])],
-    ),
-};
+const BOTH_TEXTS: Case<'static> = (
+    "both texts, in a source and in an included file",
+    "a.proto\nsyntax = \"proto3\";\nimport \"t.proto\";\n// One.\n// Two.\nmessage A { // tail\n  T x = 1; /* unit */\n}\n|\
+    +t.proto\nsyntax = \"proto3\";\n// A thing.\nmessage T { // of a kind\n}\n",
+    "a.proto\n\
+    0 0 0 0 1 `a.proto`/;1 7 1 16 2 `t.proto`/;4 8 4 9 1 A#;5 2 5 3 0 T#;5 4 5 5 1 A#x.;\n\
+    A#|A|One.\nTwo.|tail|;A#x.|x| unit |;`a.proto`/|a.proto|;=\
+    +T#|T|A thing.|of a kind|;",
+);
 
 #[test]
 fn a_filter_by_kind(rt: HostRuntime) -> Result<(), Fail> {
@@ -232,7 +165,7 @@ fn a_filter_by_kind(rt: HostRuntime) -> Result<(), Fail> {
     faults_are_alike();
     file_faults_are_alike(&registry, &registry);
     one_built(&registry, &registry);
-    see_asked(&rt, rt.alloc(), &registry, &WITHOUT_ENUMS, 4)
+    see_asked(&rt, rt.alloc(), &registry, WITHOUT_ENUMS, 4)
 }
 
 /// Whether what is chosen by turns serves both documents.
@@ -242,19 +175,13 @@ fn is_alternated<R: Threads + Wait>(
     tree: &Tree,
     workers: Workers,
     settings: &Settings,
+    due: &str,
 ) -> bool {
     let chooser = EachSecond {
         asked: AtomicU64::new(0),
     };
     let due = is_due(
-        rt,
-        alloc,
-        tree,
-        &chooser,
-        workers,
-        settings,
-        &NoGate,
-        &SECOND_ONES,
+        rt, alloc, tree, &chooser, workers, settings, &NoGate, &PLAIN, due,
     );
     due == Some(true) && chooser.asked.load(Ordering::SeqCst) == 5
 }
@@ -262,12 +189,13 @@ fn is_alternated<R: Threads + Wait>(
 #[test]
 fn a_choice_serves_each_document(rt: HostRuntime) -> Result<(), Fail> {
     let alloc = rt.alloc();
-    let tree = tree_of(&rt, alloc, SECOND_ONES.files)?;
-    let settings = settings_of(alloc, &SECOND_ONES.set)?;
+    let (name, files, due) = SECOND_ONES;
+    let tree = tree_of(&rt, alloc, files)?;
+    let settings = settings_of(alloc, &PLAIN)?;
     let one = workers(&rt, 1);
-    let alternated = is_alternated(&rt, alloc, &tree, one, &settings)
-        || is_alternated(&rt, alloc, &tree, one, &settings);
-    see(&rt, alternated, SECOND_ONES.name);
+    let alternated = is_alternated(&rt, alloc, &tree, one, &settings, due)
+        || is_alternated(&rt, alloc, &tree, one, &settings, due);
+    see(&rt, alternated, name);
     Ok(())
 }
 
@@ -278,5 +206,5 @@ fn a_documentation_rule(rt: HostRuntime) -> Result<(), Fail> {
     if let Err((rule, _)) = registry.add_doc(rule) {
         see(&rt, registry.add_doc(rule).is_ok(), "added again");
     }
-    see_asked(&rt, rt.alloc(), &registry, &BOTH_TEXTS, 3)
+    see_asked(&rt, rt.alloc(), &registry, BOTH_TEXTS, 3)
 }

@@ -12,9 +12,6 @@ use std::sync::Wait;
 use std::sync::atomic::{AtomicU64, Ordering};
 use std::thread::Threads;
 
-/// A file: its path, its text, and whether it is included.
-pub(crate) type File<'a> = (&'a str, &'a str, bool);
-
 /// Fails the test where this doesn't hold.
 pub(crate) fn see(rt: &impl Abort, holds: bool, what: &str) {
     assert!(rt; holds, "{what}");
@@ -33,13 +30,28 @@ fn add(alloc: Global, found: &mut Vec<Source>, path: &str, bytes: &[u8]) -> Resu
     Ok(())
 }
 
+/// Adds a file, where it is as wanted: included, or not.
+fn add_file(
+    alloc: Global,
+    found: &mut Vec<Source>,
+    file: &str,
+    included: bool,
+) -> Result<(), AllocError> {
+    let Some((path, text)) = file.split_once('\n') else {
+        return Ok(());
+    };
+    match path.strip_prefix('+') {
+        Some(path) if included => add(alloc, found, path, text.as_bytes()),
+        None if !included => add(alloc, found, path, text.as_bytes()),
+        _ => Ok(()),
+    }
+}
+
 /// The sources among files, or the included ones.
-fn those(alloc: Global, files: &[File<'_>], included: bool) -> Result<Vec<Source>, AllocError> {
+fn those(alloc: Global, files: &str, included: bool) -> Result<Vec<Source>, AllocError> {
     let mut found = Vec::new(alloc);
-    for (path, text, is_included) in files {
-        if *is_included == included {
-            add(alloc, &mut found, path, text.as_bytes())?;
-        }
+    for file in files.split_terminator('|') {
+        add_file(alloc, &mut found, file, included)?;
     }
     Ok(found)
 }
@@ -57,18 +69,15 @@ fn tree_from(
     }
 }
 
-fn tree_once(alloc: Global, files: &[File<'_>]) -> Result<Option<Tree>, AllocError> {
+fn tree_once(alloc: Global, files: &str) -> Result<Option<Tree>, AllocError> {
     let sources = those(alloc, files, false)?;
     let included = those(alloc, files, true)?;
     tree_from(alloc, sources, included)
 }
 
-/// The tree of these files. After want of memory it is made again.
-pub(crate) fn tree_of(
-    rt: &impl Abort,
-    alloc: Global,
-    files: &[File<'_>],
-) -> Result<Tree, AllocError> {
+/// The tree of files. Each has a line with its path, which has a `+` in front where it is included, and
+/// then its text; between files stands `|`. After want of memory the tree is made again.
+pub(crate) fn tree_of(rt: &impl Abort, alloc: Global, files: &str) -> Result<Tree, AllocError> {
     let made = match tree_once(alloc, files) {
         Ok(made) => made,
         Err(_) => tree_once(alloc, files)?,

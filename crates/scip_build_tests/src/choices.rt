@@ -1,6 +1,6 @@
 //! What is chosen, and how often it is asked for.
 
-use crate::calls::{File, keeping, read, see, tree_of, workers};
+use crate::calls::{keeping, read, see, tree_of, workers};
 use index_hooks::{
     AnyAnswer, Choice, Chooses, DocAlways, DocChoice, Filter, FilterCallback, Registry,
 };
@@ -18,19 +18,9 @@ use std::sync::Wait;
 use std::test::Fail;
 use std::thread::Threads;
 
-static FILES: [File<'static>; 3] = [
-    (
-        "a.proto",
-        "syntax = \"proto3\";\nenum E { ZERO = 0; }\nmessage M { E e = 1; }\n",
-        false,
-    ),
-    (
-        "s.proto",
-        "syntax = \"proto3\";\nmessage S { message T {} }\n",
-        true,
-    ),
-    ("u.proto", "syntax = \"proto2\";\n", true),
-];
+const FILES: &str = "a.proto\nsyntax = \"proto3\";\nenum E { ZERO = 0; }\nmessage M { E e = 1; }\n|\
++s.proto\nsyntax = \"proto3\";\nmessage S { message T {} }\n|\
++u.proto\nsyntax = \"proto2\";\n";
 
 const KEPT: Choice = Choice {
     keep: true,
@@ -77,7 +67,7 @@ fn asked_while_read<R: Threads + Wait>(
 
 #[test]
 fn each_declaration_is_asked_about_once(rt: HostRuntime) -> Result<(), Fail> {
-    let tree = tree_of(&rt, rt.alloc(), &FILES)?;
+    let tree = tree_of(&rt, rt.alloc(), FILES)?;
     for count in [1, 2, 16] {
         let workers = workers(&rt, count);
         let asked = match asked_while_read(&rt, rt.alloc(), &tree, workers) {
@@ -165,7 +155,7 @@ fn choices_are_listed_by_file(rt: HostRuntime) -> Result<(), Fail> {
     one_first_faulty();
     one_list_of_facts_a_file();
     one_linking(&chooser, &chooser);
-    let tree = tree_of(&rt, rt.alloc(), &FILES)?;
+    let tree = tree_of(&rt, rt.alloc(), FILES)?;
     let listed = is_listed(&rt, rt.alloc(), &tree, workers(&rt, 2));
     see(&rt, listed, "the lists");
     Ok(())
@@ -177,7 +167,7 @@ fn see_chosen<R: Threads + Wait + Abort>(
     alloc: Global,
     registry: &Registry,
 ) -> Result<(), Fail> {
-    let tree = tree_of(rt, alloc, &FILES)?;
+    let tree = tree_of(rt, alloc, FILES)?;
     for count in [1, 2, 16] {
         let as_told = chooses_as_told(rt, alloc, &tree, registry, workers(rt, count));
         see(rt, as_told, "choices");

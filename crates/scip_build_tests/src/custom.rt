@@ -1,6 +1,6 @@
 //! Custom options: refused, or read past.
 
-use crate::calls::{File, fault_of, keeping, read, see, tree_of, workers};
+use crate::calls::{fault_of, keeping, read, see, tree_of, workers};
 use index_pool::Workers;
 use proto_parse::{CustomOptions, SyntaxFault};
 use scip_build::FileFault;
@@ -10,9 +10,8 @@ use std::sync::Wait;
 use std::test::Fail;
 use std::thread::Threads;
 
-const OPTION: &str = "syntax = \"proto3\";\noption (x) = 1;\nmessage A {}\n";
-
-static FILES: [File<'static>; 2] = [("a.proto", OPTION, false), ("b.proto", OPTION, true)];
+const FILES: &str = "a.proto\nsyntax = \"proto3\";\noption (x) = 1;\nmessage A {}\n|\
++b.proto\nsyntax = \"proto3\";\noption (x) = 1;\nmessage A {}\n";
 
 /// Whether both files have contents, where custom options are read past.
 fn is_read_past<R: Threads + Wait>(rt: &R, alloc: Global, tree: &Tree, workers: Workers) -> bool {
@@ -27,7 +26,7 @@ fn is_read_past<R: Threads + Wait>(rt: &R, alloc: Global, tree: &Tree, workers: 
 
 #[test]
 fn custom_options_are_refused_or_read_past(rt: HostRuntime) -> Result<(), Fail> {
-    let tree = tree_of(&rt, rt.alloc(), &FILES)?;
+    let tree = tree_of(&rt, rt.alloc(), FILES)?;
     let two = workers(&rt, 2);
     let refused = fault_of(&rt, rt.alloc(), &tree, &keeping(), two);
     let named = refused == Some((0, FileFault::Syntax(SyntaxFault::CustomOption(26))));

@@ -1,7 +1,7 @@
 //! A gate round both phases.
 
 use crate::calls::{keeping, see, tree_of, workers};
-use crate::expected::{Case, is_due, settings_of};
+use crate::expected::{PLAIN, is_due, settings_of};
 use crate::trees::EACH_OTHER;
 use index_pool::{Gate, Workers};
 use scip_build::Settings;
@@ -13,8 +13,6 @@ use std::test::Fail;
 use std::thread;
 use std::thread::Threads;
 use std::time::{Clock, Duration};
-
-static MET: Case<'static> = EACH_OTHER;
 
 /// How many milliseconds a gate waits at most.
 const MOST_TURNS: u64 = 5000;
@@ -59,6 +57,7 @@ fn is_met<R: Threads + Wait + Clock + Sync>(
     tree: &Tree,
     workers: Workers,
     settings: &Settings,
+    due: &str,
 ) -> bool {
     let gate = Meeting {
         clock: rt,
@@ -68,8 +67,10 @@ fn is_met<R: Threads + Wait + Clock + Sync>(
         run_outs: AtomicU64::new(0),
     };
     let chooser = keeping();
-    let due = is_due(rt, alloc, tree, &chooser, workers, settings, &gate, &MET);
-    due == Some(true)
+    let met = is_due(
+        rt, alloc, tree, &chooser, workers, settings, &gate, &PLAIN, due,
+    );
+    met == Some(true)
         && chooser.asked() == 4
         && gate.first.load(Ordering::SeqCst) == 2
         && gate.second.load(Ordering::SeqCst) == 2
@@ -80,11 +81,12 @@ fn is_met<R: Threads + Wait + Clock + Sync>(
 #[test]
 fn two_workers_meet_in_each_phase(rt: HostRuntime) -> Result<(), Fail> {
     let alloc = rt.alloc();
-    let tree = tree_of(&rt, alloc, MET.files)?;
-    let settings = settings_of(alloc, &MET.set)?;
+    let (_, files, due) = EACH_OTHER;
+    let tree = tree_of(&rt, alloc, files)?;
+    let settings = settings_of(alloc, &PLAIN)?;
     let two = workers(&rt, 2);
-    let met = is_met(&rt, alloc, &tree, two, &settings)
-        || is_met(&rt, alloc, &tree, two, &settings);
+    let met = is_met(&rt, alloc, &tree, two, &settings, due)
+        || is_met(&rt, alloc, &tree, two, &settings, due);
     see(&rt, met, "two met");
     Ok(())
 }

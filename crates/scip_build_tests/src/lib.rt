@@ -18,9 +18,13 @@ mod gates;
 #[cfg(test)]
 mod linking;
 #[cfg(test)]
+mod listed;
+#[cfg(test)]
 mod readings;
 #[cfg(test)]
 mod refusals;
+#[cfg(test)]
+mod refused;
 #[cfg(test)]
 mod roots;
 #[cfg(test)]

@@ -3,25 +3,18 @@
 ghost use Rattle.std.specs.Prelude.{◌≡◌};
 ghost use Rattle.scip_build.specs.Linking.{linked_files};
 
-use crate::calls::{File, keeping, read, see, tree_of, workers};
+use crate::calls::{keeping, read, see, tree_of, workers};
+use crate::refused::is_refusal;
 use index_pool::Workers;
-use proto_link::{FilePlace, LinkFile, have_own_paths};
-use proto_parse::{CustomOptions, SyntaxFault};
-use scip_build::{BuildFault, FileFault, Reading, link, linked_files};
+use proto_link::{LinkFile, have_own_paths};
+use proto_parse::CustomOptions;
+use scip_build::{BuildFault, Reading, link, linked_files};
 use source_tree::Tree;
 use std::alloc::{AllocError, Global};
 use std::process::Abort;
 use std::sync::Wait;
 use std::test::Fail;
 use std::thread::Threads;
-
-const USER: &str = "syntax = \"proto3\";\nimport \"t.proto\";\nmessage M {}\n";
-
-const SHARED: &str = "syntax = \"proto3\";\nmessage T {}\n";
-
-const CLASH: &str = "syntax = \"proto3\";\nmessage M {}\n";
-
-const PROTO2: &str = "syntax = \"proto2\";\n";
 
 /// What the linker answers to files; none where it links them.
 fn refusal_of(
@@ -47,36 +40,16 @@ fn refusal(alloc: Global, readings: &[Reading<'_>]) -> Result<Option<BuildFault>
     refusal_of(alloc, readings, &files)
 }
 
-/// What is due: places are told by the file's number and the start.
-#[derive(Drop)]
-enum Due {
-    Linked,
-    File(usize, FileFault),
-    Duplicate((usize, usize), (usize, usize)),
-    MissingImport((usize, usize)),
-}
-
-fn starts_at(place: FilePlace, at: (usize, usize)) -> bool {
-    (place.file, place.span.start) == at
-}
-
-/// Whether files are linked or refused as told.
-fn ends(answer: Option<BuildFault>, due: &Due) -> bool {
-    match (answer, due) {
-        (None, Due::Linked) => true,
-        (Some(BuildFault::File(number, cause)), Due::File(k, fault)) => {
-            number == *k && cause == *fault
-        }
-        (Some(BuildFault::Duplicate(first, second)), Due::Duplicate(a, b)) => {
-            starts_at(first, *a) && starts_at(second, *b)
-        }
-        (Some(BuildFault::MissingImport(place)), Due::MissingImport(a)) => starts_at(place, *a),
-        _ => false,
+/// Whether files are linked, which no text tells, or refused as a text tells.
+fn ends(answer: Option<BuildFault>, due: &str) -> bool {
+    match answer {
+        Some(fault) => is_refusal(fault, due),
+        None => due.is_empty(),
     }
 }
 
 /// Whether readings are linked or refused as told. After want of memory it is asked again.
-fn ends_so(alloc: Global, readings: &[Reading<'_>], due: &Due) -> Result<bool, AllocError> {
+fn ends_so(alloc: Global, readings: &[Reading<'_>], due: &str) -> Result<bool, AllocError> {
     let answer = match refusal(alloc, readings) {
         Ok(answer) => answer,
         Err(_) => refusal(alloc, readings)?,
@@ -90,7 +63,7 @@ fn is_linked_so<R: Threads + Wait>(
     alloc: Global,
     tree: &Tree,
     workers: Workers,
-    due: &Due,
+    due: &str,
 ) -> Result<bool, AllocError> {
     match read(rt, alloc, tree, &keeping(), workers, CustomOptions::Refuse) {
         Ok(readings) => ends_so(alloc, &readings, due),
@@ -102,8 +75,8 @@ fn is_linked_so<R: Threads + Wait>(
 fn see_row<R: Threads + Wait + Abort>(
     rt: &R,
     alloc: Global,
-    files: &[File<'_>],
-    due: &Due,
+    files: &str,
+    due: &str,
 ) -> Result<(), AllocError> {
     let tree = tree_of(rt, alloc, files)?;
     let so = is_linked_so(rt, alloc, &tree, workers(rt, 2), due)?;
@@ -111,37 +84,44 @@ fn see_row<R: Threads + Wait + Abort>(
     Ok(())
 }
 
-static ROWS: [(&[File<'static>], Due); 6] = [
+/// Files, and what is due of them.
+const ROWS: [(&str, &str); 6] = [
     (
-        &[("a.proto", USER, false), ("t.proto", SHARED, true)],
-        Due::Linked,
+        "a.proto\nsyntax = \"proto3\";\nimport \"t.proto\";\nmessage M {}\n|\
+        +t.proto\nsyntax = \"proto3\";\nmessage T {}\n",
+        "",
     ),
     (
-        &[("a.proto", CLASH, false), ("t.proto", PROTO2, true)],
-        Due::Linked,
+        "a.proto\nsyntax = \"proto3\";\nmessage M {}\n|\
+        +t.proto\nsyntax = \"proto2\";\n",
+        "",
     ),
     (
-        &[("a.proto", USER, false), ("t.proto", PROTO2, true)],
-        Due::File(1, FileFault::Syntax(SyntaxFault::NotProto3(9))),
+        "a.proto\nsyntax = \"proto3\";\nimport \"t.proto\";\nmessage M {}\n|\
+        +t.proto\nsyntax = \"proto2\";\n",
+        "file 1 9 not proto3",
     ),
     (
-        &[("a.proto", USER, false), ("t.proto", CLASH, true)],
-        Due::Duplicate((0, 45), (1, 27)),
+        "a.proto\nsyntax = \"proto3\";\nimport \"t.proto\";\nmessage M {}\n|\
+        +t.proto\nsyntax = \"proto3\";\nmessage M {}\n",
+        "duplicate 0 45 46 1 27 28 ",
     ),
     (
-        &[("a.proto", CLASH, false), ("t.proto", CLASH, true)],
-        Due::Linked,
+        "a.proto\nsyntax = \"proto3\";\nmessage M {}\n|\
+        +t.proto\nsyntax = \"proto3\";\nmessage M {}\n",
+        "",
     ),
     (
-        &[("a.proto", USER, false), ("b.proto", SHARED, false)],
-        Due::MissingImport((0, 26)),
+        "a.proto\nsyntax = \"proto3\";\nimport \"t.proto\";\nmessage M {}\n|\
+        b.proto\nsyntax = \"proto3\";\nmessage T {}\n",
+        "missing import 0 26 35 ",
     ),
 ];
 
 #[test]
 fn what_was_read_is_linked(rt: HostRuntime) -> Result<(), Fail> {
     for (files, due) in &ROWS {
-        see_row(&rt, rt.alloc(), *files, due)?;
+        see_row(&rt, rt.alloc(), *files, *due)?;
     }
     Ok(())
 }

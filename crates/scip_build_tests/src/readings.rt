@@ -1,6 +1,6 @@
 //! What files are read as.
 
-use crate::calls::{File, keeping, read, see, tree_of, workers};
+use crate::calls::{keeping, read, see, tree_of, workers};
 use index_pool::Workers;
 use proto_lex::LexFault;
 use proto_parse::{CustomOptions, SyntaxFault};
@@ -45,12 +45,12 @@ fn has_fault(reading: &Reading<'_>, path: &str, fault: FileFault) -> bool {
         && matches!(&reading.contents, Err(cause) if *cause == fault)
 }
 
-static FOUR: [File<'static>; 4] = [
-    ("a.proto", IMPORT, false),
-    ("o.proto", "\"abc", true),
-    ("t.proto", MESSAGE, true),
-    ("u.proto", "syntax = \"proto2\";\n", true),
-];
+/// Of which the first has the text `IMPORT`, the third the text `MESSAGE`.
+const FOUR: &str =
+    "a.proto\nsyntax = \"proto3\";\nimport \"t.proto\";\nmessage M { lib.T t = 1; }\n|\
++o.proto\n\"abc|\
++t.proto\nsyntax = \"proto3\";\npackage lib;\n// A thing.\nmessage T { int32 n = 1; }\n|\
++u.proto\nsyntax = \"proto2\";\n";
 
 /// Whether these are the readings of those files.
 fn are_read(readings: &[Reading<'_>]) -> bool {
@@ -89,7 +89,7 @@ fn is_read<R: Threads + Wait>(rt: &R, alloc: Global, tree: &Tree, workers: Worke
 
 #[test]
 fn files_are_read_under_their_numbers(rt: HostRuntime) -> Result<(), Fail> {
-    let tree = tree_of(&rt, rt.alloc(), &FOUR)?;
+    let tree = tree_of(&rt, rt.alloc(), FOUR)?;
     for count in [1, 2, 3, 16] {
         let as_told = is_read(&rt, rt.alloc(), &tree, workers(&rt, count));
         see(&rt, as_told, "readings, under their numbers");
@@ -107,7 +107,7 @@ fn has_none<R: Threads + Wait>(rt: &R, alloc: Global, tree: &Tree, workers: Work
 
 #[test]
 fn no_files_have_no_readings(rt: HostRuntime) -> Result<(), Fail> {
-    let tree = tree_of(&rt, rt.alloc(), &[])?;
+    let tree = tree_of(&rt, rt.alloc(), "")?;
     see(
         &rt,
         has_none(&rt, rt.alloc(), &tree, workers(&rt, 4)),

@@ -1,307 +1,123 @@
 //! What is built from trees of sources.
 
-use crate::expected::{Case, Due, PLAIN, Set, see_cases};
+use crate::expected::{Case, PLAIN, Set, see_case, see_cases};
 use proto_parse::CustomOptions;
 use std::test::Fail;
 
 /// Two files that import each other.
-pub(crate) const EACH_OTHER: Case<'static> = Case {
-    name: "two files that import each other",
-    set: PLAIN,
-    files: &[
-        (
-            "a.proto",
-            "syntax = \"proto3\";\nimport \"b.proto\";\nmessage A { B b = 1; }\n",
-            false,
-        ),
-        (
-            "b.proto",
-            "syntax = \"proto3\";\nimport \"a.proto\";\nmessage B { A a = 1; }\n",
-            false,
-        ),
-    ],
-    due: Due::Index(
-        &[
-            (
-                "a.proto",
-                &[
-                    ([0, 0, 0, 0], "`a.proto`/", 1),
-                    ([1, 7, 1, 16], "`b.proto`/", 2),
-                    ([2, 8, 2, 9], "A#", 1),
-                    ([2, 12, 2, 13], "B#", 0),
-                    ([2, 14, 2, 15], "A#b.", 1),
-                ],
-                &[
-                    ("A#", "A", &[]),
-                    ("A#b.", "b", &[]),
-                    ("`a.proto`/", "a.proto", &[]),
-                ],
-            ),
-            (
-                "b.proto",
-                &[
-                    ([0, 0, 0, 0], "`b.proto`/", 1),
-                    ([1, 7, 1, 16], "`a.proto`/", 2),
-                    ([2, 8, 2, 9], "B#", 1),
-                    ([2, 12, 2, 13], "A#", 0),
-                    ([2, 14, 2, 15], "B#a.", 1),
-                ],
-                &[
-                    ("B#", "B", &[]),
-                    ("B#a.", "a", &[]),
-                    ("`b.proto`/", "b.proto", &[]),
-                ],
-            ),
-        ],
-        &[],
+pub(crate) const EACH_OTHER: Case<'static> = (
+    "two files that import each other",
+    "a.proto\nsyntax = \"proto3\";\nimport \"b.proto\";\nmessage A { B b = 1; }\n|\
+    b.proto\nsyntax = \"proto3\";\nimport \"a.proto\";\nmessage B { A a = 1; }\n",
+    "a.proto\n\
+    0 0 0 0 1 `a.proto`/;1 7 1 16 2 `b.proto`/;2 8 2 9 1 A#;2 12 2 13 0 B#;\
+    2 14 2 15 1 A#b.;\n\
+    A#|A|;A#b.|b|;`a.proto`/|a.proto|;=\
+    b.proto\n\
+    0 0 0 0 1 `b.proto`/;1 7 1 16 2 `a.proto`/;2 8 2 9 1 B#;2 12 2 13 0 A#;\
+    2 14 2 15 1 B#a.;\n\
+    B#|B|;B#a.|a|;`b.proto`/|b.proto|;=",
+);
+
+const CASES: [Case<'static>; 3] = [
+    (
+        "packages and types of other files",
+        "t.proto\nsyntax = \"proto3\";\npackage google.protobuf;\nmessage Timestamp {}\n|\
+        b.proto\nsyntax = \"proto3\";\npackage acme.google;\n|\
+        a.proto\nsyntax = \"proto3\";\npackage acme;\nimport \"b.proto\";\nimport \"t.proto\";\nmessage M { .google.protobuf.Timestamp t = 1; }\n",
+        "a.proto\n\
+        0 0 0 0 1 `a.proto`/;1 8 1 12 1 acme/;2 7 2 16 2 `b.proto`/;3 7 3 16 2 `t.proto`/;\
+        4 8 4 9 1 acme/M#;4 13 4 19 0 google/;4 20 4 28 0 google/protobuf/;\
+        4 29 4 38 0 google/protobuf/Timestamp#;4 39 4 40 1 acme/M#t.;\n\
+        `a.proto`/|a.proto|;acme/|acme|;acme/M#|M|;acme/M#t.|t|;=\
+        b.proto\n\
+        0 0 0 0 1 `b.proto`/;1 8 1 12 1 acme/;1 13 1 19 1 acme/google/;\n\
+        `b.proto`/|b.proto|;acme/|acme|;acme/google/|acme.google|;=\
+        t.proto\n\
+        0 0 0 0 1 `t.proto`/;1 8 1 14 1 google/;1 15 1 23 1 google/protobuf/;\
+        2 8 2 17 1 google/protobuf/Timestamp#;\n\
+        `t.proto`/|t.proto|;google/|google|;google/protobuf/|google.protobuf|;\
+        google/protobuf/Timestamp#|Timestamp|;=",
     ),
-};
-
-static OF_PACKAGES: [Case<'static>; 2] = [
-    Case {
-        name: "packages and types of other files",
-        set: PLAIN,
-        files: &[
-            (
-                "t.proto",
-                "syntax = \"proto3\";\npackage google.protobuf;\nmessage Timestamp {}\n",
-                false,
-            ),
-            (
-                "b.proto",
-                "syntax = \"proto3\";\npackage acme.google;\n",
-                false,
-            ),
-            (
-                "a.proto",
-                "syntax = \"proto3\";\npackage acme;\nimport \"b.proto\";\nimport \"t.proto\";\nmessage M { .google.protobuf.Timestamp t = 1; }\n",
-                false,
-            ),
-        ],
-        due: Due::Index(
-            &[
-                (
-                    "a.proto",
-                    &[
-                        ([0, 0, 0, 0], "`a.proto`/", 1),
-                        ([1, 8, 1, 12], "acme/", 1),
-                        ([2, 7, 2, 16], "`b.proto`/", 2),
-                        ([3, 7, 3, 16], "`t.proto`/", 2),
-                        ([4, 8, 4, 9], "acme/M#", 1),
-                        ([4, 13, 4, 19], "google/", 0),
-                        ([4, 20, 4, 28], "google/protobuf/", 0),
-                        ([4, 29, 4, 38], "google/protobuf/Timestamp#", 0),
-                        ([4, 39, 4, 40], "acme/M#t.", 1),
-                    ],
-                    &[
-                        ("`a.proto`/", "a.proto", &[]),
-                        ("acme/", "acme", &[]),
-                        ("acme/M#", "M", &[]),
-                        ("acme/M#t.", "t", &[]),
-                    ],
-                ),
-                (
-                    "b.proto",
-                    &[
-                        ([0, 0, 0, 0], "`b.proto`/", 1),
-                        ([1, 8, 1, 12], "acme/", 1),
-                        ([1, 13, 1, 19], "acme/google/", 1),
-                    ],
-                    &[
-                        ("`b.proto`/", "b.proto", &[]),
-                        ("acme/", "acme", &[]),
-                        ("acme/google/", "acme.google", &[]),
-                    ],
-                ),
-                (
-                    "t.proto",
-                    &[
-                        ([0, 0, 0, 0], "`t.proto`/", 1),
-                        ([1, 8, 1, 14], "google/", 1),
-                        ([1, 15, 1, 23], "google/protobuf/", 1),
-                        ([2, 8, 2, 17], "google/protobuf/Timestamp#", 1),
-                    ],
-                    &[
-                        ("`t.proto`/", "t.proto", &[]),
-                        ("google/", "google", &[]),
-                        ("google/protobuf/", "google.protobuf", &[]),
-                        ("google/protobuf/Timestamp#", "Timestamp", &[]),
-                    ],
-                ),
-            ],
-            &[],
-        ),
-    },
-    Case {
-        name: "a package of three parts",
-        set: Set {
-            parts: ["my mgr", "", "1.0"],
-            front: "scip-protobuf my  mgr . 1.0 ",
-            ..PLAIN
-        },
-        files: &[("a b.proto", "syntax = \"proto3\";\nmessage A {}\n", false)],
-        due: Due::Index(
-            &[(
-                "a b.proto",
-                &[([0, 0, 0, 0], "`a b.proto`/", 1), ([1, 8, 1, 9], "A#", 1)],
-                &[("A#", "A", &[]), ("`a b.proto`/", "a b.proto", &[])],
-            )],
-            &[],
-        ),
-    },
-];
-
-#[test]
-fn indexes_of_packages(rt: HostRuntime) -> Result<(), Fail> {
-    see_cases(&rt, rt.alloc(), &OF_PACKAGES)?;
-    Ok(())
-}
-
-static OF_CHAINS: [Case<'static>; 1] = [Case {
-    name: "a chain of public imports",
-    set: PLAIN,
-    files: &[
-        (
-            "a.proto",
-            "syntax = \"proto3\";\nimport \"b.proto\";\nmessage M { D d = 1; }\n",
-            false,
-        ),
-        (
-            "b.proto",
-            "syntax = \"proto3\";\nimport public \"c.proto\";\n",
-            false,
-        ),
-        (
-            "c.proto",
-            "syntax = \"proto3\";\nimport public \"d.proto\";\n",
-            false,
-        ),
-        ("d.proto", "syntax = \"proto3\";\nmessage D {}\n", false),
-    ],
-    due: Due::Index(
-        &[
-            (
-                "a.proto",
-                &[
-                    ([0, 0, 0, 0], "`a.proto`/", 1),
-                    ([1, 7, 1, 16], "`b.proto`/", 2),
-                    ([2, 8, 2, 9], "M#", 1),
-                    ([2, 12, 2, 13], "D#", 0),
-                    ([2, 14, 2, 15], "M#d.", 1),
-                ],
-                &[
-                    ("M#", "M", &[]),
-                    ("M#d.", "d", &[]),
-                    ("`a.proto`/", "a.proto", &[]),
-                ],
-            ),
-            (
-                "b.proto",
-                &[
-                    ([0, 0, 0, 0], "`b.proto`/", 1),
-                    ([1, 14, 1, 23], "`c.proto`/", 2),
-                ],
-                &[("`b.proto`/", "b.proto", &[])],
-            ),
-            (
-                "c.proto",
-                &[
-                    ([0, 0, 0, 0], "`c.proto`/", 1),
-                    ([1, 14, 1, 23], "`d.proto`/", 2),
-                ],
-                &[("`c.proto`/", "c.proto", &[])],
-            ),
-            (
-                "d.proto",
-                &[([0, 0, 0, 0], "`d.proto`/", 1), ([1, 8, 1, 9], "D#", 1)],
-                &[("D#", "D", &[]), ("`d.proto`/", "d.proto", &[])],
-            ),
-        ],
-        &[],
+    (
+        "a chain of public imports",
+        "a.proto\nsyntax = \"proto3\";\nimport \"b.proto\";\nmessage M { D d = 1; }\n|\
+        b.proto\nsyntax = \"proto3\";\nimport public \"c.proto\";\n|\
+        c.proto\nsyntax = \"proto3\";\nimport public \"d.proto\";\n|\
+        d.proto\nsyntax = \"proto3\";\nmessage D {}\n",
+        "a.proto\n\
+        0 0 0 0 1 `a.proto`/;1 7 1 16 2 `b.proto`/;2 8 2 9 1 M#;2 12 2 13 0 D#;\
+        2 14 2 15 1 M#d.;\n\
+        M#|M|;M#d.|d|;`a.proto`/|a.proto|;=\
+        b.proto\n\
+        0 0 0 0 1 `b.proto`/;1 14 1 23 2 `c.proto`/;\n\
+        `b.proto`/|b.proto|;=\
+        c.proto\n\
+        0 0 0 0 1 `c.proto`/;1 14 1 23 2 `d.proto`/;\n\
+        `c.proto`/|c.proto|;=\
+        d.proto\n\
+        0 0 0 0 1 `d.proto`/;1 8 1 9 1 D#;\n\
+        D#|D|;`d.proto`/|d.proto|;=",
     ),
-}];
-
-#[test]
-fn indexes_of_chains_of_imports(rt: HostRuntime) -> Result<(), Fail> {
-    see_cases(&rt, rt.alloc(), &OF_CHAINS)?;
-    Ok(())
-}
-
-static OF_IMPORTS: [Case<'static>; 2] = [
-    EACH_OTHER,
-    Case {
-        name: "an import of joined literals",
-        set: PLAIN,
-        files: &[
-            (
-                "m.proto",
-                "syntax = \"proto3\";\nimport \"a\"\n\"b.proto\";\n",
-                false,
-            ),
-            ("ab.proto", "syntax = \"proto3\";\n", false),
-        ],
-        due: Due::Index(
-            &[
-                (
-                    "ab.proto",
-                    &[([0, 0, 0, 0], "`ab.proto`/", 1)],
-                    &[("`ab.proto`/", "ab.proto", &[])],
-                ),
-                (
-                    "m.proto",
-                    &[
-                        ([0, 0, 0, 0], "`m.proto`/", 1),
-                        ([1, 7, 2, 9], "`ab.proto`/", 2),
-                    ],
-                    &[("`m.proto`/", "m.proto", &[])],
-                ),
-            ],
-            &[],
-        ),
-    },
-];
-
-#[test]
-fn indexes_of_imports(rt: HostRuntime) -> Result<(), Fail> {
-    see_cases(&rt, rt.alloc(), &OF_IMPORTS)?;
-    Ok(())
-}
-
-static OF_SETTINGS: [Case<'static>; 2] = [
-    Case {
-        name: "no files",
-        set: Set {
-            root: "file:///home/user",
-            ..PLAIN
-        },
-        files: &[],
-        due: Due::Index(&[], &[]),
-    },
-    Case {
-        name: "custom options that are read past",
-        set: Set {
-            custom: CustomOptions::Skip,
-            dropped: &["A"],
-            ..PLAIN
-        },
-        files: &[(
-            "a.proto",
-            "syntax = \"proto3\";\noption (x) = 1;\nmessage A {}\n",
-            false,
-        )],
-        due: Due::Index(
-            &[(
-                "a.proto",
-                &[([0, 0, 0, 0], "`a.proto`/", 1)],
-                &[("`a.proto`/", "a.proto", &[])],
-            )],
-            &[],
-        ),
-    },
+    (
+        "an import of joined literals",
+        "m.proto\nsyntax = \"proto3\";\nimport \"a\"\n\"b.proto\";\n|\
+        ab.proto\nsyntax = \"proto3\";\n",
+        "ab.proto\n\
+        0 0 0 0 1 `ab.proto`/;\n\
+        `ab.proto`/|ab.proto|;=\
+        m.proto\n\
+        0 0 0 0 1 `m.proto`/;1 7 2 9 2 `ab.proto`/;\n\
+        `m.proto`/|m.proto|;=",
+    ),
 ];
 
 #[test]
 fn indexes_of_trees(rt: HostRuntime) -> Result<(), Fail> {
-    see_cases(&rt, rt.alloc(), &OF_SETTINGS)?;
+    see_case(&rt, rt.alloc(), &PLAIN, EACH_OTHER)?;
+    see_cases(&rt, rt.alloc(), &PLAIN, &CASES)?;
+    Ok(())
+}
+
+const OF_PARTS: Set<'static> = Set {
+    parts: ["my mgr", "", "1.0"],
+    front: "scip-protobuf my  mgr . 1.0 ",
+    ..PLAIN
+};
+
+const THREE_PARTS: Case<'static> = (
+    "a package of three parts",
+    "a b.proto\nsyntax = \"proto3\";\nmessage A {}\n",
+    "a b.proto\n\
+    0 0 0 0 1 `a b.proto`/;1 8 1 9 1 A#;\n\
+    A#|A|;`a b.proto`/|a b.proto|;=",
+);
+
+const OF_HOME: Set<'static> = Set {
+    root: "file:///home/user",
+    ..PLAIN
+};
+
+const NO_FILES: Case<'static> = ("no files", "", "");
+
+const SKIPPING: Set<'static> = Set {
+    custom: CustomOptions::Skip,
+    dropped: &["A"],
+    ..PLAIN
+};
+
+const SKIPPED: Case<'static> = (
+    "custom options that are read past",
+    "a.proto\nsyntax = \"proto3\";\noption (x) = 1;\nmessage A {}\n",
+    "a.proto\n\
+    0 0 0 0 1 `a.proto`/;\n\
+    `a.proto`/|a.proto|;=",
+);
+
+#[test]
+fn indexes_by_settings(rt: HostRuntime) -> Result<(), Fail> {
+    see_case(&rt, rt.alloc(), &OF_PARTS, THREE_PARTS)?;
+    see_case(&rt, rt.alloc(), &OF_HOME, NO_FILES)?;
+    see_case(&rt, rt.alloc(), &SKIPPING, SKIPPED)?;
     Ok(())
 }

@@ -2,17 +2,9 @@
 
 use proto_decl::{Declaration, FileFacts, declare};
 use proto_lex::{LexFault, Text, Tokens, lex};
-use proto_parse::{File, SyntaxFault, parse};
-use std::alloc::{AllocError, Global};
+use proto_parse::{SyntaxFault, parse};
+use std::alloc::Global;
 use std::process::Abort;
-
-/// Why a source has no facts.
-#[derive(Clone, Copy, Debug, Drop, PartialEq, Eq)]
-pub(crate) enum NoFacts {
-    Lex(LexFault),
-    Syntax(SyntaxFault),
-    Memory,
-}
 
 /// Ends the test where this isn't so.
 pub(crate) fn see(rt: &impl Abort, so: bool, what: &str) {
@@ -33,39 +25,34 @@ fn tokens_of<'a>(alloc: Global, text: &'a Text<'a>) -> Result<Tokens<'a>, LexFau
     }
 }
 
-/// The facts of tokens that have a tree. After want of memory each call is made again, and the
-/// second answer counts.
-fn facts_of_tokens(
-    alloc: Global,
-    number: usize,
-    tokens: &Tokens<'_>,
-) -> Result<FileFacts, NoFacts> {
+fn facts_of_tokens(alloc: Global, number: usize, tokens: &Tokens<'_>) -> Option<FileFacts> {
     let file = match parse(alloc, tokens) {
         Ok(file) => file,
         Err(SyntaxFault::Memory) => match parse(alloc, tokens) {
             Ok(file) => file,
-            Err(fault) => return Err(NoFacts::Syntax(fault)),
+            Err(_) => return None,
         },
-        Err(fault) => return Err(NoFacts::Syntax(fault)),
+        Err(_) => return None,
     };
     match declare(alloc, number, tokens, &file) {
-        Ok(facts) => Ok(facts),
-        Err(_) => match declare(alloc, number, tokens, &file) {
-            Ok(facts) => Ok(facts),
-            Err(_) => Err(NoFacts::Memory),
-        },
+        Ok(facts) => Some(facts),
+        Err(_) => declare(alloc, number, tokens, &file).ok(),
     }
 }
 
-/// The facts of a whole source.
-pub(crate) fn facts_of(alloc: Global, number: usize, source: &str) -> Result<FileFacts, NoFacts> {
-    let text = match text_of(alloc, source.as_bytes()) {
-        Ok(text) => text,
-        Err(fault) => return Err(NoFacts::Lex(fault)),
-    };
-    match tokens_of(alloc, &text) {
+fn facts_of_text(alloc: Global, number: usize, text: &Text<'_>) -> Option<FileFacts> {
+    match tokens_of(alloc, text) {
         Ok(tokens) => facts_of_tokens(alloc, number, &tokens),
-        Err(fault) => Err(NoFacts::Lex(fault)),
+        Err(_) => None,
+    }
+}
+
+/// The facts of a whole source that has a tree. After want of memory each call is made again, and
+/// the second answer counts.
+pub(crate) fn facts_of(alloc: Global, number: usize, source: &str) -> Option<FileFacts> {
+    match text_of(alloc, source.as_bytes()) {
+        Ok(text) => facts_of_text(alloc, number, &text),
+        Err(_) => None,
     }
 }
 

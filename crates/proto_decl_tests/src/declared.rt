@@ -2,11 +2,12 @@
 
 use crate::calls::{facts_of, see};
 use proto_decl::{
-    DeclarationKind, DeclarationStep, FileFacts, facts_are_filled, facts_in_order,
+    Declaration, DeclarationKind, DeclarationStep, FileFacts, facts_are_filled, facts_in_order,
     fronts_are_entities, names_are_spelled, one_comment_text, one_list_of_facts, scopes_are_known,
     scopes_nest,
 };
 use std::alloc::{AllocError, Global};
+use std::test::Fail;
 
 /// Every kind of declaration, each with a text before and behind it.
 const EVERY_KIND: &str = "syntax = \"proto3\";
@@ -50,55 +51,56 @@ fn mark_of(kind: DeclarationKind) -> &'static str {
     }
 }
 
-/// A path as a text: each step with its kind.
-fn path_text(alloc: Global, path: &[DeclarationStep]) -> Result<String, AllocError> {
-    let mut text = String::new(alloc);
+/// Appends a path: each step with its kind.
+fn add_path(text: &mut String, path: &[DeclarationStep]) -> Result<(), AllocError> {
     for step in path {
         text.push_str(mark_of(step.kind))?;
         text.push_str(step.name.as_str())?;
         text.push_str("; ")?;
     }
-    Ok(text)
+    Ok(())
 }
 
-/// What facts declare as a text: a line for each declaration, with its full name, its path, and
-/// its texts as a callback sees them.
+/// Appends a line for a declaration, with its full name, its path, and its texts as a callback
+/// sees them.
+fn add_line(text: &mut String, declaration: &Declaration) -> Result<(), AllocError> {
+    let view = declaration.view();
+    text.push_str(mark_of(view.kind()))?;
+    text.push_str(view.full_name())?;
+    text.push_str(" (")?;
+    text.push_str(view.name())?;
+    text.push_str("): ")?;
+    add_path(text, declaration.path.as_slice())?;
+    text.push_str(view.leading())?;
+    text.push_str(" ")?;
+    text.push_str(view.trailing())?;
+    text.push_str("\n")
+}
+
+/// What facts declare as a text: a line for each declaration.
 fn listing(alloc: Global, facts: &FileFacts) -> Result<String, AllocError> {
     let mut text = String::new(alloc);
     for declaration in facts.declarations() {
-        let view = declaration.view();
-        text.push_str(mark_of(view.kind()))?;
-        text.push_str(view.full_name())?;
-        text.push_str(" (")?;
-        text.push_str(view.name())?;
-        text.push_str("): ")?;
-        text.push_str(path_text(alloc, declaration.path.as_slice())?.as_str())?;
-        text.push_str(view.leading())?;
-        text.push_str(" ")?;
-        text.push_str(view.trailing())?;
-        text.push_str("\n")?;
+        add_line(&mut text, declaration)?;
     }
     Ok(text)
 }
 
+/// Whether facts with the number 7 declare what a listing says.
+fn is_listed(alloc: Global, facts: &FileFacts, want: &str) -> Result<bool, AllocError> {
+    let text = listing(alloc, facts)?;
+    Ok(text.as_str() == want && facts.number() == 7)
+}
+
 /// Whether a source declares what a listing says.
-fn is_declared(alloc: Global, source: &str, want: &str) -> bool {
-    let Ok(facts) = facts_of(alloc, 7, source) else {
-        return false;
-    };
-    let listed = match listing(alloc, &facts) {
-        Ok(text) => Ok(text),
-        Err(_) => listing(alloc, &facts),
-    };
-    match listed {
-        Ok(text) => text.as_str() == want && facts.number() == 7,
-        Err(_) => false,
+fn is_declared(alloc: Global, source: &str, want: &str) -> Result<bool, AllocError> {
+    match facts_of(alloc, 7, source) {
+        Some(facts) => is_listed(alloc, &facts, want),
+        None => Ok(false),
     }
 }
 
-#[test]
-fn every_kind(rt: HostRuntime) {
-    let want = "message a.b.M (M): message M; M. m
+const LISTED: &str = "message a.b.M (M): message M; M. m
 enum a.b.M.E (E): message M; enum E; E. e
 value a.b.M.V (V): message M; enum E; value V; V. v
 oneof a.b.M.o (o): message M; oneof o; o. o
@@ -109,23 +111,18 @@ field a.b.M.N.h (h): message M; message N; field h; h. h
 service a.b.S (S): service S; S. s
 method a.b.S.R (R): service S; method R; R. r
 ";
-    see(&rt, is_declared(rt.alloc(), EVERY_KIND, want), "every kind");
-}
 
 #[test]
-fn nothing(rt: HostRuntime) {
-    see(
-        &rt,
-        is_declared(rt.alloc(), "syntax = \"proto3\";", ""),
-        "nothing",
-    );
+fn every_kind_and_nothing(rt: HostRuntime) -> Result<(), Fail> {
+    let every = is_declared(rt.alloc(), EVERY_KIND, LISTED)?;
+    see(&rt, every, "every kind");
+    let nothing = is_declared(rt.alloc(), "syntax = \"proto3\";", "")?;
+    see(&rt, nothing, "nothing");
+    Ok(())
 }
 
 /// Whether each declared name is what stands at its place.
-fn are_in_place(alloc: Global, source: &str) -> bool {
-    let Ok(facts) = facts_of(alloc, 0, source) else {
-        return false;
-    };
+fn are_at_their_places(facts: &FileFacts, source: &str) -> bool {
     for declaration in facts.declarations() {
         let spelled = source
             .as_bytes()
@@ -135,6 +132,13 @@ fn are_in_place(alloc: Global, source: &str) -> bool {
         }
     }
     true
+}
+
+fn are_in_place(alloc: Global, source: &str) -> bool {
+    match facts_of(alloc, 0, source) {
+        Some(facts) => are_at_their_places(&facts, source),
+        None => false,
+    }
 }
 
 #[test]
@@ -153,7 +157,7 @@ fn laws(rt: HostRuntime) {
     fronts_are_entities();
     scopes_nest();
     match facts_of(rt.alloc(), 3, EVERY_KIND) {
-        Ok(facts) => facts.origin(),
-        Err(_) => see(&rt, false, "facts"),
+        Some(facts) => facts.origin(),
+        None => see(&rt, false, "facts"),
     }
 }

@@ -40,38 +40,40 @@ service S { rpc R(stream M) returns (.a.b.N); }
 message N {}
 ";
 
-/// The first use that isn't as the table says.
-fn wrong_use(alloc: Global, wanted: &[(&str, usize, &str)]) -> Option<usize> {
-    let Ok(facts) = facts_of(alloc, 0, USES) else {
-        return Some(100);
-    };
-    if facts.uses().len() != wanted.len() {
-        return Some(101);
-    }
-    for (index, (spelling, components, scope)) in wanted.iter().enumerate() {
-        match facts.uses().get(index) {
-            Some(found) => {
-                if !is_use(USES, found, spelling, *components, scope) {
-                    return Some(index);
-                }
+/// The uses: how each is spelled, how many components it has, and its scope.
+const WANTED: [(&str, usize, &str); 6] = [
+    (".a.M", 2, "a.b.M"),
+    ("b . N", 2, "a.b.M"),
+    ("N", 1, "a.b.M"),
+    ("M", 1, "a.b.M.I"),
+    ("M", 1, "a.b.S"),
+    (".a.b.N", 3, "a.b.S"),
+];
+
+/// Whether these are the uses.
+fn are_uses(uses: &[Use]) -> bool {
+    let mut rest = uses;
+    for (spelling, components, scope) in &WANTED {
+        match rest {
+            [found, others @ ..] if is_use(USES, found, spelling, *components, scope) => {
+                rest = others;
             }
-            None => return Some(102),
+            _ => return false,
         }
     }
-    None
+    rest.is_empty()
+}
+
+fn are_used(alloc: Global) -> bool {
+    match facts_of(alloc, 0, USES) {
+        Some(facts) => are_uses(facts.uses()),
+        None => false,
+    }
 }
 
 #[test]
 fn uses(rt: HostRuntime) {
-    let wanted = [
-        (".a.M", 2, "a.b.M"),
-        ("b . N", 2, "a.b.M"),
-        ("N", 1, "a.b.M"),
-        ("M", 1, "a.b.M.I"),
-        ("M", 1, "a.b.S"),
-        (".a.b.N", 3, "a.b.S"),
-    ];
-    see(&rt, wrong_use(rt.alloc(), &wanted).is_none(), "uses");
+    see(&rt, are_used(rt.alloc()), "uses");
 }
 
 /// Whether the scopes of a name are these, innermost first.
@@ -103,24 +105,28 @@ fn scopes(rt: HostRuntime) {
     see(&rt, are_scopes(".a", &[".a", ""]), "a dot first");
 }
 
-/// Whether the package of a source has these two components.
-fn is_package(alloc: Global, source: &str, first: &str, second: &str) -> bool {
-    let Ok(facts) = facts_of(alloc, 0, source) else {
-        return false;
-    };
-    match facts.package_name() {
+/// Whether these are a package's components in a source, `a` and `b`.
+fn are_a_and_b(source: &str, components: &[Component]) -> bool {
+    match components {
         [one, other] => {
-            one.name.as_str() == first
-                && other.name.as_str() == second
-                && are_spelled(source, facts.package_name())
+            one.name.as_str() == "a"
+                && other.name.as_str() == "b"
+                && are_spelled(source, components)
         }
         _ => false,
     }
 }
 
+fn is_package(alloc: Global) -> bool {
+    match facts_of(alloc, 0, USES) {
+        Some(facts) => are_a_and_b(USES, facts.package_name()),
+        None => false,
+    }
+}
+
 #[test]
 fn package(rt: HostRuntime) {
-    see(&rt, is_package(rt.alloc(), USES, "a", "b"), "package");
+    see(&rt, is_package(rt.alloc()), "package");
 }
 
 /// Whether an import has this path and kind and stands so in the source.
@@ -133,11 +139,9 @@ fn is_import(source: &str, found: &Imported, path: &str, kind: ImportKind, spell
 const IMPORTS: &str = "syntax = 'proto3'; import \"a\"
 'b.proto'; import public 'c.proto'; import weak \"\";";
 
-fn are_imported(alloc: Global) -> bool {
-    let Ok(facts) = facts_of(alloc, 0, IMPORTS) else {
-        return false;
-    };
-    match facts.imports() {
+/// Whether these are the imports.
+fn are_imports(imports: &[Imported]) -> bool {
+    match imports {
         [joined, public, weak] => {
             is_import(
                 IMPORTS,
@@ -149,6 +153,13 @@ fn are_imported(alloc: Global) -> bool {
                 && is_import(IMPORTS, weak, "", ImportKind::Weak, "\"\"")
         }
         _ => false,
+    }
+}
+
+fn are_imported(alloc: Global) -> bool {
+    match facts_of(alloc, 0, IMPORTS) {
+        Some(facts) => are_imports(facts.imports()),
+        None => false,
     }
 }
 

@@ -9,11 +9,22 @@ use proto_decl::{DeclView, Declaration};
 use scip_document::Choices;
 use std::alloc::{AllocError, Global};
 
-/// Drops what has one of these full names, keeps the rest, and documents all of it so.
+/// Drops what has one of these full names, which have spaces between them, keeps the rest, and documents
+/// all of it so.
 #[derive(Drop)]
 pub(crate) struct Dropping<'a> {
-    pub(crate) names: &'a [&'a str],
+    pub(crate) names: &'a str,
     pub(crate) doc: DocChoice,
+}
+
+/// Whether this is one of the names.
+fn has_name(names: &str, name: &str) -> bool {
+    for one in names.split_terminator(' ') {
+        if one == name {
+            return true;
+        }
+    }
+    false
 }
 
 impl<'a> Chooses for Dropping<'a> {
@@ -21,7 +32,7 @@ impl<'a> Chooses for Dropping<'a> {
 
     fn choose(&self, view: &DeclView<'_>) -> Choice {
         Choice {
-            keep: !self.names.contains(&view.full_name()),
+            keep: !has_name(self.names, view.full_name()),
             doc: self.doc,
         }
     }

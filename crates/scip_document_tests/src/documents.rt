@@ -6,38 +6,33 @@ ghost use Rattle.scip_document_tests.specs.Reads.{IsFine, linked_files, counts};
 use crate::calls::{package_of, see};
 use crate::choosing::{Dropping, choices_of};
 use crate::linked::{answer_of, externals_of, files_of, link};
-use crate::listed::{are_entries, are_rows};
-use crate::reading::{Reading, Source, read_all};
+use crate::listed::{are_entries, are_rows, behind, numbered};
+use crate::reading::{Reading, read_all};
 use index_hooks::{Chooses, DocChoice};
-use proto_lex::{Encoding, Span};
-use proto_link::{FilePlace, LinkFault, Linker};
+use proto_lex::Encoding;
+use proto_link::{FilePlace, LinkFault, LinkFile, Linker};
 use scip_document::Choices;
 use scip_model::Document;
 use scip_symbol::PackageId;
 use std::alloc::{AllocError, Global};
 use std::process::Abort;
 
-/// What is due.
-#[derive(Clone, Copy, Drop)]
-pub(crate) enum Due<'a> {
-    /// Of the source with this number a document with these occurrences and these symbol entries.
-    Document(usize, &'a [&'a str], &'a [&'a str]),
-
-    /// Of the source with this number none, for the use from the one place to the other.
-    Unresolved(usize, usize, usize),
-
-    /// Of all sources these external entries.
-    Externals(&'a [&'a str]),
-}
+/// A case: its name, the full names of what is dropped with spaces between them, its sources as
+/// `read_all` takes them, and what is due of them, with `=` behind each.
+///
+/// That is `+` and the external entries of all sources; or the number of a source, a space, and its
+/// document or its refusal. A document has a line with its path, a line with what occurs in it, as
+/// `are_rows` takes it, and its symbol entries, as `are_entries` takes them. A refusal has the word
+/// `unresolved`, the file's number, the start and the end of the use, with a space behind each.
+pub(crate) type Case<'a> = (&'a str, &'a str, &'a str, &'a str);
 
 /// How documents are made: the parts of the package, the front that symbols have of it, the unit of
-/// columns, the full names of what is dropped, and what documents the rest.
+/// columns, and what documents declarations.
 #[derive(Clone, Copy, Drop)]
 pub(crate) struct Settings<'a> {
     pub(crate) parts: [&'a str; 3],
     pub(crate) front: &'a str,
     pub(crate) encoding: Encoding,
-    pub(crate) dropped: &'a [&'a str],
     pub(crate) doc: DocChoice,
 }
 
@@ -45,18 +40,8 @@ pub(crate) const PLAIN: Settings<'static> = Settings {
     parts: ["", "", ""],
     front: "scip-protobuf . . . ",
     encoding: Encoding::Utf8,
-    dropped: &[],
     doc: DocChoice::Leading,
 };
-
-/// Sources, and what is due of them.
-#[derive(Drop)]
-pub(crate) struct Case<'a> {
-    pub(crate) name: &'a str,
-    pub(crate) settings: Settings<'a>,
-    pub(crate) sources: &'a [Source<'a>],
-    pub(crate) due: &'a [Due<'a>],
-}
 
 fn number_of(encoding: Encoding) -> i32 {
     match encoding {
@@ -71,76 +56,114 @@ fn has_head(document: &Document, path: &str, encoding: Encoding) -> bool {
         && document.position_encoding == number_of(encoding)
 }
 
-/// Whether this is the document that is due.
-fn is_document(document: &Document, case: &Case, due: Due) -> bool {
-    let Due::Document(source, rows, entries) = due else {
+fn is_document(document: &Document, settings: &Settings<'_>, due: &str) -> bool {
+    let Some((path, due)) = due.split_once('\n') else {
         return false;
     };
-    let Some((path, _, _)) = case.sources.get(source) else {
+    let Some((rows, entries)) = due.split_once('\n') else {
         return false;
     };
-    let front = case.settings.front;
-    has_head(document, *path, case.settings.encoding)
-        && are_rows(document.occurrences.as_slice(), front, rows)
-        && are_entries(document.symbols.as_slice(), front, entries)
+    has_head(document, path, settings.encoding)
+        && are_rows(document.occurrences.as_slice(), settings.front, rows)
+        && are_entries(document.symbols.as_slice(), settings.front, entries)
 }
 
-fn is_refusal(fault: LinkFault, due: Due) -> bool {
-    let Due::Unresolved(file, start, end) = due else {
-        return false;
-    };
-    let span = Span { start, end };
-    fault == LinkFault::Unresolved(FilePlace { file, span })
+/// What stands in a text behind this number and a space.
+fn behind_number(text: &str, number: usize) -> Option<&str> {
+    behind(text, u32::try_from(number).ok()?)
 }
 
-fn see_answer(
-    rt: &impl Abort,
+/// What stands in a text behind a refusal for the use in this place.
+fn behind_place(text: &str, place: FilePlace) -> Option<&str> {
+    let text = text.strip_prefix("unresolved ")?;
+    let text = behind_number(text, place.file)?;
+    let text = behind_number(text, place.span.start)?;
+    behind_number(text, place.span.end)
+}
+
+fn is_refusal(fault: LinkFault, due: &str) -> bool {
+    match fault {
+        LinkFault::Unresolved(place) => behind_place(due, place) == Some(""),
+        _ => false,
+    }
+}
+
+/// Whether of a source that is found which is due.
+fn is_answer(
     alloc: Global,
     linker: &Linker<'_>,
     readings: &[Reading<'_>],
     choices: &Choices,
     id: &PackageId,
-    case: &Case,
+    settings: &Settings<'_>,
     source: usize,
-    due: Due,
-) -> Result<(), AllocError>
+    due: &str,
+) -> Result<bool, AllocError>
     requires files { linker.now ≡ linked_files readings.now }
     requires fine { All IsFine readings.now }
     requires choices { map (λ list. length list) choices.now ≡ counts readings.now }
 {
-    let encoding = case.settings.encoding;
-    let holds = match answer_of(alloc, linker, readings, source, choices, id, encoding) {
-        Ok(document) => is_document(&document, case, due),
-        Err(LinkFault::Memory) => return Err(AllocError),
-        Err(fault) => is_refusal(fault, due),
-    };
-    see(rt, holds, case.name);
-    Ok(())
+    match answer_of(
+        alloc,
+        linker,
+        readings,
+        source,
+        choices,
+        id,
+        settings.encoding,
+    ) {
+        Ok(document) => Ok(is_document(&document, settings, due)),
+        Err(LinkFault::Memory) => Err(AllocError),
+        Err(fault) => Ok(is_refusal(fault, due)),
+    }
 }
 
-fn see_externals(
-    rt: &impl Abort,
+/// Whether these are the external entries.
+fn are_externals(
     alloc: Global,
     linker: &Linker<'_>,
     readings: &[Reading<'_>],
     choices: &Choices,
     id: &PackageId,
-    case: &Case,
-    entries: &[&str],
-) -> Result<(), AllocError>
+    settings: &Settings<'_>,
+    entries: &str,
+) -> Result<bool, AllocError>
     requires files { linker.now ≡ linked_files readings.now }
     requires choices { map (λ list. length list) choices.now ≡ counts readings.now }
 {
-    let found = externals_of(alloc, linker, readings, choices, id)?;
-    let front = case.settings.front;
-    let holds = match &found {
-        Some(infos) => are_entries(infos.as_slice(), front, entries),
-        None => false,
-    };
-    see(rt, holds, case.name);
-    Ok(())
+    match externals_of(alloc, linker, readings, choices, id)? {
+        Some(infos) => Ok(are_entries(infos.as_slice(), settings.front, entries)),
+        None => Ok(false),
+    }
 }
 
+/// Whether that is found which is due.
+fn is_due(
+    alloc: Global,
+    linker: &Linker<'_>,
+    readings: &[Reading<'_>],
+    choices: &Choices,
+    id: &PackageId,
+    settings: &Settings<'_>,
+    due: &str,
+) -> Result<bool, AllocError>
+    requires files { linker.now ≡ linked_files readings.now }
+    requires fine { All IsFine readings.now }
+    requires choices { map (λ list. length list) choices.now ≡ counts readings.now }
+{
+    if let Some(entries) = due.strip_prefix('+') {
+        return are_externals(alloc, linker, readings, choices, id, settings, entries);
+    }
+    match numbered(due) {
+        Some((source, due)) => {
+            let source = source as usize;
+            is_answer(alloc, linker, readings, choices, id, settings, source, due)
+        }
+        None => Ok(false),
+    }
+}
+
+/// Sees that all is found which is due.
 fn see_each(
     rt: &impl Abort,
     alloc: Global,
@@ -148,23 +171,40 @@ fn see_each(
     readings: &[Reading<'_>],
     choices: &Choices,
     id: &PackageId,
-    case: &Case,
+    settings: &Settings<'_>,
+    name: &str,
+    due: &str,
 ) -> Result<(), AllocError>
     requires files { linker.now ≡ linked_files readings.now }
     requires fine { All IsFine readings.now }
     requires choices { map (λ list. length list) choices.now ≡ counts readings.now }
 {
-    for due in case.due {
-        match *due {
-            Due::Document(source, _, _) | Due::Unresolved(source, _, _) => {
-                see_answer(rt, alloc, linker, readings, choices, id, case, source, *due)?;
-            }
-            Due::Externals(entries) => {
-                see_externals(rt, alloc, linker, readings, choices, id, case, entries)?;
-            }
-        }
+    for due in due.split_terminator('=') {
+        let is_so = is_due(alloc, linker, readings, choices, id, settings, due)?;
+        see(rt, is_so, name);
     }
     Ok(())
+}
+
+fn see_linked<'a>(
+    rt: &impl Abort,
+    alloc: Global,
+    files: &'a [LinkFile<'a>],
+    readings: &[Reading<'_>],
+    choices: &Choices,
+    id: &PackageId,
+    settings: &Settings<'_>,
+    name: &str,
+    due: &str,
+) -> Result<(), AllocError>
+    requires files { files.now ≡ linked_files readings.now }
+    requires fine { All IsFine readings.now }
+    requires choices { map (λ list. length list) choices.now ≡ counts readings.now }
+{
+    let linker = link(alloc, files)?;
+    see_each(
+        rt, alloc, &linker, readings, choices, id, settings, name, due,
+    )
 }
 
 fn see_files(
@@ -173,50 +213,86 @@ fn see_files(
     readings: &[Reading<'_>],
     choices: &Choices,
     id: &PackageId,
-    case: &Case,
+    settings: &Settings<'_>,
+    name: &str,
+    due: &str,
 ) -> Result<(), AllocError>
     requires fine { All IsFine readings.now }
     requires choices { map (λ list. length list) choices.now ≡ counts readings.now }
 {
     let files = files_of(alloc, readings)?;
-    let linker = link(alloc, &files)?;
-    see_each(rt, alloc, &linker, readings, choices, id, case)
+    see_linked(
+        rt, alloc, &files, readings, choices, id, settings, name, due,
+    )
 }
 
-fn see_linked(
+fn see_package(
     rt: &impl Abort,
     alloc: Global,
     readings: &[Reading<'_>],
     choices: &Choices,
-    case: &Case,
+    settings: &Settings<'_>,
+    name: &str,
+    due: &str,
 ) -> Result<(), AllocError>
     requires fine { All IsFine readings.now }
     requires choices { map (λ list. length list) choices.now ≡ counts readings.now }
 {
-    let id = package_of(alloc, case.settings.parts)?;
-    see_files(rt, alloc, readings, choices, &id, case)
+    let id = package_of(alloc, settings.parts)?;
+    see_files(rt, alloc, readings, choices, &id, settings, name, due)
 }
 
-/// Sees that of sources, by what is chosen so, that is found which is due.
+fn see_read<C: Chooses>(
+    rt: &impl Abort,
+    alloc: Global,
+    chooser: &C,
+    readings: &[Reading<'_>],
+    settings: &Settings<'_>,
+    name: &str,
+    due: &str,
+) -> Result<(), AllocError>
+    requires fine { All IsFine readings.now }
+{
+    let choices = choices_of(alloc, chooser, readings)?;
+    see_package(rt, alloc, readings, &choices, settings, name, due)
+}
+
+/// Sees that of a case's sources, by what is chosen so, that is found which is due.
 pub(crate) fn see_chosen<C: Chooses>(
     rt: &impl Abort,
     alloc: Global,
     chooser: &C,
-    case: &Case,
+    settings: &Settings<'_>,
+    case: Case,
 ) -> Result<(), AllocError> {
-    let readings = read_all(alloc, case.sources)?;
-    let choices = choices_of(alloc, chooser, &readings)?;
-    see_linked(rt, alloc, &readings, &choices, case)
+    let (name, _, sources, due) = case;
+    let readings = read_all(alloc, sources)?;
+    see_read(rt, alloc, chooser, &readings, settings, name, due)
+}
+
+/// Sees that of a case that is found which is due.
+pub(crate) fn see_case(
+    rt: &impl Abort,
+    alloc: Global,
+    settings: &Settings<'_>,
+    case: Case,
+) -> Result<(), AllocError> {
+    let chooser = Dropping {
+        names: case.1,
+        doc: settings.doc,
+    };
+    see_chosen(rt, alloc, &chooser, settings, case)
 }
 
 /// Sees that of cases that is found which is due.
-pub(crate) fn see_cases(rt: &impl Abort, alloc: Global, cases: &[Case]) -> Result<(), AllocError> {
+pub(crate) fn see_cases(
+    rt: &impl Abort,
+    alloc: Global,
+    settings: &Settings<'_>,
+    cases: &[Case],
+) -> Result<(), AllocError> {
     for case in cases {
-        let chooser = Dropping {
-            names: case.settings.dropped,
-            doc: case.settings.doc,
-        };
-        see_chosen(rt, alloc, &chooser, case)?;
+        see_case(rt, alloc, settings, *case)?;
     }
     Ok(())
 }

@@ -1,6 +1,5 @@
 //! Documents of what callbacks choose.
 
-use crate::documents::Due::Document;
 use crate::documents::{Case, PLAIN, see_chosen};
 use index_hooks::{
     AnyAnswer, DocAlways, DocChoice, Filter, FilterCallback, KindIn, Kinds, NamePrefix, Registry,
@@ -48,77 +47,45 @@ impl FilterCallback for EachSecond {
     }
 }
 
-const ENUM: [(&str, &str, bool); 1] = [(
-    "a.proto",
-    "syntax = \"proto3\";\nenum E { ZERO = 0; }\nmessage M { E e = 1; }\n",
-    false,
-)];
+const WITHOUT_ENUMS: Case<'static> = (
+    "all kinds but enums",
+    "",
+    "a.proto\nsyntax = \"proto3\";\nenum E { ZERO = 0; }\nmessage M { E e = 1; }\n",
+    "0 a.proto\n\
+    0 0 0 0 1 `a.proto`/;1 9 1 13 1 E#ZERO.;2 8 2 9 1 M#;2 14 2 15 1 M#e.;\n\
+    E#ZERO.|ZERO|;M#|M|;M#e.|e|;`a.proto`/|a.proto|;=",
+);
 
-static WITHOUT_ENUMS: Case<'static> = Case {
-    name: "all kinds but enums",
-    settings: PLAIN,
-    sources: &ENUM,
-    due: &[Document(
-        0,
-        &[
-            "0 0 0 0 1 `a.proto`/",
-            "1 9 1 13 1 E#ZERO.",
-            "2 8 2 9 1 M#",
-            "2 14 2 15 1 M#e.",
-        ],
-        &["E#ZERO.|ZERO", "M#|M", "M#e.|e", "`a.proto`/|a.proto"],
-    )],
-};
+const UNDER_E: Case<'static> = (
+    "what is under E",
+    "",
+    "a.proto\nsyntax = \"proto3\";\nenum E { ZERO = 0; }\nmessage M { E e = 1; }\n",
+    "0 a.proto\n\
+    0 0 0 0 1 `a.proto`/;1 5 1 6 1 E#;2 12 2 13 0 E#;\n\
+    E#|E|;`a.proto`/|a.proto|;=",
+);
 
-static UNDER_E: Case<'static> = Case {
-    name: "what is under E",
-    settings: PLAIN,
-    sources: &ENUM,
-    due: &[Document(
-        0,
-        &["0 0 0 0 1 `a.proto`/", "1 5 1 6 1 E#", "2 12 2 13 0 E#"],
-        &["E#|E", "`a.proto`/|a.proto"],
-    )],
-};
+const SECOND_ONES: Case<'static> = (
+    "each second declaration",
+    "",
+    "a.proto\nsyntax = \"proto3\";\nenum E { ZERO = 0; }\nmessage M { E e = 1; }\n",
+    "0 a.proto\n\
+    0 0 0 0 1 `a.proto`/;1 5 1 6 1 E#;2 8 2 9 1 M#;2 12 2 13 0 E#;\n\
+    E#|E|;M#|M|;`a.proto`/|a.proto|;=",
+);
 
-static SECOND_ONES: Case<'static> = Case {
-    name: "each second declaration",
-    settings: PLAIN,
-    sources: &ENUM,
-    due: &[Document(
-        0,
-        &[
-            "0 0 0 0 1 `a.proto`/",
-            "1 5 1 6 1 E#",
-            "2 8 2 9 1 M#",
-            "2 12 2 13 0 E#",
-        ],
-        &["E#|E", "M#|M", "`a.proto`/|a.proto"],
-    )],
-};
-
-static BOTH_TEXTS: Case<'static> = Case {
-    name: "both texts, by a rule",
-    settings: PLAIN,
-    sources: &[(
-        "a.proto",
-        "syntax = \"proto3\";\n// One.\n// Two.\nmessage A { // tail\n  int32 x = 1; /* unit */\n}\n",
-        false,
-    )],
-    due: &[Document(
-        0,
-        &["0 0 0 0 1 `a.proto`/", "3 8 3 9 1 A#", "4 8 4 9 1 A#x."],
-        &[
-            "A#|A|One.\nTwo.|tail",
-            "A#x.|x| unit ",
-            "`a.proto`/|a.proto",
-        ],
-    )],
-};
+const BOTH_TEXTS: Case<'static> = (
+    "both texts, by a rule",
+    "",
+    "a.proto\nsyntax = \"proto3\";\n// One.\n// Two.\nmessage A { // tail\n  int32 x = 1; /* unit */\n}\n",
+    "0 a.proto\n\
+    0 0 0 0 1 `a.proto`/;3 8 3 9 1 A#;4 8 4 9 1 A#x.;\n\
+    A#|A|One.\nTwo.|tail|;A#x.|x| unit |;`a.proto`/|a.proto|;=",
+);
 
 /// Sees that by what a registry chooses that is found which is due.
-fn see_asked(rt: &impl Abort, alloc: Global, registry: &Registry, case: &Case) -> Result<(), Fail> {
-    see_chosen(rt, alloc, registry, case)?;
+fn see_asked(rt: &impl Abort, alloc: Global, registry: &Registry, case: Case) -> Result<(), Fail> {
+    see_chosen(rt, alloc, registry, &PLAIN, case)?;
     Ok(())
 }
 
@@ -130,7 +97,7 @@ fn a_filter_by_kind(rt: HostRuntime) -> Result<(), Fail> {
     if registry.add_filter(filter).is_err() {
         return Err(AllocError.into());
     }
-    see_asked(&rt, rt.alloc(), &registry, &WITHOUT_ENUMS)
+    see_asked(&rt, rt.alloc(), &registry, WITHOUT_ENUMS)
 }
 
 #[test]
@@ -141,7 +108,7 @@ fn a_filter_by_name(rt: HostRuntime) -> Result<(), Fail> {
     if registry.add_filter(filter).is_err() {
         return Err(AllocError.into());
     }
-    see_asked(&rt, rt.alloc(), &registry, &UNDER_E)
+    see_asked(&rt, rt.alloc(), &registry, UNDER_E)
 }
 
 #[test]
@@ -154,7 +121,7 @@ fn a_filter_that_alternates(rt: HostRuntime) -> Result<(), Fail> {
     if registry.add_filter(filter).is_err() {
         return Err(AllocError.into());
     }
-    see_asked(&rt, rt.alloc(), &registry, &SECOND_ONES)
+    see_asked(&rt, rt.alloc(), &registry, SECOND_ONES)
 }
 
 #[test]
@@ -164,5 +131,5 @@ fn a_documentation_rule(rt: HostRuntime) -> Result<(), Fail> {
     if registry.add_doc(rule).is_err() {
         return Err(AllocError.into());
     }
-    see_asked(&rt, rt.alloc(), &registry, &BOTH_TEXTS)
+    see_asked(&rt, rt.alloc(), &registry, BOTH_TEXTS)
 }

@@ -3,108 +3,86 @@
 use scip_model::{Info, Occurrence};
 use sequences::OwnedText;
 
-/// Whether a symbol has this front, and then this.
 fn is_symbol(symbol: &OwnedText, front: &str, rest: &str) -> bool {
     symbol.as_str().strip_prefix(front) == Some(rest)
 }
 
-/// The number with which a line begins, and what stands behind it and a space.
-fn number_of(line: &str) -> Option<(u32, &str)> {
-    let (digits, rest) = line.split_once(' ')?;
+/// The number with which a text begins, and what stands behind it and a space.
+pub(crate) fn numbered(text: &str) -> Option<(u32, &str)> {
+    let (digits, rest) = text.split_once(' ')?;
     let number = digits.parse::<u32>().ok()?;
     Some((number, rest))
 }
 
-/// The two numbers with which a line begins, and the rest.
-fn place_of(line: &str) -> Option<(u32, u32, &str)> {
-    let (row, rest) = number_of(line)?;
-    let (column, rest) = number_of(rest)?;
-    Some((row, column, rest))
-}
-
-fn role_of(text: &str) -> Option<i32> {
-    match text {
-        "0" => Some(0),
-        "1" => Some(1),
-        "2" => Some(2),
+/// What stands in a text behind this number and a space.
+pub(crate) fn behind(text: &str, number: u32) -> Option<&str> {
+    match numbered(text)? {
+        (found, rest) if found == number => Some(rest),
         _ => None,
     }
 }
 
-/// What stands in a line behind its range, where that is the range of this occurrence.
-fn behind_range<'a>(occurrence: &Occurrence, line: &'a str) -> Option<&'a str> {
+/// What stands in a row behind the range and the role, where they are those of this occurrence.
+fn behind_role<'a>(occurrence: &Occurrence, row: &'a str) -> Option<&'a str> {
     let range = &occurrence.range;
-    let (start_line, start_column, rest) = place_of(line)?;
-    let (end_line, end_column, rest) = place_of(rest)?;
-    let starts = range.start_line() == start_line && range.start_column() == start_column;
-    let ends = range.end_line() == end_line && range.end_column() == end_column;
-    if starts && ends { Some(rest) } else { None }
+    let row = behind(row, range.start_line())?;
+    let row = behind(row, range.start_column())?;
+    let row = behind(row, range.end_line())?;
+    let row = behind(row, range.end_column())?;
+    behind(row, u32::try_from(occurrence.symbol_roles).ok()?)
 }
 
-/// Whether an occurrence has the range, the role and the symbol of a line.
-fn is_row(occurrence: &Occurrence, front: &str, line: &str) -> bool {
-    let Some(rest) = behind_range(occurrence, line) else {
-        return false;
-    };
-    let Some((role, symbol)) = rest.split_once(' ') else {
-        return false;
-    };
-    role_of(role) == Some(occurrence.symbol_roles) && is_symbol(&occurrence.symbol, front, symbol)
+fn is_row(occurrence: &Occurrence, front: &str, row: &str) -> bool {
+    match behind_role(occurrence, row) {
+        Some(symbol) => is_symbol(&occurrence.symbol, front, symbol),
+        None => false,
+    }
 }
 
-/// Whether these are the occurrences of the lines, in order. A line has the numbers of the range, the
-/// role, and the symbol without its front, with spaces between them.
-pub(crate) fn are_rows(occurrences: &[Occurrence], front: &str, lines: &[&str]) -> bool {
+/// Whether these are the occurrences of a text, in order. Each has the numbers of the range, the role,
+/// and the symbol without its front, with spaces between them and `;` behind it.
+pub(crate) fn are_rows(occurrences: &[Occurrence], front: &str, rows: &str) -> bool {
     let mut rest = occurrences;
-    for line in lines {
+    for row in rows.split_terminator(';') {
         match rest {
-            [occurrence, others @ ..] if is_row(occurrence, front, *line) => rest = others,
+            [occurrence, others @ ..] if is_row(occurrence, front, row) => rest = others,
             _ => return false,
         }
     }
     rest.is_empty()
 }
 
-/// Whether these are the texts that a line ends with, if it has any.
-fn are_texts(texts: &[OwnedText], line: Option<&str>) -> bool {
-    let mut rest = line;
-    for text in texts {
-        let Some(due) = rest else {
-            return false;
-        };
-        let (due, others) = match due.split_once('|') {
-            Some((due, others)) => (due, Some(others)),
-            None => (due, None),
-        };
-        if text.as_str() != due {
-            return false;
+/// Whether these are the texts of a text, in order. Each has a `|` behind it.
+fn are_texts(texts: &[OwnedText], due: &str) -> bool {
+    let mut rest = texts;
+    for due in due.split_terminator('|') {
+        match rest {
+            [text, others @ ..] if text.as_str() == due => rest = others,
+            _ => return false,
         }
-        rest = others;
     }
-    rest.is_none()
+    rest.is_empty()
 }
 
-/// Whether an entry has the symbol, the display name and the documentation of a line.
-fn is_entry(info: &Info, front: &str, line: &str) -> bool {
-    let Some((symbol, rest)) = line.split_once('|') else {
+fn is_entry(info: &Info, front: &str, entry: &str) -> bool {
+    let Some((symbol, entry)) = entry.split_once('|') else {
         return false;
     };
-    let (display_name, texts) = match rest.split_once('|') {
-        Some((display_name, texts)) => (display_name, Some(texts)),
-        None => (rest, None),
+    let Some((display_name, documentation)) = entry.split_once('|') else {
+        return false;
     };
     is_symbol(&info.symbol, front, symbol)
         && info.display_name.as_str() == display_name
-        && are_texts(info.documentation.as_slice(), texts)
+        && are_texts(info.documentation.as_slice(), documentation)
 }
 
-/// Whether these are the entries of the lines, in order. A line has the symbol without its front, the
-/// display name, and each text of the documentation, with `|` between them.
-pub(crate) fn are_entries(infos: &[Info], front: &str, lines: &[&str]) -> bool {
+/// Whether these are the entries of a text, in order. Each has the symbol without its front, the
+/// display name, and each text of the documentation, with `|` behind each of them, and `;` behind all.
+pub(crate) fn are_entries(infos: &[Info], front: &str, entries: &str) -> bool {
     let mut rest = infos;
-    for line in lines {
+    for entry in entries.split_terminator(';') {
         match rest {
-            [info, others @ ..] if is_entry(info, front, *line) => rest = others,
+            [info, others @ ..] if is_entry(info, front, entry) => rest = others,
             _ => return false,
         }
     }

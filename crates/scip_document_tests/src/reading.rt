@@ -10,10 +10,6 @@ use proto_parse::parse;
 use std::alloc::{AllocError, Global};
 use std::marker::Model;
 
-/// A source as tests name it: its path, its text, and whether it is included. Each can be read, so
-/// that reading tells of no fault but want of memory.
-pub(crate) type Source<'a> = (&'a str, &'a str, bool);
-
 /// A source that was read.
 #[derive(Drop)]
 pub(crate) struct Reading<'a> {
@@ -50,10 +46,21 @@ fn text_of<'a>(alloc: Global, source: &'a str) -> Result<Text<'a>, AllocError> {
     }
 }
 
-fn read_one<'a>(alloc: Global, number: usize, source: Source<'a>) -> Result<Reading<'a>, AllocError>
+/// A path without the `+` that an included file's has in front, and whether it has.
+fn path_of(path: &str) -> (&str, bool) {
+    match path.strip_prefix('+') {
+        Some(path) => (path, true),
+        None => (path, false),
+    }
+}
+
+fn read_one<'a>(alloc: Global, number: usize, source: &'a str) -> Result<Reading<'a>, AllocError>
     ensures { IfOk result IsFine }
 {
-    let (path, text, is_included) = source;
+    let Some((path, text)) = source.split_once('\n') else {
+        return Err(AllocError);
+    };
+    let (path, is_included) = path_of(path);
     if !is_good_path(path) {
         return Err(AllocError);
     }
@@ -67,16 +74,15 @@ fn read_one<'a>(alloc: Global, number: usize, source: Source<'a>) -> Result<Read
     })
 }
 
-/// The sources, each under its number.
-pub(crate) fn read_all<'a>(
-    alloc: Global,
-    sources: &'a [Source<'a>],
-) -> Result<Vec<Reading<'a>>, AllocError>
+/// The sources, each under its number. Each has a line with its path, which has a `+` in front where it
+/// is included, and then its text; between sources stands `|`. Each can be read, so that reading tells
+/// of no fault but want of memory.
+pub(crate) fn read_all<'a>(alloc: Global, sources: &'a str) -> Result<Vec<Reading<'a>>, AllocError>
     ensures { IfOk result (λ readings. All IsFine readings.items) }
 {
-    let mut readings = Vec::with_capacity(alloc, sources.len())?;
-    for (number, source) in sources.iter().enumerate() {
-        let reading = read_one(alloc, number, *source)?;
+    let mut readings = Vec::new(alloc);
+    for source in sources.split_terminator('|') {
+        let reading = read_one(alloc, readings.len(), source)?;
         readings.push(reading)?;
     }
     Ok(readings)

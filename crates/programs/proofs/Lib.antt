@@ -1,2 +1,3 @@
 mod MoveLemmas
 mod QueryLemmas
+mod LawLemmas

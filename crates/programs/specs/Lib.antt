@@ -14,3 +14,5 @@ pub mod Starting
 pub mod TreeRuns
 pub mod Indexing
 pub mod Serving
+-- the laws
+pub mod OptionLaws

@@ -24,11 +24,15 @@ mod indexing;
 // `shell`: the index of a tree answers commands.
 mod serving;
 
+// The laws.
+mod laws;
+
 // What is printed and said.
 mod messages;
 mod output;
 
 pub use choices::OptionChoices;
+pub use laws::headline_of_options;
 pub use messages::report;
 pub use query_fault::QueryFault;
 pub use querying::query;

@@ -8,6 +8,8 @@ mod files;
 #[cfg(test)]
 mod index;
 #[cfg(test)]
+mod laws;
+#[cfg(test)]
 mod report;
 #[cfg(test)]
 mod run;

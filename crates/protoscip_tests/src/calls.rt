@@ -1,7 +1,9 @@
 //! What several tests share.
 
+ghost use Rattle.protoscip.specs.FaultLines.{HasFilesOf};
+
 use crate::streams::Failing;
-use index_hooks::Chooses;
+use index_hooks::Registry;
 use index_pool::{NoGate, Workers};
 use proto_lex::Encoding;
 use proto_parse::CustomOptions;
@@ -116,38 +118,72 @@ pub(crate) fn settings_of(
     })
 }
 
-/// What one call of `index_tree` answers: nothing, or the line and the status of its fault; and what its
-/// writer then has, which takes so many bytes.
-fn indexed_once<R: Threads + Wait, C: Chooses + Sync>(
-    rt: &R,
+/// A tree, and the settings of its index.
+#[derive(Drop)]
+pub(crate) struct Given {
+    pub(crate) tree: Tree,
+    pub(crate) settings: Settings,
+}
+
+/// The tree of these files, and these settings.
+pub(crate) fn given_of(
+    rt: &impl Abort,
+    alloc: Global,
+    files: &[File<'_>],
+    set: &Set<'_>,
+) -> Result<Given, AllocError> {
+    let settings = settings_of(rt, alloc, set)?;
+    let tree = tree_of(rt, alloc, files)?;
+    Ok(Given { tree, settings })
+}
+
+/// The line and the status of a fault, but for want of memory or of a thread.
+pub(crate) fn said(
     alloc: Global,
     tree: &Tree,
-    chooser: &C,
-    settings: &Settings,
+    fault: &Fault,
+) -> Result<Option<(String, u8)>, AllocError>
+    requires files { HasFilesOf tree.now fault.now }
+{
+    match fault {
+        Fault::Memory | Fault::Spawn => Err(AllocError),
+        fault => {
+            let line = fault_line(alloc, tree, fault)?;
+            Ok(Some((line, fault.status())))
+        }
+    }
+}
+
+/// What one call of `index_tree` answers: nothing, or the line and the status of its fault; and what its
+/// writer then has, which takes so many bytes.
+fn indexed_once<R: Threads + Wait>(
+    rt: &R,
+    alloc: Global,
+    registry: &Registry,
+    given: &Given,
     workers: Workers,
     out: &mut Std<Failing>,
 ) -> Result<Option<(String, u8)>, AllocError> {
-    match index_tree(rt, alloc, tree, chooser, workers, settings, &NoGate, out) {
+    let (tree, settings) = (&given.tree, &given.settings);
+    match index_tree(rt, alloc, tree, registry, workers, settings, &NoGate, out) {
         Ok(_) => Ok(None),
-        Err(Fault::Memory) | Err(Fault::Spawn) => Err(AllocError),
-        Err(fault) => Ok(Some((fault_line(alloc, tree, &fault)?, fault.status()))),
+        Err(fault) => said(alloc, tree, &fault),
     }
 }
 
 /// What `index_tree` answers, and what its writer then has. After want of memory or of a thread, when
 /// nothing may be written, it is called again, and the second answer counts.
-pub(crate) fn indexed<R: Threads + Wait + Abort, C: Chooses + Sync>(
+pub(crate) fn indexed<R: Threads + Wait + Abort>(
     rt: &R,
     alloc: Global,
-    tree: &Tree,
-    chooser: &C,
-    settings: &Settings,
+    registry: &Registry,
+    given: &Given,
     workers: Workers,
     out: &mut Std<Failing>,
 ) -> Result<Option<(String, u8)>, AllocError> {
-    match indexed_once(rt, alloc, tree, chooser, settings, workers, out) {
+    match indexed_once(rt, alloc, registry, given, workers, out) {
         Ok(answer) => Ok(answer),
-        Err(_) => indexed_once(rt, alloc, tree, chooser, settings, workers, out),
+        Err(_) => indexed_once(rt, alloc, registry, given, workers, out),
     }
 }
 

@@ -1,9 +1,14 @@
 //! Sources dumped, by lines worked out by hand, and readers and writers that fail.
 
-use crate::calls::{see, writer};
+ghost use Rattle.std.specs.Prelude.{[]};
+ghost use Rattle.protoscip.specs.Dump.{dump_tree};
+ghost use Rattle.protoscip.specs.FaultLines.{HasFilesOf};
+
+use crate::calls::{said, see, writer};
+use crate::lines::is_said;
 use crate::streams::{Dripping, Endless, Failing};
 use proto_parse::CustomOptions;
-use protoscip::{Fault, dump, dump_tree, fault_line};
+use protoscip::{Fault, dump, dump_tree};
 use scip_model::Std;
 use std::alloc::{AllocError, Global};
 use std::io::Read;
@@ -43,12 +48,28 @@ fn dumped<R: Threads + Wait + Abort, S: Read + Drop + Copy>(
     reader: S,
     room: usize,
 ) -> Result<(Result<(), Fault>, Vec<u8>), AllocError> {
-    let (answer, bytes) = dumped_once(rt, alloc, custom, reader, room)?;
-    if answer != Err(Fault::Memory) {
-        return Ok((answer, bytes));
+    let first = dumped_once(rt, alloc, custom, reader, room)?;
+    if first.0 != Err(Fault::Memory) {
+        return Ok(first);
     }
-    see(rt, bytes.is_empty(), "nothing is written at Memory");
+    see(rt, first.1.is_empty(), "nothing is written at Memory");
     dumped_once(rt, alloc, custom, reader, room)
+}
+
+/// Sees what `dump` answers, and what its writer then has, which takes so many bytes.
+fn see_dump<R: Threads + Wait + Abort, S: Read + Drop + Copy>(
+    rt: &R,
+    alloc: Global,
+    custom: CustomOptions,
+    reader: S,
+    room: usize,
+    due: (Result<(), Fault>, &[u8]),
+    case: &str,
+) -> Result<(), AllocError> {
+    let (answer, written) = dumped(rt, alloc, custom, reader, room)?;
+    see(rt, answer == due.0, case);
+    see(rt, written.as_slice() == due.1, case);
+    Ok(())
 }
 
 /// Sees that a source's listing is the line of the file and these lines.
@@ -60,18 +81,13 @@ fn see_dumped<R: Threads + Wait + Abort>(
     lines: &str,
 ) -> Result<(), AllocError> {
     let listing = format!(in alloc; "{FILE_LINE}{lines}")?;
-    let (answer, written) = dumped(rt, alloc, custom, source.as_bytes(), listing.len())?;
-    see(rt, answer == Ok(()), source);
-    see(
-        rt,
-        written.as_slice() == listing.as_str().as_bytes(),
-        source,
-    );
-    Ok(())
+    let due = (Ok(()), listing.as_str().as_bytes());
+    let room = due.1.len();
+    see_dump(rt, alloc, custom, source.as_bytes(), room, due, source)
 }
 
 /// Sources, and the lines behind that of the file.
-const LISTINGS: [(&str, &str); 6] = [
+static LISTINGS: [(&str, &str); 6] = [
     (TWO_LINES, "1 8 1 9 1 scip-protobuf . . . A#\n= 2\n"),
     (
         "syntax = \"proto3\";\n/* é */ message A {}\n",
@@ -92,12 +108,16 @@ const LISTINGS: [(&str, &str); 6] = [
     ("syntax = \"pro\" 'to3';", "= 1\n"),
 ];
 
-#[test]
-fn sources_that_have_a_listing(rt: HostRuntime) -> Result<(), Fail> {
+fn see_listings<R: Threads + Wait + Abort>(rt: &R, alloc: Global) -> Result<(), AllocError> {
     for (source, lines) in &LISTINGS {
-        see_dumped(&rt, rt.alloc(), CustomOptions::Refuse, source, lines)?;
+        see_dumped(rt, alloc, CustomOptions::Refuse, source, lines)?;
     }
     Ok(())
+}
+
+#[test]
+fn sources_that_have_a_listing(rt: HostRuntime) -> Result<(), Fail> {
+    Ok(see_listings(&rt, rt.alloc())?)
 }
 
 #[test]
@@ -108,22 +128,42 @@ fn custom_options_read_past(rt: HostRuntime) -> Result<(), Fail> {
     Ok(())
 }
 
-/// The line of why a source isn't dumped.
+/// The line and the status of a fault of `dump`, but for want of memory.
+fn said_of_dump(alloc: Global, fault: &Fault) -> Result<Option<(String, u8)>, AllocError>
+    requires files { HasFilesOf (dump_tree []) fault.now }
+{
+    let tree = dump_tree(alloc, Vec::new(alloc))?;
+    said(alloc, &tree, fault)
+}
+
+/// The line and the status of why a source isn't dumped.
 fn refused_once<R: Threads + Wait>(
     rt: &R,
     alloc: Global,
     source: &[u8],
     out: &mut Std<Failing>,
-) -> Result<String, AllocError> {
+) -> Result<Option<(String, u8)>, AllocError> {
     let mut input = Std::new(source);
     match dump(rt, alloc, CustomOptions::Refuse, &mut input, out) {
-        Ok(()) => Ok(String::new(alloc)),
-        Err(Fault::Memory) => Err(AllocError),
-        Err(fault) => {
-            let tree = dump_tree(alloc, Vec::new(alloc))?;
-            fault_line(alloc, &tree, &fault)
-        }
+        Ok(()) => Ok(None),
+        Err(fault) => said_of_dump(alloc, &fault),
     }
+}
+
+/// Sees that this line is said of a source, with status 1.
+fn see_said<R: Threads + Wait + Abort>(
+    rt: &R,
+    alloc: Global,
+    source: &[u8],
+    line: &str,
+    out: &mut Std<Failing>,
+) -> Result<(), AllocError> {
+    let answer = match refused_once(rt, alloc, source, out) {
+        Ok(answer) => answer,
+        Err(_) => refused_once(rt, alloc, source, out)?,
+    };
+    see(rt, is_said(answer, line), line);
+    Ok(())
 }
 
 /// Sees that a source is refused with this line, and nothing written.
@@ -134,17 +174,13 @@ fn see_refused<R: Threads + Wait + Abort>(
     line: &str,
 ) -> Result<(), AllocError> {
     let mut out = writer(alloc, ROOM)?;
-    let said = match refused_once(rt, alloc, source, &mut out) {
-        Ok(said) => said,
-        Err(AllocError) => refused_once(rt, alloc, source, &mut out)?,
-    };
-    see(rt, said.as_str() == line, line);
+    see_said(rt, alloc, source, line, &mut out)?;
     see(rt, out.into_inner().bytes.is_empty(), line);
     Ok(())
 }
 
 /// Sources that have no listing, and the lines that say why.
-const REFUSALS: [(&[u8], &str); 7] = [
+static REFUSALS: [(&[u8], &str); 7] = [
     (b"", "protoscip: input.proto@0: NotProto3"),
     (b"\xFF", "protoscip: input.proto@0: NotUtf8"),
     (b"syntax @", "protoscip: input.proto@7: BadByte"),
@@ -166,54 +202,68 @@ const REFUSALS: [(&[u8], &str); 7] = [
     ),
 ];
 
+fn see_refusals<R: Threads + Wait + Abort>(rt: &R, alloc: Global) -> Result<(), AllocError> {
+    for (source, line) in &REFUSALS {
+        see_refused(rt, alloc, source, line)?;
+    }
+    Ok(())
+}
+
 #[test]
 fn sources_that_have_none(rt: HostRuntime) -> Result<(), Fail> {
-    for (source, line) in &REFUSALS {
-        see_refused(&rt, rt.alloc(), source, line)?;
+    Ok(see_refusals(&rt, rt.alloc())?)
+}
+
+/// The listing of `TWO_LINES`.
+const OF_TWO_LINES: &[u8] =
+    b"0 0 0 0 1 scip-protobuf . . . `input.proto`/\n1 8 1 9 1 scip-protobuf . . . A#\n= 2\n";
+
+fn see_calls<R: Threads + Wait + Abort>(rt: &R, alloc: Global) -> Result<(), AllocError> {
+    let custom = CustomOptions::Refuse;
+    for calls_left in 0..34 {
+        let reader = Dripping {
+            bytes: TWO_LINES.as_bytes(),
+            calls_left,
+        };
+        let due: (Result<(), Fault>, &[u8]) = if calls_left == 33 {
+            (Ok(()), OF_TWO_LINES)
+        } else {
+            (Err(Fault::Read), b"")
+        };
+        see_dump(rt, alloc, custom, reader, ROOM, due, "a read fails")?;
     }
     Ok(())
 }
 
 #[test]
 fn one_byte_a_call(rt: HostRuntime) -> Result<(), Fail> {
-    for calls_left in 0..34 {
-        let reader = Dripping {
-            bytes: TWO_LINES.as_bytes(),
-            calls_left,
-        };
-        let (answer, written) = dumped(&rt, rt.alloc(), CustomOptions::Refuse, reader, ROOM)?;
-        let want = if calls_left == 33 {
-            Ok(())
-        } else {
-            Err(Fault::Read)
-        };
-        see(&rt, answer == want, "a read fails");
-        see(&rt, written.is_empty() == (calls_left < 33), "a read fails");
-    }
-    Ok(())
+    Ok(see_calls(&rt, rt.alloc())?)
+}
+
+fn see_no_end<R: Threads + Wait + Abort>(rt: &R, alloc: Global) -> Result<(), AllocError> {
+    let custom = CustomOptions::Refuse;
+    let due: (Result<(), Fault>, &[u8]) = (Err(Fault::Read), b"");
+    see_dump(rt, alloc, custom, Endless, ROOM, due, "no end")
 }
 
 #[test]
 fn source_without_an_end(rt: HostRuntime) -> Result<(), Fail> {
-    let (answer, written) = dumped(&rt, rt.alloc(), CustomOptions::Refuse, Endless, ROOM)?;
-    see(&rt, answer == Err(Fault::Read), "no end");
-    see(&rt, written.is_empty(), "no end");
+    Ok(see_no_end(&rt, rt.alloc())?)
+}
+
+/// The listing of a file without a declaration.
+const OF_NONE: &[u8] = b"0 0 0 0 1 scip-protobuf . . . `input.proto`/\n= 1\n";
+
+fn see_writers<R: Threads + Wait + Abort>(rt: &R, alloc: Global) -> Result<(), AllocError> {
+    let (custom, source) = (CustomOptions::Refuse, b"syntax = \"proto3\";".as_slice());
+    for room in 0..OF_NONE.len() {
+        let due = (Err(Fault::Write(room as u64)), &OF_NONE[..room]);
+        see_dump(rt, alloc, custom, source, room, due, "a full writer")?;
+    }
     Ok(())
 }
 
 #[test]
 fn writers_that_fail(rt: HostRuntime) -> Result<(), Fail> {
-    let source = b"syntax = \"proto3\";".as_slice();
-    let listing = format!(in rt.alloc(); "{FILE_LINE}= 1\n")?;
-    let bytes = listing.as_str().as_bytes();
-    for room in 0..bytes.len() {
-        let (answer, written) = dumped(&rt, rt.alloc(), CustomOptions::Refuse, source, room)?;
-        see(
-            &rt,
-            answer == Err(Fault::Write(room as u64)),
-            "a full writer",
-        );
-        see(&rt, written.as_slice() == &bytes[..room], "a full writer");
-    }
-    Ok(())
+    Ok(see_writers(&rt, rt.alloc())?)
 }

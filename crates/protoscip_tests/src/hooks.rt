@@ -1,7 +1,7 @@
 //! Indexes that callbacks choose for, by whole bytes, and how often these are asked.
 
 use crate::bytes::{BOTH_TEXTS, ENUM_ALONE, WITHOUT_ENUMS};
-use crate::calls::{COUNTS, File, PLAIN, see, settings_of, tree_of, workers, writer};
+use crate::calls::{COUNTS, File, Given, PLAIN, given_of, see, workers, writer};
 use crate::talks::COMMENTS;
 use index_hooks::{
     Choice, Chooses, DocAlways, DocChoice, Filter, FilterCallback, KindIn, Kinds, NamePrefix,
@@ -10,8 +10,6 @@ use index_hooks::{
 use index_pool::{NoGate, Workers};
 use proto_decl::{DeclView, DeclarationKind};
 use protoscip::index_tree;
-use scip_build::Settings;
-use source_tree::Tree;
 use std::alloc::{AllocError, Global};
 use std::process::Abort;
 use std::sync::Wait;
@@ -70,9 +68,8 @@ impl<'a> Chooses for Asking<'a> {
 fn asked_for<R: Threads + Wait>(
     rt: &R,
     alloc: Global,
-    tree: &Tree,
     registry: &Registry,
-    settings: &Settings,
+    given: &Given,
     workers: Workers,
     due: &[u8],
 ) -> Result<Option<u64>, AllocError> {
@@ -80,6 +77,7 @@ fn asked_for<R: Threads + Wait>(
         registry,
         asked: AtomicU64::new(0),
     };
+    let (tree, settings) = (&given.tree, &given.settings);
     let mut out = writer(alloc, due.len())?;
     let is_ok = index_tree(
         rt, alloc, tree, &asking, workers, settings, &NoGate, &mut out,
@@ -87,6 +85,26 @@ fn asked_for<R: Threads + Wait>(
     .is_ok();
     let is_due = is_ok && out.into_inner().bytes.as_slice() == due;
     Ok(is_due.then_some(asking.asked.load(Ordering::SeqCst)))
+}
+
+/// Sees that a registry gives the bytes that are due of a tree, and is asked so often.
+fn see_given<R: Threads + Wait + Abort>(
+    rt: &R,
+    alloc: Global,
+    registry: &Registry,
+    given: &Given,
+    due: &[u8],
+    times: u64,
+) -> Result<(), AllocError> {
+    for count in &COUNTS {
+        let workers = workers(rt, *count);
+        let asked = match asked_for(rt, alloc, registry, given, workers, due)? {
+            None => asked_for(rt, alloc, registry, given, workers, due)?,
+            asked => asked,
+        };
+        see(rt, asked == Some(times), "what is chosen");
+    }
+    Ok(())
 }
 
 /// Sees that a registry gives the bytes that are due, and is asked so often, on 1, 2 and 16 workers. After
@@ -99,17 +117,8 @@ fn see_asked<R: Threads + Wait + Abort>(
     due: &[u8],
     times: u64,
 ) -> Result<(), AllocError> {
-    let tree = tree_of(rt, alloc, files)?;
-    let settings = settings_of(rt, alloc, &PLAIN)?;
-    for count in COUNTS {
-        let workers = workers(rt, count);
-        let asked = match asked_for(rt, alloc, &tree, registry, &settings, workers, due)? {
-            None => asked_for(rt, alloc, &tree, registry, &settings, workers, due)?,
-            asked => asked,
-        };
-        see(rt, asked == Some(times), "what is chosen");
-    }
-    Ok(())
+    let given = given_of(rt, alloc, files, &PLAIN)?;
+    see_given(rt, alloc, registry, &given, due, times)
 }
 
 #[test]
@@ -120,8 +129,7 @@ fn a_filter_by_kind(rt: HostRuntime) -> Result<(), Fail> {
     if let Err((filter, _)) = registry.add_filter(filter) {
         see(&rt, registry.add_filter(filter).is_ok(), "added again");
     }
-    see_asked(&rt, rt.alloc(), &registry, &ENUM, WITHOUT_ENUMS, 4)?;
-    Ok(())
+    Ok(see_asked(&rt, rt.alloc(), &registry, &ENUM, WITHOUT_ENUMS, 4)?)
 }
 
 #[test]
@@ -131,8 +139,7 @@ fn a_filter_by_the_start_of_a_name(rt: HostRuntime) -> Result<(), Fail> {
     if let Err((filter, _)) = registry.add_filter(filter) {
         see(&rt, registry.add_filter(filter).is_ok(), "added again");
     }
-    see_asked(&rt, rt.alloc(), &registry, &ENUM, ENUM_ALONE, 4)?;
-    Ok(())
+    Ok(see_asked(&rt, rt.alloc(), &registry, &ENUM, ENUM_ALONE, 4)?)
 }
 
 #[test]
@@ -142,6 +149,5 @@ fn a_documentation_rule(rt: HostRuntime) -> Result<(), Fail> {
     if let Err((rule, _)) = registry.add_doc(rule) {
         see(&rt, registry.add_doc(rule).is_ok(), "added again");
     }
-    see_asked(&rt, rt.alloc(), &registry, &COMMENTS, BOTH_TEXTS, 2)?;
-    Ok(())
+    Ok(see_asked(&rt, rt.alloc(), &registry, &COMMENTS, BOTH_TEXTS, 2)?)
 }

@@ -5,12 +5,12 @@ use crate::bytes::{
     OTHER_SETTINGS, OWN_NAME, SERVICE,
 };
 use crate::calls::{
-    COUNTS, File, PLAIN, Set, indexed, see, settings_of, slow_writer, tree_of, workers, writer,
+    COUNTS, File, Given, PLAIN, Set, given_of, indexed, see, slow_writer, workers, writer,
 };
-use index_hooks::{Chooses, Registry};
+use crate::streams::Failing;
+use index_hooks::Registry;
 use proto_lex::Encoding;
-use scip_build::Settings;
-use source_tree::Tree;
+use scip_model::Std;
 use std::alloc::{AllocError, Global};
 use std::process::Abort;
 use std::sync::Wait;
@@ -136,7 +136,7 @@ pub(crate) struct Case<'a> {
     pub(crate) due: &'a [u8],
 }
 
-const CASES: [Case<'static>; 14] = [
+static CASES: [Case<'static>; 14] = [
     Case {
         name: "no files",
         files: &[],
@@ -230,21 +230,58 @@ const CASES: [Case<'static>; 14] = [
     },
 ];
 
-/// Sees that a tree's index has the bytes that are due, by so many workers.
-fn see_case<R: Threads + Wait + Abort, C: Chooses + Sync>(
+/// Sees that a tree is indexed with no fault.
+fn see_indexed<R: Threads + Wait + Abort>(
     rt: &R,
     alloc: Global,
-    chooser: &C,
+    registry: &Registry,
+    given: &Given,
+    count: usize,
+    out: &mut Std<Failing>,
+    name: &str,
+) -> Result<(), AllocError> {
+    let answer = indexed(rt, alloc, registry, given, workers(rt, count), out)?;
+    see(rt, answer.is_none(), name);
+    Ok(())
+}
+
+/// Sees that a tree's index has the bytes that are due, by so many workers.
+fn see_bytes<R: Threads + Wait + Abort>(
+    rt: &R,
+    alloc: Global,
+    registry: &Registry,
+    given: &Given,
     case: &Case<'_>,
     count: usize,
 ) -> Result<(), AllocError> {
-    let tree = tree_of(rt, alloc, case.files)?;
-    let settings = settings_of(rt, alloc, &case.set)?;
     let mut out = writer(alloc, case.due.len())?;
-    let workers = workers(rt, count);
-    let answer = indexed(rt, alloc, &tree, chooser, &settings, workers, &mut out)?;
-    see(rt, answer.is_none(), case.name);
+    see_indexed(rt, alloc, registry, given, count, &mut out, case.name)?;
     see(rt, out.into_inner().bytes.as_slice() == case.due, case.name);
+    Ok(())
+}
+
+/// Sees that the index of a case's tree has the bytes that are due, by so many workers.
+fn see_case<R: Threads + Wait + Abort>(
+    rt: &R,
+    alloc: Global,
+    registry: &Registry,
+    case: &Case<'_>,
+    count: usize,
+) -> Result<(), AllocError> {
+    let given = given_of(rt, alloc, case.files, &case.set)?;
+    see_bytes(rt, alloc, registry, &given, case, count)
+}
+
+fn see_each<R: Threads + Wait + Abort>(
+    rt: &R,
+    alloc: Global,
+    registry: &Registry,
+    cases: &[Case<'_>],
+    count: usize,
+) -> Result<(), AllocError> {
+    for case in cases {
+        see_case(rt, alloc, registry, case, count)?;
+    }
     Ok(())
 }
 
@@ -256,10 +293,7 @@ pub(crate) fn see_cases<R: Threads + Wait + Abort>(
     count: usize,
 ) -> Result<(), AllocError> {
     let registry = Registry::new(alloc);
-    for case in cases {
-        see_case(rt, alloc, &registry, case, count)?;
-    }
-    Ok(())
+    see_each(rt, alloc, &registry, cases, count)
 }
 
 #[test]
@@ -270,7 +304,7 @@ fn bytes_of_indexes(rt: HostRuntime) -> Result<(), Fail> {
     Ok(())
 }
 
-const COMPOUND_NAME: [Case<'static>; 1] = [Case {
+static COMPOUND_NAME: [Case<'static>; 1] = [Case {
     name: "a compound name",
     files: &PACKAGES,
     set: PLAIN,
@@ -284,33 +318,61 @@ fn a_compound_name_on_1_and_4_workers(rt: HostRuntime) -> Result<(), Fail> {
     Ok(())
 }
 
+/// Sees whether the writer of an index fails.
+fn see_fails<R: Threads + Wait + Abort>(
+    rt: &R,
+    alloc: Global,
+    registry: &Registry,
+    given: &Given,
+    out: &mut Std<Failing>,
+    fails: bool,
+) -> Result<(), AllocError> {
+    let answer = indexed(rt, alloc, registry, given, workers(rt, 1), out)?;
+    see(rt, answer.is_some() == fails, "a write fails");
+    Ok(())
+}
+
 /// Sees that a writer with so much room has the first bytes of the index of no files, and what is answered.
 fn see_cut<R: Threads + Wait + Abort>(
     rt: &R,
     alloc: Global,
-    tree: &Tree,
-    settings: &Settings,
+    registry: &Registry,
+    given: &Given,
     room: usize,
     most: usize,
 ) -> Result<(), AllocError> {
-    let registry = Registry::new(alloc);
     let mut out = slow_writer(alloc, room, most, room % 2 == 0)?;
-    let one = workers(rt, 1);
-    let answer = indexed(rt, alloc, tree, &registry, settings, one, &mut out)?;
-    see(rt, answer.is_none() == (room == 30), "a write fails");
+    see_fails(rt, alloc, registry, given, &mut out, room < 30)?;
     let is_front = out.into_inner().bytes.as_slice() == &NO_FILES[..room.min(30)];
     see(rt, is_front, "the first bytes");
     Ok(())
 }
 
-#[test]
-fn writers_that_fail(rt: HostRuntime) -> Result<(), Fail> {
-    let tree = tree_of(&rt, rt.alloc(), &[])?;
-    let settings = settings_of(&rt, rt.alloc(), &PLAIN)?;
+fn see_cuts<R: Threads + Wait + Abort>(
+    rt: &R,
+    alloc: Global,
+    registry: &Registry,
+    given: &Given,
+) -> Result<(), AllocError> {
     for room in 0..31 {
-        see_cut(&rt, rt.alloc(), &tree, &settings, room, 1)?;
-        see_cut(&rt, rt.alloc(), &tree, &settings, room, 7)?;
-        see_cut(&rt, rt.alloc(), &tree, &settings, room, usize::MAX)?;
+        see_cut(rt, alloc, registry, given, room, 1)?;
+        see_cut(rt, alloc, registry, given, room, 7)?;
+        see_cut(rt, alloc, registry, given, room, usize::MAX)?;
     }
     Ok(())
+}
+
+fn see_writers<R: Threads + Wait + Abort>(
+    rt: &R,
+    alloc: Global,
+    registry: &Registry,
+) -> Result<(), AllocError> {
+    let given = given_of(rt, alloc, &[], &PLAIN)?;
+    see_cuts(rt, alloc, registry, &given)
+}
+
+#[test]
+fn writers_that_fail(rt: HostRuntime) -> Result<(), Fail> {
+    let registry = Registry::new(rt.alloc());
+    Ok(see_writers(&rt, rt.alloc(), &registry)?)
 }

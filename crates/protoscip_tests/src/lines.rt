@@ -1,7 +1,9 @@
 //! The lines of faults, as a user sees them, and their statuses.
 
-use crate::calls::{COUNTS, File, PLAIN, indexed, see, settings_of, tree_of, workers, writer};
+use crate::calls::{COUNTS, File, Given, PLAIN, given_of, indexed, see, workers, writer};
+use crate::streams::Failing;
 use index_hooks::Registry;
+use scip_model::Std;
 use std::alloc::{AllocError, Global};
 use std::process::Abort;
 use std::sync::Wait;
@@ -9,7 +11,7 @@ use std::test::Fail;
 use std::thread::Threads;
 
 /// Sources that aren't read, each with the line that is said of it as `a.proto`.
-const SOURCES: [(&str, &str); 17] = [
+static SOURCES: [(&str, &str); 17] = [
     ("@", "protoscip: a.proto@0: BadByte"),
     ("\"abc", "protoscip: a.proto@0: OpenString"),
     ("/* x", "protoscip: a.proto@0: OpenComment"),
@@ -60,7 +62,7 @@ const SOURCES: [(&str, &str); 17] = [
 ];
 
 /// Files, each list with the line that is said of it.
-pub(crate) const TREES: [(&[File<'static>], &str); 8] = [
+pub(crate) static TREES: [(&[File<'static>], &str); 8] = [
     (
         &[
             ("b.proto", "@", false),
@@ -188,41 +190,89 @@ pub(crate) const TREES: [(&[File<'static>], &str); 8] = [
     ),
 ];
 
+/// Whether this line is said, with status 1.
+pub(crate) fn is_said(answer: Option<(String, u8)>, line: &str) -> bool {
+    match answer {
+        Some((said, status)) => said.as_str() == line && status == 1,
+        None => false,
+    }
+}
+
+/// Sees that a tree is refused with this line, with status 1.
+fn see_said<R: Threads + Wait + Abort>(
+    rt: &R,
+    alloc: Global,
+    registry: &Registry,
+    given: &Given,
+    line: &str,
+    count: usize,
+    out: &mut Std<Failing>,
+) -> Result<(), AllocError> {
+    let answer = indexed(rt, alloc, registry, given, workers(rt, count), out)?;
+    see(rt, is_said(answer, line), line);
+    Ok(())
+}
+
+/// Sees that a tree is refused with this line, with status 1 and nothing written, by so many workers.
+fn see_refused<R: Threads + Wait + Abort>(
+    rt: &R,
+    alloc: Global,
+    registry: &Registry,
+    given: &Given,
+    line: &str,
+    count: usize,
+) -> Result<(), AllocError> {
+    let mut out = writer(alloc, 4096)?;
+    see_said(rt, alloc, registry, given, line, count, &mut out)?;
+    see(rt, out.into_inner().bytes.is_empty(), line);
+    Ok(())
+}
+
 /// Sees that files are refused with this line, with status 1 and nothing written, by so many workers.
 fn see_line<R: Threads + Wait + Abort>(
     rt: &R,
     alloc: Global,
+    registry: &Registry,
     files: &[File<'_>],
     line: &str,
     count: usize,
 ) -> Result<(), AllocError> {
-    let tree = tree_of(rt, alloc, files)?;
-    let settings = settings_of(rt, alloc, &PLAIN)?;
-    let mut out = writer(alloc, 4096)?;
-    let registry = Registry::new(alloc);
-    let workers = workers(rt, count);
-    let answer = indexed(rt, alloc, &tree, &registry, &settings, workers, &mut out)?;
-    let (said, status) = answer.expect(rt, "a fault");
-    see(rt, said.as_str() == line, line);
-    see(rt, status == 1, line);
-    see(rt, out.into_inner().bytes.is_empty(), line);
+    let given = given_of(rt, alloc, files, &PLAIN)?;
+    see_refused(rt, alloc, registry, &given, line, count)
+}
+
+fn see_lines_of_sources<R: Threads + Wait + Abort>(
+    rt: &R,
+    alloc: Global,
+    registry: &Registry,
+) -> Result<(), AllocError> {
+    for (source, line) in &SOURCES {
+        see_line(rt, alloc, registry, &[("a.proto", *source, false)], line, 1)?;
+    }
     Ok(())
 }
 
 #[test]
 fn lines_of_sources(rt: HostRuntime) -> Result<(), Fail> {
-    for (source, line) in &SOURCES {
-        see_line(&rt, rt.alloc(), &[("a.proto", *source, false)], line, 1)?;
+    let registry = Registry::new(rt.alloc());
+    Ok(see_lines_of_sources(&rt, rt.alloc(), &registry)?)
+}
+
+fn see_lines_of_trees<R: Threads + Wait + Abort>(
+    rt: &R,
+    alloc: Global,
+    registry: &Registry,
+) -> Result<(), AllocError> {
+    for (files, line) in &TREES {
+        for count in &COUNTS {
+            see_line(rt, alloc, registry, files, line, *count)?;
+        }
     }
     Ok(())
 }
 
 #[test]
 fn lines_of_trees(rt: HostRuntime) -> Result<(), Fail> {
-    for (files, line) in &TREES {
-        for count in COUNTS {
-            see_line(&rt, rt.alloc(), files, line, count)?;
-        }
-    }
-    Ok(())
+    let registry = Registry::new(rt.alloc());
+    Ok(see_lines_of_trees(&rt, rt.alloc(), &registry)?)
 }

@@ -1,15 +1,13 @@
 //! Sessions: commands about the index of a tree, and their answers.
 
-use crate::calls::{COUNTS, File, PLAIN, see, settings_of, tree_of, workers, writer};
+use crate::calls::{COUNTS, File, Given, PLAIN, given_of, said, see, workers, writer};
 use crate::indexes::{FIELDS, PACKAGES};
-use crate::lines::TREES;
-use crate::streams::Dripping;
-use index_hooks::{Chooses, DocAlways, DocChoice, Registry};
+use crate::lines::{TREES, is_said};
+use crate::streams::{Dripping, Failing};
+use index_hooks::{DocAlways, DocChoice, Registry};
 use index_pool::{NoGate, Workers};
-use protoscip::{Fault, fault_line, session};
-use scip_build::Settings;
+use protoscip::{Fault, session};
 use scip_model::Std;
-use source_tree::Tree;
 use std::alloc::{AllocError, Global};
 use std::io::Read;
 use std::process::Abort;
@@ -37,7 +35,7 @@ const ROOTS: [File<'static>; 2] = [
 ];
 
 /// Files, commands, and the answers that are due.
-const TALKS: [(&[File<'static>], &str, &str); 5] = [
+static TALKS: [(&[File<'static>], &str, &str); 5] = [
     (&[], "", ""),
     (&[], "sym a.proto", "? no document\n"),
     (
@@ -54,52 +52,67 @@ const TALKS: [(&[File<'static>], &str, &str); 5] = [
 ];
 
 /// What one session answers, and what its writer then has, which takes so many bytes.
-fn served_once<R: Threads + Wait, C: Chooses + Sync, S: Read + Drop>(
+fn served_once<R: Threads + Wait, S: Read + Drop>(
     rt: &R,
     alloc: Global,
-    tree: &Tree,
-    chooser: &C,
-    settings: &Settings,
+    registry: &Registry,
+    given: &Given,
     workers: Workers,
     commands: S,
     room: usize,
 ) -> Result<(Option<Fault>, Vec<u8>), AllocError> {
     let mut input = Std::new(commands);
     let mut output = writer(alloc, room)?;
-    let answer = match session(
+    let answer = session(
         rt,
         alloc,
-        tree,
-        chooser,
+        &given.tree,
+        registry,
         workers,
-        settings,
+        &given.settings,
         &NoGate,
         &mut input,
         &mut output,
-    ) {
-        Ok(_) => None,
-        Err(fault) => Some(fault),
-    };
+    )
+    .err();
     Ok((answer, output.into_inner().bytes))
 }
 
 /// What a session answers, and what its writer then has. After want of memory or of a thread it is held
 /// again, and the second answers count.
-fn served<R: Threads + Wait, C: Chooses + Sync, S: Read + Drop + Copy>(
+fn served<R: Threads + Wait, S: Read + Drop + Copy>(
     rt: &R,
     alloc: Global,
-    tree: &Tree,
-    chooser: &C,
-    settings: &Settings,
+    registry: &Registry,
+    given: &Given,
     workers: Workers,
     commands: S,
     room: usize,
 ) -> Result<(Option<Fault>, Vec<u8>), AllocError> {
-    let (answer, bytes) = served_once(rt, alloc, tree, chooser, settings, workers, commands, room)?;
-    if !matches!(answer, Some(Fault::Memory | Fault::Spawn)) {
-        return Ok((answer, bytes));
+    let first = served_once(rt, alloc, registry, given, workers, commands, room)?;
+    if !matches!(first.0, Some(Fault::Memory | Fault::Spawn)) {
+        return Ok(first);
     }
-    served_once(rt, alloc, tree, chooser, settings, workers, commands, room)
+    served_once(rt, alloc, registry, given, workers, commands, room)
+}
+
+/// Sees what a session answers, and what its writer then has, which takes so many bytes.
+fn see_served<R: Threads + Wait + Abort, S: Read + Drop + Copy>(
+    rt: &R,
+    alloc: Global,
+    registry: &Registry,
+    given: &Given,
+    count: usize,
+    commands: S,
+    room: usize,
+    due: (Option<Fault>, &[u8]),
+    case: &str,
+) -> Result<(), AllocError> {
+    let workers = workers(rt, count);
+    let (answer, written) = served(rt, alloc, registry, given, workers, commands, room)?;
+    see(rt, answer == due.0, case);
+    see(rt, written.as_slice() == due.1, case);
+    Ok(())
 }
 
 /// Files, commands, and the answers that are due.
@@ -114,34 +127,43 @@ fn see_talk<R: Threads + Wait + Abort>(
     count: usize,
 ) -> Result<(), AllocError> {
     let (files, commands, due) = *talk;
-    let tree = tree_of(rt, alloc, files)?;
-    let settings = settings_of(rt, alloc, &PLAIN)?;
-    let workers = workers(rt, count);
+    let given = given_of(rt, alloc, files, &PLAIN)?;
     let bytes = commands.as_bytes();
-    let (answer, written) = served(
-        rt,
-        alloc,
-        &tree,
-        registry,
-        &settings,
-        workers,
-        bytes,
-        due.len(),
-    )?;
-    see(rt, answer.is_none(), commands);
-    see(rt, written.as_slice() == due.as_bytes(), commands);
+    let due = (None, due.as_bytes());
+    let room = due.1.len();
+    see_served(
+        rt, alloc, registry, &given, count, bytes, room, due, commands,
+    )
+}
+
+fn see_talks<R: Threads + Wait + Abort>(
+    rt: &R,
+    alloc: Global,
+    registry: &Registry,
+) -> Result<(), AllocError> {
+    for talk in &TALKS {
+        see_on_each_count(rt, alloc, registry, talk)?;
+    }
+    Ok(())
+}
+
+/// Sees that commands are answered as is due, on 1, 2 and 16 workers.
+fn see_on_each_count<R: Threads + Wait + Abort>(
+    rt: &R,
+    alloc: Global,
+    registry: &Registry,
+    talk: &Talk<'_>,
+) -> Result<(), AllocError> {
+    for count in &COUNTS {
+        see_talk(rt, alloc, registry, talk, *count)?;
+    }
     Ok(())
 }
 
 #[test]
 fn answers_to_commands(rt: HostRuntime) -> Result<(), Fail> {
     let registry = Registry::new(rt.alloc());
-    for talk in &TALKS {
-        for count in COUNTS {
-            see_talk(&rt, rt.alloc(), &registry, talk, count)?;
-        }
-    }
-    Ok(())
+    Ok(see_talks(&rt, rt.alloc(), &registry)?)
 }
 
 const COMPOUND_NAME: Talk<'static> = (
@@ -150,12 +172,19 @@ const COMPOUND_NAME: Talk<'static> = (
     "2 8 2 17 1 t.proto\n= 1\n4 13 4 19 0 a.proto\n1 8 1 14 1 t.proto\n= 2\n1 15 1 23 1 t.proto\n= 1\n",
 );
 
+fn see_on_1_and_4<R: Threads + Wait + Abort>(
+    rt: &R,
+    alloc: Global,
+    registry: &Registry,
+) -> Result<(), AllocError> {
+    see_talk(rt, alloc, registry, &COMPOUND_NAME, 1)?;
+    see_talk(rt, alloc, registry, &COMPOUND_NAME, 4)
+}
+
 #[test]
 fn a_compound_name_on_1_and_4_workers(rt: HostRuntime) -> Result<(), Fail> {
     let registry = Registry::new(rt.alloc());
-    see_talk(&rt, rt.alloc(), &registry, &COMPOUND_NAME, 1)?;
-    see_talk(&rt, rt.alloc(), &registry, &COMPOUND_NAME, 4)?;
-    Ok(())
+    Ok(see_on_1_and_4(&rt, rt.alloc(), &registry)?)
 }
 
 const BOTH_TEXTS: Talk<'static> = (
@@ -171,74 +200,103 @@ fn texts_that_a_rule_takes(rt: HostRuntime) -> Result<(), Fail> {
     if let Err((rule, _)) = registry.add_doc(rule) {
         see(&rt, registry.add_doc(rule).is_ok(), "added again");
     }
-    for count in COUNTS {
-        see_talk(&rt, rt.alloc(), &registry, &BOTH_TEXTS, count)?;
+    Ok(see_on_each_count(&rt, rt.alloc(), &registry, &BOTH_TEXTS)?)
+}
+
+/// What is said of a session over a tree that is refused, by so many workers.
+fn said_once<R: Threads + Wait>(
+    rt: &R,
+    alloc: Global,
+    registry: &Registry,
+    given: &Given,
+    workers: Workers,
+    input: &mut Std<&'static [u8]>,
+    output: &mut Std<Failing>,
+) -> Result<Option<(String, u8)>, AllocError> {
+    let (tree, settings) = (&given.tree, &given.settings);
+    match session(
+        rt, alloc, tree, registry, workers, settings, &NoGate, input, output,
+    ) {
+        Ok(_) => Ok(None),
+        Err(fault) => said(alloc, tree, &fault),
+    }
+}
+
+/// Whether this line is said of a session over a tree that is refused, by so many workers, with nothing
+/// read of three bytes of commands, and nothing written.
+fn is_refused_once<R: Threads + Wait>(
+    rt: &R,
+    alloc: Global,
+    registry: &Registry,
+    given: &Given,
+    workers: Workers,
+    line: &str,
+) -> Result<bool, AllocError> {
+    let mut input = Std::new(b"ref".as_slice());
+    let mut output = writer(alloc, 64)?;
+    let said = said_once(rt, alloc, registry, given, workers, &mut input, &mut output)?;
+    let untouched = input.into_inner().len() == 3 && output.into_inner().bytes.is_empty();
+    Ok(untouched && is_said(said, line))
+}
+
+/// Sees that a session over a tree is refused with this line, with nothing read or written.
+fn see_refusal<R: Threads + Wait + Abort>(
+    rt: &R,
+    alloc: Global,
+    registry: &Registry,
+    given: &Given,
+    line: &str,
+    count: usize,
+) -> Result<(), AllocError> {
+    let workers = workers(rt, count);
+    let is_refused = match is_refused_once(rt, alloc, registry, given, workers, line) {
+        Ok(is_refused) => is_refused,
+        Err(_) => is_refused_once(rt, alloc, registry, given, workers, line)?,
+    };
+    see(rt, is_refused, line);
+    Ok(())
+}
+
+/// Sees that sessions over files are refused with this line, on 1, 2 and 16 workers.
+fn see_refused<R: Threads + Wait + Abort>(
+    rt: &R,
+    alloc: Global,
+    registry: &Registry,
+    given: &Given,
+    line: &str,
+) -> Result<(), AllocError> {
+    for count in &COUNTS {
+        see_refusal(rt, alloc, registry, given, line, *count)?;
     }
     Ok(())
 }
 
-/// What is said of a session over a tree that is refused, by so many workers, and what is then left of three
-/// bytes of commands and of the answers.
-fn refused_once<R: Threads + Wait>(
+fn see_refused_files<R: Threads + Wait + Abort>(
     rt: &R,
     alloc: Global,
-    tree: &Tree,
-    settings: &Settings,
-    workers: Workers,
-) -> Result<(String, usize, usize), AllocError> {
-    let registry = Registry::new(alloc);
-    let mut input = Std::new(b"ref".as_slice());
-    let mut output = writer(alloc, 64)?;
-    let said = match session(
-        rt,
-        alloc,
-        tree,
-        &registry,
-        workers,
-        settings,
-        &NoGate,
-        &mut input,
-        &mut output,
-    ) {
-        Ok(_) => String::new(alloc),
-        Err(Fault::Memory) | Err(Fault::Spawn) => return Err(AllocError),
-        Err(fault) => fault_line(alloc, tree, &fault)?,
-    };
-    Ok((
-        said,
-        input.into_inner().len(),
-        output.into_inner().bytes.len(),
-    ))
-}
-
-/// Sees that a session over a tree is refused with this line, with nothing read or written.
-fn see_refused<R: Threads + Wait + Abort>(
-    rt: &R,
-    alloc: Global,
+    registry: &Registry,
     files: &[File<'_>],
     line: &str,
-    count: usize,
 ) -> Result<(), AllocError> {
-    let tree = tree_of(rt, alloc, files)?;
-    let settings = settings_of(rt, alloc, &PLAIN)?;
-    let workers = workers(rt, count);
-    let (said, left, written) = match refused_once(rt, alloc, &tree, &settings, workers) {
-        Ok(found) => found,
-        Err(_) => refused_once(rt, alloc, &tree, &settings, workers)?,
-    };
-    see(rt, said.as_str() == line, line);
-    see(rt, left == 3 && written == 0, line);
+    let given = given_of(rt, alloc, files, &PLAIN)?;
+    see_refused(rt, alloc, registry, &given, line)
+}
+
+fn see_all_refused<R: Threads + Wait + Abort>(
+    rt: &R,
+    alloc: Global,
+    registry: &Registry,
+) -> Result<(), AllocError> {
+    for (files, line) in &TREES {
+        see_refused_files(rt, alloc, registry, files, line)?;
+    }
     Ok(())
 }
 
 #[test]
 fn sessions_over_trees_that_are_refused(rt: HostRuntime) -> Result<(), Fail> {
-    for (files, line) in &TREES {
-        for count in COUNTS {
-            see_refused(&rt, rt.alloc(), files, line, count)?;
-        }
-    }
-    Ok(())
+    let registry = Registry::new(rt.alloc());
+    Ok(see_all_refused(&rt, rt.alloc(), &registry)?)
 }
 
 const DEFINITION: &str = "2 8 2 11 1 a.proto\n= 1\n";
@@ -248,23 +306,22 @@ const DEFINITION: &str = "2 8 2 11 1 a.proto\n= 1\n";
 fn see_part<R: Threads + Wait + Abort, S: Read + Drop + Copy>(
     rt: &R,
     alloc: Global,
+    registry: &Registry,
     commands: S,
     room: usize,
-    fault: Option<Fault>,
-    part: &[u8],
+    due: (Option<Fault>, &[u8]),
 ) -> Result<(), AllocError> {
-    let tree = tree_of(rt, alloc, &FIELDS)?;
-    let settings = settings_of(rt, alloc, &PLAIN)?;
-    let registry = Registry::new(alloc);
-    let one = workers(rt, 1);
-    let (answer, written) = served(rt, alloc, &tree, &registry, &settings, one, commands, room)?;
-    see(rt, answer == fault, "what a session answers");
-    see(rt, written.as_slice() == part, "the first bytes");
-    Ok(())
+    let given = given_of(rt, alloc, &FIELDS, &PLAIN)?;
+    see_served(
+        rt, alloc, registry, &given, 1, commands, room, due, "a part",
+    )
 }
 
-#[test]
-fn writers_of_answers_that_fail(rt: HostRuntime) -> Result<(), Fail> {
+fn see_writers<R: Threads + Wait + Abort>(
+    rt: &R,
+    alloc: Global,
+    registry: &Registry,
+) -> Result<(), AllocError> {
     let commands = b"def 3 28 a.proto".as_slice();
     for room in 0..24 {
         let fault = if room == 23 {
@@ -272,10 +329,16 @@ fn writers_of_answers_that_fail(rt: HostRuntime) -> Result<(), Fail> {
         } else {
             Some(Fault::Answer(room as u64))
         };
-        let part = &DEFINITION.as_bytes()[..room];
-        see_part(&rt, rt.alloc(), commands, room, fault, part)?;
+        let due = (fault, &DEFINITION.as_bytes()[..room]);
+        see_part(rt, alloc, registry, commands, room, due)?;
     }
     Ok(())
+}
+
+#[test]
+fn writers_of_answers_that_fail(rt: HostRuntime) -> Result<(), Fail> {
+    let registry = Registry::new(rt.alloc());
+    Ok(see_writers(&rt, rt.alloc(), &registry)?)
 }
 
 const BOTH_ANSWERS: &str =
@@ -292,8 +355,11 @@ fn answered_after(calls: usize) -> &'static str {
     }
 }
 
-#[test]
-fn readers_of_commands_that_fail(rt: HostRuntime) -> Result<(), Fail> {
+fn see_readers<R: Threads + Wait + Abort>(
+    rt: &R,
+    alloc: Global,
+    registry: &Registry,
+) -> Result<(), AllocError> {
     for calls_left in 0..36 {
         let commands = Dripping {
             bytes: b"def 3 28 a.proto\nref 3 28 a.proto\n",
@@ -304,8 +370,14 @@ fn readers_of_commands_that_fail(rt: HostRuntime) -> Result<(), Fail> {
         } else {
             Some(Fault::Read)
         };
-        let part = answered_after(calls_left).as_bytes();
-        see_part(&rt, rt.alloc(), commands, 100, fault, part)?;
+        let due = (fault, answered_after(calls_left).as_bytes());
+        see_part(rt, alloc, registry, commands, 100, due)?;
     }
     Ok(())
+}
+
+#[test]
+fn readers_of_commands_that_fail(rt: HostRuntime) -> Result<(), Fail> {
+    let registry = Registry::new(rt.alloc());
+    Ok(see_readers(&rt, rt.alloc(), &registry)?)
 }

@@ -31,7 +31,7 @@ const BEHIND_A_MARK: [File<'static>; 1] = [(
     false,
 )];
 
-const CASES: [Case<'static>; 6] = [
+static CASES: [Case<'static>; 6] = [
     Case {
         name: "two bytes, in UTF-8",
         files: &BEHIND_TWO,

@@ -102,36 +102,35 @@ fn with_settings<'a>(alloc: Global, program: Command<'a>) -> Result<Command<'a>,
     ensures local { (fields_of program.entry).has_globals ≡ false
         → IfOk result (λ c. (fields_of c).has_globals ≡ false) }
 {
-    let project_root = option(
-        alloc,
-        PROJECT_ROOT,
-        "URI",
-        "Where the sources' folder lies, as the index says it",
-    );
-    let manager = option(
-        alloc,
-        MANAGER,
-        "NAME",
-        "The manager of the package that the symbols name, empty if not given",
-    );
-    let package = option(
-        alloc,
-        PACKAGE,
-        "NAME",
-        "The name of that package, empty if not given",
-    );
-    let release = option(
-        alloc,
-        RELEASE,
-        "TEXT",
-        "The release of that package, empty if not given",
-    );
     program
         .arg(workers(alloc))?
-        .arg(or_default(project_root, "file:///"))?
-        .arg(manager)?
-        .arg(package)?
-        .arg(release)
+        .arg(or_default(
+            option(
+                alloc,
+                PROJECT_ROOT,
+                "URI",
+                "Where the sources' folder lies, as the index says it",
+            ),
+            "file:///",
+        ))?
+        .arg(option(
+            alloc,
+            MANAGER,
+            "NAME",
+            "The manager of the package that the symbols name, empty if not given",
+        ))?
+        .arg(option(
+            alloc,
+            PACKAGE,
+            "NAME",
+            "The name of that package, empty if not given",
+        ))?
+        .arg(option(
+            alloc,
+            RELEASE,
+            "TEXT",
+            "The release of that package, empty if not given",
+        ))
 }
 
 /// Adds the options on what is indexed, and how.
@@ -144,29 +143,35 @@ fn with_choices<'a>(
     ensures local { (fields_of program.entry).has_globals ≡ false
         → IfOk result (λ c. (fields_of c).has_globals ≡ false) }
 {
-    let only = option(
-        alloc,
-        ONLY,
-        "PREFIX",
-        "Keeps the declaration of this full name and those below it alone",
-    );
-    let doc = option(
-        alloc,
-        DOC,
-        "WORD",
-        "Which comments document a declaration; those before it if not given",
-    );
-    let positions = option(
-        alloc,
-        POSITIONS,
-        "WORD",
-        "The unit of columns: bytes, or UTF-16 code units",
-    );
     program
-        .arg(only)?
-        .arg(taking_words(doc, lists.doc))?
+        .arg(option(
+            alloc,
+            ONLY,
+            "PREFIX",
+            "Keeps the declaration of this full name and those below it alone",
+        ))?
+        .arg(taking_words(
+            option(
+                alloc,
+                DOC,
+                "WORD",
+                "Which comments document a declaration; those before it if not given",
+            ),
+            lists.doc,
+        ))?
         .arg(include(alloc))?
-        .arg(or_default(taking_words(positions, lists.positions), "utf8"))?
+        .arg(or_default(
+            taking_words(
+                option(
+                    alloc,
+                    POSITIONS,
+                    "WORD",
+                    "The unit of columns: bytes, or UTF-16 code units",
+                ),
+                lists.positions,
+            ),
+            "utf8",
+        ))?
         .arg(custom_options(alloc, lists.custom_options))
 }
 

@@ -1,17 +1,15 @@
 //! What callbacks choose for an index, and how often they are asked.
 
-use crate::calls::{see, tree_of, workers};
-use crate::expected::{Case, PLAIN, is_due, settings_of};
+use crate::calls::{see, workers};
+use crate::expected::{Case, PLAIN, Site, is_due, site_of};
 use index_hooks::{
     Choice, Chooses, DocAlways, DocChoice, Filter, FilterCallback, KindIn, Kinds, Registry,
 };
 use index_pool::{NoGate, Workers};
 use proto_decl::{DeclView, DeclarationKind};
 use scip_build::{
-    Settings, built_has_no_fault, faults_are_alike, file_faults_are_alike, one_build_fault,
-    one_built,
+    built_has_no_fault, faults_are_alike, file_faults_are_alike, one_build_fault, one_built,
 };
-use source_tree::Tree;
 use std::alloc::Global;
 use std::process::Abort;
 use std::sync::Wait;
@@ -81,26 +79,37 @@ impl<'a> Chooses for Asking<'a> {
 fn asked_for<R: Threads + Wait>(
     rt: &R,
     alloc: Global,
-    tree: &Tree,
+    site: &Site,
     registry: &Registry,
     workers: Workers,
-    settings: &Settings,
     due: &str,
 ) -> Option<u64> {
     let asking = Asking {
         registry,
         asked: AtomicU64::new(0),
     };
-    match is_due(
-        rt, alloc, tree, &asking, workers, settings, &NoGate, &PLAIN, due,
-    ) {
+    match is_due(rt, alloc, site, &asking, workers, &NoGate, &PLAIN, due) {
         Some(true) => Some(asking.asked.load(Ordering::SeqCst)),
         _ => None,
     }
 }
 
-/// Sees that a registry gives the index that is due, and is asked so often, on 1, 2 and 16 workers. After
-/// want of memory or of a thread it is asked again.
+/// The same. After want of memory or of a thread it is asked again.
+fn asked_again<R: Threads + Wait>(
+    rt: &R,
+    alloc: Global,
+    site: &Site,
+    registry: &Registry,
+    workers: Workers,
+    due: &str,
+) -> Option<u64> {
+    match asked_for(rt, alloc, site, registry, workers, due) {
+        None => asked_for(rt, alloc, site, registry, workers, due),
+        asked => asked,
+    }
+}
+
+/// Sees that a registry gives the index that is due, and is asked so often, on 1, 2 and 16 workers.
 fn see_asked<R: Threads + Wait + Abort>(
     rt: &R,
     alloc: Global,
@@ -109,14 +118,9 @@ fn see_asked<R: Threads + Wait + Abort>(
     times: u64,
 ) -> Result<(), Fail> {
     let (name, files, due) = case;
-    let tree = tree_of(rt, alloc, files)?;
-    let settings = settings_of(alloc, &PLAIN)?;
+    let site = site_of(rt, alloc, &PLAIN, files)?;
     for count in [1, 2, 16] {
-        let workers = workers(rt, count);
-        let asked = match asked_for(rt, alloc, &tree, registry, workers, &settings, due) {
-            None => asked_for(rt, alloc, &tree, registry, workers, &settings, due),
-            asked => asked,
-        };
+        let asked = asked_again(rt, alloc, &site, registry, workers(rt, count), due);
         see(rt, asked == Some(times), name);
     }
     Ok(())
@@ -153,6 +157,16 @@ const BOTH_TEXTS: Case<'static> = (
 );
 
 #[test]
+fn laws_of_builds_can_be_told(rt: HostRuntime) {
+    let registry = Registry::new(rt.alloc());
+    built_has_no_fault(&registry, &registry);
+    one_build_fault(&registry, &registry);
+    faults_are_alike();
+    file_faults_are_alike(&registry, &registry);
+    one_built(&registry, &registry);
+}
+
+#[test]
 fn a_filter_by_kind(rt: HostRuntime) -> Result<(), Fail> {
     let kinds = Kinds::of(&KINDS);
     let filter = Box::new(rt.alloc(), Filter::new(KindIn(kinds), OfKinds(kinds)))?;
@@ -160,11 +174,6 @@ fn a_filter_by_kind(rt: HostRuntime) -> Result<(), Fail> {
     if let Err((filter, _)) = registry.add_filter(filter) {
         see(&rt, registry.add_filter(filter).is_ok(), "added again");
     }
-    built_has_no_fault(&registry, &registry);
-    one_build_fault(&registry, &registry);
-    faults_are_alike();
-    file_faults_are_alike(&registry, &registry);
-    one_built(&registry, &registry);
     see_asked(&rt, rt.alloc(), &registry, WITHOUT_ENUMS, 4)
 }
 
@@ -172,29 +181,24 @@ fn a_filter_by_kind(rt: HostRuntime) -> Result<(), Fail> {
 fn is_alternated<R: Threads + Wait>(
     rt: &R,
     alloc: Global,
-    tree: &Tree,
+    site: &Site,
     workers: Workers,
-    settings: &Settings,
     due: &str,
 ) -> bool {
     let chooser = EachSecond {
         asked: AtomicU64::new(0),
     };
-    let due = is_due(
-        rt, alloc, tree, &chooser, workers, settings, &NoGate, &PLAIN, due,
-    );
+    let due = is_due(rt, alloc, site, &chooser, workers, &NoGate, &PLAIN, due);
     due == Some(true) && chooser.asked.load(Ordering::SeqCst) == 5
 }
 
 #[test]
 fn a_choice_serves_each_document(rt: HostRuntime) -> Result<(), Fail> {
-    let alloc = rt.alloc();
     let (name, files, due) = SECOND_ONES;
-    let tree = tree_of(&rt, alloc, files)?;
-    let settings = settings_of(alloc, &PLAIN)?;
+    let site = site_of(&rt, rt.alloc(), &PLAIN, files)?;
     let one = workers(&rt, 1);
-    let alternated = is_alternated(&rt, alloc, &tree, one, &settings, due)
-        || is_alternated(&rt, alloc, &tree, one, &settings, due);
+    let alternated = is_alternated(&rt, rt.alloc(), &site, one, due)
+        || is_alternated(&rt, rt.alloc(), &site, one, due);
     see(&rt, alternated, name);
     Ok(())
 }

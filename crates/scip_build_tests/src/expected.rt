@@ -128,7 +128,7 @@ fn package_of(alloc: Global, parts: [&str; 3]) -> Result<PackageId, AllocError> 
 }
 
 /// The settings of a case.
-pub(crate) fn settings_of(alloc: Global, set: &Set<'_>) -> Result<Settings, AllocError> {
+fn settings_of(alloc: Global, set: &Set<'_>) -> Result<Settings, AllocError> {
     let project_root = OwnedText::copy_of(alloc, set.root)?;
     let package = package_of(alloc, set.parts)?;
     Ok(Settings {
@@ -139,19 +139,45 @@ pub(crate) fn settings_of(alloc: Global, set: &Set<'_>) -> Result<Settings, Allo
     })
 }
 
+/// A tree, and the settings that it is built with.
+#[derive(Drop)]
+pub(crate) struct Site {
+    tree: Tree,
+    settings: Settings,
+}
+
+/// The tree of files, with what is set.
+pub(crate) fn site_of(
+    rt: &impl Abort,
+    alloc: Global,
+    set: &Set,
+    files: &str,
+) -> Result<Site, AllocError> {
+    let settings = settings_of(alloc, set)?;
+    let tree = tree_of(rt, alloc, files)?;
+    Ok(Site { tree, settings })
+}
+
 /// Whether what is built on so many workers is what is due; none after want of memory or of a thread.
 pub(crate) fn is_due<R: Threads + Wait, C: Chooses + Sync, G: Gate>(
     rt: &R,
     alloc: Global,
-    tree: &Tree,
+    site: &Site,
     chooser: &C,
     workers: Workers,
-    settings: &Settings,
     gate: &G,
     set: &Set,
     due: &str,
 ) -> Option<bool> {
-    match build(rt, alloc, tree, chooser, workers, settings, gate) {
+    match build(
+        rt,
+        alloc,
+        &site.tree,
+        chooser,
+        workers,
+        &site.settings,
+        gate,
+    ) {
         Ok(built) => Some(is_due_index(&built.index, set, due)),
         Err(BuildFault::Memory) | Err(BuildFault::Spawn) => None,
         Err(fault) => Some(is_refusal(fault, due)),
@@ -162,22 +188,15 @@ pub(crate) fn is_due<R: Threads + Wait, C: Chooses + Sync, G: Gate>(
 fn is_due_again<R: Threads + Wait>(
     rt: &R,
     alloc: Global,
-    tree: &Tree,
+    site: &Site,
     workers: Workers,
-    settings: &Settings,
     set: &Set,
     due: &str,
 ) -> bool {
     let chooser = Dropping::new(set.dropped, DocChoice::Leading);
-    match is_due(
-        rt, alloc, tree, &chooser, workers, settings, &NoGate, set, due,
-    ) {
+    match is_due(rt, alloc, site, &chooser, workers, &NoGate, set, due) {
         Some(is_so) => is_so,
-        None => {
-            is_due(
-                rt, alloc, tree, &chooser, workers, settings, &NoGate, set, due,
-            ) == Some(true)
-        }
+        None => { is_due(rt, alloc, site, &chooser, workers, &NoGate, set, due) == Some(true) }
     }
 }
 
@@ -189,24 +208,22 @@ pub(crate) fn see_case<R: Threads + Wait + Abort>(
     case: Case,
 ) -> Result<(), AllocError> {
     let (name, files, due) = case;
-    let tree = tree_of(rt, alloc, files)?;
-    let settings = settings_of(alloc, set)?;
+    let site = site_of(rt, alloc, set, files)?;
     for count in [1, 2, 16] {
-        let is_so = is_due_again(rt, alloc, &tree, workers(rt, count), &settings, set, due);
+        let is_so = is_due_again(rt, alloc, &site, workers(rt, count), set, due);
         see(rt, is_so, name);
     }
     Ok(())
 }
 
-/// Sees that cases have the answers that are due.
+/// Sees that cases have the answers that are due, by plain settings.
 pub(crate) fn see_cases<R: Threads + Wait + Abort>(
     rt: &R,
     alloc: Global,
-    set: &Set,
     cases: &[Case],
 ) -> Result<(), AllocError> {
     for case in cases {
-        see_case(rt, alloc, set, *case)?;
+        see_case(rt, alloc, &PLAIN, *case)?;
     }
     Ok(())
 }

@@ -1,11 +1,9 @@
 //! A gate round both phases.
 
-use crate::calls::{keeping, see, tree_of, workers};
-use crate::expected::{PLAIN, is_due, settings_of};
+use crate::calls::{keeping, see, workers};
+use crate::expected::{PLAIN, Site, is_due, site_of};
 use crate::trees::EACH_OTHER;
 use index_pool::{Gate, Workers};
-use scip_build::Settings;
-use source_tree::Tree;
 use std::alloc::Global;
 use std::sync::Wait;
 use std::sync::atomic::{AtomicU64, Ordering};
@@ -54,9 +52,8 @@ impl<C: Clock + Sync> Gate for Meeting<C> {
 fn is_met<R: Threads + Wait + Clock + Sync>(
     rt: &R,
     alloc: Global,
-    tree: &Tree,
+    site: &Site,
     workers: Workers,
-    settings: &Settings,
     due: &str,
 ) -> bool {
     let gate = Meeting {
@@ -67,9 +64,7 @@ fn is_met<R: Threads + Wait + Clock + Sync>(
         run_outs: AtomicU64::new(0),
     };
     let chooser = keeping();
-    let met = is_due(
-        rt, alloc, tree, &chooser, workers, settings, &gate, &PLAIN, due,
-    );
+    let met = is_due(rt, alloc, site, &chooser, workers, &gate, &PLAIN, due);
     met == Some(true)
         && chooser.asked() == 4
         && gate.first.load(Ordering::SeqCst) == 2
@@ -80,13 +75,10 @@ fn is_met<R: Threads + Wait + Clock + Sync>(
 
 #[test]
 fn two_workers_meet_in_each_phase(rt: HostRuntime) -> Result<(), Fail> {
-    let alloc = rt.alloc();
     let (_, files, due) = EACH_OTHER;
-    let tree = tree_of(&rt, alloc, files)?;
-    let settings = settings_of(alloc, &PLAIN)?;
+    let site = site_of(&rt, rt.alloc(), &PLAIN, files)?;
     let two = workers(&rt, 2);
-    let met = is_met(&rt, alloc, &tree, two, &settings, due)
-        || is_met(&rt, alloc, &tree, two, &settings, due);
+    let met = is_met(&rt, rt.alloc(), &site, two, due) || is_met(&rt, rt.alloc(), &site, two, due);
     see(&rt, met, "two met");
     Ok(())
 }

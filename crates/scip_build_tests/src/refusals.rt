@@ -1,6 +1,6 @@
 //! Which refusal is answered of several, and where.
 
-use crate::expected::{Case, PLAIN, Set, see_case, see_cases};
+use crate::expected::{Case, see_cases};
 use std::test::Fail;
 
 const OF_LINKING: [Case<'static>; 4] = [
@@ -34,7 +34,7 @@ const OF_LINKING: [Case<'static>; 4] = [
 
 #[test]
 fn refusals_of_linking_in_their_order(rt: HostRuntime) -> Result<(), Fail> {
-    see_cases(&rt, rt.alloc(), &PLAIN, &OF_LINKING)?;
+    see_cases(&rt, rt.alloc(), &OF_LINKING)?;
     Ok(())
 }
 
@@ -60,7 +60,7 @@ const OF_READING: [Case<'static>; 3] = [
 
 #[test]
 fn refusals_of_reading_in_their_order(rt: HostRuntime) -> Result<(), Fail> {
-    see_cases(&rt, rt.alloc(), &PLAIN, &OF_READING)?;
+    see_cases(&rt, rt.alloc(), &OF_READING)?;
     Ok(())
 }
 
@@ -81,20 +81,8 @@ const OF_USES: [Case<'static>; 2] = [
     ),
 ];
 
-const DROPPING: Set<'static> = Set {
-    dropped: &["M", "M.x"],
-    ..PLAIN
-};
-
-const DROPPED: Case<'static> = (
-    "a use of a declaration that is dropped",
-    "a.proto\nsyntax = \"proto3\";\nmessage M { X x = 1; }\n",
-    "unresolved 0 31 32 ",
-);
-
 #[test]
 fn refusals_of_uses_in_their_order(rt: HostRuntime) -> Result<(), Fail> {
-    see_cases(&rt, rt.alloc(), &PLAIN, &OF_USES)?;
-    see_case(&rt, rt.alloc(), &DROPPING, DROPPED)?;
+    see_cases(&rt, rt.alloc(), &OF_USES)?;
     Ok(())
 }

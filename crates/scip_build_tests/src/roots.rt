@@ -1,6 +1,6 @@
 //! What is built from sources that see included files.
 
-use crate::expected::{Case, PLAIN, Set, see_case, see_cases};
+use crate::expected::{Case, see_cases};
 use std::test::Fail;
 
 const CASES: [Case<'static>; 7] = [
@@ -63,27 +63,6 @@ const CASES: [Case<'static>; 7] = [
 
 #[test]
 fn indexes_beside_included_files(rt: HostRuntime) -> Result<(), Fail> {
-    see_cases(&rt, rt.alloc(), &PLAIN, &CASES)?;
-    Ok(())
-}
-
-const DROPPING: Set<'static> = Set {
-    dropped: &["lib.T"],
-    ..PLAIN
-};
-
-const DROPPED: Case<'static> = (
-    "an included declaration that is dropped",
-    "a.proto\nsyntax = \"proto3\";\nimport \"t.proto\";\nmessage M { lib.T t = 1; }\n|\
-    +t.proto\nsyntax = \"proto3\";\npackage lib;\n// A thing.\nmessage T { int32 n = 1; }\n",
-    "a.proto\n\
-    0 0 0 0 1 `a.proto`/;1 7 1 16 2 `t.proto`/;2 8 2 9 1 M#;2 12 2 15 0 lib/;\
-    2 18 2 19 1 M#t.;\n\
-    M#|M|;M#t.|t|;`a.proto`/|a.proto|;=",
-);
-
-#[test]
-fn an_index_beside_a_dropped_declaration(rt: HostRuntime) -> Result<(), Fail> {
-    see_case(&rt, rt.alloc(), &DROPPING, DROPPED)?;
+    see_cases(&rt, rt.alloc(), &CASES)?;
     Ok(())
 }

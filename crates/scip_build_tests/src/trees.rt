@@ -19,7 +19,8 @@ pub(crate) const EACH_OTHER: Case<'static> = (
     B#|B|;B#a.|a|;`b.proto`/|b.proto|;=",
 );
 
-const CASES: [Case<'static>; 3] = [
+const CASES: [Case<'static>; 4] = [
+    EACH_OTHER,
     (
         "packages and types of other files",
         "t.proto\nsyntax = \"proto3\";\npackage google.protobuf;\nmessage Timestamp {}\n|\
@@ -74,50 +75,79 @@ const CASES: [Case<'static>; 3] = [
 
 #[test]
 fn indexes_of_trees(rt: HostRuntime) -> Result<(), Fail> {
-    see_case(&rt, rt.alloc(), &PLAIN, EACH_OTHER)?;
-    see_cases(&rt, rt.alloc(), &PLAIN, &CASES)?;
+    see_cases(&rt, rt.alloc(), &CASES)?;
     Ok(())
 }
 
-const OF_PARTS: Set<'static> = Set {
-    parts: ["my mgr", "", "1.0"],
-    front: "scip-protobuf my  mgr . 1.0 ",
-    ..PLAIN
-};
-
-const THREE_PARTS: Case<'static> = (
-    "a package of three parts",
-    "a b.proto\nsyntax = \"proto3\";\nmessage A {}\n",
-    "a b.proto\n\
-    0 0 0 0 1 `a b.proto`/;1 8 1 9 1 A#;\n\
-    A#|A|;`a b.proto`/|a b.proto|;=",
-);
-
-const OF_HOME: Set<'static> = Set {
-    root: "file:///home/user",
-    ..PLAIN
-};
-
-const NO_FILES: Case<'static> = ("no files", "", "");
-
-const SKIPPING: Set<'static> = Set {
-    custom: CustomOptions::Skip,
-    dropped: &["A"],
-    ..PLAIN
-};
-
-const SKIPPED: Case<'static> = (
-    "custom options that are read past",
-    "a.proto\nsyntax = \"proto3\";\noption (x) = 1;\nmessage A {}\n",
-    "a.proto\n\
-    0 0 0 0 1 `a.proto`/;\n\
-    `a.proto`/|a.proto|;=",
-);
+/// Cases, each with what is set.
+static BY_SETTINGS: [(Set<'static>, Case<'static>); 5] = [
+    (
+        Set {
+            parts: ["my mgr", "", "1.0"],
+            front: "scip-protobuf my  mgr . 1.0 ",
+            ..PLAIN
+        },
+        (
+            "a package of three parts",
+            "a b.proto\nsyntax = \"proto3\";\nmessage A {}\n",
+            "a b.proto\n\
+            0 0 0 0 1 `a b.proto`/;1 8 1 9 1 A#;\n\
+            A#|A|;`a b.proto`/|a b.proto|;=",
+        ),
+    ),
+    (
+        Set {
+            root: "file:///home/user",
+            ..PLAIN
+        },
+        ("no files", "", ""),
+    ),
+    (
+        Set {
+            custom: CustomOptions::Skip,
+            dropped: &["A"],
+            ..PLAIN
+        },
+        (
+            "custom options that are read past",
+            "a.proto\nsyntax = \"proto3\";\noption (x) = 1;\nmessage A {}\n",
+            "a.proto\n\
+            0 0 0 0 1 `a.proto`/;\n\
+            `a.proto`/|a.proto|;=",
+        ),
+    ),
+    (
+        Set {
+            dropped: &["lib.T"],
+            ..PLAIN
+        },
+        (
+            "an included declaration that is dropped",
+            "a.proto\nsyntax = \"proto3\";\nimport \"t.proto\";\nmessage M { lib.T t = 1; }\n|\
+            +t.proto\nsyntax = \"proto3\";\npackage lib;\n// A thing.\nmessage T { int32 n = 1; }\n",
+            "a.proto\n\
+            0 0 0 0 1 `a.proto`/;1 7 1 16 2 `t.proto`/;2 8 2 9 1 M#;2 12 2 15 0 lib/;\
+            2 18 2 19 1 M#t.;\n\
+            M#|M|;M#t.|t|;`a.proto`/|a.proto|;=",
+        ),
+    ),
+    (
+        Set {
+            dropped: &["M", "M.x"],
+            ..PLAIN
+        },
+        (
+            "a use of a declaration that is dropped",
+            "a.proto\nsyntax = \"proto3\";\nmessage M { X x = 1; }\n",
+            "unresolved 0 31 32 ",
+        ),
+    ),
+];
 
 #[test]
 fn indexes_by_settings(rt: HostRuntime) -> Result<(), Fail> {
-    see_case(&rt, rt.alloc(), &OF_PARTS, THREE_PARTS)?;
-    see_case(&rt, rt.alloc(), &OF_HOME, NO_FILES)?;
-    see_case(&rt, rt.alloc(), &SKIPPING, SKIPPED)?;
+    for (set, case) in &BY_SETTINGS {
+        see_case(&rt, rt.alloc(), set, *case)?;
+    }
     Ok(())
 }

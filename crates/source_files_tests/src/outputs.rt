@@ -8,19 +8,23 @@ use std::test::Fail;
 use std::{fs, io};
 
 /// Whether a file holds this.
-fn holds<S: Files + AllocGlobal + Clone + Drop>(system: &S, path: &str, due: &str) -> bool {
-    match fs::read(system, path) {
-        Ok(bytes) => bytes.as_slice() == due.as_bytes(),
-        Err(_) => false,
-    }
+fn holds<S: Files + AllocGlobal + Clone + Drop>(
+    system: &S,
+    path: &str,
+    due: &str,
+) -> io::Result<bool> {
+    let bytes = fs::read(system, path)?;
+    Ok(bytes.as_slice() == due.as_bytes())
 }
 
 /// Whether a file holds what it held until it is written to, and then what was written.
-fn is_made<S: Files + AllocGlobal + Clone + Drop>(system: &S, path: &str) -> bool {
+fn is_made<S: Files + AllocGlobal + Clone + Drop>(system: &S, path: &str) -> io::Result<bool> {
+    fs::write(system, path, "what was there")?;
     let mut out = OutFile::new(system, path);
-    let before = holds(system, path, "what was there");
+    let before = holds(system, path, "what was there")?;
     let written = out.write(b"ab") == Ok(2) && out.write(b"c") == Ok(1);
-    before && written && holds(system, path, "abc")
+    let after = holds(system, path, "abc")?;
+    Ok(before && written && after)
 }
 
 /// Whether a file that can't be made takes nothing.
@@ -33,8 +37,8 @@ const REFUSED: [&str; 3] = [".", "nowhere/out", ""];
 
 #[test]
 fn made_at_the_first_write(rt: HostRuntime) -> Result<(), Fail> {
-    fs::write(&rt, "made.scip", "what was there")?;
-    see(&rt, is_made(&rt, "made.scip"), "made");
+    let made = is_made(&rt, "made.scip")?;
+    see(&rt, made, "made");
     for path in &REFUSED {
         see(&rt, is_refused(&rt, path), path);
     }

@@ -70,12 +70,6 @@ fn make(system: &impl Files) -> io::Result<()> {
     Ok(())
 }
 
-/// Removes them, where they are.
-fn remove<S: Files + AllocGlobal + Clone + Drop>(system: &S) {
-    let _ = fs::remove_file(system, "root");
-    let _ = fs::remove_dir_all(system, "walk");
-}
-
 const LISTED: &str = ".proto a.proto deep/er/c.proto x.proto/b.proto z.proto ";
 
 /// Roots, and what is listed below each.
@@ -101,26 +95,22 @@ fn are_whole(sources: &[Source]) -> bool {
     sources.len() == 5
 }
 
-/// Sees what is listed below each root.
-fn see_listed(rt: &impl Abort, alloc: Global, files: &impl ReadFiles) -> Result<(), AllocError> {
-    for (root, due) in &ROOTS {
-        let found = text_of(alloc, files.list_sources(alloc, root))?;
-        see_text(rt, found.as_str(), due);
-    }
-    Ok(())
-}
-
 #[test]
 fn regular_files_by_path(rt: HostRuntime) -> Result<(), Fail> {
     // What an earlier run has left that didn't come to its end.
-    remove(&rt);
+    let _ = fs::remove_file(&rt, "root");
+    let _ = fs::remove_dir_all(&rt, "walk");
     make(&rt)?;
     let files = SystemFiles::new(&rt);
-    see_listed(&rt, rt.alloc(), &files)?;
+    for (root, due) in &ROOTS {
+        let found = text_of(rt.alloc(), files.list_sources(rt.alloc(), root))?;
+        see_text(&rt, found.as_str(), due);
+    }
     match read_root(rt.alloc(), &files, "walk") {
         Ok(sources) => see(&rt, are_whole(&sources), "the sources"),
         Err(_) => see(&rt, false, "refused"),
     }
-    remove(&rt);
+    fs::remove_file(&rt, "root")?;
+    fs::remove_dir_all(&rt, "walk")?;
     Ok(())
 }

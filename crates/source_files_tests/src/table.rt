@@ -4,68 +4,43 @@ use scip_model::Std;
 use source_files::{FileFault, ReadFiles, read_source};
 use std::alloc::{AllocError, Global};
 
-/// Roots, each with the files below it: `path=text;` for each, and `path;` for one that can't be read.
-/// Others can't be listed. The files below a root `many` are so many and hold nothing.
+/// A file: its path below its root, and what it holds, where it can be read.
+pub(crate) type Entry = (&'static str, Option<&'static str>);
+
+/// Roots, each with the files below it, where it can be listed. The files below a root `many` are so
+/// many and hold nothing.
 #[derive(Clone, Copy)]
 pub(crate) struct Table {
-    pub(crate) roots: &'static [(&'static str, &'static str)],
+    pub(crate) roots: &'static [(&'static str, Option<&'static [Entry]>)],
     pub(crate) many: usize,
-}
-
-/// The text of the file with a path, if it is there and can be read.
-fn text_among(files: &'static str, path: &str) -> Option<&'static str> {
-    for file in files.split(';') {
-        if let Some((name, text)) = file.split_once('=') {
-            if name == path {
-                return Some(text);
-            }
-        }
-    }
-    None
 }
 
 impl Table {
     /// The files below a root.
-    fn files(&self, root: &str) -> Option<&'static str> {
-        for (name, files) in self.roots {
-            if *name == root {
-                return Some(*files);
-            }
-        }
-        None
+    fn entries(&self, root: &str) -> Option<&'static [Entry]> {
+        let (_, entries) = self.roots.iter().find(|(name, _)| *name == root)?;
+        *entries
     }
 
     /// What the file with a path holds.
     fn text(&self, path: &str) -> Option<&'static str> {
-        for (root, files) in self.roots {
+        for (root, entries) in self.roots {
             let below = path
                 .strip_prefix(root)
                 .and_then(|rest| rest.strip_prefix("/"));
-            if let Some(below) = below {
-                return text_among(*files, below);
+            if let (Some(below), Some(entries)) = (below, entries) {
+                let (_, text) = entries.iter().find(|(name, _)| *name == below)?;
+                return *text;
             }
         }
         None
     }
 }
 
-/// Appends a file's path, if there is one.
-fn add_path(alloc: Global, paths: &mut Vec<String>, file: &str) -> Result<(), AllocError> {
-    if file.is_empty() {
-        return Ok(());
-    }
-    let path = match file.split_once('=') {
-        Some((path, _)) => path,
-        None => file,
-    };
-    paths.push(String::from_str(alloc, path)?)?;
-    Ok(())
-}
-
-fn listed(alloc: Global, files: &str) -> Result<Vec<String>, AllocError> {
+fn listed(alloc: Global, entries: &[Entry]) -> Result<Vec<String>, AllocError> {
     let mut paths = Vec::new(alloc);
-    for file in files.split(';') {
-        add_path(alloc, &mut paths, file)?;
+    for (path, _) in entries {
+        paths.push(String::from_str(alloc, path)?)?;
     }
     Ok(paths)
 }
@@ -90,8 +65,8 @@ impl ReadFiles for Table {
         if root == "many" {
             return Ok(numbered(alloc, self.many)?);
         }
-        let files = self.files(root).ok_or(FileFault::Unreadable)?;
-        Ok(listed(alloc, files)?)
+        let entries = self.entries(root).ok_or(FileFault::Unreadable)?;
+        Ok(listed(alloc, entries)?)
     }
 
     fn read_file(&self, alloc: Global, path: &str) -> Result<Vec<u8>, FileFault> {

@@ -1,7 +1,8 @@
 //! Files in memory.
 
 use scip_model::Std;
-use source_files::{FileFault, ReadFiles, read_source};
+use source_files::{FileFault, ReadFiles};
+use source_tree::read_source;
 use std::alloc::{AllocError, Global};
 
 /// A file: its path below its root, and what it holds, where it can be read.

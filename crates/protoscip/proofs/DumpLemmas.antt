@@ -12,6 +12,7 @@ use Rattle.proto_grammar.specs.declared.tree.CustomOptions.{CustomOptions}
 use Rattle.proto_decl.specs.Seen.{Seen}
 use Rattle.index_hooks.specs.declared.choice.Choice.{Choice}
 use Rattle.source_tree.specs.Files.{TreeFile}
+use Rattle.source_tree.specs.Reading.{kept_bytes, max_kept_length}
 use Rattle.scip_model.specs.declared.records.Index.{Index}
 use Rattle.scip_build.specs.Builds.{IsBuilt, IsBuildFault, OfReadings}
 use Rattle.proto_link.specs.Linked.{CanBeLinked}
@@ -29,7 +30,6 @@ use Rattle.scip_build.specs.declared.fault.FileFault.TheVariants as file
 use Rattle.scip_wire.specs.Spelling.{spelling_of}
 use Rattle.protoscip.specs.Faults.{fault_of_build}
 use Rattle.protoscip.specs.FaultLines.{HasFilesOf}
-use Rattle.protoscip.specs.Source.{kept_bytes, max_kept_length}
 use Rattle.protoscip.specs.Indexes.{IsRefused}
 use Rattle.protoscip.specs.Writing.{IsReadBack}
 use Rattle.protoscip.specs.Output.{Writes}

@@ -1,7 +1,5 @@
 -- lists by their places
 mod ListLemmas
--- what is kept of a source
-pub mod SourceLemmas
 -- what a run answers, and the files that its fault names
 mod IndexingLemmas
 mod FileLemmas

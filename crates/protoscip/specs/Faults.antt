@@ -10,8 +10,8 @@ use Rattle.scip_wire.specs.declared.write_fault.SpellFault.{SpellFault}
 use Rattle.scip_wire.specs.declared.write_fault.SpellFault.TheVariants as spelling
 use Rattle.scip_wire.specs.declared.write_fault.WriteFault.{WriteFault}
 use Rattle.scip_wire.specs.declared.write_fault.WriteFault.TheVariants as writing
-use Rattle.protoscip.specs.declared.source.SourceFault.{SourceFault}
-use Rattle.protoscip.specs.declared.source.SourceFault.TheVariants as source
+use Rattle.source_tree.specs.declared.reading.SourceFault.{SourceFault}
+use Rattle.source_tree.specs.declared.reading.SourceFault.TheVariants as source
 use Rattle.protoscip.specs.declared.fault.Fault.{Fault}
 use Rattle.protoscip.specs.declared.fault.Fault.TheVariants.{Spawn, Memory, Lex, Syntax, Duplicate, MissingImport, Unresolved, TooLarge, Write, Read, Answer}
 

@@ -1,5 +1,4 @@
--- what is kept of a source, and what is written of a text
-pub mod Source
+-- what is written of a text
 pub mod Output
 -- why a run stops, the line that says so, and the status that a program then ends with
 pub mod Faults

@@ -3,13 +3,13 @@
 ghost use Rattle.std.specs.Prelude.{◌≡◌};
 ghost use Rattle.protoscip.specs.Statuses.{status_of};
 
-use crate::source::SourceFault;
 use proto_lex::LexFault;
 use proto_link::FilePlace;
 use proto_parse::SyntaxFault;
 use scip_build::{BuildFault, FileFault};
 use scip_query::AnswerFault;
 use scip_wire::{SpellFault, WriteFault};
+use source_tree::SourceFault;
 use std::alloc::{AllocError, AllocFailed};
 use thiserror::Error;
 

@@ -10,7 +10,6 @@ mod laws;
 mod dumping;
 mod listing;
 mod output;
-mod source;
 
 // Answers to commands about the index of a tree.
 mod reading_back;
@@ -30,4 +29,3 @@ pub use laws::{
 };
 pub use output::write_text;
 pub use sessions::session;
-pub use source::{SourceFault, read_source};

@@ -1,4 +1,4 @@
--- what is kept of a source's bytes
+-- what may be kept of a source
 pub mod Source
 pub mod FileFaults
 -- what the sources below a root are, and which can't be read

@@ -1,6 +1,6 @@
 //! Why files aren't read.
 
-use crate::source::SourceFault;
+use source_tree::SourceFault;
 use std::alloc::{AllocError, AllocFailed};
 use std::io;
 use std::io::ErrorKind;

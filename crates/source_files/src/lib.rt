@@ -8,7 +8,6 @@ mod load_fault;
 mod out_file;
 mod read_files;
 mod root;
-mod source;
 mod system_files;
 mod walk;
 
@@ -18,5 +17,4 @@ pub use load_fault::LoadFault;
 pub use out_file::OutFile;
 pub use read_files::ReadFiles;
 pub use root::{RootFault, read_root};
-pub use source::{SourceFault, read_source};
 pub use system_files::SystemFiles;

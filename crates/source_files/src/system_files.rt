@@ -2,9 +2,9 @@
 
 use crate::file_fault::FileFault;
 use crate::read_files::ReadFiles;
-use crate::source::read_source;
 use crate::walk;
 use scip_model::Std;
+use source_tree::read_source;
 use std::alloc::Global;
 use std::fs;
 use std::fs::File;

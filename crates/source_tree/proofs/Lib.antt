@@ -1,3 +1,4 @@
+pub mod ReadingLemmas
 pub mod ComponentLemmas
 pub mod OrderLemmas
 pub mod PathLemmas

@@ -1,5 +1,5 @@
 //! The tree of a run's files: the sources, which are indexed, and the included files, to which
-//! imports may lead.
+//! imports may lead; and reading a source to its end.
 #![tactic(auto)]
 
 mod by_path;
@@ -7,10 +7,12 @@ mod counting;
 mod fault;
 mod laws;
 mod path;
+mod reading;
 mod source;
 mod tree;
 
 pub use fault::TreeFault;
 pub use laws::{one_sorting_by_path, one_tree, refusals_exclude_each_other, trees_are_not_refused};
+pub use reading::{SourceFault, read_source};
 pub use source::Source;
 pub use tree::{MAX_FILES, Tree};

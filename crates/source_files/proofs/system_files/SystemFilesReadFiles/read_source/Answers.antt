@@ -1,6 +1,6 @@
 use Rattle.std.proofs.Common.{sym}
 use Rattle.std.proofs.lemmas.List.{take_all}
-use Rattle.source_files.specs.Source.{max_kept_length}
+use Rattle.source_tree.specs.Reading.{max_kept_length}
 use Rattle.source_files.proofs.system_files.SystemFilesReadFiles.read_source.Goals as goal
 
 pub returns : goal.returns

@@ -2,10 +2,10 @@ use Rattle.std.proofs.Common.{◌≡◌, ℕ, ◌<◌, ◌≤◌, ◌++◌, List
 use Rattle.std.proofs.lemmas.List.{append-nil}
 use Rattle.scip_model.specs.Streams.{one_more}
 use Rattle.scip_model.specs.declared.failed.Failed.{Failed}
-use Rattle.protoscip.specs.Source.{kept_bytes, max_kept_length}
+use Rattle.source_tree.specs.Reading.{kept_bytes, max_kept_length}
 use Rattle.scip_model.proofs.WholeReadLemmas.{one-more-read, no-end, consumed, nothing-left, reads-full, more-reads}
-use Rattle.protoscip.proofs.SourceLemmas.{kept_bytes-more, kept_bytes-few}
-use Rattle.protoscip.proofs.source.read_source.Goals as goal
+use Rattle.source_tree.proofs.ReadingLemmas.{kept_bytes-more, kept_bytes-few}
+use Rattle.source_tree.proofs.reading.read_source.Goals as goal
 
 pub reads-init : goal.reads-init
 reads-init g c = record {

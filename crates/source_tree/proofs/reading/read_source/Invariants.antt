@@ -1,7 +1,7 @@
 use Rattle.std.proofs.Common.{◌≡◌, ℕ, ◌+◌, ◌<◌, ◌≤◌, ◌++◌, List, Some, length}
 use Rattle.scip_model.specs.Streams.{more_by}
-use Rattle.source_files.specs.Source.{kept_bytes, max_kept_length}
-use Rattle.source_files.proofs.source.read_source.Given as goal
+use Rattle.source_tree.specs.Reading.{kept_bytes, max_kept_length}
+use Rattle.source_tree.proofs.reading.read_source.Given as goal
 
 -- what was read so far is kept, and no read failed or met the end
 abbrev pub invariant-reads : goal.invariant-reads

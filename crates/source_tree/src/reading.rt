@@ -2,7 +2,7 @@
 
 ghost use Rattle.std.specs.Prelude.{◌≡◌, ◌≤◌, ◌+◌, ◌-◌, ◌++◌, ℕ, List, Some, take, length, min, IfOk, IfErr, OnOk};
 ghost use Rattle.scip_model.specs.WholeReads.{IsReadThrough, IsReadFault, IsReadBriefly};
-ghost use Rattle.source_files.specs.Source.{kept_bytes, max_kept_length};
+ghost use Rattle.source_tree.specs.Reading.{kept_bytes, max_kept_length};
 
 use proto_lex::MAX_TEXT_LENGTH;
 use scip_model::{Failed, Feed, MAX_READS};
@@ -25,7 +25,7 @@ pub enum SourceFault {
 
 impl From<AllocError> for SourceFault {
     ghost use Rattle.std.specs.Prelude.{◌≡◌};
-    ghost use Rattle.source_files.specs.declared.source.SourceFault.TheVariants.{Memory};
+    ghost use Rattle.source_tree.specs.declared.reading.SourceFault.TheVariants.{Memory};
 
     ghost from_gives = { λ _ e. e ≡ Memory };
 

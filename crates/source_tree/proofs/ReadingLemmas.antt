@@ -2,7 +2,7 @@
 use Rattle.std.proofs.Common.{◌≡◌, ℕ, zero, suc, ◌+◌, ◌≤◌, List, [], ◌∷◌, ◌++◌, length, take, refl, ap, sym, ◌∙◌, arith}
 use Rattle.std.proofs.lemmas.List.{take_all, length-append, length-take}
 use Rattle.std.proofs.Math.Seq.{take-append-add}
-use Rattle.protoscip.specs.Source.{kept_bytes, max_kept_length}
+use Rattle.source_tree.specs.Reading.{kept_bytes, max_kept_length}
 
 pub kept_bytes-fits : (xs ys : List ℕ) → length xs + length ys ≤ max_kept_length → kept_bytes (xs ++ ys) ≡ xs ++ ys
 kept_bytes-fits xs ys fits = take_all max_kept_length (xs ++ ys) (omega (arith, length-append xs ys))

@@ -1,8 +1,8 @@
 use Rattle.std.proofs.Common.{◌≡◌, ◌+◌, ◌-◌, ◌≤◌, length, arith}
 use Rattle.std.proofs.lemmas.Grind.{common_steps}
-use Rattle.source_files.specs.Source.{max_kept_length}
-use Rattle.source_files.proofs.SourceLemmas.{kept_bytes-fits, kept_bytes-cut}
-use Rattle.source_files.proofs.source.append_kept.Goals as goal
+use Rattle.source_tree.specs.Reading.{max_kept_length}
+use Rattle.source_tree.proofs.ReadingLemmas.{kept_bytes-fits, kept_bytes-cut}
+use Rattle.source_tree.proofs.reading.append_kept.Goals as goal
 
 pub returns-then-part-space : goal.returns-then-part-space
 returns-then-part-space c =

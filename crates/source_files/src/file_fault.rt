@@ -16,6 +16,10 @@ pub enum FileFault {
 }
 
 impl From<io::Error> for FileFault {
+    ghost use Rattle.source_files.specs.FileFaults.{IsFaultOfError};
+
+    ghost from_gives = { λ error e. IsFaultOfError error e };
+
     fn from(error: io::Error) -> FileFault {
         if error.kind() == ErrorKind::OutOfMemory {
             FileFault::Memory

@@ -1,11 +1,12 @@
 //! The sources below a root.
 
-use source_files::{FileFault, ReadFiles, SystemFiles, read_root};
+use source_files::{FileFault, ReadFiles, RootFault, SystemFiles, read_root};
+use source_tree::Source;
 use std::alloc::{AllocError, Global};
-use std::fs;
 use std::process::Abort;
 use std::rt::Files;
 use std::test::Fail;
+use std::{fs, io};
 
 /// Sees that a text is what is due.
 pub(crate) fn see_text(rt: &impl Abort, found: &str, due: &str) {
@@ -29,11 +30,43 @@ fn text_of(alloc: Global, answer: Result<Vec<String>, FileFault>) -> Result<Stri
     }
 }
 
+/// The paths of the sources below a root. After `Memory` it is called again, and the second answer
+/// counts; so it is with the call below.
+fn list_again<F: ReadFiles>(
+    alloc: Global,
+    files: &F,
+    root: &str,
+) -> Result<Vec<String>, FileFault> {
+    match files.list_sources(alloc, root) {
+        Err(FileFault::Memory) => files.list_sources(alloc, root),
+        answer => answer,
+    }
+}
+
+fn read_again<F: ReadFiles>(
+    alloc: Global,
+    files: &F,
+    root: &str,
+) -> Result<Vec<Source>, RootFault> {
+    match read_root(alloc, files, root) {
+        Err(RootFault::Memory) => read_root(alloc, files, root),
+        answer => answer,
+    }
+}
+
+/// Removes a folder with all that it holds. Where it can't, as where memory ran out, it tries again.
+fn remove_again<S: Files + AllocGlobal>(system: &S, path: &str) -> io::Result<()> {
+    match fs::remove_dir_all(system, path) {
+        Err(_) => fs::remove_dir_all(system, path),
+        done => done,
+    }
+}
+
 #[test]
 fn regular_files_by_path(rt: HostRuntime) -> Result<(), Fail> {
     // What an earlier run has left that didn't come to its end.
     let _ = fs::remove_file(&rt, "root");
-    let _ = fs::remove_dir_all(&rt, "walk");
+    let _ = remove_again(&rt, "walk");
     fs::create_dir(&rt, "walk")?;
     fs::create_dir(&rt, "walk/x.proto")?;
     fs::create_dir(&rt, "walk/deep")?;
@@ -55,7 +88,7 @@ fn regular_files_by_path(rt: HostRuntime) -> Result<(), Fail> {
     rt.symlink("walk", "root")?;
     let files = SystemFiles::new(&rt);
     for root in ["walk", "walk/", "./walk", "root"] {
-        let found = text_of(rt.alloc(), files.list_sources(rt.alloc(), root))?;
+        let found = text_of(rt.alloc(), list_again(rt.alloc(), &files, root))?;
         see_text(
             &rt,
             found.as_str(),
@@ -63,10 +96,10 @@ fn regular_files_by_path(rt: HostRuntime) -> Result<(), Fail> {
         );
     }
     for root in ["walk/a.proto", "nowhere", "", "walk/link.proto"] {
-        let found = text_of(rt.alloc(), files.list_sources(rt.alloc(), root))?;
+        let found = text_of(rt.alloc(), list_again(rt.alloc(), &files, root))?;
         see_text(&rt, found.as_str(), "Unreadable");
     }
-    match read_root(rt.alloc(), &files, "walk") {
+    match read_again(rt.alloc(), &files, "walk") {
         Ok(sources) => {
             for source in &sources {
                 let held = String::from_utf8(source.bytes.clone()?);
@@ -79,6 +112,6 @@ fn regular_files_by_path(rt: HostRuntime) -> Result<(), Fail> {
         Err(_) => see_text(&rt, "refused", "5"),
     }
     fs::remove_file(&rt, "root")?;
-    fs::remove_dir_all(&rt, "walk")?;
+    remove_again(&rt, "walk")?;
     Ok(())
 }

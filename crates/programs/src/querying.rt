@@ -1,11 +1,11 @@
 //! Answers to commands about the index that a file holds.
 
 ghost use Rattle.std.specs.Prelude.{◌≡◌};
-ghost use Rattle.programs.specs.Queries.{IsReadFrom, Queried};
+ghost use Rattle.programs.specs.Queries.{IsReadFrom, Queried, outcome_of};
 
 use crate::query_fault::QueryFault;
 use scip_model::{Feed, Index, Sink};
-use scip_query::Queries;
+use scip_query::{AnswerFault, Queries};
 use scip_wire::read_index;
 use source_files::ReadFiles;
 use std::alloc::Global;
@@ -17,6 +17,14 @@ fn index_of_file<F: ReadFiles>(alloc: Global, files: &F, path: &str) -> Result<I
     let bytes = files.read_file(alloc, path)?;
     let index = read_index(alloc, &bytes)?;
     Ok(index)
+}
+
+/// What becomes of the program when commands were answered so.
+fn outcome_of(answered: Result<(), AnswerFault>) -> Result<(), QueryFault>
+    ensures { result ≡ outcome_of answered }
+{
+    answered?;
+    Ok(())
 }
 
 /// Reads the index that a file holds, and answers commands about it, one a line, as
@@ -36,6 +44,5 @@ pub fn query<F: ReadFiles, R: Feed, W: Sink>(
 {
     let index = index_of_file(alloc, files, path)?;
     let queries = Queries::new(alloc, index)?;
-    queries.answer_all(alloc, commands, answers)?;
-    Ok(())
+    outcome_of(queries.answer_all(alloc, commands, answers))
 }

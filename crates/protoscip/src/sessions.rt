@@ -1,7 +1,8 @@
 //! From a tree to answers to commands about its index.
 
-ghost use Rattle.std.specs.Prelude.{IfErr};
+ghost use Rattle.std.specs.Prelude.{◌≡◌, IfErr};
 ghost use Rattle.protoscip.specs.FaultLines.{HasFilesOf};
+ghost use Rattle.protoscip.specs.Faults.{outcome_of};
 ghost use Rattle.protoscip.specs.Conversing.{Converses};
 ghost use Rattle.protoscip.specs.Sessions.{Serves};
 
@@ -12,11 +13,19 @@ use index_pool::{Gate, Workers};
 use scip_build::{Built, Settings, build};
 use scip_document::Choices;
 use scip_model::{Feed, Index, Sink};
-use scip_query::Queries;
+use scip_query::{AnswerFault, Queries};
 use source_tree::Tree;
 use std::alloc::Global;
 use std::sync::Wait;
 use std::thread::Threads;
+
+/// What becomes of a run whose commands were answered so.
+fn outcome_of(answered: Result<(), AnswerFault>) -> Result<(), Fault>
+    ensures { result ≡ outcome_of answered }
+{
+    answered?;
+    Ok(())
+}
 
 /// Answers commands about the index that an index's bytes decode to: itself.
 fn converse<F: Feed, W: Sink>(
@@ -29,8 +38,7 @@ fn converse<F: Feed, W: Sink>(
 {
     let read = read_back(alloc, index)?;
     let queries = Queries::new(alloc, read)?;
-    queries.answer_all(alloc, commands, answers)?;
-    Ok(())
+    outcome_of(queries.answer_all(alloc, commands, answers))
 }
 
 /// Builds the index of a tree, as `index_tree` does, and answers commands about it, one a line, as

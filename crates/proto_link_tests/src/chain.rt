@@ -1,6 +1,8 @@
 //! A chain of a hundred files, each of which publicly imports the next.
 
-use crate::trees::{Due, Sight, Source, see_tree};
+use crate::dice::word_at;
+use crate::drafts::Draft;
+use crate::trees::{Due, Sight, see_tree};
 use std::alloc::{AllocError, Global};
 use std::process::Abort;
 use std::test::Fail;
@@ -20,62 +22,39 @@ const PLAIN_SIGHTS: [Sight; 4] = [
     (50, 99, true),
 ];
 
-/// The text of a file that imports the one with this number, which is below 100.
-fn text_of(alloc: Global, number: u8, plain: bool) -> Result<String, AllocError> {
-    let front = if plain {
-        "syntax = \"proto3\";\nimport \"f"
-    } else {
-        "syntax = \"proto3\";\nimport public \"f"
-    };
-    let (tens, ones) = (number / 10, number % 10);
-    format!(in alloc; "{front}{tens}{ones}.proto\";\n")
+const DIGITS: [&str; 10] = ["0", "1", "2", "3", "4", "5", "6", "7", "8", "9"];
+
+/// Adds the path of the file with this number, which is below 100.
+fn add_path(draft: &mut Draft, number: u8) {
+    draft.add("f");
+    draft.add(word_at(&DIGITS, (number / 10) as usize));
+    draft.add(word_at(&DIGITS, (number % 10) as usize));
+    draft.add(".proto");
 }
 
-fn add_text(
-    alloc: Global,
-    texts: &mut Vec<String>,
-    number: u8,
-    plain: bool,
-) -> Result<(), AllocError> {
-    let text = text_of(alloc, number, plain)?;
-    texts.push(text)?;
-    Ok(())
-}
-
-/// The texts of all files but the last; that of one file imports plainly.
-fn texts_of(alloc: Global, plain: u8) -> Result<Vec<String>, AllocError> {
-    let mut texts = Vec::new(alloc);
-    for number in 1..100 {
-        add_text(alloc, &mut texts, number, number - 1 == plain)?;
+/// Adds the file with this number, which imports the next one.
+fn add_file(draft: &mut Draft, number: u8, plain: bool) {
+    add_path(draft, number);
+    draft.add("\nsyntax = \"proto3\";\n");
+    if number < 99 {
+        draft.add(if plain {
+            "import \""
+        } else {
+            "import public \""
+        });
+        add_path(draft, number + 1);
+        draft.add("\";\n");
     }
-    Ok(texts)
+    draft.add("|");
 }
 
-/// What a text imports.
-fn imported(text: &str) -> &str {
-    text.split('"').nth(3).unwrap_or("")
-}
-
-fn sources_of<'a>(alloc: Global, texts: &'a [String]) -> Result<Vec<Source<'a>>, AllocError> {
-    let mut sources = Vec::new(alloc);
-    let mut path = "f00.proto";
-    for text in texts {
-        sources.push((path, text.as_str(), false))?;
-        path = imported(text.as_str());
+/// The files, of which one imports plainly.
+fn chain_of(alloc: Global, plain: u8) -> Result<String, AllocError> {
+    let mut draft = Draft::new(alloc);
+    for number in 0..100 {
+        add_file(&mut draft, number, number == plain);
     }
-    sources.push((path, "syntax = \"proto3\";\n", false))?;
-    Ok(sources)
-}
-
-fn see_texts(
-    rt: &impl Abort,
-    alloc: Global,
-    texts: &[String],
-    sights: &[Sight],
-) -> Result<(), AllocError> {
-    let sources = sources_of(alloc, texts)?;
-    let due = Due::Sights(sights);
-    see_tree(rt, alloc, sources.as_slice(), due, "a chain")
+    draft.finish()
 }
 
 fn see_chain(
@@ -84,8 +63,8 @@ fn see_chain(
     plain: u8,
     sights: &[Sight],
 ) -> Result<(), AllocError> {
-    let texts = texts_of(alloc, plain)?;
-    see_texts(rt, alloc, texts.as_slice(), sights)
+    let tree = chain_of(alloc, plain)?;
+    see_tree(rt, alloc, tree.as_str(), Due::Sights(sights), "a chain")
 }
 
 #[test]

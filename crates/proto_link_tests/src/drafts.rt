@@ -24,6 +24,14 @@ impl Draft {
         }
     }
 
+    /// Adds a word, behind a dot where others stand before it.
+    pub(crate) fn add_word(&mut self, word: &str) {
+        if !self.text.is_empty() {
+            self.add(".");
+        }
+        self.add(word);
+    }
+
     pub(crate) fn finish(self) -> Result<String, AllocError> {
         if self.is_cut {
             Err(AllocError)
@@ -36,11 +44,8 @@ impl Draft {
 /// The full name that a type has in a scope.
 fn full_name(alloc: Global, scope: &str, name: &str) -> Result<String, AllocError> {
     let mut draft = Draft::new(alloc);
-    if !scope.is_empty() {
-        draft.add(scope);
-        draft.add(".");
-    }
-    draft.add(name);
+    draft.add_word(scope);
+    draft.add_word(name);
     draft.finish()
 }
 

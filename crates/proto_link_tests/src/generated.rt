@@ -2,7 +2,7 @@
 
 use crate::dice::{Dice, word_at};
 use crate::drafts::{Draft, add_enum, add_message, add_service};
-use crate::trees::{Due, Source, see_tree};
+use crate::trees::{Due, see_tree};
 use std::alloc::{AllocError, Global};
 use std::process::Abort;
 use std::test::Fail;
@@ -22,11 +22,8 @@ const IMPORTS: [&str; 4] = [
 /// The name of a package of up to three words; none is empty.
 fn package_of(alloc: Global, dice: &mut Dice) -> Result<String, AllocError> {
     let mut draft = Draft::new(alloc);
-    for index in 0..dice.below(4) {
-        if index > 0 {
-            draft.add(".");
-        }
-        draft.add(dice.word());
+    for _ in 0..dice.below(4) {
+        draft.add_word(dice.word());
     }
     draft.finish()
 }
@@ -63,8 +60,9 @@ fn add_part(
     }
 }
 
-/// Adds the package statement of a file, where it has a package, and its other statements.
-fn add_parts(
+/// Adds the text of one of so many files, of a package, where it has one. It may use all these types;
+/// its own are added to them.
+fn add_text(
     alloc: Global,
     draft: &mut Draft,
     dice: &mut Dice,
@@ -72,6 +70,7 @@ fn add_parts(
     package: &str,
     types: &mut Vec<String>,
 ) -> Result<(), AllocError> {
+    draft.add("syntax = \"proto3\";\n");
     if !package.is_empty() {
         draft.add("package ");
         draft.add(package);
@@ -83,88 +82,46 @@ fn add_parts(
     if dice.below(16) == 0 {
         draft.add("@");
     }
+    draft.add("|");
     Ok(())
 }
 
-/// The text of one of so many files, of a package, which may use all these types; its own are added
-/// to them.
-fn text_of(
+/// Adds one of so many files.
+fn add_file(
     alloc: Global,
+    draft: &mut Draft,
     dice: &mut Dice,
     files: u8,
-    package: &str,
-    types: &mut Vec<String>,
-) -> Result<String, AllocError> {
-    let mut draft = Draft::new(alloc);
-    draft.add("syntax = \"proto3\";\n");
-    add_parts(alloc, &mut draft, dice, files, package, types)?;
-    draft.finish()
-}
-
-fn text_of_any(
-    alloc: Global,
-    dice: &mut Dice,
-    files: u8,
-    types: &mut Vec<String>,
-) -> Result<String, AllocError> {
-    let package = package_of(alloc, dice)?;
-    text_of(alloc, dice, files, package.as_str(), types)
-}
-
-fn add_text(
-    alloc: Global,
-    texts: &mut Vec<String>,
-    dice: &mut Dice,
-    files: u8,
+    path: &str,
     types: &mut Vec<String>,
 ) -> Result<(), AllocError> {
-    let text = text_of_any(alloc, dice, files, types)?;
-    texts.push(text)?;
-    Ok(())
+    draft.add(path);
+    draft.add("\n");
+    let package = package_of(alloc, dice)?;
+    add_text(alloc, draft, dice, files, package.as_str(), types)
 }
 
-fn add_texts(
+/// Adds so many files; those from a number on are included.
+fn add_files(
     alloc: Global,
-    texts: &mut Vec<String>,
+    draft: &mut Draft,
     dice: &mut Dice,
     files: u8,
+    included: u8,
 ) -> Result<(), AllocError> {
     let mut types = Vec::new(alloc);
-    for _ in 0..files {
-        add_text(alloc, texts, dice, files, &mut types)?;
+    for number in 0..files {
+        draft.add(if number < included { "" } else { "+" });
+        let path = word_at(&PATHS, number as usize);
+        add_file(alloc, draft, dice, files, path, &mut types)?;
     }
     Ok(())
 }
 
-fn texts_of(alloc: Global, dice: &mut Dice, files: u8) -> Result<Vec<String>, AllocError> {
-    let mut texts = Vec::new(alloc);
-    add_texts(alloc, &mut texts, dice, files)?;
-    Ok(texts)
-}
-
-/// The files with these texts; those from a number on are included.
-fn sources_of<'a>(
-    alloc: Global,
-    texts: &'a [String],
-    included: usize,
-) -> Result<Vec<Source<'a>>, AllocError> {
-    let mut sources = Vec::new(alloc);
-    for (number, text) in texts.iter().enumerate() {
-        sources.push((word_at(&PATHS, number), text.as_str(), number >= included))?;
-    }
-    Ok(sources)
-}
-
-/// Sees that files with these texts are linked as scans tell; those from a number on are included.
-fn see_texts(
-    rt: &impl Abort,
-    alloc: Global,
-    texts: &[String],
-    included: usize,
-) -> Result<(), AllocError> {
-    let sources = sources_of(alloc, texts, included)?;
-    let due = Due::Scanned;
-    see_tree(rt, alloc, sources.as_slice(), due, "a generated tree")
+fn tree_of(alloc: Global, dice: &mut Dice, files: u8, included: u8) -> Result<String, AllocError> {
+    let mut draft = Draft::new(alloc);
+    add_files(alloc, &mut draft, dice, files, included)?;
+    draft.finish()
 }
 
 /// Sees that a generated tree is linked as scans tell.
@@ -172,8 +129,8 @@ fn see_generated(rt: &impl Abort, alloc: Global, seed: u32) -> Result<(), AllocE
     let mut dice = Dice::new(seed);
     let files = dice.below(13).max(1);
     let included = if seed % 2 == 0 { 12 } else { dice.below(files) };
-    let texts = texts_of(alloc, &mut dice, files)?;
-    see_texts(rt, alloc, texts.as_slice(), included as usize)
+    let tree = tree_of(alloc, &mut dice, files, included)?;
+    see_tree(rt, alloc, tree.as_str(), Due::Scanned, "a generated tree")
 }
 
 #[test]

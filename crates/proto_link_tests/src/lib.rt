@@ -32,6 +32,8 @@ mod nested;
 #[cfg(test)]
 mod paths;
 #[cfg(test)]
+mod said;
+#[cfg(test)]
 mod scans;
 #[cfg(test)]
 mod seen;

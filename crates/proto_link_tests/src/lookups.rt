@@ -3,7 +3,8 @@
 ghost use Rattle.std.specs.Prelude.{ℕ, ◌≡◌, ◌<◌, length};
 
 use crate::meanings::{Known, is_due, known_to};
-use crate::trees::{Due, Meaning, Sight, place_of};
+use crate::said::{is_meant, uses_said};
+use crate::trees::{Due, Sight};
 use proto_decl::Use;
 use proto_link::{LinkFault, LinkFile, Linker, Target};
 use std::alloc::{AllocError, Global};
@@ -23,22 +24,10 @@ fn resolved(
     }
 }
 
-fn means(answer: &Result<Target, LinkFault>, meaning: Meaning) -> bool {
-    match (answer, meaning) {
-        (Ok(target), Meaning::Names(name, parts)) => {
-            target.name.as_str() == name && target.parts.as_slice() == parts
-        }
-        (Err(fault), Meaning::Unresolved(place)) => {
-            *fault == LinkFault::Unresolved(place_of(place))
-        }
-        _ => false,
-    }
-}
-
 /// What is due of the use with this number, where that is said.
-fn meaning_of<'a>(meanings: Option<&'a [Meaning<'a>]>, index: usize) -> Option<Meaning<'a>> {
+fn meaning_of(meanings: Option<&str>, index: usize) -> Option<&str> {
     match meanings {
-        Some(meanings) => meanings.get(index).copied(),
+        Some(meanings) => meanings.split_terminator(';').nth(index),
         None => None,
     }
 }
@@ -49,11 +38,11 @@ fn is_right(
     file: usize,
     type_use: &Use,
     known: &[Known],
-    meaning: Option<Meaning>,
+    meaning: Option<&str>,
     answer: &Result<Target, LinkFault>,
 ) -> Result<bool, AllocError> {
     match meaning {
-        Some(meaning) if !means(answer, meaning) => Ok(false),
+        Some(meaning) if !is_meant(answer, meaning) => Ok(false),
         _ => is_due(alloc, known, file, type_use, answer),
     }
 }
@@ -65,7 +54,7 @@ fn is_answered(
     file: usize,
     type_use: &Use,
     known: &[Known],
-    meaning: Option<Meaning>,
+    meaning: Option<&str>,
 ) -> Result<bool, AllocError>
     requires { file < length linker.now }
 {
@@ -81,7 +70,7 @@ fn are_answered(
     file: usize,
     uses: &[Use],
     known: &[Known],
-    meanings: Option<&[Meaning]>,
+    meanings: Option<&str>,
 ) -> Result<bool, AllocError>
     requires { file < length linker.now }
 {
@@ -95,20 +84,17 @@ fn are_answered(
 }
 
 /// What is due of the uses of a file, where that is said.
-fn meanings_of<'a>(due: Due<'a>, file: usize) -> Option<&'a [Meaning<'a>]> {
+fn meanings_of<'a>(due: Due<'a>, file: usize) -> Option<&'a str> {
     match due {
-        Due::Means(meanings) => match meanings.get(file) {
-            Some(meanings) => Some(*meanings),
-            None => Some(&[]),
-        },
+        Due::Said(text) => uses_said(text, file),
         _ => None,
     }
 }
 
 /// Whether that many uses are due of a file, where that is said.
-fn is_count(uses: &[Use], meanings: Option<&[Meaning]>) -> bool {
+fn is_count(uses: &[Use], meanings: Option<&str>) -> bool {
     match meanings {
-        Some(meanings) => uses.len() == meanings.len(),
+        Some(meanings) => uses.len() == meanings.split_terminator(';').count(),
         None => true,
     }
 }

@@ -1,5 +1,6 @@
 //! What uses name, found by looking at each name that a file knows.
 
+use crate::drafts::Draft;
 use crate::trees::Sight;
 use proto_decl::{Component, Declaration, DeclarationKind, FileFacts, Use};
 use proto_link::{Entity, FilePlace, LinkFault, LinkFile, Target};
@@ -123,47 +124,45 @@ fn is_known_as(known: &[Known], name: &str, entity: Entity) -> bool {
     false
 }
 
-fn words_of<'a>(alloc: Global, name: &'a str) -> Result<Vec<&'a str>, AllocError> {
-    if name.is_empty() {
-        return Ok(Vec::new(alloc));
-    }
-    name.split('.').collect(alloc)
+/// How many words a name has.
+fn words_of(name: &str) -> usize {
+    name.split_terminator('.').count()
 }
 
-/// So many of the words, with dots between them.
-fn front_of(alloc: Global, words: &[&str], count: usize) -> Result<String, AllocError> {
-    let mut front = String::new(alloc);
-    for word in words.iter().take(count) {
-        if !front.is_empty() {
-            front.push_str(".")?;
-        }
-        front.push_str(word)?;
+/// Adds so many of the words of a name.
+fn add_front(draft: &mut Draft, name: &str, count: usize) {
+    for word in name.split_terminator('.').take(count) {
+        draft.add_word(word);
     }
-    Ok(front)
 }
 
-/// The name that components are in the scope of so many words.
+/// So many of the words of a name.
+fn front_of(alloc: Global, name: &str, count: usize) -> Result<String, AllocError> {
+    let mut draft = Draft::new(alloc);
+    add_front(&mut draft, name, count);
+    draft.finish()
+}
+
+/// The name that components are in a scope, of which so many words count.
 fn name_in(
     alloc: Global,
-    scope: &[&str],
+    scope: &str,
     count: usize,
     components: &[Component],
 ) -> Result<String, AllocError> {
-    let mut name = front_of(alloc, scope, count)?;
+    let mut draft = Draft::new(alloc);
+    add_front(&mut draft, scope, count);
     for component in components {
-        if !name.is_empty() {
-            name.push_str(".")?;
-        }
-        name.push_str(component.name.as_str())?;
+        draft.add_word(component.name.as_str());
     }
-    Ok(name)
+    draft.finish()
 }
 
-/// Whether components are known in the scope of so many words.
+/// Whether components are known in a scope, of which so many words count.
 fn is_known_in(
     alloc: Global,
     known: &[Known],
-    scope: &[&str],
+    scope: &str,
     count: usize,
     components: &[Component],
     role: Role,
@@ -177,12 +176,12 @@ fn is_known_in(
 fn innermost(
     alloc: Global,
     known: &[Known],
-    scope: &[&str],
+    scope: &str,
     components: &[Component],
     role: Role,
 ) -> Result<Option<usize>, AllocError> {
     let mut found = None;
-    for count in 0..=scope.len() {
+    for count in 0..=words_of(scope) {
         if is_known_in(alloc, known, scope, count, components, role)? {
             found = Some(count);
         }
@@ -194,7 +193,7 @@ fn innermost(
 fn start_of(
     alloc: Global,
     known: &[Known],
-    scope: &[&str],
+    scope: &str,
     type_use: &Use,
 ) -> Result<Option<usize>, AllocError> {
     if type_use.has_leading_dot {
@@ -211,13 +210,9 @@ fn start_of(
     }
 }
 
-/// The full name of the type that a use in a scope names.
-fn name_in_scope(
-    alloc: Global,
-    known: &[Known],
-    scope: &[&str],
-    type_use: &Use,
-) -> Result<Option<String>, AllocError> {
+/// The full name of the type that a use names.
+fn name_of(alloc: Global, known: &[Known], type_use: &Use) -> Result<Option<String>, AllocError> {
+    let scope = type_use.scope.as_str();
     let components = type_use.components.as_slice();
     match start_of(alloc, known, scope, type_use)? {
         Some(count) if is_known_in(alloc, known, scope, count, components, Role::Type)? => {
@@ -227,34 +222,28 @@ fn name_in_scope(
     }
 }
 
-/// The full name of the type that a use names.
-fn name_of(alloc: Global, known: &[Known], type_use: &Use) -> Result<Option<String>, AllocError> {
-    let scope = words_of(alloc, type_use.scope.as_str())?;
-    name_in_scope(alloc, known, scope.as_slice(), type_use)
-}
-
 fn is_part(
     alloc: Global,
     known: &[Known],
-    words: &[&str],
+    name: &str,
     count: usize,
     part: Entity,
 ) -> Result<bool, AllocError> {
-    let front = front_of(alloc, words, count)?;
+    let front = front_of(alloc, name, count)?;
     Ok(is_known_as(known, front.as_str(), part))
 }
 
-/// Whether each part is known by the words up to it.
+/// Whether each part is known by the words of a name up to it.
 fn are_parts(
     alloc: Global,
     known: &[Known],
-    words: &[&str],
+    name: &str,
     parts: &[Entity],
 ) -> Result<bool, AllocError> {
-    let before = words.len().saturating_sub(parts.len());
+    let before = words_of(name).saturating_sub(parts.len());
     for (index, part) in parts.iter().enumerate() {
         let count = before.saturating_add(index + 1);
-        if !is_part(alloc, known, words, count, *part)? {
+        if !is_part(alloc, known, name, count, *part)? {
             return Ok(false);
         }
     }
@@ -273,8 +262,7 @@ fn is_target(
     if parts.len() != count || target.name.as_str() != name {
         return Ok(false);
     }
-    let words = words_of(alloc, name)?;
-    are_parts(alloc, known, words.as_slice(), parts)
+    are_parts(alloc, known, name, parts)
 }
 
 /// Whether a use of a file that names a type with this name, or none, has this answer.

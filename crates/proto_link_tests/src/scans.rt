@@ -8,7 +8,10 @@ use std::alloc::{AllocError, Global};
 
 /// Whether a file has an import of a path, and a public one where that is asked for.
 fn imports(files: &[LinkFile], file: usize, path: &str, publicly: bool) -> bool {
-    let Some(facts) = files.get(file).and_then(|file| file.facts) else {
+    let Some(file) = files.get(file) else {
+        return false;
+    };
+    let Some(facts) = file.facts else {
         return false;
     };
     for import in facts.imports() {

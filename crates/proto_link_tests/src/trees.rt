@@ -5,10 +5,10 @@ ghost use Rattle.proto_link.specs.Files.{HaveOwnPaths};
 
 use crate::calls::{accepted, see};
 use crate::lookups::resolve_as_due;
+use crate::said::{cut, is_said, sources_of};
 use crate::scans;
 use proto_decl::FileFacts;
-use proto_lex::Span;
-use proto_link::{Entity, FilePlace, LinkFault, LinkFile, Linker, have_own_paths};
+use proto_link::{LinkFault, LinkFile, Linker, have_own_paths};
 use std::alloc::{AllocError, Global};
 use std::process::Abort;
 
@@ -17,14 +17,6 @@ pub(crate) type Source<'a> = (&'a str, &'a str, bool);
 
 /// Whether the one file sees the other.
 pub(crate) type Sight = (usize, usize, bool);
-
-/// What is due of a use: its type's full name and what each component names, or its place where it
-/// names no type. A place is its file, its start and its end.
-#[derive(Clone, Copy, Drop)]
-pub(crate) enum Meaning<'a> {
-    Names(&'a str, &'a [Entity]),
-    Unresolved([usize; 3]),
-}
 
 /// What is due of a tree, beside what scans tell.
 #[derive(Clone, Copy, Drop)]
@@ -35,42 +27,19 @@ pub(crate) enum Due<'a> {
     /// It is linked, and files see each other so. It isn't scanned.
     Sights(&'a [Sight]),
 
-    /// It is linked. For each file a digit for each file: 1 where it sees that one.
-    Sees(&'a [&'a str]),
-
-    /// It is linked. For each file what its uses name, in order of place.
-    Means(&'a [&'a [Meaning<'a>]]),
-    Broken(usize),
-    Duplicate([usize; 3], [usize; 3]),
-    MissingImport([usize; 3]),
+    /// What a text says.
+    Said(&'a str),
 }
 
-/// A tree, and what is due.
-#[derive(Drop)]
-pub(crate) struct Case<'a> {
-    pub(crate) name: &'a str,
-    pub(crate) sources: &'a [Source<'a>],
-    pub(crate) due: Due<'a>,
-}
-
-pub(crate) fn place_of(place: [usize; 3]) -> FilePlace {
-    let [file, start, end] = place;
-    FilePlace {
-        file,
-        span: Span { start, end },
-    }
-}
+/// A name, a tree and what is due of it, as texts.
+pub(crate) type Case<'a> = (&'a str, &'a str, &'a str);
 
 /// Whether a tree may be refused for this.
 fn is_refusal(fault: LinkFault, due: Due) -> bool {
     match due {
         Due::Scanned => true,
-        Due::Broken(file) => fault == LinkFault::Broken(file),
-        Due::Duplicate(first, second) => {
-            fault == LinkFault::Duplicate(place_of(first), place_of(second))
-        }
-        Due::MissingImport(place) => fault == LinkFault::MissingImport(place_of(place)),
-        _ => false,
+        Due::Sights(_) => false,
+        Due::Said(text) => is_said(fault, text),
     }
 }
 
@@ -166,15 +135,28 @@ fn sees(linker: &Linker, files: usize, file: usize, digits: &[u8]) -> bool
 }
 
 /// Whether each file sees those whose digit is 1, and no others.
-fn each_sees(linker: &Linker, files: usize, all: &[&str]) -> bool
+fn each_sees(linker: &Linker, files: usize, all: &str) -> bool
     requires { length linker.now ≡ files }
 {
-    for (file, digits) in all.iter().enumerate() {
+    let mut file = 0;
+    for digits in all.split_terminator(' ') {
         if file >= files || !sees(linker, files, file, digits.as_bytes()) {
             return false;
         }
+        file += 1;
     }
-    all.len() == files
+    file == files
+}
+
+/// Whether files may be linked, and see each other, as a text says.
+fn see_as_said(linker: &Linker, files: usize, text: &str) -> bool
+    requires { length linker.now ≡ files }
+{
+    match cut(text) {
+        ("sees", all) => each_sees(linker, files, all),
+        ("means", uses) => uses.split_terminator('|').count() == files,
+        _ => false,
+    }
 }
 
 /// Whether files may be linked, and see each other as is due.
@@ -184,9 +166,7 @@ fn see_as_due(linker: &Linker, files: usize, due: Due) -> bool
     match due {
         Due::Scanned => true,
         Due::Sights(sights) => see_each_other(linker, files, sights),
-        Due::Sees(all) => each_sees(linker, files, all),
-        Due::Means(meanings) => meanings.len() == files,
-        _ => false,
+        Due::Said(text) => see_as_said(linker, files, text),
     }
 }
 
@@ -280,8 +260,7 @@ fn see_facts(
     see_files(rt, alloc, files.as_slice(), due, name)
 }
 
-/// Sees that linking answers to sources what is due, and what scans tell.
-pub(crate) fn see_tree(
+fn see_sources(
     rt: &impl Abort,
     alloc: Global,
     sources: &[Source],
@@ -292,10 +271,22 @@ pub(crate) fn see_tree(
     see_facts(rt, alloc, sources, facts.as_slice(), due, name)
 }
 
+/// Sees that linking answers to a tree what is due, and what scans tell.
+pub(crate) fn see_tree(
+    rt: &impl Abort,
+    alloc: Global,
+    tree: &str,
+    due: Due,
+    name: &str,
+) -> Result<(), AllocError> {
+    let sources = sources_of(alloc, tree)?;
+    see_sources(rt, alloc, sources.as_slice(), due, name)
+}
+
 /// Sees that cases are answered as they say, and as scans do.
 pub(crate) fn see_cases(rt: &impl Abort, alloc: Global, cases: &[Case]) -> Result<(), AllocError> {
-    for case in cases {
-        see_tree(rt, alloc, case.sources, case.due, case.name)?;
+    for (name, tree, due) in cases {
+        see_tree(rt, alloc, *tree, Due::Said(*due), *name)?;
     }
     Ok(())
 }

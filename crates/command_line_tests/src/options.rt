@@ -58,8 +58,8 @@ fn arguments_and_defaults(rt: HostRuntime) -> Result<(), Fail> {
                 "index \"out\" \"api\" 4 \"file:///\" \"\" \"\" \"\" None None [] Utf8 Refuse",
             ),
             (
-                "index . /tmp/x.scip",
-                "index \"/tmp/x.scip\" \".\" 4 \"file:///\" \"\" \"\" \"\" None None [] Utf8 Refuse",
+                "index . /srv/x.scip",
+                "index \"/srv/x.scip\" \".\" 4 \"file:///\" \"\" \"\" \"\" None None [] Utf8 Refuse",
             ),
             (
                 "index '' ''",
@@ -135,8 +135,8 @@ fn texts(rt: HostRuntime) -> Result<(), Fail> {
         rt.alloc(),
         &[
             (
-                "index api out --project-root file:///work/api",
-                "index \"out\" \"api\" 4 \"file:///work/api\" \"\" \"\" \"\" None None [] Utf8 Refuse",
+                "index api out --project-root file:///home/api",
+                "index \"out\" \"api\" 4 \"file:///home/api\" \"\" \"\" \"\" None None [] Utf8 Refuse",
             ),
             (
                 "index api out --project-root=",

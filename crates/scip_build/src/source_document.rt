@@ -12,7 +12,7 @@ use crate::reading::Reading;
 use crate::settings::Settings;
 use proto_lex::Text;
 use proto_link::{LinkFault, Linker};
-use scip_document::{Choices, document};
+use scip_document::{Choices, DocumentMaker, document};
 use scip_model::Document;
 use std::alloc::Global;
 
@@ -45,15 +45,16 @@ pub(crate) fn make_document(
     ensures { GivesDocument readings.now linker.now choices.now settings.now.package settings.now.encoding number result }
 {
     let text = text_at(readings, number);
-    match document(
+    let maker = DocumentMaker {
         alloc,
         linker,
-        number,
-        text,
         choices,
-        &settings.package,
-        settings.encoding,
-    ) {
+        package: &settings.package,
+        encoding: settings.encoding,
+        source: number,
+        text,
+    };
+    match document(&maker) {
         Ok(made) => Ok(made),
         Err(fault) => match fault {
             LinkFault::Unresolved(place) => Err(BuildFault::Unresolved(place)),

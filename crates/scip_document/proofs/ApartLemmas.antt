@@ -19,22 +19,10 @@ use Rattle.scip_symbol.specs.Entities.{Entity, OfFile, OfPackage, OfDeclaration,
 use Rattle.scip_symbol.specs.SymbolText.{symbol_text}
 use Rattle.scip_symbol.specs.OneEntity.{Declaration as Way, IsWithoutClash, declaration_in, declarations_of, AreWithoutClash, IsAmong}
 use Rattle.scip_symbol.proofs.ClashLemmas.{put}
+pub use Rattle.scip_document.specs.Tables.KnownFacts.{AreIdentifiers, SymbolsNameOne, WithoutClash}
 use Rattle.scip_document.specs.Named.{text_of, declaration_at}
 use Rattle.scip_document.proofs.EntityLemmas.{declaration-is}
 use Rattle.scip_document.proofs.EntryLemmas.{alone-in, first-in, behind-in}
-
--- what the laws say of names and symbols
-abbrev pub SymbolsNameOne : Type 0
-SymbolsNameOne = (id : Package) (declarations : List Way) → IsPackage id → IsWithoutClash declarations → (entity other : Entity) → IsEntity entity → IsEntity other
-    → IsAmong declarations entity → IsAmong declarations other → symbol_text (symbol_in id entity) ≡ symbol_text (symbol_in id other) → entity ≡ other
-
-abbrev pub WithoutClash : Type 0
-WithoutClash = (files : List Facts) → AreWithoutClash files → IsWithoutClash (declarations_of files)
-
-pub record AreIdentifiers : Type 0 where
-  pub named : (facts : Facts) → AreOfSomeFile facts → AreNamed facts.package_name facts.declarations
-  pub ways : (facts : Facts) → AreOfSomeFile facts → All (λ declaration. declaration.path ≢ []) facts.declarations
-  pub held : (facts : Facts) → AreOfSomeFile facts → AreHeld facts.package_name facts.declarations
 
 -- the facts of a file that counts
 pub record AreCounted (files : List File) (number : ℕ) (facts : Facts) : Type 0 where

@@ -19,8 +19,8 @@ use Rattle.scip_document.specs.Chosen.{Chosen, HasChoice, HaveChoices}
 use Rattle.scip_document.specs.Conditions.{HaveGoodPaths}
 use Rattle.scip_document.specs.Texts.{AreOfText}
 use Rattle.scip_model.specs.declared.records.Occurrence.{Occurrence}
-use Rattle.scip_document.specs.Indexes.{occurrence_cmp}
-use Rattle.scip_document.specs.Merges.{IsMerged, AreUntied}
+use Rattle.scip_document.specs.OccurrenceOrder.{occurrence_cmp}
+use Rattle.scip_document.specs.Tables.Merges.{IsMerged, AreUntied}
 use Rattle.scip_document.proofs.MergeLemmas.{either, at_head, in_tail, head_or_tail, not_in_none}
 use Rattle.scip_document.proofs.EntryLemmas.{at-index}
 

@@ -23,9 +23,10 @@ use Rattle.proto_link.specs.declared.target.Target.{Target}
 use Rattle.proto_link.specs.declared.target.Entity.{Entity}
 use Rattle.scip_document.specs.Chosen.{Chosen}
 use Rattle.scip_document.specs.Occurs.{Occurs}
-use Rattle.scip_document.specs.Indexes.{IsAscendingListOf, occurrence_cmp}
-use Rattle.scip_document.specs.Merges.{IsMerged, AreUntied}
-use Rattle.scip_document.specs.Listing.{own_occurrence, each_from, keeps, is_shown, entity_of, at_import, at_package, at_declaration, at_entity, at_part, at_component, at_target, at_use}
+use Rattle.scip_document.specs.Indexes.{IsAscendingListOf}
+use Rattle.scip_document.specs.OccurrenceOrder.{occurrence_cmp}
+use Rattle.scip_document.specs.Tables.Merges.{IsMerged, AreUntied}
+use Rattle.scip_document.specs.Tables.Listing.{own_occurrence, each_from, keeps, is_shown, entity_of, at_import, at_package, at_declaration, at_entity, at_part, at_component, at_target, at_use}
 use Rattle.scip_document.proofs.MergeLemmas.{either}
 use Rattle.scip_document.proofs.ListingLemmas.{StandAt, each_stand, ascends}
 use Rattle.scip_document.proofs.ListingLemmas.StandAt.{none as stands_none, skip as stands_skip, here as stands_here}

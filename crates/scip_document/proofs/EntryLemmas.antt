@@ -13,7 +13,7 @@ use Rattle.scip_model.specs.declared.records.Info.{Info}
 use Rattle.scip_symbol.specs.Package.{Package}
 use Rattle.scip_document.specs.Chosen.{Chosen, IsChosen}
 use Rattle.scip_document.specs.Entries.{package_entry, declaration_entry}
-use Rattle.scip_document.specs.EntryLists.{package_entries_up_to, entry_if_kept, kept_entries, choices_for}
+use Rattle.scip_document.specs.Tables.EntryLists.{package_entries_up_to, entry_if_kept, kept_entries, choices_for}
 
 -- ---- lists
 

@@ -26,7 +26,7 @@ use Rattle.scip_symbol.specs.Package.{Package, IsPackage}
 use Rattle.scip_document.specs.Chosen.{Chosen, HaveChoices, HasChoice, IsChosen}
 use Rattle.scip_document.specs.Named.{HasDeclaration, declaration_at}
 use Rattle.scip_document.specs.Entries.{declaration_entry, IsKeptEntry, HasExternal}
-use Rattle.scip_document.specs.ExternalLists.{Pair, pair_cmp, Adds, IsEntryAt, IsEntryOf, IsExternal, NoneIncluded}
+use Rattle.scip_document.specs.Tables.ExternalLists.{Pair, pair_cmp, Adds, IsEntryAt, IsEntryOf, IsExternal, NoneIncluded}
 use Rattle.scip_document.specs.Indexes.{info_cmp, AreExternals}
 use Rattle.scip_document.proofs.EntryLemmas.{nothing-in, alone-in, first-in, behind-in, at-index}
 use Rattle.scip_document.proofs.PairLemmas.{pairs_total}

@@ -14,7 +14,7 @@ use Rattle.proto_link.specs.declared.target.Entity.{Entity}
 use Rattle.proto_link.specs.declared.target.Target.{Target}
 use Rattle.proto_link.proofs.TargetLemmas.{one_list_of_facts}
 use Rattle.scip_document.specs.Chosen.{Chosen, HaveChoices}
-use Rattle.scip_document.specs.ExternalLists.{Pair, Adds, FromFront, IsKnownPart, IsOfPart, IsOfUse, IsOfSource, IsExternal}
+use Rattle.scip_document.specs.Tables.ExternalLists.{Pair, Adds, FromFront, IsKnownPart, IsOfPart, IsOfUse, IsOfSource, IsExternal}
 
 module _ {X : Type 0} (IsOf : X → Pair → Type 0) (xs : List X) where
   -- one element more

@@ -15,8 +15,8 @@ use Rattle.proto_lex.specs.declared.position.Encoding.{Encoding}
 use Rattle.scip_model.specs.Range.{RangeNumbers}
 use Rattle.scip_model.specs.declared.records.Occurrence.{Occurrence}
 use Rattle.scip_document.specs.Occurs.{range_over}
-use Rattle.scip_document.specs.Indexes.{occurrence_cmp}
-use Rattle.scip_document.specs.Listing.{each_from}
+use Rattle.scip_document.specs.OccurrenceOrder.{occurrence_cmp}
+use Rattle.scip_document.specs.Tables.Listing.{each_from}
 use Rattle.std.proofs.lemmas.List.{append_assoc}
 use Rattle.std.proofs.lemmas.Bool.{cases_order}
 use Rattle.std.proofs.lemmas.Bool.Decides.{nat_tests}

@@ -9,7 +9,7 @@ use Rattle.std.specs.List.Sorted.{IsStrictlySortedBy}
 use Rattle.std.proofs.lemmas.List.{append_assoc, append-nil}
 use Rattle.std.proofs.lemmas.List.Elements.{Contains-append_left, Contains-append_right, Contains-append_cases, Contains-push, Contains-push_cases}
 use Rattle.std.proofs.lemmas.Map.Keys.{sorted_head}
-use Rattle.scip_document.specs.Merges.{IsMerged, AreUntied, fronts_cmp, TakesLeast}
+use Rattle.scip_document.specs.Tables.Merges.{IsMerged, AreUntied, fronts_cmp, TakesLeast}
 
 none_is_some : {Y : Type 0} {y : Y} → None ≡ Some y → ⊥
 none_is_some h = cc

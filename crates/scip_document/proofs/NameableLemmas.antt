@@ -29,7 +29,7 @@ use Rattle.proto_link.specs.Targets.{IsNamed, IsTarget}
 use Rattle.proto_link.specs.Targets.IsNamed.{packaged as named_package, declared as named_declared}
 use Rattle.proto_link.specs.declared.target.Target.{Target}
 use Rattle.proto_link.specs.declared.target.Entity.{Entity}
-use Rattle.scip_document.specs.Listing.{IsNameable, AreNameable}
+use Rattle.scip_document.specs.Tables.Listing.{IsNameable, AreNameable}
 use Rattle.scip_document.proofs.ApartLemmas.{AreIdentifiers}
 
 never : {A : Type 0} → false ≡ true → A

@@ -9,7 +9,7 @@ use Rattle.proto_decl.specs.Facts.{Facts}
 use Rattle.proto_decl.specs.declared.declaration.Declaration.{Declaration}
 use Rattle.proto_link.specs.Files.{File, HasFacts}
 use Rattle.scip_document.specs.Named.{HasDeclaration, declaration_at}
-use Rattle.scip_document.specs.Listing.{declared_by}
+use Rattle.scip_document.specs.Tables.Listing.{declared_by}
 
 none_is_some : {Y : Type 0} {y : Y} → None ≡ Some y → ⊥
 none_is_some h = cc

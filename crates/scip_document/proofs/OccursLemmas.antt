@@ -22,7 +22,7 @@ use Rattle.scip_document.specs.Chosen.{Chosen, IsKept}
 use Rattle.scip_document.specs.Named.{IsDeclaredAs, IsNamedAs, NamesIn, package_at, declaration_at}
 use Rattle.scip_document.specs.Occurs.{Occurs, IsShown, no_role, definition_role, occurrence_over}
 use Rattle.scip_document.specs.Occurs.Occurs.{of_file, of_import, of_package, of_declaration, of_component}
-use Rattle.scip_document.specs.Listing.{own_occurrence, each_from, keeps_by, keeps, is_shown, declared_in, entity_of, at_import, at_package, at_declaration, at_entity, at_part, at_component, at_target, at_use}
+use Rattle.scip_document.specs.Tables.Listing.{own_occurrence, each_from, keeps_by, keeps, is_shown, declared_in, entity_of, at_import, at_package, at_declaration, at_entity, at_part, at_component, at_target, at_use}
 use Rattle.scip_document.proofs.MergeLemmas.{head_or_tail, at_head, not_in_none, either}
 use Rattle.scip_document.proofs.ListingLemmas.{given_by, gives_it}
 use Rattle.scip_document.proofs.NamedLemmas.{same_facts, is_listed, declared_is}

@@ -7,7 +7,7 @@ use Rattle.std.specs.Ordering.{ordering_then}
 use Rattle.std.proofs.lemmas.Cmp.{nat_cmp_total, nat_list_cmp_total, on_total, then_total}
 use Rattle.std.proofs.lemmas.Map.Lookups.{exact_unsigned, exact_bytes}
 use Rattle.scip_model.specs.declared.records.Occurrence.{Occurrence}
-use Rattle.scip_document.specs.Indexes.{occurrence_cmp}
+use Rattle.scip_document.specs.OccurrenceOrder.{occurrence_cmp}
 
 pub occurrence_total : IsTotalOrder occurrence_cmp
 occurrence_total =

@@ -6,7 +6,7 @@ use Rattle.std.specs.Ordering.{nat_cmp, is_eq, eq_by_cmp, ordering_then}
 use Rattle.std.specs.Cmp.{IsTotalOrder, IsEquivalence, unsigned_ties, Equal-is}
 use Rattle.std.proofs.lemmas.Cmp.{on_total, then_total, nat_cmp_total, eq_by_cmp_equiv}
 use Rattle.std.proofs.lemmas.Map.Lookups.{exact_unsigned}
-use Rattle.scip_document.specs.ExternalLists.{Pair, pair_cmp}
+use Rattle.scip_document.specs.Tables.ExternalLists.{Pair, pair_cmp}
 
 pub pairs_total : IsTotalOrder pair_cmp
 pairs_total = then_total (on_total (λ (x : Pair). x.0) nat_cmp_total) (on_total (λ (x : Pair). x.1) nat_cmp_total)

@@ -24,8 +24,8 @@ use Rattle.std.proofs.lemmas.Option.{slice_get-map, slice_get_within, slice_get-
 use Rattle.proto_link.proofs.GivenLemmas.{contained, position-none}
 use Rattle.scip_model.specs.declared.records.Document.{Document}
 use Rattle.scip_document.specs.Indexes.{document_cmp}
-use Rattle.scip_document.specs.Pieces.{IsRising, paths_of, AreMerged, IsStranger, IsTwice, AreFine, IsFirstMissing, MayRefuseMerge}
-use Rattle.scip_document.specs.TakenPaths.{texts, IsMarked, IsNotMarked, AreMarked}
+use Rattle.scip_document.specs.Pieces.{IsRising, paths_of, AreMerged, IsStranger, IsTwice, AreFine, IsFirstMissing, MayRefuseMerge, texts}
+use Rattle.scip_document.specs.Tables.TakenPaths.{IsMarked, IsNotMarked, AreMarked}
 use Rattle.scip_document.specs.declared.merge_fault.MergeFault.{MergeFault}
 use Rattle.scip_document.specs.declared.merge_fault.MergeFault.TheVariants.{Stranger, Twice, Missing, Memory}
 use Rattle.scip_document.proofs.EntryLemmas.{at-index}

@@ -35,7 +35,7 @@ use Rattle.scip_document.specs.Chosen.{Chosen}
 use Rattle.scip_document.specs.Named.{text_of, package_at, declaration_at}
 use Rattle.scip_document.specs.Entries.{file_entry, package_entry, declaration_entry, HasEntry}
 use Rattle.scip_document.specs.Entries.HasEntry.{of_file, of_package, of_declaration}
-use Rattle.scip_document.specs.EntryLists.{package_entries_up_to, package_entries, entry_if_kept, kept_entries, choices_for, source_entries}
+use Rattle.scip_document.specs.Tables.EntryLists.{package_entries_up_to, package_entries, entry_if_kept, kept_entries, choices_for, source_entries}
 use Rattle.scip_document.specs.Indexes.{info_cmp, IsAscendingListOf}
 use Rattle.scip_document.proofs.EntityLemmas.{package-is, declaration-is}
 use Rattle.scip_document.proofs.EntryLemmas.{alone-in, first-in, behind-in, at-index, in-packages, package-in, in-one, in-kept, kept-in, chosen-for, is-chosen}

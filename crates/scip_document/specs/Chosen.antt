@@ -1,12 +1,10 @@
 -- What was chosen for the declarations of the files.
-use Rattle.std.specs.Prelude.{◌≡◌, ℕ, true, Some, List, [], ◌∷◌, ◌++◌}
+use Rattle.std.specs.Prelude.{◌≡◌, ℕ, true, Some, List}
 use Rattle.std.specs.List.{slice_get}
 use Rattle.proto_decl.specs.Facts.{Facts}
 use Rattle.proto_decl.specs.declared.declaration.Declaration.{Declaration}
 use Rattle.proto_link.specs.Files.{File}
 use Rattle.index_hooks.specs.declared.choice.Choice.{Choice}
-use Rattle.index_hooks.specs.declared.choice.DocChoice.{DocChoice}
-use Rattle.index_hooks.specs.declared.choice.DocChoice.TheVariants.{Pass, Nothing, Leading, Trailing, Both}
 use Rattle.scip_document.specs.Named.{HasDeclaration}
 
 -- For each file a list: the choice for each of its declarations, in their order.
@@ -32,16 +30,3 @@ pub record IsKept (chosen : Chosen) (file declaration : ℕ) : Type 0 where
   pub choice : Choice
   pub is_chosen : IsChosen chosen file declaration choice
   pub keeps : choice.keep ≡ true
-
--- an empty text is left out
-abbrev pub unless_empty : List ℕ → List (List ℕ)
-unless_empty [] = []
-unless_empty (byte ∷ others) = (byte ∷ others) ∷ []
-
--- the texts that document a declaration (`scip.proto`, SymbolInformation.documentation; which they are is the profile's)
-abbrev pub documentation_of : DocChoice → Declaration → List (List ℕ)
-documentation_of Pass declaration = []
-documentation_of Nothing declaration = []
-documentation_of Leading declaration = unless_empty declaration.leading
-documentation_of Trailing declaration = unless_empty declaration.trailing
-documentation_of Both declaration = unless_empty declaration.leading ++ unless_empty declaration.trailing

@@ -14,7 +14,8 @@ use Rattle.scip_symbol.specs.Package.{Package}
 use Rattle.proto_link.specs.Files.{File, HasFacts, IsSource}
 use Rattle.proto_link.specs.Items.{package_of}
 use Rattle.proto_link.specs.declared.target.Entity.TheVariants as link
-use Rattle.scip_document.specs.Chosen.{Chosen, IsChosen, documentation_of}
+use Rattle.scip_document.specs.Chosen.{Chosen, IsChosen}
+use Rattle.scip_document.specs.Documentation.{documentation_of}
 use Rattle.scip_document.specs.Named.{HasDeclaration, NamesIn, text_of, package_at, declaration_at}
 
 -- of a file, shown by its path

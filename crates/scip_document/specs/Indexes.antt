@@ -1,7 +1,7 @@
 -- The index of a tree: a document for each source, in order of path, and the external entries (`scip.proto`, Index, Document, Metadata).
 use Rattle.std.specs.Prelude.{◌≡◌, ◌↔◌, ℕ, ℤ, pos, false, Some, List, [], codes, length, Contains}
 use Rattle.std.specs.declared.cmp.Ordering.{Ordering}
-use Rattle.std.specs.Ordering.{nat_cmp, on, then_cmp}
+use Rattle.std.specs.Ordering.{nat_cmp, on}
 use Rattle.std.specs.Cmp.Lexicographic.{slice_cmp}
 use Rattle.std.specs.List.{slice_get}
 use Rattle.std.specs.List.Sorted.{IsStrictlySortedBy}
@@ -10,27 +10,18 @@ use Rattle.proto_lex.specs.declared.position.Encoding.TheVariants.{Utf8, Utf16}
 use Rattle.scip_model.specs.declared.records.Index.{Index}
 use Rattle.scip_model.specs.declared.records.Metadata.{Metadata}
 use Rattle.scip_model.specs.declared.records.Document.{Document}
-use Rattle.scip_model.specs.declared.records.Occurrence.{Occurrence}
 use Rattle.scip_model.specs.declared.records.Info.{Info}
 use Rattle.scip_symbol.specs.Package.{Package}
 use Rattle.proto_link.specs.Files.{File, IsSource}
 use Rattle.scip_document.specs.Chosen.{Chosen}
 use Rattle.scip_document.specs.Occurs.{Occurs}
+use Rattle.scip_document.specs.OccurrenceOrder.{occurrence_cmp}
 use Rattle.scip_document.specs.Entries.{HasEntry, HasExternal}
 
 -- The strictly ascending list of a set: it has all of it, and nothing else.
 pub record IsAscendingListOf {X : Type 0} (cmp : X → X → Ordering) (IsWanted : X → Type 0) (list : List X) : Type 0 where
   pub exact : (x : X) → Contains list x ↔ IsWanted x
   pub ascends : IsStrictlySortedBy cmp list
-
--- by start, then end, then symbol
-abbrev pub occurrence_cmp : Occurrence → Occurrence → Ordering
-occurrence_cmp =
-    then_cmp (on (λ (o : Occurrence). o.range.start_line) nat_cmp)
-    (then_cmp (on (λ (o : Occurrence). o.range.start_column) nat_cmp)
-    (then_cmp (on (λ (o : Occurrence). o.range.end_line) nat_cmp)
-    (then_cmp (on (λ (o : Occurrence). o.range.end_column) nat_cmp)
-    (on (λ (o : Occurrence). o.symbol) (slice_cmp nat_cmp)))))
 
 -- by symbol
 abbrev pub info_cmp : Info → Info → Ordering

@@ -1,12 +1,17 @@
 -- Documents, which are pieces of an index, put in the order of paths, of which each has one; and why they can't be.
 use Rattle.std.specs.Prelude.{◌≡◌, ◌≢◌, ◌<◌, ⊤, ℕ, Some, List, length, map, Contains}
 use Rattle.std.specs.List.{slice_get}
+use denote.Ref.{Bor}
 use Rattle.std.specs.Ordering.{nat_cmp}
 use Rattle.std.specs.Cmp.Lexicographic.{slice_cmp}
 use Rattle.std.specs.List.Sorted.{IsPermutation, IsStrictlySortedBy}
 use Rattle.scip_model.specs.declared.records.Document.{Document}
 use Rattle.scip_document.specs.declared.merge_fault.MergeFault.{MergeFault}
 use Rattle.scip_document.specs.declared.merge_fault.MergeFault.TheVariants.{Stranger, Twice, Missing, Memory}
+
+-- the texts of paths
+abbrev pub texts : List (Bor (List ℕ)) → List (List ℕ)
+texts paths = map (λ (path : Bor (List ℕ)). path.now) paths
 
 -- each path is behind those before it
 abbrev pub IsRising : List (List ℕ) → Type 0

@@ -1,7 +1,7 @@
 //! The texts that document a declaration.
 
 ghost use Rattle.std.specs.Prelude.{◌≡◌, ◌++◌, IfOk, OnOk};
-ghost use Rattle.scip_document.specs.Chosen.{unless_empty, documentation_of};
+ghost use Rattle.scip_document.specs.Documentation.{unless_empty, documentation_of};
 
 use index_hooks::DocChoice;
 use proto_decl::Declaration;

@@ -8,17 +8,18 @@ ghost use Rattle.proto_link.specs.Files.{IsSource};
 ghost use Rattle.scip_document.specs.Chosen.{HasChoice, HaveChoices};
 ghost use Rattle.scip_document.specs.Conditions.{HaveGoodPaths};
 ghost use Rattle.scip_document.specs.Entries.{file_entry, package_entry, declaration_entry, HasEntry};
-ghost use Rattle.scip_document.specs.EntryLists.{package_entries, entry_if_kept, kept_entries, choices_for, source_entries};
+ghost use Rattle.scip_document.specs.Tables.EntryLists.{package_entries, entry_if_kept, kept_entries};
+ghost use Rattle.scip_document.specs.Tables.EntryLists.{choices_for, source_entries};
 ghost use Rattle.scip_document.specs.Indexes.{info_cmp, IsAscendingListOf};
 
-use crate::choices::Choices;
+use crate::document_maker::DocumentMaker;
 use crate::documentation::documentation_of;
+use crate::known_facts::symbols_stand_apart;
 use crate::symbol_texts::{declaration_text, file_text, package_text};
 use index_hooks::Choice;
-use proto_decl::{Component, Declaration, FileFacts, names_are_identifiers};
-use proto_link::{Linker, one_declaration_a_name};
+use proto_decl::{Component, Declaration, FileFacts};
 use scip_model::Info;
-use scip_symbol::{PackageId, files_are_without_clash, symbols_name_one_entity};
+use scip_symbol::PackageId;
 use sequences::{OwnedText, Sequence};
 use std::alloc::{AllocError, Global};
 use std::cmp::Ordering;
@@ -130,7 +131,8 @@ fn push_if_kept(
     choice: Choice,
 ) -> Result<(), AllocError>
     requires { Contains facts.now.declarations declaration.now }
-    ensures { OnOk result (entries.new.items ≡ entries.old.items ++ entry_if_kept id.now facts.now declaration.now choice) }
+    ensures { OnOk result
+        (entries.new.items ≡ entries.old.items ++ entry_if_kept id.now facts.now declaration.now choice) }
 {
     if !choice.keep {
         return Ok(());
@@ -140,43 +142,49 @@ fn push_if_kept(
     Ok(())
 }
 
-// Appends those of the declarations of a file with this number that are kept.
+// Appends those of the source's declarations that are kept.
 fn push_declarations(
-    alloc: Global,
     entries: &mut Vec<Info>,
-    id: &PackageId,
-    file: usize,
+    maker: &DocumentMaker<'_, '_, '_>,
     facts: &FileFacts,
-    choices: &Choices,
 ) -> Result<(), AllocError>
-    requires { (index : ℕ) → index < length facts.now.declarations → HasChoice choices.now file index }
-    ensures { OnOk result (entries.new.items ≡ entries.old.items ++ kept_entries id.now facts.now facts.now.declarations (choices_for choices.now file)) }
+    requires { (index : ℕ) → index < length facts.now.declarations
+        → HasChoice maker.now.choices.now maker.now.source index }
+    ensures { OnOk result (entries.new.items ≡ entries.old.items
+        ++ kept_entries maker.now.package.now facts.now facts.now.declarations
+        (choices_for maker.now.choices.now maker.now.source)) }
 {
     for (index, declaration) in facts.declarations().iter().enumerate() {
-        let choice = choices.of(file, index);
-        push_if_kept(alloc, entries, id, facts, declaration, choice)?;
+        let choice = maker.choices.of(maker.source, index);
+        push_if_kept(
+            maker.alloc,
+            entries,
+            maker.package,
+            facts,
+            declaration,
+            choice,
+        )?;
     }
     Ok(())
 }
 
-// Those of a source, by kind.
+// Those of the source, by kind.
 fn listed_entries(
-    alloc: Global,
-    id: &PackageId,
+    maker: &DocumentMaker<'_, '_, '_>,
     path: &str,
-    file: usize,
     facts: &FileFacts,
-    choices: &Choices,
 ) -> Result<Vec<Info>, AllocError>
     requires path { IsGoodPath path.now }
-    requires choices { (index : ℕ) → index < length facts.now.declarations → HasChoice choices.now file index }
-    ensures { IfOk result (λ entries. entries.items ≡ source_entries id.now path.now facts.now (choices_for choices.now file)) }
+    requires choices { (index : ℕ) → index < length facts.now.declarations
+        → HasChoice maker.now.choices.now maker.now.source index }
+    ensures { IfOk result (λ entries. entries.items ≡ source_entries maker.now.package.now path.now facts.now
+        (choices_for maker.now.choices.now maker.now.source)) }
 {
-    let mut entries = Vec::new(alloc);
-    let first = file_entry(alloc, id, path)?;
+    let mut entries = Vec::new(maker.alloc);
+    let first = file_entry(maker.alloc, maker.package, path)?;
     entries.push(first)?;
-    push_packages(alloc, &mut entries, id, facts)?;
-    push_declarations(alloc, &mut entries, id, file, facts, choices)?;
+    push_packages(maker.alloc, &mut entries, maker.package, facts)?;
+    push_declarations(&mut entries, maker, facts)?;
     Ok(entries)
 }
 
@@ -187,28 +195,18 @@ pub(crate) fn compare_symbols(a: &Info, b: &Info) -> Ordering
     a.symbol.as_str().cmp(b.symbol.as_str())
 }
 
-// The entries of a source, by symbol.
-pub(crate) fn entries(
-    alloc: Global,
-    linker: &Linker<'_>,
-    source: usize,
-    choices: &Choices,
-    id: &PackageId,
-) -> Result<Sequence<Info>, AllocError>
-    requires source { IsSource linker.now source }
-    requires paths { HaveGoodPaths linker.now }
-    requires choices { HaveChoices linker.now choices.now }
-    ensures { IfOk result (IsAscendingListOf info_cmp (HasEntry linker.now choices.now id.now source)) }
+// The entries of the source, by symbol.
+pub(crate) fn entries(maker: &DocumentMaker<'_, '_, '_>) -> Result<Sequence<Info>, AllocError>
+    requires source { IsSource maker.now.linker.now maker.now.source }
+    requires paths { HaveGoodPaths maker.now.linker.now }
+    requires choices { HaveChoices maker.now.linker.now maker.now.choices.now }
+    ensures { IfOk result (IsAscendingListOf info_cmp
+        (HasEntry maker.now.linker.now maker.now.choices.now maker.now.package.now maker.now.source)) }
 {
-    linker.linked();
-    one_declaration_a_name();
-    names_are_identifiers();
-    symbols_name_one_entity();
-    files_are_without_clash();
-    let _manager = id.manager();
-    let path = linker.path_of(source);
-    let facts = linker.facts_of(source).unwrap();
-    let mut entries = listed_entries(alloc, id, path, source, facts, choices)?;
+    symbols_stand_apart(maker.linker, maker.package);
+    let path = maker.linker.path_of(maker.source);
+    let facts = maker.linker.facts_of(maker.source).unwrap();
+    let mut entries = listed_entries(maker, path, facts)?;
     entries.sort_by(|a, b| compare_symbols(a, b))?;
     Ok(Sequence::from_vec(entries))
 }

@@ -8,15 +8,18 @@ ghost use Rattle.proto_link.specs.declared.target.Entity.TheVariants.{Declared};
 ghost use Rattle.scip_document.specs.Chosen.{HasChoice, HaveChoices};
 ghost use Rattle.scip_document.specs.Conditions.{IsResolved, AllResolve};
 ghost use Rattle.scip_document.specs.Entries.{IsKeptEntry};
-ghost use Rattle.scip_document.specs.ExternalLists.{Pair, pair_cmp, IsEntryAt, IsEntryOf, Adds, FromFront, IsKnownPart, IsOfPart, IsOfUse, IsOfSource, IsExternal, HasIncluded, NoneIncluded};
+ghost use Rattle.scip_document.specs.Tables.ExternalLists.{Pair, pair_cmp, IsEntryAt, IsEntryOf, Adds, FromFront};
+ghost use Rattle.scip_document.specs.Tables.ExternalLists.{IsKnownPart, IsOfPart, IsOfUse, IsOfSource, IsExternal};
+ghost use Rattle.scip_document.specs.Tables.ExternalLists.{HasIncluded, NoneIncluded};
 ghost use Rattle.scip_document.specs.Indexes.{AreExternals};
 
 use crate::choices::Choices;
 use crate::entries::{compare_symbols, declaration_entry};
-use proto_decl::{FileFacts, Use, names_are_identifiers};
-use proto_link::{Entity, LinkFault, Linker, one_declaration_a_name, one_target_a_use};
+use crate::known_facts::symbols_stand_apart;
+use proto_decl::{FileFacts, Use};
+use proto_link::{Entity, LinkFault, Linker, one_target_a_use};
 use scip_model::Info;
-use scip_symbol::{PackageId, files_are_without_clash, symbols_name_one_entity};
+use scip_symbol::PackageId;
 use sequences::Sequence;
 use std::alloc::{AllocError, Global};
 
@@ -30,7 +33,8 @@ fn push_declared(
 ) -> Result<(), AllocError>
     requires within { file < length linker.now }
     requires chosen { HasChoice choices.now file index }
-    ensures { OnOk result (Adds (IsOfPart linker.now choices.now (Declared file index)) named.old.items named.new.items) }
+    ensures { OnOk result
+        (Adds (IsOfPart linker.now choices.now (Declared file index)) named.old.items named.new.items) }
 {
     if !linker.is_included(file) {
         return Ok(());
@@ -66,7 +70,8 @@ fn push_parts(
     parts: &[Entity],
 ) -> Result<(), AllocError>
     requires { All (IsKnownPart linker.now choices.now) parts.now }
-    ensures { OnOk result (Adds (FromFront (IsOfPart linker.now choices.now) parts.now (length parts.now)) named.old.items named.new.items) }
+    ensures { OnOk result (Adds
+        (FromFront (IsOfPart linker.now choices.now) parts.now (length parts.now)) named.old.items named.new.items) }
 {
     for part in parts {
         push_part(named, linker, choices, *part)?;
@@ -108,7 +113,8 @@ fn push_uses(
     requires source { IsSource linker.now source }
     requires choices { HaveChoices linker.now choices.now }
     requires resolved { All (IsResolved linker.now source) uses.now }
-    ensures { OnOk result (Adds (FromFront (IsOfUse linker.now choices.now source) uses.now (length uses.now)) named.old.items named.new.items) }
+    ensures { OnOk result (Adds
+        (FromFront (IsOfUse linker.now choices.now source) uses.now (length uses.now)) named.old.items named.new.items) }
 {
     for type_use in uses {
         push_use(alloc, named, linker, choices, source, type_use)?;
@@ -250,12 +256,7 @@ pub fn externals(
     if !has_included(linker) {
         return Ok(Sequence::new(alloc));
     }
-    linker.linked();
-    one_declaration_a_name();
-    names_are_identifiers();
-    symbols_name_one_entity();
-    files_are_without_clash();
-    let _manager = id.manager();
+    symbols_stand_apart(linker, id);
     let named = named_externals(alloc, linker, choices)?;
     let once = without_doubles(named)?;
     let mut entries = external_entries(alloc, linker, choices, id, once.as_slice())?;

@@ -2,12 +2,15 @@
 #![tactic(auto)]
 
 mod choices;
+mod document_maker;
 mod documentation;
 mod entries;
 mod external_symbols;
+mod known_facts;
 mod laws;
 mod merge_fault;
 mod merging;
+mod occurrence_order;
 mod occurrences;
 mod pieces;
 mod source_document;
@@ -16,6 +19,7 @@ mod targets;
 mod use_occurrences;
 
 pub use choices::Choices;
+pub use document_maker::DocumentMaker;
 pub use external_symbols::externals;
 pub use laws::{
     no_two_occurrences_tie, one_document_a_source, one_index, one_merge_refusal, one_merged_list,

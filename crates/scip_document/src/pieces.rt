@@ -3,8 +3,8 @@
 ghost use Rattle.std.specs.Prelude.{◌≡◌, not, Some, IfOk, IfErr, OnOk, OnErr, MatchOption, Contains, length, position};
 ghost use Rattle.std.specs.List.{slice_get};
 ghost use Rattle.scip_document.specs.Indexes.{document_cmp};
-ghost use Rattle.scip_document.specs.Pieces.{IsRising, AreMerged, MayRefuseMerge};
-ghost use Rattle.scip_document.specs.TakenPaths.{texts, AreClear, IsMarked, IsNotMarked, AreMarked};
+ghost use Rattle.scip_document.specs.Pieces.{IsRising, AreMerged, MayRefuseMerge, texts};
+ghost use Rattle.scip_document.specs.Tables.TakenPaths.{AreClear, IsMarked, IsNotMarked, AreMarked};
 
 use crate::merge_fault::{MergeFault, Unmerged};
 use scip_model::{Document, Index, Info, Metadata};
@@ -15,7 +15,8 @@ use std::cmp::Ordering;
 // The number of a path, where it is one of these.
 fn number_of(paths: &[&str], path: &str) -> Option<usize>
     requires { IsRising (texts paths.now) }
-    ensures { MatchOption result (Contains (texts paths.now) path.now → ⊥) (λ number. slice_get (texts paths.now) number ≡ Some path.now) }
+    ensures { MatchOption result (Contains (texts paths.now) path.now → ⊥)
+        (λ number. slice_get (texts paths.now) number ≡ Some path.now) }
 {
     paths.binary_search(&path).ok()
 }

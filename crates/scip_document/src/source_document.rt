@@ -1,6 +1,6 @@
 //! The document of a source.
 
-ghost use Rattle.std.specs.Prelude.{◌≡◌, ◌∷◌, [], ℕ, IfOk, IfErr};
+ghost use Rattle.std.specs.Prelude.{◌≡◌, ◌∷◌, [], IfOk, IfErr};
 ghost use Rattle.std.specs.List.{AllZip};
 ghost use Rattle.proto_link.specs.Files.{HasFacts, IsSource};
 ghost use Rattle.proto_link.specs.Targets.{IsTarget};
@@ -10,21 +10,22 @@ ghost use Rattle.scip_document.specs.Conditions.{HaveGoodPaths};
 ghost use Rattle.scip_document.specs.Uses.{UsesResolve};
 ghost use Rattle.scip_document.specs.Texts.{AreOfText, HasText, MayRefuseDocument};
 ghost use Rattle.scip_document.specs.Occurs.{Occurs};
-ghost use Rattle.scip_document.specs.Indexes.{IsAscendingListOf, IsDocumentOf, occurrence_cmp, encoding_number};
-ghost use Rattle.scip_document.specs.Listing.{own_occurrence};
+ghost use Rattle.scip_document.specs.Indexes.{IsAscendingListOf, IsDocumentOf, encoding_number};
+ghost use Rattle.scip_document.specs.OccurrenceOrder.{occurrence_cmp};
+ghost use Rattle.scip_document.specs.Tables.Listing.{own_occurrence};
 
-use crate::choices::Choices;
+use crate::document_maker::DocumentMaker;
 use crate::entries::entries;
-use crate::laws::no_two_occurrences_tie;
+use crate::known_facts::facts_occur_in_order;
 use crate::merging::merged;
 use crate::occurrences::{
     declaration_occurrences, file_occurrence, import_occurrences, package_occurrences,
 };
 use crate::targets::targets_of;
 use crate::use_occurrences::use_occurrences;
-use proto_decl::{FileFacts, facts_in_order, facts_stand_in_text, names_are_identifiers};
-use proto_lex::{Encoding, Text, positions_rise};
-use proto_link::{LinkFault, Linker, Target, one_target_a_use};
+use proto_decl::FileFacts;
+use proto_lex::Encoding;
+use proto_link::{LinkFault, Target};
 use scip_model::{Document, Occurrence};
 use scip_symbol::PackageId;
 use sequences::{OwnedText, Sequence};
@@ -50,47 +51,29 @@ fn own_occurrences(alloc: Global, id: &PackageId, path: &str) -> Result<Vec<Occu
     Ok(list)
 }
 
-/// What occurs in a source, of which the uses have these targets, in order.
+/// What occurs in the source, of which the uses have these targets, in order.
 fn occurrences(
-    alloc: Global,
-    linker: &Linker<'_>,
-    source: usize,
+    maker: &DocumentMaker<'_, '_, '_>,
     facts: &FileFacts,
     targets: &[Target],
-    text: &Text<'_>,
-    choices: &Choices,
-    id: &PackageId,
-    encoding: Encoding,
 ) -> Result<Vec<Occurrence>, AllocError>
-    requires source { IsSource linker.now source }
-    requires known { HasFacts linker.now source facts.now }
-    requires targets { AllZip (IsTarget linker.now source) facts.now.uses targets.now }
-    requires text { AreOfText text.now facts.now }
-    requires paths { HaveGoodPaths linker.now }
-    requires choices { HaveChoices linker.now choices.now }
-    ensures { IfOk result (λ list. IsAscendingListOf occurrence_cmp (Occurs linker.now choices.now id.now encoding source text.now) list.items) }
+    requires source { IsSource maker.now.linker.now maker.now.source }
+    requires known { HasFacts maker.now.linker.now maker.now.source facts.now }
+    requires targets { AllZip (IsTarget maker.now.linker.now maker.now.source) facts.now.uses targets.now }
+    requires text { AreOfText maker.now.text.now facts.now }
+    requires paths { HaveGoodPaths maker.now.linker.now }
+    requires choices { HaveChoices maker.now.linker.now maker.now.choices.now }
+    ensures { IfOk result (λ list. IsAscendingListOf occurrence_cmp (Occurs
+        maker.now.linker.now maker.now.choices.now maker.now.package.now maker.now.encoding maker.now.source
+        maker.now.text.now) list.items) }
 {
-    linker.linked();
-    facts_in_order();
-    facts_stand_in_text();
-    no_two_occurrences_tie();
-    names_are_identifiers();
-    one_target_a_use();
-    positions_rise();
-    let own = own_occurrences(alloc, id, linker.path_of(source))?;
-    let imports = import_occurrences(alloc, id, text, encoding, facts.imports())?;
-    let packages = package_occurrences(alloc, id, text, encoding, facts)?;
-    let names = declaration_occurrences(alloc, id, text, encoding, choices, source, facts)?;
-    let uses = use_occurrences(
-        alloc,
-        id,
-        text,
-        encoding,
-        choices,
-        linker,
-        targets,
-        facts.uses(),
-    )?;
+    facts_occur_in_order(maker.linker);
+    let alloc = maker.alloc;
+    let own = own_occurrences(alloc, maker.package, maker.linker.path_of(maker.source))?;
+    let imports = import_occurrences(maker, facts.imports())?;
+    let packages = package_occurrences(maker, facts)?;
+    let names = declaration_occurrences(maker, facts)?;
+    let uses = use_occurrences(maker, targets, facts.uses())?;
     let with_imports = merged(alloc, own, imports)?;
     let with_packages = merged(alloc, with_imports, packages)?;
     let with_names = merged(alloc, with_packages, names)?;
@@ -98,84 +81,43 @@ fn occurrences(
     Ok(list)
 }
 
+/// Where each use of the source has a target, each names a type.
+fn uses_resolve(maker: &DocumentMaker<'_, '_, '_>, facts: &FileFacts, targets: &[Target])
+    requires known { HasFacts maker.now.linker.now maker.now.source facts.now }
+    requires targets { AllZip (IsTarget maker.now.linker.now maker.now.source) facts.now.uses targets.now }
+    ensures { UsesResolve maker.now.linker.now maker.now.source }
+{}
+
 /// The document of a source of linked files, which has this text, by what was chosen for each
 /// declaration: what occurs in it and its symbol entries, in order.
 ///
 /// `Unresolved` at the first use that names no type, kept or not: there is a document only where all
 /// do.
-pub fn document(
-    alloc: Global,
-    linker: &Linker<'_>,
-    source: usize,
-    text: &Text<'_>,
-    choices: &Choices,
-    id: &PackageId,
-    encoding: Encoding,
-) -> Result<Document, LinkFault>
-    requires source { IsSource linker.now source }
-    requires text { HasText linker.now source text.now }
-    requires paths { HaveGoodPaths linker.now }
-    requires choices { HaveChoices linker.now choices.now }
-    ensures document { IfOk result (IsDocumentOf linker.now choices.now id.now encoding source text.now) }
-    ensures resolved { IfOk result (λ _. UsesResolve linker.now source) }
-    ensures refused { IfErr result (MayRefuseDocument linker.now source) }
+pub fn document(maker: &DocumentMaker<'_, '_, '_>) -> Result<Document, LinkFault>
+    requires source { IsSource maker.now.linker.now maker.now.source }
+    requires text { HasText maker.now.linker.now maker.now.source maker.now.text.now }
+    requires paths { HaveGoodPaths maker.now.linker.now }
+    requires choices { HaveChoices maker.now.linker.now maker.now.choices.now }
+    ensures document { IfOk result (IsDocumentOf
+        maker.now.linker.now maker.now.choices.now maker.now.package.now maker.now.encoding maker.now.source
+        maker.now.text.now) }
+    ensures resolved { IfOk result (λ _. UsesResolve maker.now.linker.now maker.now.source) }
+    ensures refused { IfErr result (MayRefuseDocument maker.now.linker.now maker.now.source) }
 {
-    linker.linked();
-    let facts = linker.facts_of(source).unwrap();
-    let targets = targets_of(alloc, linker, source, facts)?;
-    uses_resolve(linker, source, facts, targets.as_slice());
-    let document = document_with(
-        alloc,
-        linker,
-        source,
-        facts,
-        targets.as_slice(),
-        text,
-        choices,
-        id,
-        encoding,
-    )?;
-    Ok(document)
-}
-
-/// Where each use of a file has a target, each names a type.
-fn uses_resolve(linker: &Linker<'_>, source: usize, facts: &FileFacts, targets: &[Target])
-    requires known { HasFacts linker.now source facts.now }
-    requires targets { AllZip (IsTarget linker.now source) facts.now.uses targets.now }
-    ensures { UsesResolve linker.now source }
-{}
-
-/// The document of a source, of which the uses have these targets.
-fn document_with(
-    alloc: Global,
-    linker: &Linker<'_>,
-    source: usize,
-    facts: &FileFacts,
-    targets: &[Target],
-    text: &Text<'_>,
-    choices: &Choices,
-    id: &PackageId,
-    encoding: Encoding,
-) -> Result<Document, AllocError>
-    requires source { IsSource linker.now source }
-    requires known { HasFacts linker.now source facts.now }
-    requires targets { AllZip (IsTarget linker.now source) facts.now.uses targets.now }
-    requires text { AreOfText text.now facts.now }
-    requires paths { HaveGoodPaths linker.now }
-    requires choices { HaveChoices linker.now choices.now }
-    ensures { IfOk result (IsDocumentOf linker.now choices.now id.now encoding source text.now) }
-{
-    let occurrences = occurrences(
-        alloc, linker, source, facts, targets, text, choices, id, encoding,
-    )?;
-    let symbols = entries(alloc, linker, source, choices, id)?;
-    let relative_path = OwnedText::copy_of(alloc, linker.path_of(source))?;
+    maker.linker.linked();
+    let alloc = maker.alloc;
+    let facts = maker.linker.facts_of(maker.source).unwrap();
+    let targets = targets_of(alloc, maker.linker, maker.source, facts)?;
+    uses_resolve(maker, facts, targets.as_slice());
+    let occurrences = occurrences(maker, facts, targets.as_slice())?;
+    let symbols = entries(maker)?;
+    let relative_path = OwnedText::copy_of(alloc, maker.linker.path_of(maker.source))?;
     let language = OwnedText::copy_of(alloc, "Protobuf")?;
     Ok(Document {
         relative_path,
         occurrences: Sequence::from_vec(occurrences),
         symbols,
         language,
-        position_encoding: encoding_number(encoding),
+        position_encoding: encoding_number(maker.encoding),
     })
 }

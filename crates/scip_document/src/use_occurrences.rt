@@ -16,14 +16,15 @@ ghost use Rattle.proto_link.specs.declared.target.Entity.{Entity};
 ghost use Rattle.scip_symbol.specs.Entities.{OfPackage, IsEntity};
 ghost use Rattle.scip_document.specs.Chosen.{HaveChoices};
 ghost use Rattle.scip_document.specs.Named.{HasDeclaration, text_of};
-ghost use Rattle.scip_document.specs.Listing.{each_from, declared_by, entity_of, is_shown, IsNameable, AreNameable, at_part, at_component, at_target, at_use};
+ghost use Rattle.scip_document.specs.Tables.Listing.{each_from, declared_by, entity_of, is_shown, IsNameable, AreNameable};
+ghost use Rattle.scip_document.specs.Tables.Listing.{at_part, at_component, at_target, at_use};
 
-use crate::choices::Choices;
+use crate::document_maker::DocumentMaker;
 use crate::occurrences::occurrence_over;
 use crate::symbol_texts::declaration_text;
 use proto_decl::{Component, Declaration, FileFacts, Use};
-use proto_lex::{Encoding, Span, Text};
-use proto_link::{Entity, Linker, Target};
+use proto_lex::Span;
+use proto_link::{Entity, Target};
 use scip_model::Occurrence;
 use scip_symbol::{PackageId, print_package_named};
 use sequences::OwnedText;
@@ -78,46 +79,45 @@ fn declaration_of(facts: &FileFacts, index: usize) -> &Declaration
 
 /// The symbol's text of a declaration, by its file's number and its own.
 fn declared_text(
-    alloc: Global,
-    id: &PackageId,
-    linker: &Linker<'_>,
+    maker: &DocumentMaker<'_, '_, '_>,
     file: usize,
     index: usize,
 ) -> Result<OwnedText, AllocError>
-    requires { (facts : Facts) × (declared : Declaration) × HasDeclaration linker.now file index facts declared }
-    ensures { IfOk result (λ text. option_map (text_of id.now) (declared_by linker.now file index) ≡ Some text) }
+    requires { (facts : Facts) × (declared : Declaration)
+        × HasDeclaration maker.now.linker.now file index facts declared }
+    ensures { IfOk result (λ text.
+        option_map (text_of maker.now.package.now) (declared_by maker.now.linker.now file index) ≡ Some text) }
 {
-    let facts = linker.facts_of(file).unwrap();
+    let facts = maker.linker.facts_of(file).unwrap();
     let declaration = declaration_of(facts, index);
-    declaration_text(alloc, id, facts, declaration)
+    declaration_text(maker.alloc, maker.package, facts, declaration)
 }
 
 /// The symbol's text of what a part of a full name names.
 fn entity_text(
-    alloc: Global,
-    id: &PackageId,
-    linker: &Linker<'_>,
+    maker: &DocumentMaker<'_, '_, '_>,
     name: &str,
     part: Entity,
 ) -> Result<OwnedText, AllocError>
-    requires { IsNameable linker.now name.now part }
-    ensures { IfOk result (λ text. option_map (text_of id.now) (entity_of linker.now name.now part) ≡ Some text) }
+    requires { IsNameable maker.now.linker.now name.now part }
+    ensures { IfOk result (λ text.
+        option_map (text_of maker.now.package.now) (entity_of maker.now.linker.now name.now part) ≡ Some text) }
 {
     match part {
-        Entity::Package(count) => named_package_text(alloc, id, name, count),
-        Entity::Declared(file, index) => declared_text(alloc, id, linker, file, index),
+        Entity::Package(count) => named_package_text(maker.alloc, maker.package, name, count),
+        Entity::Declared(file, index) => declared_text(maker, file, index),
     }
 }
 
 /// Whether a part of a full name occurs: a package does, and a declaration where it is kept.
-fn is_shown(linker: &Linker<'_>, choices: &Choices, name: &str, part: Entity) -> bool
-    requires chosen { HaveChoices linker.now choices.now }
-    requires nameable { IsNameable linker.now name.now part }
-    ensures { result ≡ is_shown choices.now part }
+fn is_shown(maker: &DocumentMaker<'_, '_, '_>, name: &str, part: Entity) -> bool
+    requires chosen { HaveChoices maker.now.linker.now maker.now.choices.now }
+    requires nameable { IsNameable maker.now.linker.now name.now part }
+    ensures { result ≡ is_shown maker.now.choices.now part }
 {
     match part {
         Entity::Package(_) => true,
-        Entity::Declared(file, index) => choices.of(file, index).keep,
+        Entity::Declared(file, index) => maker.choices.of(file, index).keep,
     }
 }
 
@@ -125,24 +125,22 @@ fn is_shown(linker: &Linker<'_>, choices: &Choices, name: &str, part: Entity) ->
 /// occurs.
 fn add_part(
     list: &mut Vec<Occurrence>,
-    id: &PackageId,
-    text: &Text<'_>,
-    encoding: Encoding,
-    choices: &Choices,
-    linker: &Linker<'_>,
+    maker: &DocumentMaker<'_, '_, '_>,
     name: &str,
     span: Span,
     part: Option<Entity>,
 ) -> Result<(), AllocError>
-    requires stands { IsPart text.now span }
-    requires chosen { HaveChoices linker.now choices.now }
-    requires nameable { (entity : Entity) → part ≡ Some entity → IsNameable linker.now name.now entity }
-    ensures { OnOk result (list.new.items ≡ list.old.items ++ at_part id.now encoding text.now linker.now choices.now name.now span part) }
+    requires stands { IsPart maker.now.text.now span }
+    requires chosen { HaveChoices maker.now.linker.now maker.now.choices.now }
+    requires nameable { (entity : Entity) → part ≡ Some entity → IsNameable maker.now.linker.now name.now entity }
+    ensures { OnOk result (list.new.items ≡ list.old.items
+        ++ at_part maker.now.package.now maker.now.encoding maker.now.text.now
+        maker.now.linker.now maker.now.choices.now name.now span part) }
 {
     if let Some(part) = part {
-        if is_shown(linker, choices, name, part) {
-            let symbol = entity_text(*list.allocator(), id, linker, name, part)?;
-            list.push(occurrence_over(text, encoding, span, symbol, NO_ROLE))?;
+        if is_shown(maker, name, part) {
+            let symbol = entity_text(maker, name, part)?;
+            list.push(occurrence_over(maker, span, symbol, NO_ROLE))?;
         }
     }
     Ok(())
@@ -158,33 +156,22 @@ fn part_of(target: &Target, index: usize) -> Option<Entity>
 /// Adds the occurrences of a use with this target, over its components.
 fn add_target(
     list: &mut Vec<Occurrence>,
-    id: &PackageId,
-    text: &Text<'_>,
-    encoding: Encoding,
-    choices: &Choices,
-    linker: &Linker<'_>,
+    maker: &DocumentMaker<'_, '_, '_>,
     target: &Target,
     type_use: &Use,
 ) -> Result<(), AllocError>
-    requires stand { All (λ (component : Component). IsPart text.now component.span) type_use.now.components }
-    requires chosen { HaveChoices linker.now choices.now }
-    requires nameable { AreNameable linker.now target.now }
-    ensures { OnOk result (list.new.items ≡ list.old.items ++ each_from (at_component id.now encoding text.now linker.now choices.now target.now) 0 type_use.now.components) }
+    requires stand { All (λ (component : Component). IsPart maker.now.text.now component.span) type_use.now.components }
+    requires chosen { HaveChoices maker.now.linker.now maker.now.choices.now }
+    requires nameable { AreNameable maker.now.linker.now target.now }
+    ensures { OnOk result (list.new.items ≡ list.old.items ++ each_from
+        (at_component maker.now.package.now maker.now.encoding maker.now.text.now
+        maker.now.linker.now maker.now.choices.now target.now)
+        0 type_use.now.components) }
 {
     for (index, component) in type_use.components.as_slice().iter().enumerate() {
         let part = part_of(target, index);
         let name = target.name.as_str();
-        add_part(
-            list,
-            id,
-            text,
-            encoding,
-            choices,
-            linker,
-            name,
-            component.span,
-            part,
-        )?;
+        add_part(list, maker, name, component.span, part)?;
     }
     Ok(())
 }
@@ -192,27 +179,24 @@ fn add_target(
 /// Each component of a use that names a package, or a declaration that is kept; the uses have these
 /// targets.
 pub(crate) fn use_occurrences(
-    alloc: Global,
-    id: &PackageId,
-    text: &Text<'_>,
-    encoding: Encoding,
-    choices: &Choices,
-    linker: &Linker<'_>,
+    maker: &DocumentMaker<'_, '_, '_>,
     targets: &[Target],
     uses: &[Use],
 ) -> Result<Vec<Occurrence>, AllocError>
-    requires stand { All (λ (used : Use). All (λ (component : Component). IsPart text.now component.span) used.components) uses.now }
-    requires chosen { HaveChoices linker.now choices.now }
+    requires stand { All (λ (used : Use).
+        All (λ (component : Component). IsPart maker.now.text.now component.span) used.components) uses.now }
+    requires chosen { HaveChoices maker.now.linker.now maker.now.choices.now }
     requires one_each { length targets.now ≡ length uses.now }
-    requires nameable { All (AreNameable linker.now) targets.now }
-    ensures { IfOk result (λ list. list.items ≡ each_from (at_use id.now encoding text.now linker.now choices.now targets.now) 0 uses.now) }
+    requires nameable { All (AreNameable maker.now.linker.now) targets.now }
+    ensures { IfOk result (λ list. list.items ≡ each_from
+        (at_use maker.now.package.now maker.now.encoding maker.now.text.now
+        maker.now.linker.now maker.now.choices.now targets.now)
+        0 uses.now) }
 {
-    let mut list = Vec::new(alloc);
+    let mut list = Vec::new(maker.alloc);
     for (index, type_use) in uses.iter().enumerate() {
         let target = &targets[index];
-        add_target(
-            &mut list, id, text, encoding, choices, linker, target, type_use,
-        )?;
+        add_target(&mut list, maker, target, type_use)?;
     }
     Ok(list)
 }

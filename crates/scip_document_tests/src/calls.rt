@@ -5,9 +5,8 @@ ghost use Rattle.scip_document.specs.Chosen.{HaveChoices};
 ghost use Rattle.scip_document.specs.Conditions.{AllResolve, HaveGoodPaths};
 ghost use Rattle.scip_document.specs.Texts.{HasText};
 
-use proto_lex::{Encoding, Text};
 use proto_link::{LinkFault, Linker};
-use scip_document::{Choices, document, externals};
+use scip_document::{Choices, DocumentMaker, document, externals};
 use scip_model::{Document, Info};
 use scip_symbol::PackageId;
 use sequences::Sequence;
@@ -31,22 +30,14 @@ pub(crate) fn package_of(alloc: Global, parts: [&str; 3]) -> Result<PackageId, A
 }
 
 /// What `document` answers. After want of memory it is called again, and the second answer counts.
-pub(crate) fn document_again(
-    alloc: Global,
-    linker: &Linker<'_>,
-    source: usize,
-    text: &Text<'_>,
-    choices: &Choices,
-    id: &PackageId,
-    encoding: Encoding,
-) -> Result<Document, LinkFault>
-    requires source { IsSource linker.now source }
-    requires text { HasText linker.now source text.now }
-    requires paths { HaveGoodPaths linker.now }
-    requires choices { HaveChoices linker.now choices.now }
+pub(crate) fn document_again(maker: &DocumentMaker<'_, '_, '_>) -> Result<Document, LinkFault>
+    requires source { IsSource maker.now.linker.now maker.now.source }
+    requires text { HasText maker.now.linker.now maker.now.source maker.now.text.now }
+    requires paths { HaveGoodPaths maker.now.linker.now }
+    requires choices { HaveChoices maker.now.linker.now maker.now.choices.now }
 {
-    match document(alloc, linker, source, text, choices, id, encoding) {
-        Err(LinkFault::Memory) => document(alloc, linker, source, text, choices, id, encoding),
+    match document(maker) {
+        Err(LinkFault::Memory) => document(maker),
         answer => answer,
     }
 }

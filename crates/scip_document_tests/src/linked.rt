@@ -8,7 +8,7 @@ use crate::reading::Reading;
 use crate::resolving::all_resolve;
 use proto_lex::Encoding;
 use proto_link::{LinkFault, LinkFile, Linker, have_own_paths};
-use scip_document::Choices;
+use scip_document::{Choices, DocumentMaker};
 use scip_model::{Document, Info};
 use scip_symbol::PackageId;
 use sequences::Sequence;
@@ -70,7 +70,15 @@ fn document_at(
     if reading.is_included {
         return Err(LinkFault::Broken(source));
     }
-    document_again(alloc, linker, source, &reading.text, choices, id, encoding)
+    document_again(&DocumentMaker {
+        alloc,
+        linker,
+        choices,
+        package: id,
+        encoding,
+        source,
+        text: &reading.text,
+    })
 }
 
 /// The same; `Broken` too where there is no such source.

@@ -4,23 +4,23 @@ use Rattle.std.proofs.lemmas.Option.{slice_get_read, get_or_from_slice_get}
 use Rattle.scip_model.specs.declared.records.Info.{Info}
 use Rattle.proto_decl.specs.declared.declaration.Declaration.{Declaration}
 use Rattle.index_hooks.specs.declared.choice.Choice.{Choice}
-use Rattle.scip_document.specs.EntryLists.{kept_entries, entry_if_kept, choices_for}
+use Rattle.scip_document.specs.Tables.EntryLists.{kept_entries, entry_if_kept, choices_for}
 use Rattle.scip_document.proofs.EntryLemmas.{kept-more}
 use Rattle.scip_document.proofs.entries.push_declarations.Goals as goal
 
 pub loop-index-preserved : goal.loop-index-preserved
 loop-index-preserved c =
-    let id = c.args.id.now in
+    let id = c.args.maker.now.package.now in
     let facts = c.args.facts.now in
     let index = c.loop-index.index in
     let old = c.args.entries.now.items in
-    let choices = choices_for c.args.choices.now c.args.file in
+    let choices = choices_for c.args.maker.now.choices.now c.args.maker.now.source in
     let choice = c.of-choice.result in
     let declaration = c.declaration-item.result in
     let items = c.declarations-declaration-items.result.now in
     let stands : slice_get facts.declarations index ≡ Some declaration =
     subst (λ (ds : List Declaration). slice_get ds index ≡ Some declaration) c.declarations-declaration-items.ensures (slice_get_read items (length items) index declaration refl c.loop-index-test.true c.declaration-item.is) in
-    let chosen : slice_get choices index ≡ Some choice = ap (λ (l : List Choice). slice_get l index) (get_or_from_slice_get c.args.choices.now c.args.file c.of-choice.ensures.of_file [] c.of-choice.ensures.file_is) ∙ c.of-choice.ensures.declaration_is in
+    let chosen : slice_get choices index ≡ Some choice = ap (λ (l : List Choice). slice_get l index) (get_or_from_slice_get c.args.maker.now.choices.now c.args.maker.now.source c.of-choice.ensures.of_file [] c.of-choice.ensures.file_is) ∙ c.of-choice.ensures.declaration_is in
     let so_far = kept_entries id facts (take index facts.declarations) choices in
     c.in_ok-push_if_kept.ensures
     ∙ (ap (λ (entries : List Info). entries ++ entry_if_kept id facts declaration choice) c.loop-index.invariant

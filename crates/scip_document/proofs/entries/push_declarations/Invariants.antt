@@ -1,7 +1,7 @@
 use Rattle.std.proofs.Common.{◌≡◌, ◌++◌, take}
-use Rattle.scip_document.specs.EntryLists.{kept_entries, choices_for}
+use Rattle.scip_document.specs.Tables.EntryLists.{kept_entries, choices_for}
 use Rattle.scip_document.proofs.entries.push_declarations.Given as goal
 
 -- those so far
 abbrev pub invariant-loop-index : goal.invariant-loop-index
-invariant-loop-index l = l.entries.items ≡ l.fn.entries.items ++ kept_entries l.id l.facts (take l.index l.facts.declarations) (choices_for l.choices l.file)
+invariant-loop-index l = l.entries.items ≡ l.fn.entries.items ++ kept_entries l.maker.package.now l.facts (take l.index l.facts.declarations) (choices_for l.maker.choices.now l.maker.source)

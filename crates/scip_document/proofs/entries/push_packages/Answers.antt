@@ -2,7 +2,7 @@ use Rattle.std.proofs.Common.{◌∙◌, ◌++◌, ◌∷◌, [], ◌+◌, List,
 use Rattle.std.proofs.lemmas.List.FromFn.{map-range_with_len_more}
 use Rattle.scip_model.specs.declared.records.Info.{Info}
 use Rattle.scip_document.specs.Entries.{package_entry}
-use Rattle.scip_document.specs.EntryLists.{package_entries_up_to}
+use Rattle.scip_document.specs.Tables.EntryLists.{package_entries_up_to}
 use Rattle.scip_document.proofs.entries.push_packages.Goals as goal
 
 pub loop-index-preserved : goal.loop-index-preserved

@@ -1,5 +1,5 @@
 use Rattle.std.proofs.Common.{◌≡◌, ◌++◌}
-use Rattle.scip_document.specs.EntryLists.{package_entries_up_to}
+use Rattle.scip_document.specs.Tables.EntryLists.{package_entries_up_to}
 use Rattle.scip_document.proofs.entries.push_packages.Given as goal
 
 -- those so far

@@ -1,6 +1,6 @@
 use Rattle.std.proofs.Common.{length}
 use Rattle.std.proofs.lemmas.Result.{IfOk-weaker}
-use Rattle.scip_document.specs.ExternalLists.{IsEntryAt, IsEntryOf}
+use Rattle.scip_document.specs.Tables.ExternalLists.{IsEntryAt, IsEntryOf}
 use Rattle.scip_document.proofs.NamedLemmas.{some_facts, given_facts}
 use Rattle.scip_document.proofs.ExternalEntryLemmas.{external-there, external-within, external-index, external-chosen, kept-entry}
 use Rattle.scip_document.proofs.external_symbols.entry_of.Goals as goal

@@ -1,7 +1,7 @@
 use Rattle.std.proofs.Common.{◌+◌, List, take, sym, subst}
 use Rattle.std.specs.List.{AllZip}
 use Rattle.scip_model.specs.declared.records.Info.{Info}
-use Rattle.scip_document.specs.ExternalLists.{IsEntryOf}
+use Rattle.scip_document.specs.Tables.ExternalLists.{IsEntryOf}
 use Rattle.scip_document.proofs.TargetLemmas.{zip_more_at}
 use Rattle.scip_document.proofs.external_symbols.external_entries.Goals as goal
 

@@ -1,6 +1,6 @@
 use Rattle.std.proofs.Common.{take}
 use Rattle.std.specs.List.{AllZip}
-use Rattle.scip_document.specs.ExternalLists.{IsEntryOf}
+use Rattle.scip_document.specs.Tables.ExternalLists.{IsEntryOf}
 use Rattle.scip_document.proofs.external_symbols.external_entries.Given as goal
 
 -- one for each so far

@@ -5,7 +5,7 @@ use Rattle.std.proofs.lemmas.Result.{IfOk-weaker}
 use Rattle.proto_decl.specs.declared.declaration.Declaration.{Declaration}
 use Rattle.scip_model.specs.declared.records.Info.{Info}
 use Rattle.scip_document.specs.Entries.{declaration_entry}
-use Rattle.scip_document.specs.ExternalLists.{IsEntryAt}
+use Rattle.scip_document.specs.Tables.ExternalLists.{IsEntryAt}
 use Rattle.scip_document.proofs.external_symbols.external_entry.Goals as goal
 
 pub returns : goal.returns

@@ -3,9 +3,8 @@ use Rattle.std.specs.Ordering.{is_lt}
 use Rattle.std.specs.List.{All, AllZip}
 use Rattle.std.proofs.lemmas.List.Elements.{Contains-get_or}
 use Rattle.std.proofs.lemmas.List.Sorted.{answers_always}
-use Rattle.scip_document.specs.ExternalLists.{Pair, IsEntryOf, IsExternal}
+use Rattle.scip_document.specs.Tables.ExternalLists.{Pair, IsEntryOf, IsExternal}
 use Rattle.scip_document.specs.Indexes.{info_cmp}
-use Rattle.scip_document.proofs.ApartLemmas.{AreIdentifiers}
 use Rattle.scip_document.proofs.SourceEntryLemmas.{infos_rank}
 use Rattle.scip_document.proofs.ExternalEntryLemmas.{all-added, external-list, none-external}
 use Rattle.scip_document.proofs.external_symbols.externals.Goals as goal
@@ -27,10 +26,9 @@ returns c =
     let id = c.args.id.now in
     let once = c.in_ok-once.once.items in
     let exact = all-added (IsExternal files chosen (length files)) c.in_ok-named.named.items once c.in_ok-named.ensures c.in_ok-once.ensures.same in
-    let spelled : AreIdentifiers = record { named = c.names_are_identifiers.ensures.named; ways = c.names_are_identifiers.ensures.ways; held = c.names_are_identifiers.ensures.held } in
     rw c.from_vec.ensures
-    (external-list files c.linked.ensures.origins c.linked.ensures.can_be.clear c.one_declaration_a_name.ensures.declarations spelled
-    c.symbols_name_one_entity.ensures c.files_are_without_clash.ensures id c.manager-manager.ensures.known chosen once exact c.in_ok-once.ensures.rising c.in_ok-entries.entries.items c.sort_by.new.self.items
+    (external-list files c.symbols_stand_apart.ensures.origins c.symbols_stand_apart.ensures.linked.clear c.symbols_stand_apart.ensures.declarations c.symbols_stand_apart.ensures.spelled
+    c.symbols_stand_apart.ensures.symbols c.symbols_stand_apart.ensures.unclashed id c.symbols_stand_apart.ensures.package chosen once exact c.in_ok-once.ensures.rising c.in_ok-entries.entries.items c.sort_by.new.self.items
     (subst (λ (pairs : List Pair). AllZip (IsEntryOf files chosen id) pairs c.in_ok-entries.entries.items) c.as_slice.ensures.value c.in_ok-entries.ensures)
     c.in_ok-sort_by.ensures.permutation
     (c.in_ok-sort_by.ensures.sorted (λ x y. is_lt (info_cmp x y)) infos_rank (answers_always _ (λ a r. is_lt r ≡ is_lt (info_cmp a.0.now a.1.0.now)) _ (λ f a r g called. search rules))))

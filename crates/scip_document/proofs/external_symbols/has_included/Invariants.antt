@@ -1,4 +1,4 @@
-use Rattle.scip_document.specs.ExternalLists.{NoneIncluded}
+use Rattle.scip_document.specs.Tables.ExternalLists.{NoneIncluded}
 use Rattle.scip_document.proofs.external_symbols.has_included.Given as goal
 
 -- none so far

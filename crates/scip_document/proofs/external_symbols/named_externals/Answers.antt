@@ -1,5 +1,5 @@
 use Rattle.std.proofs.Common.{◌≡◌, [], length, subst, arith}
-use Rattle.scip_document.specs.ExternalLists.{Adds, IsExternal}
+use Rattle.scip_document.specs.Tables.ExternalLists.{Adds, IsExternal}
 use Rattle.scip_document.proofs.ExternalLemmas.{external-more}
 use Rattle.scip_document.proofs.external_symbols.named_externals.Goals as goal
 

@@ -1,4 +1,4 @@
-use Rattle.scip_document.specs.ExternalLists.{IsOfPart}
+use Rattle.scip_document.specs.Tables.ExternalLists.{IsOfPart}
 use Rattle.scip_document.proofs.ExternalLemmas.{adds-more-at, adds-all}
 use Rattle.scip_document.proofs.external_symbols.push_parts.Goals as goal
 

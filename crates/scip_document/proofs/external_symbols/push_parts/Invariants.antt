@@ -1,4 +1,4 @@
-use Rattle.scip_document.specs.ExternalLists.{Adds, FromFront, IsOfPart}
+use Rattle.scip_document.specs.Tables.ExternalLists.{Adds, FromFront, IsOfPart}
 use Rattle.scip_document.proofs.external_symbols.push_parts.Given as goal
 
 abbrev pub invariant-loop-part : goal.invariant-loop-part

@@ -8,7 +8,7 @@ use Rattle.proto_decl.specs.declared.type_use.Use.{Use}
 use Rattle.proto_link.specs.Files.{HasFacts, IsSource}
 use Rattle.proto_link.proofs.TargetLemmas.{some_facts}
 use Rattle.scip_document.specs.Conditions.{IsResolved}
-use Rattle.scip_document.specs.ExternalLists.{Adds, FromFront, IsOfUse}
+use Rattle.scip_document.specs.Tables.ExternalLists.{Adds, FromFront, IsOfUse}
 use Rattle.scip_document.proofs.LinkedLemmas.{source-facts}
 use Rattle.scip_document.proofs.ExternalLemmas.{of-source}
 use Rattle.scip_document.proofs.external_symbols.push_source.Goals as goal

@@ -1,7 +1,7 @@
 use Rattle.std.proofs.Common.{length, refl, sym, subst}
 use Rattle.std.proofs.lemmas.Option.{slice_get_read}
 use Rattle.scip_document.specs.Conditions.{IsResolved}
-use Rattle.scip_document.specs.ExternalLists.{IsOfUse}
+use Rattle.scip_document.specs.Tables.ExternalLists.{IsOfUse}
 use Rattle.scip_document.proofs.ExternalLemmas.{adds-more, adds-all}
 use Rattle.scip_document.proofs.external_symbols.push_uses.Goals as goal
 

@@ -1,4 +1,4 @@
-use Rattle.scip_document.specs.ExternalLists.{Adds, FromFront, IsOfUse}
+use Rattle.scip_document.specs.Tables.ExternalLists.{Adds, FromFront, IsOfUse}
 use Rattle.scip_document.proofs.external_symbols.push_uses.Given as goal
 
 abbrev pub invariant-loop-type_use : goal.invariant-loop-type_use

@@ -4,7 +4,7 @@ use Rattle.std.specs.List.Sorted.{IsStrictlySortedBy}
 use Rattle.std.proofs.lemmas.List.Filters.{dedup_is}
 use Rattle.std.proofs.lemmas.List.Kept.{Contains-dedup, Contains-from_dedup, IsStrictlySortedBy-dedup}
 use Rattle.std.proofs.lemmas.List.Sorted.{Contains-permutation, IsPermutation-sym}
-use Rattle.scip_document.specs.ExternalLists.{Pair, pair_cmp}
+use Rattle.scip_document.specs.Tables.ExternalLists.{Pair, pair_cmp}
 use Rattle.scip_document.proofs.PairLemmas.{pairs_total, same, ties, equivalence, exact}
 use Rattle.scip_document.proofs.external_symbols.without_doubles.Goals as goal
 

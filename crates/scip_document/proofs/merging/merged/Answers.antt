@@ -1,6 +1,6 @@
 use Rattle.std.proofs.Common.{sym, subst, List}
 use Rattle.scip_model.specs.declared.records.Occurrence.{Occurrence}
-use Rattle.scip_document.specs.Indexes.{occurrence_cmp}
+use Rattle.scip_document.specs.OccurrenceOrder.{occurrence_cmp}
 use Rattle.scip_document.proofs.OrderLemmas.{occurrence_total}
 use Rattle.scip_document.proofs.MergeLemmas.{IsMerging, step, ends}
 use Rattle.scip_document.proofs.merging.merged.Goals as goal

@@ -1,6 +1,6 @@
 use Rattle.std.proofs.Common.{◌+◌, length}
-use Rattle.scip_document.specs.Indexes.{occurrence_cmp}
-use Rattle.scip_document.specs.Merges.{AreUntied}
+use Rattle.scip_document.specs.OccurrenceOrder.{occurrence_cmp}
+use Rattle.scip_document.specs.Tables.Merges.{AreUntied}
 use Rattle.scip_document.proofs.MergeLemmas.{IsMerging}
 use Rattle.scip_document.proofs.merging.merged.Given as goal
 

@@ -2,7 +2,8 @@ use Rattle.std.proofs.Common.{◌≡◌, List, ℕ, Some, length, refl, subst}
 use Rattle.std.specs.List.{slice_get}
 use Rattle.std.proofs.lemmas.Result.{err_from_is_err_and}
 use Rattle.std.proofs.lemmas.Option.{slice_get_read}
-use Rattle.scip_document.specs.TakenPaths.{texts, IsMarked, IsNotMarked}
+use Rattle.scip_document.specs.Tables.TakenPaths.{IsMarked, IsNotMarked}
+use Rattle.scip_document.specs.Pieces.{texts}
 use Rattle.scip_document.proofs.PieceLemmas.{marked-more, refused}
 use Rattle.scip_document.proofs.pieces.mark_all.Goals as goal
 

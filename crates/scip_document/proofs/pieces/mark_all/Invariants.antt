@@ -1,4 +1,5 @@
-use Rattle.scip_document.specs.TakenPaths.{texts, AreMarked}
+use Rattle.scip_document.specs.Tables.TakenPaths.{AreMarked}
+use Rattle.scip_document.specs.Pieces.{texts}
 use Rattle.scip_document.proofs.pieces.mark_all.Given as goal
 
 abbrev pub invariant-loop-piece : goal.invariant-loop-piece

@@ -1,6 +1,6 @@
 use Rattle.std.proofs.Common.{◌≡◌, ℕ, Option, Some, sym, subst, MatchOption}
 use Rattle.std.specs.List.{slice_get, Contains}
-use Rattle.scip_document.specs.TakenPaths.{texts}
+use Rattle.scip_document.specs.Pieces.{texts}
 use Rattle.scip_document.proofs.PieceLemmas.{found-path}
 use Rattle.scip_document.proofs.pieces.number_of.Goals as goal
 

@@ -3,7 +3,8 @@ use Rattle.std.specs.Ordering.{is_lt}
 use Rattle.std.proofs.lemmas.List.Sorted.{answers_always}
 use Rattle.scip_model.specs.declared.records.Document.{Document}
 use Rattle.scip_document.specs.Indexes.{document_cmp}
-use Rattle.scip_document.specs.TakenPaths.{texts, AreMarked}
+use Rattle.scip_document.specs.Tables.TakenPaths.{AreMarked}
+use Rattle.scip_document.specs.Pieces.{texts}
 use Rattle.scip_document.proofs.PieceLemmas.{documents_rank, first-missing, merged}
 use Rattle.scip_document.proofs.pieces.put_in_order.Goals as goal
 

@@ -4,10 +4,10 @@ use Rattle.scip_document.proofs.source_document.document.Goals as goal
 
 pub unwrap-facts-requires : goal.unwrap-facts-requires
 unwrap-facts-requires c =
-    let facts = source-facts c.args.linker.now c.args.source c.linked.ensures.can_be.read c.requires.source in
-    some_facts c.args.linker.now c.args.source facts.0 c.facts_of.result facts.1 c.facts_of.ensures
+    let facts = source-facts c.args.maker.now.linker.now c.args.maker.now.source c.linked.ensures.can_be.read c.requires.source in
+    some_facts c.args.maker.now.linker.now c.args.maker.now.source facts.0 c.facts_of.result facts.1 c.facts_of.ensures
 
-pub document_with-requires-clause-text : goal.document_with-requires-clause-text
-document_with-requires-clause-text c =
+pub occurrences-requires-clause-text : goal.occurrences-requires-clause-text
+occurrences-requires-clause-text c =
     let facts = c.unwrap-facts.result.now in
-    c.requires.text facts (given_facts c.args.linker.now c.args.source c.facts_of.result c.unwrap-facts.result c.unwrap-facts.ensures c.facts_of.ensures)
+    c.requires.text facts (given_facts c.args.maker.now.linker.now c.args.maker.now.source c.facts_of.result c.unwrap-facts.result c.unwrap-facts.ensures c.facts_of.ensures)

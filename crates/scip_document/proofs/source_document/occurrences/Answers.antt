@@ -6,15 +6,14 @@ use Rattle.proto_decl.specs.declared.declaration.Declaration.{Declaration}
 use Rattle.proto_decl.specs.declared.type_use.Component.{Component}
 use Rattle.proto_decl.specs.declared.type_use.Use.{Use}
 use Rattle.scip_symbol.specs.Path.{IsGoodPath}
-use Rattle.scip_document.specs.Listing.{own_occurrence, each_from, at_import, at_use}
-use Rattle.scip_document.proofs.ApartLemmas.{AreIdentifiers}
+use Rattle.scip_document.specs.Tables.Listing.{own_occurrence, each_from, at_import, at_use}
 use Rattle.scip_document.proofs.TargetLemmas.{zip_length}
 use Rattle.scip_document.proofs.NameableLemmas.{targets_nameable}
 use Rattle.scip_document.proofs.ConditionLemmas.{all_of_map, uses_stand_there, stand_there, choices_there, good_imports, merged_of}
 use Rattle.scip_document.proofs.DocumentLemmas.{merged_lists}
 use Rattle.scip_document.proofs.NamedLemmas.{same_facts}
 use Rattle.scip_document.proofs.OrderLemmas.{tied}
-use Rattle.scip_document.specs.Indexes.{occurrence_cmp}
+use Rattle.scip_document.specs.OccurrenceOrder.{occurrence_cmp}
 use Rattle.scip_document.specs.Occurs.{Occurs}
 use Rattle.scip_document.specs.Texts.{AreOfText}
 use Rattle.scip_model.specs.declared.records.Occurrence.{Occurrence}
@@ -23,60 +22,59 @@ use Rattle.proto_link.specs.Targets.{IsTarget}
 use Rattle.scip_document.proofs.source_document.occurrences.Goals as goal
 
 pub own_occurrences-requires : goal.own_occurrences-requires
-own_occurrences-requires c = let path = c.path_of.ensures in subst IsGoodPath path.2 (c.requires.paths c.args.source path.0 path.1)
+own_occurrences-requires c = let path = c.path_of.ensures in subst IsGoodPath path.2 (c.requires.paths c.args.maker.now.source path.0 path.1)
 
 pub import_occurrences-requires-clause-parts : goal.import_occurrences-requires-clause-parts
 import_occurrences-requires-clause-parts c =
-    let text = c.args.text.now in
+    let text = c.args.maker.now.text.now in
     let facts = c.args.facts.now in
     subst (λ (imports : List Imported). All (λ (imported : Imported). IsPart text imported.span) imports) (sym c.imports.ensures)
-    (all_of_map (IsPart text) (λ (imported : Imported). imported.span) facts.imports (stand_there text facts c.requires.text c.facts_stand_in_text.ensures).imports)
+    (all_of_map (IsPart text) (λ (imported : Imported). imported.span) facts.imports (stand_there text facts c.requires.text c.facts_occur_in_order.ensures.placed).imports)
 
 pub import_occurrences-requires-clause-paths : goal.import_occurrences-requires-clause-paths
 import_occurrences-requires-clause-paths c =
     subst (λ (imports : List Imported). All (λ (imported : Imported). IsGoodPath imported.path) imports) (sym c.imports.ensures)
-    (good_imports c.args.linker.now c.args.source c.args.facts.now c.requires.source c.requires.known c.linked.ensures.can_be.complete c.requires.paths)
+    (good_imports c.args.maker.now.linker.now c.args.maker.now.source c.args.facts.now c.requires.source c.requires.known c.facts_occur_in_order.ensures.linked.complete c.requires.paths)
 
 pub package_occurrences-requires : goal.package_occurrences-requires
 package_occurrences-requires c =
-    let text = c.args.text.now in
+    let text = c.args.maker.now.text.now in
     let facts = c.args.facts.now in
-    all_of_map (IsPart text) (λ (component : Component). component.span) facts.package_name (stand_there text facts c.requires.text c.facts_stand_in_text.ensures).package_name
+    all_of_map (IsPart text) (λ (component : Component). component.span) facts.package_name (stand_there text facts c.requires.text c.facts_occur_in_order.ensures.placed).package_name
 
 pub declaration_occurrences-requires-clause-parts : goal.declaration_occurrences-requires-clause-parts
 declaration_occurrences-requires-clause-parts c =
-    let text = c.args.text.now in
+    let text = c.args.maker.now.text.now in
     let facts = c.args.facts.now in
-    all_of_map (IsPart text) (λ (declaration : Declaration). declaration.name) facts.declarations (stand_there text facts c.requires.text c.facts_stand_in_text.ensures).names
+    all_of_map (IsPart text) (λ (declaration : Declaration). declaration.name) facts.declarations (stand_there text facts c.requires.text c.facts_occur_in_order.ensures.placed).names
 
 pub declaration_occurrences-requires-clause-chosen : goal.declaration_occurrences-requires-clause-chosen
-declaration_occurrences-requires-clause-chosen c = choices_there c.args.linker.now c.args.choices.now c.args.source c.args.facts.now c.requires.choices c.requires.known
+declaration_occurrences-requires-clause-chosen c = choices_there c.args.maker.now.linker.now c.args.maker.now.choices.now c.args.maker.now.source c.args.facts.now c.requires.choices c.requires.known
 
 pub use_occurrences-requires-clause-stand : goal.use_occurrences-requires-clause-stand
 use_occurrences-requires-clause-stand c =
-    let text = c.args.text.now in
+    let text = c.args.maker.now.text.now in
     let facts = c.args.facts.now in
     subst (λ (uses : List Use). All (λ (used : Use). All (λ (component : Component). IsPart text component.span) used.components) uses) (sym c.uses.ensures)
-    (uses_stand_there text facts.uses (stand_there text facts c.requires.text c.facts_stand_in_text.ensures).uses)
+    (uses_stand_there text facts.uses (stand_there text facts c.requires.text c.facts_occur_in_order.ensures.placed).uses)
 
 pub use_occurrences-requires-clause-one_each : goal.use_occurrences-requires-clause-one_each
 use_occurrences-requires-clause-one_each c =
-    zip_length (IsTarget c.args.linker.now c.args.source) c.uses.result.now c.args.targets.now
-    (subst (λ (uses : List Use). AllZip (IsTarget c.args.linker.now c.args.source) uses c.args.targets.now) (sym c.uses.ensures) c.requires.targets)
+    zip_length (IsTarget c.args.maker.now.linker.now c.args.maker.now.source) c.uses.result.now c.args.targets.now
+    (subst (λ (uses : List Use). AllZip (IsTarget c.args.maker.now.linker.now c.args.maker.now.source) uses c.args.targets.now) (sym c.uses.ensures) c.requires.targets)
 
 pub use_occurrences-requires-clause-nameable : goal.use_occurrences-requires-clause-nameable
 use_occurrences-requires-clause-nameable c =
-    let spelled : AreIdentifiers = record { named = c.names_are_identifiers.ensures.named; ways = c.names_are_identifiers.ensures.ways; held = c.names_are_identifiers.ensures.held } in
-    targets_nameable c.args.linker.now c.args.source c.linked.ensures.origins spelled c.args.facts.now.uses c.args.targets.now c.requires.targets
+    targets_nameable c.args.maker.now.linker.now c.args.maker.now.source c.facts_occur_in_order.ensures.origins c.facts_occur_in_order.ensures.spelled c.args.facts.now.uses c.args.targets.now c.requires.targets
 
 pub returns : goal.returns
 returns c =
-    let files = c.args.linker.now in
-    let chosen = c.args.choices.now in
-    let id = c.args.id.now in
-    let encoding = c.args.encoding in
-    let source = c.args.source in
-    let text = c.args.text.now in
+    let files = c.args.maker.now.linker.now in
+    let chosen = c.args.maker.now.choices.now in
+    let id = c.args.maker.now.package.now in
+    let encoding = c.args.maker.now.encoding in
+    let source = c.args.maker.now.source in
+    let text = c.args.maker.now.text.now in
     let facts = c.args.facts.now in
     let targets = c.args.targets.now in
     let path = c.path_of.ensures in
@@ -84,13 +82,13 @@ returns c =
     let own = c.in_ok-own.ensures ∙ ap (λ (p : List ℕ). own_occurrence id p ∷ []) (sym path.2) in
     let imports = c.in_ok-imports.ensures ∙ ap (λ (xs : List Imported). each_from (at_import id encoding text) 0 xs) c.imports.ensures in
     let untied : (x y : Occurrence) → Occurs files chosen id encoding source text x → Occurs files chosen id encoding source text y → occurrence_cmp x y ≡ Equal → x ≡ y =
-    λ x y first second e. c.no_two_occurrences_tie.ensures files chosen id encoding source text
+    λ x y first second e. c.facts_occur_in_order.ensures.untied files chosen id encoding source text
     (λ other known. subst (AreOfText text) (same_facts files source facts other c.requires.known known) c.requires.text) x y first second (tied x y e).0 (tied x y e).1 in
     let uses = c.in_ok-uses.ensures ∙ ap (λ (xs : List Use). each_from (at_use id encoding text files chosen targets) 0 xs) c.uses.ensures in
-    merged_lists id encoding text c.positions_rise.ensures.characters files chosen source path.0 path.1 facts c.requires.known
-    (stand_there text facts c.requires.text c.facts_stand_in_text.ensures) (c.facts_in_order.ensures.names facts origin) (c.facts_in_order.ensures.uses facts origin)
-    (c.facts_in_order.ensures.imports facts origin) (c.facts_in_order.ensures.package_name facts origin) targets c.requires.targets
-    (c.one_target_a_use.ensures.targets files c.linked.ensures.origins c.linked.ensures.can_be.clear source c.requires.source) untied
+    merged_lists id encoding text c.facts_occur_in_order.ensures.characters files chosen source path.0 path.1 facts c.requires.known
+    (stand_there text facts c.requires.text c.facts_occur_in_order.ensures.placed) (c.facts_occur_in_order.ensures.order.names facts origin) (c.facts_occur_in_order.ensures.order.uses facts origin)
+    (c.facts_occur_in_order.ensures.order.imports facts origin) (c.facts_occur_in_order.ensures.order.package_name facts origin) targets c.requires.targets
+    (c.facts_occur_in_order.ensures.targets files c.facts_occur_in_order.ensures.origins c.facts_occur_in_order.ensures.linked.clear source c.requires.source) untied
     c.in_ok-with_imports.with_imports.items c.in_ok-with_packages.with_packages.items c.in_ok-with_names.with_names.items c.in_ok-list.list.items
     (merged_of own imports c.in_ok-with_imports.ensures)
     (merged_of refl c.in_ok-packages.ensures c.in_ok-with_packages.ensures)

@@ -2,17 +2,17 @@ use Rattle.std.proofs.Common.{◌≡◌, ◌∙◌, ap, refl, List, ℕ, Option,
 use Rattle.std.specs.List.{slice_get}
 use Rattle.std.proofs.lemmas.Option.{slice_get_read}
 use Rattle.proto_link.specs.declared.target.Entity.{Entity}
-use Rattle.scip_document.specs.Listing.{each_from, at_part, at_component}
+use Rattle.scip_document.specs.Tables.Listing.{each_from, at_part, at_component}
 use Rattle.scip_document.proofs.ListingLemmas.{each_added}
 use Rattle.scip_document.proofs.use_occurrences.add_target.Goals as goal
 
 pub loop-index-preserved : goal.loop-index-preserved
 loop-index-preserved c =
-    let id = c.args.id.now in
-    let encoding = c.args.encoding in
-    let text = c.args.text.now in
-    let files = c.args.linker.now in
-    let chosen = c.args.choices.now in
+    let id = c.args.maker.now.package.now in
+    let encoding = c.args.maker.now.encoding in
+    let text = c.args.maker.now.text.now in
+    let files = c.args.maker.now.linker.now in
+    let chosen = c.args.maker.now.choices.now in
     let target = c.args.target.now in
     let xs = c.as_slice-component-items.result.now in
     let index = c.loop-index.index in

@@ -2,17 +2,17 @@ use Rattle.std.proofs.Common.{◌≡◌, ◌∙◌, ap, sym, refl, Option, Some,
 use Rattle.std.specs.List.{slice_get}
 use Rattle.std.proofs.lemmas.Option.{slice_get_read}
 use Rattle.proto_link.specs.declared.target.Target.{Target}
-use Rattle.scip_document.specs.Listing.{each_from, at_target, at_use}
+use Rattle.scip_document.specs.Tables.Listing.{each_from, at_target, at_use}
 use Rattle.scip_document.proofs.ListingLemmas.{each_added}
 use Rattle.scip_document.proofs.use_occurrences.use_occurrences.Goals as goal
 
 pub loop-index-preserved : goal.loop-index-preserved
 loop-index-preserved c =
-    let id = c.args.id.now in
-    let encoding = c.args.encoding in
-    let text = c.args.text.now in
-    let files = c.args.linker.now in
-    let chosen = c.args.choices.now in
+    let id = c.args.maker.now.package.now in
+    let encoding = c.args.maker.now.encoding in
+    let text = c.args.maker.now.text.now in
+    let files = c.args.maker.now.linker.now in
+    let chosen = c.args.maker.now.choices.now in
     let targets = c.args.targets.now in
     let uses = c.args.uses.now in
     let index = c.loop-index.index in

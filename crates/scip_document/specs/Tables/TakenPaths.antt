@@ -1,14 +1,10 @@
 -- The marks of paths of which there is a piece.
-use Rattle.std.specs.Prelude.{◌≡◌, ◌≢◌, ◌<◌, ◌↔◌, ℕ, Bool, true, false, Some, List, length, map, take, All, Contains, slice_index_or, slice_set}
+use Rattle.std.specs.Prelude.{◌≡◌, ◌≢◌, ◌<◌, ◌↔◌, ℕ, Bool, true, false, Some, List, length, take, All, Contains, slice_index_or, slice_set}
 use Rattle.std.specs.List.{slice_get}
-use denote.Ref.{Bor}
 use Rattle.scip_model.specs.declared.records.Document.{Document}
 use Rattle.scip_document.specs.Pieces.{paths_of}
 use Rattle.scip_document.specs.declared.merge_fault.MergeFault.{MergeFault}
 use Rattle.scip_document.specs.declared.merge_fault.MergeFault.TheVariants.{Stranger, Twice, Missing, Memory}
-
-abbrev pub texts : List (Bor (List ℕ)) → List (List ℕ)
-texts paths = map (λ (path : Bor (List ℕ)). path.now) paths
 
 -- so many marks, all clear
 pub record AreClear (count : ℕ) (marks : List Bool) : Type 0 where

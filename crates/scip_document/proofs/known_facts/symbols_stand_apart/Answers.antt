@@ -1,0 +1,8 @@
+use Rattle.scip_document.proofs.known_facts.symbols_stand_apart.Goals as goal
+
+pub returns-clause-spelled : goal.returns-clause-spelled
+returns-clause-spelled c = record {
+  named = c.names_are_identifiers.ensures.named;
+  ways = c.names_are_identifiers.ensures.ways;
+  held = c.names_are_identifiers.ensures.held;
+}

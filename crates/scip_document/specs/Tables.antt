@@ -1,0 +1,11 @@
+-- What the code lists and marks: no public contract names it.
+-- what the laws of the crates below say
+pub mod KnownFacts
+-- the lists that make up what occurs, and two lists in order made one
+pub mod Listing
+pub mod Merges
+-- the lists by which entries are found
+pub mod EntryLists
+pub mod ExternalLists
+-- the marks of paths that pieces have
+pub mod TakenPaths

@@ -1,0 +1,25 @@
+//! What a document is made from.
+
+use crate::choices::Choices;
+use proto_lex::{Encoding, Text};
+use proto_link::Linker;
+use scip_symbol::PackageId;
+use std::alloc::Global;
+
+/// What the document of a source is made from.
+#[derive(Drop)]
+pub struct DocumentMaker<'a, 'l, 't> {
+    pub alloc: Global,
+    /// The files, which are linked.
+    pub linker: &'a Linker<'l>,
+    /// What was chosen for each declaration of the files.
+    pub choices: &'a Choices,
+    /// The package that the symbols belong to.
+    pub package: &'a PackageId,
+    /// In which code units columns count.
+    pub encoding: Encoding,
+    /// The number of the source.
+    pub source: usize,
+    /// The text of the source.
+    pub text: &'a Text<'t>,
+}

@@ -8,11 +8,12 @@ use Rattle.proto_decl.specs.Seen.{Seen}
 use Rattle.index_hooks.specs.declared.choice.Choice.{Choice}
 use Rattle.index_pool.specs.Phase.{AnswersEach, IsLeastFault}
 use Rattle.scip_build.specs.declared.fault.FileFault.{FileFault}
-use Rattle.scip_build.specs.declared.fault.Stop.TheVariants.{Unreadable}
+use Rattle.scip_build.specs.declared.fault.BuildFault.{BuildFault}
+use Rattle.scip_build.specs.declared.fault.BuildFault.TheVariants as build
 use Rattle.scip_build.specs.Laws.{NoFactsWhereUnreadable}
 use Rattle.source_tree.specs.Files.{TreeFile}
 use Rattle.scip_build.specs.Files.{FileContents, ReadFile}
-use Rattle.scip_build.specs.Readings.{HasContents, IsReadingOf, AreReadingsOf, IsFaultySource, IsReadIfSource, IsFirstFaulty, GivesReading}
+use Rattle.scip_build.specs.Readings.{HasContents, IsReadingOf, AreReadingsOf, IsReadIfSource, IsFirstFaulty, GivesReading, MayRefuseFiles, MayRefuseReading}
 
 -- what a list has at a number below its length
 pub at_number : {X : Type 0} (xs : List X) (k : ℕ) → k < length xs → (x : X) × (slice_get xs k ≡ Some x)
@@ -37,17 +38,29 @@ module _ (custom : CustomOptions) (allows : Seen → Choice → Type 0) (files :
     each = λ number file reading at is. holds_at (λ f. IsReadingOf custom allows number f reading) files number file at (answers.1 number reading is);
   }
 
-  pub first_faulty : (number : ℕ) (fault : FileFault) → IsLeastFault (GivesReading custom allows files) (length files) number (Unreadable fault) → IsFirstFaulty custom files number fault
-  first_faulty number fault least =
+  -- why a file stops the run, the first of those that do, is why the files aren't read
+  pub refused_of : (workers number : ℕ) (fault : BuildFault) → IsLeastFault (GivesReading custom allows files) (length files) number fault → MayRefuseFiles custom files workers fault
+  refused_of workers number fault least =
       let there = at_number files number least.0 in
-      record {
-        file = there.0;
-        numbered = there.1;
-        faulty = holds_at (λ f. IsFaultySource custom f fault) files number there.0 there.1 least.1;
-        before = λ lesser other below at.
-            let read = least.2 lesser below in
-            source_has_facts custom allows lesser other read.0.contents (holds_at (λ f. IsReadingOf custom allows lesser f read.0) files lesser other at read.1).contents;
-      }
+      by fault there.0 there.1 (holds_at (λ f. MayRefuseReading custom number f fault) files number there.0 there.1 least.1)
+    where
+      by : (fault : BuildFault) (file : TreeFile) → slice_get files number ≡ Some file → MayRefuseReading custom number file fault → MayRefuseFiles custom files workers fault
+      by build.Spawn file at may = absurd may
+      by build.Memory file at may = tt
+      by (build.File other of_file) file at may =
+          let At : ℕ → Type 0 = λ k. slice_get files k ≡ Some file in
+          record {
+            file = file;
+            numbered = subst At (sym may.0) at;
+            faulty = may.1;
+            before = λ lesser before less there.
+                let Below : ℕ → Type 0 = λ k. lesser < k in
+                let read = least.2 lesser (subst Below may.0 less) in
+                source_has_facts custom allows lesser before read.0.contents (holds_at (λ f. IsReadingOf custom allows lesser f read.0) files lesser before there read.1).contents;
+          }
+      by (build.Duplicate first second) file at may = absurd may
+      by (build.MissingImport place) file at may = absurd may
+      by (build.Unresolved place) file at may = absurd may
 
   -- files with readings have no faulty source
   pub no_readings_where_faulty : NoFactsWhereUnreadable → (readings : List ReadFile) (number : ℕ) (fault : FileFault) → AreReadingsOf custom allows files readings → IsFirstFaulty custom files number fault → ⊥

@@ -7,13 +7,11 @@ use Rattle.proto_link.specs.Linked.{CanBeLinked}
 use Rattle.source_tree.specs.Files.{TreeFile}
 use Rattle.scip_build.specs.declared.fault.BuildFault.{BuildFault}
 use Rattle.scip_build.specs.declared.fault.BuildFault.TheVariants as build
-use Rattle.scip_build.specs.declared.fault.ReadFault.{ReadFault}
-use Rattle.scip_build.specs.declared.fault.ReadFault.TheVariants as read
 use Rattle.scip_build.specs.Files.{ReadFile}
-use Rattle.scip_build.specs.Readings.{AreReadingsOf, IsReadFault}
+use Rattle.scip_build.specs.Readings.{AreReadingsOf, MayRefuseFiles}
 use Rattle.scip_build.specs.Linking.{linked_files, MayRefuseReadings}
 use Rattle.scip_build.specs.Documents.{MayRefuseDocuments}
-use Rattle.scip_build.specs.Making.{MayRefuseMaking, fault_of_reading}
+use Rattle.scip_build.specs.Making.{MayRefuseMaking}
 use Rattle.scip_build.specs.Builds.{IsBuildFault}
 
 -- why files that were read can't be linked
@@ -37,10 +35,13 @@ of_documents readings workers (build.Unresolved place) linked is = (linked, is)
 
 module _ (allows : Seen → Choice → Type 0) (custom : CustomOptions) (tree : List TreeFile) (workers : ℕ) where
   -- why files aren't read
-  pub of_reading : (fault : ReadFault) → IsReadFault custom tree workers fault → IsBuildFault allows custom tree workers (fault_of_reading fault)
-  of_reading read.Spawn is = is
-  of_reading read.Memory is = tt
-  of_reading (read.File number fault) is = inl is
+  pub of_reading : (fault : BuildFault) → MayRefuseFiles custom tree workers fault → IsBuildFault allows custom tree workers fault
+  of_reading build.Spawn is = is
+  of_reading build.Memory is = tt
+  of_reading (build.File number fault) is = inl is
+  of_reading (build.Duplicate first second) is = absurd is
+  of_reading (build.MissingImport place) is = absurd is
+  of_reading (build.Unresolved place) is = absurd is
 
   -- why files that were read make no index
   pub of_making : (readings : List ReadFile) → AreReadingsOf custom allows tree readings → (fault : BuildFault) → MayRefuseMaking readings workers fault

@@ -14,6 +14,7 @@ use Rattle.scip_document.specs.Conditions.{HaveGoodPaths, AllResolve, IsFirstUnr
 use Rattle.scip_document.specs.Uses.{UsesResolve}
 use Rattle.scip_document.specs.Texts.{HasText}
 use Rattle.scip_document.specs.Indexes.{IsAscendingListOf, IsDocumentOf, document_cmp, HasDocument, HaveDocuments}
+use Rattle.scip_build.specs.declared.settings.Settings.{Settings}
 use Rattle.scip_build.specs.declared.fault.FileFault.{FileFault}
 use Rattle.scip_build.specs.declared.fault.BuildFault.{BuildFault}
 use Rattle.scip_build.specs.declared.fault.BuildFault.TheVariants as build
@@ -57,8 +58,7 @@ pub record SourceWork : Type 0 where
   pub readings : List ReadFile
   pub files : List File
   pub chosen : Chosen
-  pub id : Package
-  pub encoding : Encoding
+  pub settings : Settings
   pub count : ℕ
 
 -- the document of the source with this number, of which each use names a type

@@ -4,8 +4,8 @@ pub mod Parsed
 pub mod Files
 -- what files are read as, and the first that can't be
 pub mod Readings
--- why the reading of a file stops
-pub mod Stops
+-- why a file can't be read
+pub mod FileFaults
 -- what is linked of files that were read
 pub mod Linking
 -- the documents of sources that were read

@@ -9,8 +9,6 @@ use Rattle.scip_document.specs.Indexes.{IsIndexOf}
 use Rattle.scip_build.specs.declared.settings.Settings.{Settings}
 use Rattle.scip_build.specs.declared.fault.BuildFault.{BuildFault}
 use Rattle.scip_build.specs.declared.fault.BuildFault.TheVariants as build
-use Rattle.scip_build.specs.declared.fault.ReadFault.{ReadFault}
-use Rattle.scip_build.specs.declared.fault.ReadFault.TheVariants as read
 use Rattle.scip_build.specs.Files.{ReadFile}
 use Rattle.scip_build.specs.Linking.{linked_files, MayRefuseReadings}
 use Rattle.scip_build.specs.Documents.{texts_of, IsLeastUnresolved}
@@ -33,9 +31,3 @@ MayRefuseMaking readings workers (build.File number fault) = MayRefuseReadings r
 MayRefuseMaking readings workers (build.Duplicate first second) = MayRefuseReadings readings (build.Duplicate first second)
 MayRefuseMaking readings workers (build.MissingImport place) = MayRefuseReadings readings (build.MissingImport place)
 MayRefuseMaking readings workers (build.Unresolved place) = CanBeLinked (linked_files readings) × IsLeastUnresolved (linked_files readings) place
-
--- what the build answers for why files aren't read
-abbrev pub fault_of_reading : ReadFault → BuildFault
-fault_of_reading read.Spawn = build.Spawn
-fault_of_reading read.Memory = build.Memory
-fault_of_reading (read.File number fault) = build.File number fault

@@ -8,10 +8,8 @@ use Rattle.proto_decl.specs.Declares.{simple_name}
 use Rattle.proto_decl.specs.declared.declaration.Declaration.{Declaration}
 use Rattle.index_hooks.specs.declared.choice.Choice.{Choice}
 use Rattle.scip_build.specs.declared.fault.FileFault.{FileFault}
-use Rattle.scip_build.specs.declared.fault.Stop.{Stop}
-use Rattle.scip_build.specs.declared.fault.Stop.TheVariants as stop
-use Rattle.scip_build.specs.declared.fault.ReadFault.{ReadFault}
-use Rattle.scip_build.specs.declared.fault.ReadFault.TheVariants.{Spawn, Memory, File}
+use Rattle.scip_build.specs.declared.fault.BuildFault.{BuildFault}
+use Rattle.scip_build.specs.declared.fault.BuildFault.TheVariants.{Spawn, Memory, File, Duplicate, MissingImport, Unresolved}
 use Rattle.scip_build.specs.Parsed.{AreFactsIn, IsUnreadable}
 use Rattle.source_tree.specs.Files.{TreeFile}
 use Rattle.scip_build.specs.Files.{FileContents, ReadFile}
@@ -72,23 +70,26 @@ pub record IsFirstFaulty (custom : CustomOptions) (files : List TreeFile) (numbe
   pub faulty : IsFaultySource custom file fault
   pub before : (lesser : ℕ) (other : TreeFile) → lesser < number → slice_get files lesser ≡ Some other → IsReadIfSource custom lesser other
 
--- Why the files weren't read. A thread is refused only where one is to be started, that is, for two workers or more; of memory that is refused nothing is said.
-abbrev pub IsReadFault : CustomOptions → List TreeFile → (workers : ℕ) → ReadFault → Type 0
-IsReadFault custom files workers Spawn = 1 < workers
-IsReadFault custom files workers Memory = ⊤
-IsReadFault custom files workers (File number fault) = IsFirstFaulty custom files number fault
+-- Why the files aren't read. A thread is refused only where one is to be started, that is, for two workers or more; of memory
+-- nothing is said.
+abbrev pub MayRefuseFiles : CustomOptions → List TreeFile → (workers : ℕ) → BuildFault → Type 0
+MayRefuseFiles custom files workers Spawn = 1 < workers
+MayRefuseFiles custom files workers Memory = ⊤
+MayRefuseFiles custom files workers (File number fault) = IsFirstFaulty custom files number fault
+MayRefuseFiles custom files workers (Duplicate first second) = ⊥
+MayRefuseFiles custom files workers (MissingImport place) = ⊥
+MayRefuseFiles custom files workers (Unresolved place) = ⊥
 
--- why the reading of a file ends without contents
-abbrev pub MayStop : CustomOptions → (bytes : List ℕ) → Stop → Type 0
-MayStop custom bytes stop.Memory = ⊤
-MayStop custom bytes (stop.Unreadable fault) = IsUnreadable custom bytes fault
-
--- why a file stops the run
-abbrev pub MayStopAt : CustomOptions → TreeFile → Stop → Type 0
-MayStopAt custom file stop.Memory = ⊤
-MayStopAt custom file (stop.Unreadable fault) = IsFaultySource custom file fault
+-- why the file with this number stops the run: it is a source that can't be read; of memory nothing is said
+abbrev pub MayRefuseReading : CustomOptions → (number : ℕ) → TreeFile → BuildFault → Type 0
+MayRefuseReading custom number file Spawn = ⊥
+MayRefuseReading custom number file Memory = ⊤
+MayRefuseReading custom number file (File other fault) = (other ≡ number) × IsFaultySource custom file fault
+MayRefuseReading custom number file (Duplicate first second) = ⊥
+MayRefuseReading custom number file (MissingImport place) = ⊥
+MayRefuseReading custom number file (Unresolved place) = ⊥
 
 -- what the reading of the file with this number gives
-abbrev pub GivesReading : CustomOptions → (allows : Seen → Choice → Type 0) → List TreeFile → ℕ → Result ReadFile Stop → Type 0
+abbrev pub GivesReading : CustomOptions → (allows : Seen → Choice → Type 0) → List TreeFile → ℕ → Result ReadFile BuildFault → Type 0
 GivesReading custom allows files number result =
-    IfSome (slice_get files number) (λ file. MatchResult result (IsReadingOf custom allows number file) (MayStopAt custom file))
+    IfSome (slice_get files number) (λ file. MatchResult result (IsReadingOf custom allows number file) (MayRefuseReading custom number file))

@@ -13,14 +13,15 @@ use crate::built::Built;
 use crate::chosen::chosen_lists;
 use crate::fault::BuildFault;
 use crate::laws::readings_have_own_paths;
+use crate::linked_sources::LinkedSources;
 use crate::linking::{link, linked_files};
 use crate::phase_one::read_files;
 use crate::phase_two::make_documents;
 use crate::reading::Reading;
+use crate::run::Run;
 use crate::settings::Settings;
 use index_hooks::Chooses;
 use index_pool::{Gate, Workers};
-use proto_link::Linker;
 use scip_document::{Choices, externals};
 use scip_model::{Index, Metadata, ToolInfo};
 use sequences::{OwnedText, Sequence};
@@ -48,25 +49,25 @@ fn metadata(alloc: Global, project_root: &OwnedText) -> Result<Metadata, AllocEr
 
 /// The index of linked files: the documents come by path, so none is looked for.
 fn make_index<R: Threads + Wait, G: Gate>(
-    rt: &R,
-    alloc: Global,
-    linker: &Linker<'_>,
-    readings: &[Reading<'_>],
-    choices: &Choices,
-    settings: &Settings,
-    count: usize,
-    workers: Workers,
-    gate: &G,
+    run: &Run<'_, R, G>,
+    sources: &LinkedSources<'_, '_, '_>,
 ) -> Result<Index, BuildFault>
-    requires few { count ≤ MAX_INPUTS }
-    requires ready { AreReady readings.now linker.now choices.now count }
-    ensures { MatchResult result (IsMade readings.now linker.now choices.now settings.now) (MayRefuseDocuments linker.now workers) }
+    requires few { sources.now.count ≤ MAX_INPUTS }
+    requires ready { AreReady
+        sources.now.readings.now sources.now.linker.now sources.now.choices.now sources.now.count }
+    ensures { MatchResult result
+        (IsMade sources.now.readings.now sources.now.linker.now sources.now.choices.now sources.now.settings.now)
+        (MayRefuseDocuments sources.now.linker.now run.now.workers) }
 {
-    let documents = make_documents(
-        rt, alloc, linker, readings, choices, settings, count, workers, gate,
+    let settings = sources.settings;
+    let documents = make_documents(run, sources)?;
+    let external_symbols = externals(
+        run.alloc,
+        sources.linker,
+        sources.choices,
+        &settings.package,
     )?;
-    let external_symbols = externals(alloc, linker, choices, &settings.package)?;
-    let metadata = metadata(alloc, &settings.project_root)?;
+    let metadata = metadata(run.alloc, &settings.project_root)?;
     Ok(Index {
         metadata: Some(metadata),
         documents: Sequence::from_vec(documents),
@@ -76,25 +77,31 @@ fn make_index<R: Threads + Wait, G: Gate>(
 
 /// The index of files that were read, of which so many are sources.
 fn link_and_make<R: Threads + Wait, G: Gate>(
-    rt: &R,
-    alloc: Global,
+    run: &Run<'_, R, G>,
     readings: &[Reading<'_>],
     choices: &Choices,
     settings: &Settings,
     count: usize,
-    workers: Workers,
-    gate: &G,
 ) -> Result<Index, BuildFault>
     requires few { count ≤ MAX_INPUTS }
     requires own { HaveOwnPaths (linked_files readings.now) }
     requires ready { AreReady readings.now (linked_files readings.now) choices.now count }
-    ensures { MatchResult result (IsLinkedAndMade readings.now choices.now settings.now) (MayRefuseMaking readings.now workers) }
+    ensures { MatchResult result
+        (IsLinkedAndMade readings.now choices.now settings.now)
+        (MayRefuseMaking readings.now run.now.workers) }
 {
+    let alloc = run.alloc;
     let files = linked_files(alloc, readings)?;
     let linker = link(alloc, readings, files.as_slice())?;
-    make_index(
-        rt, alloc, &linker, readings, choices, settings, count, workers, gate,
-    )
+    let sources = LinkedSources {
+        alloc,
+        linker: &linker,
+        readings,
+        choices,
+        settings,
+        count,
+    };
+    make_index(run, &sources)
 }
 
 /// Builds the index of a tree's sources, by what the chooser chooses for each declaration and by the
@@ -118,26 +125,16 @@ pub fn build<R: Threads + Wait, C: Chooses + Sync, G: Gate>(
     ensures refused { IfErr result (IsBuildFault (C.allows chooser.now) settings.now.custom_options tree.now workers) }
 {
     readings_have_own_paths(chooser);
-    let _files = tree.file_count();
-    let readings = read_files(
+    tree.file_count();
+    let run = Run {
         rt,
         alloc,
-        tree,
-        chooser,
         workers,
-        settings.custom_options,
         gate,
-    )?;
+    };
+    let readings = read_files(&run, tree, chooser, settings.custom_options)?;
     let choices = Choices::new(chosen_lists(alloc, readings.as_slice())?);
-    let index = link_and_make(
-        rt,
-        alloc,
-        readings.as_slice(),
-        &choices,
-        settings,
-        tree.source_count(),
-        workers,
-        gate,
-    )?;
+    let count = tree.source_count();
+    let index = link_and_make(&run, readings.as_slice(), &choices, settings, count)?;
     Ok(Built { index, choices })
 }

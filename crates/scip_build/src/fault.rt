@@ -1,4 +1,4 @@
-//! Why files can't be read.
+//! Why a tree has no index.
 
 use proto_lex::LexFault;
 use proto_link::FilePlace;
@@ -17,19 +17,6 @@ pub enum FileFault {
     /// The tokens of its text derive no tree.
     #[error("{0}")]
     Syntax(SyntaxFault),
-}
-
-/// Why the files of a tree aren't read.
-#[derive(Clone, Copy, Debug, Drop, PartialEq, Eq)]
-pub enum ReadFault {
-    /// A thread could not be started.
-    Spawn,
-    /// Memory ran out: for what all files share, or for the least file that stops the run, be it an
-    /// included one.
-    Memory,
-    /// The number of the first source that can't be read, and why. Memory sufficed for every file
-    /// before it.
-    File(usize, FileFault),
 }
 
 /// Why a tree has no index. The first of those that hold is answered, in this order; but `Spawn` and
@@ -51,21 +38,6 @@ pub enum BuildFault {
     Unresolved(FilePlace),
 }
 
-impl From<ReadFault> for BuildFault {
-    ghost use Rattle.std.specs.Prelude.{◌≡◌};
-    ghost use Rattle.scip_build.specs.Making.{fault_of_reading};
-
-    ghost from_gives = { λ fault e. e ≡ fault_of_reading fault };
-
-    fn from(fault: ReadFault) -> BuildFault {
-        match fault {
-            ReadFault::Spawn => BuildFault::Spawn,
-            ReadFault::Memory => BuildFault::Memory,
-            ReadFault::File(number, fault) => BuildFault::File(number, fault),
-        }
-    }
-}
-
 impl From<AllocError> for BuildFault {
     ghost use Rattle.std.specs.Prelude.{◌≡◌};
     ghost use Rattle.scip_build.specs.declared.fault.BuildFault.TheVariants.{Memory};
@@ -74,51 +46,5 @@ impl From<AllocError> for BuildFault {
 
     fn from(_refused: AllocError) -> BuildFault {
         BuildFault::Memory
-    }
-}
-
-/// Why the reading of a file ends without contents.
-#[derive(Clone, Copy, Debug, Drop, PartialEq, Eq)]
-pub(crate) enum Stop {
-    Memory,
-    Unreadable(FileFault),
-}
-
-impl From<LexFault> for Stop {
-    ghost use Rattle.std.specs.Prelude.{◌≡◌};
-    ghost use Rattle.scip_build.specs.Stops.{stop_of_lexing};
-
-    ghost from_gives = { λ fault stop. stop ≡ stop_of_lexing fault };
-
-    fn from(fault: LexFault) -> Stop {
-        match fault {
-            LexFault::Memory => Stop::Memory,
-            fault => Stop::Unreadable(FileFault::Lex(fault)),
-        }
-    }
-}
-
-impl From<SyntaxFault> for Stop {
-    ghost use Rattle.std.specs.Prelude.{◌≡◌};
-    ghost use Rattle.scip_build.specs.Stops.{stop_of_parsing};
-
-    ghost from_gives = { λ fault stop. stop ≡ stop_of_parsing fault };
-
-    fn from(fault: SyntaxFault) -> Stop {
-        match fault {
-            SyntaxFault::Memory => Stop::Memory,
-            fault => Stop::Unreadable(FileFault::Syntax(fault)),
-        }
-    }
-}
-
-impl From<AllocError> for Stop {
-    ghost use Rattle.std.specs.Prelude.{◌≡◌};
-    ghost use Rattle.scip_build.specs.declared.fault.Stop.TheVariants.{Memory};
-
-    ghost from_gives = { λ _ stop. stop ≡ Memory };
-
-    fn from(_refused: AllocError) -> Stop {
-        Stop::Memory
     }
 }

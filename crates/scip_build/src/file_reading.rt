@@ -1,20 +1,49 @@
 //! From the bytes of a file to its contents.
 
-ghost use Rattle.std.specs.Prelude.{◌<◌, length, MatchResult};
+ghost use Rattle.std.specs.Prelude.{◌≡◌, ◌<◌, length, MatchResult};
 ghost use Rattle.proto_lex.specs.Text.{IsText};
+ghost use Rattle.scip_build.specs.FileFaults.{fault_of_lexing, fault_of_parsing, MayRefuseFile};
 ghost use Rattle.scip_build.specs.Parsed.{AreFactsIn};
-ghost use Rattle.scip_build.specs.Readings.{AreContentsOf, GivesReading, IsReadingOf, MayStop, MayStopAt};
-ghost use Rattle.scip_build.specs.Stops.{IsPassedOver, IsStopping};
+ghost use Rattle.scip_build.specs.Readings.{AreContentsOf, GivesReading, IsReadingOf, MayRefuseReading};
 
 use crate::choosing::choose_each;
-use crate::fault::{FileFault, Stop};
+use crate::fault::{BuildFault, FileFault};
 use crate::reading::{Contents, Reading};
 use index_hooks::Chooses;
 use proto_decl::{FileFacts, declare};
-use proto_lex::{Text, lex};
-use proto_parse::{CustomOptions, parse_with};
+use proto_lex::{LexFault, Text, lex};
+use proto_parse::{CustomOptions, SyntaxFault, parse_with};
 use source_tree::Tree;
 use std::alloc::Global;
+
+/// By what files are read: what chooses for their declarations, and what is done with custom
+/// options.
+#[derive(Drop)]
+pub(crate) struct Reader<'c, C> {
+    pub(crate) alloc: Global,
+    pub(crate) chooser: &'c C,
+    pub(crate) custom: CustomOptions,
+}
+
+/// Why the file with this number has no lexing; want of memory is no fault of a file.
+fn unlexed(number: usize, fault: LexFault) -> BuildFault
+    ensures { result ≡ fault_of_lexing number fault }
+{
+    match fault {
+        LexFault::Memory => BuildFault::Memory,
+        fault => BuildFault::File(number, FileFault::Lex(fault)),
+    }
+}
+
+/// Why the file with this number has no tree; want of memory is no fault of a file.
+fn unparsed(number: usize, fault: SyntaxFault) -> BuildFault
+    ensures { result ≡ fault_of_parsing number fault }
+{
+    match fault {
+        SyntaxFault::Memory => BuildFault::Memory,
+        fault => BuildFault::File(number, FileFault::Syntax(fault)),
+    }
+}
 
 /// The facts of a text: it is lexed whole, then parsed, then declared.
 fn facts_of(
@@ -22,28 +51,37 @@ fn facts_of(
     number: usize,
     text: &Text<'_>,
     custom: CustomOptions,
-) -> Result<FileFacts, Stop>
+) -> Result<FileFacts, BuildFault>
     requires { IsText text.now }
-    ensures { MatchResult result (AreFactsIn custom number text.now) (MayStop custom text.now) }
+    ensures { MatchResult result (AreFactsIn custom number text.now) (MayRefuseFile custom number text.now) }
 {
-    let lexed = lex(alloc, text)?;
-    let tree = parse_with(alloc, &lexed, custom)?;
+    let lexed = match lex(alloc, text) {
+        Ok(lexed) => lexed,
+        Err(fault) => return Err(unlexed(number, fault)),
+    };
+    let tree = match parse_with(alloc, &lexed, custom) {
+        Ok(tree) => tree,
+        Err(fault) => return Err(unparsed(number, fault)),
+    };
     Ok(declare(alloc, number, &lexed, &tree)?)
 }
 
 /// The contents of the file with this number and these bytes.
 fn contents_of<'a, C: Chooses>(
-    alloc: Global,
+    reader: &Reader<'_, C>,
     number: usize,
     bytes: &'a [u8],
-    chooser: &C,
-    custom: CustomOptions,
-) -> Result<Contents<'a>, Stop>
-    ensures { MatchResult result (AreContentsOf custom (C.allows chooser.now) number bytes.now) (MayStop custom bytes.now) }
+) -> Result<Contents<'a>, BuildFault>
+    ensures { MatchResult result
+        (AreContentsOf reader.now.custom (C.allows reader.now.chooser.now) number bytes.now)
+        (MayRefuseFile reader.now.custom number bytes.now) }
 {
-    let text = Text::new(alloc, bytes)?;
-    let facts = facts_of(alloc, number, &text, custom)?;
-    let choices = choose_each(alloc, chooser, facts.declarations())?;
+    let text = match Text::new(reader.alloc, bytes) {
+        Ok(text) => text,
+        Err(fault) => return Err(unlexed(number, fault)),
+    };
+    let facts = facts_of(reader.alloc, number, &text, reader.custom)?;
+    let choices = choose_each(reader.alloc, reader.chooser, facts.declarations())?;
     Ok(Contents {
         text,
         facts,
@@ -51,67 +89,56 @@ fn contents_of<'a, C: Chooses>(
     })
 }
 
-/// The fault of an included file, which doesn't stop the run.
-fn unless_stopped(is_included: bool, stop: Stop) -> Result<FileFault, Stop>
-    ensures { MatchResult result (IsPassedOver is_included stop) (IsStopping is_included stop) }
-{
-    match stop {
-        Stop::Memory => Err(Stop::Memory),
-        Stop::Unreadable(fault) => {
-            if is_included {
-                Ok(fault)
-            } else {
-                Err(Stop::Unreadable(fault))
-            }
-        }
-    }
-}
-
 /// Reads the file with this number, which has this path and these bytes. An included file that
 /// can't be read has its fault in place of contents.
 fn read_parts<'a, C: Chooses>(
-    alloc: Global,
+    reader: &Reader<'_, C>,
     number: usize,
     path: &'a str,
     bytes: &'a [u8],
     is_included: bool,
-    chooser: &C,
-    custom: CustomOptions,
-) -> Result<Reading<'a>, Stop>
-    ensures { MatchResult result (IsReadingOf custom (C.allows chooser.now) number (record { path = path.now; bytes = bytes.now; is_included = is_included })) (MayStopAt custom (record { path = path.now; bytes = bytes.now; is_included = is_included })) }
+) -> Result<Reading<'a>, BuildFault>
+    ensures { MatchResult result
+        (IsReadingOf reader.now.custom (C.allows reader.now.chooser.now) number
+        (record { path = path.now; bytes = bytes.now; is_included = is_included }))
+        (MayRefuseReading reader.now.custom number
+        (record { path = path.now; bytes = bytes.now; is_included = is_included })) }
 {
-    match contents_of(alloc, number, bytes, chooser, custom) {
+    match contents_of(reader, number, bytes) {
         Ok(contents) => Ok(Reading {
             path,
             is_included,
             contents: Ok(contents),
         }),
-        Err(stop) => Ok(Reading {
-            path,
-            is_included,
-            contents: Err(unless_stopped(is_included, stop)?),
-        }),
+        Err(BuildFault::File(of, fault)) => {
+            if is_included {
+                Ok(Reading {
+                    path,
+                    is_included,
+                    contents: Err(fault),
+                })
+            } else {
+                Err(BuildFault::File(of, fault))
+            }
+        }
+        Err(_) => Err(BuildFault::Memory),
     }
 }
 
 /// Reads the file of a tree with this number.
 pub(crate) fn read_file<'a, C: Chooses>(
-    alloc: Global,
+    reader: &Reader<'_, C>,
     number: usize,
     tree: &'a Tree,
-    chooser: &C,
-    custom: CustomOptions,
-) -> Result<Reading<'a>, Stop>
+) -> Result<Reading<'a>, BuildFault>
     requires { number < length tree.now }
-    ensures { GivesReading custom (C.allows chooser.now) tree.now number result }
+    ensures { GivesReading reader.now.custom (C.allows reader.now.chooser.now) tree.now number result }
 {
     read_parts(
-        alloc,
+        reader,
         number,
         tree.path(number),
         tree.bytes(number),
         tree.is_included(number),
-        chooser,
-        custom,
     )
 }

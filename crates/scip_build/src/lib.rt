@@ -9,17 +9,19 @@ mod chosen;
 mod fault;
 mod file_reading;
 mod laws;
+mod linked_sources;
 mod linking;
 mod phase_one;
 mod phase_two;
 mod reading;
+mod run;
 mod settings;
 mod source_document;
 
 pub use building::build;
 pub use built::Built;
 pub use chosen::chosen_lists;
-pub use fault::{BuildFault, FileFault, ReadFault};
+pub use fault::{BuildFault, FileFault};
 pub use laws::{
     built_has_no_fault, faults_are_alike, faults_exclude_facts, file_faults_are_alike,
     one_build_fault, one_built, one_first_faulty, one_linking, one_list_of_facts_a_file,
@@ -28,4 +30,5 @@ pub use laws::{
 pub use linking::{link, linked_files};
 pub use phase_one::read_files;
 pub use reading::{Contents, Reading};
+pub use run::Run;
 pub use settings::Settings;

@@ -1,26 +1,24 @@
 //! The first phase: the files of a tree are read, on workers.
 
 ghost use Rattle.std.specs.Prelude.{MatchResult};
-ghost use Rattle.scip_build.specs.Readings.{AreReadingsOf, IsReadFault};
+ghost use Rattle.scip_build.specs.Readings.{AreReadingsOf, MayRefuseFiles};
 
-use crate::fault::{ReadFault, Stop};
-use crate::file_reading::read_file;
+use crate::fault::BuildFault;
+use crate::file_reading::{Reader, read_file};
 use crate::reading::Reading;
+use crate::run::Run;
 use index_hooks::Chooses;
-use index_pool::{Gate, Job, PoolFault, Workers, run_phase};
+use index_pool::{Gate, Job, PoolFault, run_phase};
 use proto_parse::CustomOptions;
 use source_tree::Tree;
-use std::alloc::Global;
 use std::sync::Wait;
 use std::thread::Threads;
 
 /// The reading of each file.
 #[derive(Drop)]
 struct PhaseOne<'a, 'c, C: Chooses + Sync> {
-    alloc: Global,
+    reader: Reader<'c, C>,
     tree: &'a Tree,
-    chooser: &'c C,
-    custom: CustomOptions,
 }
 
 impl<'a, 'c, C: Chooses + Sync> Job for PhaseOne<'a, 'c, C> {
@@ -29,14 +27,14 @@ impl<'a, 'c, C: Chooses + Sync> Job for PhaseOne<'a, 'c, C> {
 
     type Out = Reading<'a>;
 
-    type Fault = Stop;
+    type Fault = BuildFault;
 
     ghost inputs = { λ s. length s.tree.now };
 
-    ghost gives = { λ s number result. GivesReading s.custom (C.allows s.chooser.now) s.tree.now number result };
+    ghost gives = { λ s number result. GivesReading s.reader.custom (C.allows s.reader.chooser.now) s.tree.now number result };
 
-    fn run(&self, number: usize) -> Result<Reading<'a>, Stop> {
-        read_file(self.alloc, number, self.tree, self.chooser, self.custom)
+    fn run(&self, number: usize) -> Result<Reading<'a>, BuildFault> {
+        read_file(&self.reader, number, self.tree)
     }
 }
 
@@ -50,29 +48,32 @@ impl<'a, 'c, C: Chooses + Sync> Job for PhaseOne<'a, 'c, C> {
 /// Of the refusals `Spawn` comes before `Memory`, and `Memory` before `File`; but where the least
 /// file that stops the run lacks memory, it is `Memory`.
 pub fn read_files<'a, R: Threads + Wait, C: Chooses + Sync, G: Gate>(
-    rt: &R,
-    alloc: Global,
+    run: &Run<'_, R, G>,
     tree: &'a Tree,
     chooser: &C,
-    workers: Workers,
     custom: CustomOptions,
-    gate: &G,
-) -> Result<Vec<Reading<'a>>, ReadFault>
-    ensures { MatchResult result (λ readings. AreReadingsOf custom (C.allows chooser.now) tree.now readings.items) (IsReadFault custom tree.now workers) }
+) -> Result<Vec<Reading<'a>>, BuildFault>
+    ensures { MatchResult result
+        (λ readings. AreReadingsOf custom (C.allows chooser.now) tree.now readings.items)
+        (MayRefuseFiles custom tree.now run.now.workers) }
 {
-    let job = PhaseOne {
-        alloc,
-        tree,
+    let reader = Reader {
+        alloc: run.alloc,
         chooser,
         custom,
     };
-    match run_phase(rt, alloc, &job, tree.file_count(), workers, gate) {
+    let job = PhaseOne { reader, tree };
+    match run_phase(
+        run.rt,
+        run.alloc,
+        &job,
+        tree.file_count(),
+        run.workers,
+        run.gate,
+    ) {
         Ok(readings) => Ok(readings),
-        Err(PoolFault::Spawn) => Err(ReadFault::Spawn),
-        Err(PoolFault::Memory) => Err(ReadFault::Memory),
-        Err(PoolFault::Job(number, stop)) => match stop {
-            Stop::Memory => Err(ReadFault::Memory),
-            Stop::Unreadable(fault) => Err(ReadFault::File(number, fault)),
-        },
+        Err(PoolFault::Spawn) => Err(BuildFault::Spawn),
+        Err(PoolFault::Memory) => Err(BuildFault::Memory),
+        Err(PoolFault::Job(_, fault)) => Err(fault),
     }
 }

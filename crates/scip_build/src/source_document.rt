@@ -8,13 +8,12 @@ ghost use Rattle.std.specs.Prelude.{ℕ, List};
 ghost use Rattle.scip_build.specs.Documents.{IsRead, HasReadText, GivesDocument};
 
 use crate::fault::BuildFault;
+use crate::linked_sources::LinkedSources;
 use crate::reading::Reading;
-use crate::settings::Settings;
 use proto_lex::Text;
-use proto_link::{LinkFault, Linker};
-use scip_document::{Choices, DocumentMaker, document};
+use proto_link::LinkFault;
+use scip_document::{DocumentMaker, document};
 use scip_model::Document;
-use std::alloc::Global;
 
 /// The text of a file that was read.
 fn text_at<'a, 'r>(readings: &'a [Reading<'r>], number: usize) -> &'a Text<'r>
@@ -30,36 +29,32 @@ fn text_at<'a, 'r>(readings: &'a [Reading<'r>], number: usize) -> &'a Text<'r>
 
 /// The document of a source that was read. `Unresolved` at its first use that names no type.
 pub(crate) fn make_document(
-    alloc: Global,
-    linker: &Linker<'_>,
+    sources: &LinkedSources<'_, '_, '_>,
     number: usize,
-    readings: &[Reading<'_>],
-    choices: &Choices,
-    settings: &Settings,
 ) -> Result<Document, BuildFault>
-    requires source { IsSource linker.now number }
-    requires read { IsRead readings.now number }
-    requires texts { (text : List ℕ) → HasReadText readings.now number text → HasText linker.now number text }
-    requires good { HaveGoodPaths linker.now }
-    requires choices { HaveChoices linker.now choices.now }
-    ensures { GivesDocument readings.now linker.now choices.now settings.now.package settings.now.encoding number result }
+    requires source { IsSource sources.now.linker.now number }
+    requires read { IsRead sources.now.readings.now number }
+    requires texts { (text : List ℕ) → HasReadText sources.now.readings.now number text
+        → HasText sources.now.linker.now number text }
+    requires good { HaveGoodPaths sources.now.linker.now }
+    requires choices { HaveChoices sources.now.linker.now sources.now.choices.now }
+    ensures { GivesDocument sources.now.readings.now sources.now.linker.now sources.now.choices.now
+        sources.now.settings.now.package sources.now.settings.now.encoding number result }
 {
-    let text = text_at(readings, number);
+    let text = text_at(sources.readings, number);
     let maker = DocumentMaker {
-        alloc,
-        linker,
-        choices,
-        package: &settings.package,
-        encoding: settings.encoding,
+        alloc: sources.alloc,
+        linker: sources.linker,
+        choices: sources.choices,
+        package: &sources.settings.package,
+        encoding: sources.settings.encoding,
         source: number,
         text,
     };
     match document(&maker) {
         Ok(made) => Ok(made),
-        Err(fault) => match fault {
-            LinkFault::Unresolved(place) => Err(BuildFault::Unresolved(place)),
-            LinkFault::Memory => Err(BuildFault::Memory),
-            _ => unreachable!(),
-        },
+        Err(LinkFault::Unresolved(place)) => Err(BuildFault::Unresolved(place)),
+        Err(LinkFault::Memory) => Err(BuildFault::Memory),
+        Err(_) => unreachable!(),
     }
 }

@@ -4,7 +4,7 @@ use index_hooks::{Choice, Chooses, DocChoice};
 use index_pool::{NoGate, Workers};
 use proto_decl::DeclView;
 use proto_parse::CustomOptions;
-use scip_build::{FileFault, ReadFault, Reading, read_files};
+use scip_build::{BuildFault, FileFault, Reading, Run, read_files};
 use source_tree::{Source, Tree, TreeFault};
 use std::alloc::{AllocError, Global};
 use std::process::Abort;
@@ -154,10 +154,16 @@ pub(crate) fn read<'a, R: Threads + Wait, C: Chooses + Sync>(
     chooser: &C,
     workers: Workers,
     custom: CustomOptions,
-) -> Result<Vec<Reading<'a>>, ReadFault> {
-    match read_files(rt, alloc, tree, chooser, workers, custom, &NoGate) {
-        Err(ReadFault::Memory) | Err(ReadFault::Spawn) => {
-            read_files(rt, alloc, tree, chooser, workers, custom, &NoGate)
+) -> Result<Vec<Reading<'a>>, BuildFault> {
+    let run = Run {
+        rt,
+        alloc,
+        workers,
+        gate: &NoGate,
+    };
+    match read_files(&run, tree, chooser, custom) {
+        Err(BuildFault::Memory) | Err(BuildFault::Spawn) => {
+            read_files(&run, tree, chooser, custom)
         }
         answer => answer,
     }
@@ -173,7 +179,7 @@ pub(crate) fn fault_of<R: Threads + Wait, C: Chooses + Sync>(
     workers: Workers,
 ) -> Option<(usize, FileFault)> {
     match read(rt, alloc, tree, chooser, workers, CustomOptions::Refuse) {
-        Err(ReadFault::File(number, fault)) => Some((number, fault)),
+        Err(BuildFault::File(number, fault)) => Some((number, fault)),
         _ => None,
     }
 }

@@ -8,7 +8,7 @@ use index_pool::{NoGate, Workers};
 use proto_decl::{DeclView, DeclarationKind};
 use proto_parse::CustomOptions;
 use scip_build::{
-    Reading, chosen_lists, faults_exclude_facts, one_first_faulty, one_linking,
+    Reading, Run, chosen_lists, faults_exclude_facts, one_first_faulty, one_linking,
     one_list_of_facts_a_file, read_files, readings_exclude_faults, readings_have_own_paths,
 };
 use source_tree::Tree;
@@ -59,7 +59,13 @@ fn asked_while_read<R: Threads + Wait>(
 ) -> Option<u64> {
     let chooser = keeping();
     let custom = CustomOptions::Refuse;
-    match read_files(rt, alloc, tree, &chooser, workers, custom, &NoGate) {
+    let run = Run {
+        rt,
+        alloc,
+        workers,
+        gate: &NoGate,
+    };
+    match read_files(&run, tree, &chooser, custom) {
         Ok(_) => Some(chooser.asked()),
         Err(_) => None,
     }

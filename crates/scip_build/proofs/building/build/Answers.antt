@@ -10,15 +10,15 @@ use Rattle.scip_build.proofs.building.build.Goals as goal
 pub link_and_make-requires-clause-own : goal.link_and_make-requires-clause-own
 link_and_make-requires-clause-own g c κs within =
     rw c.as_slice-2.ensures.value
-    (c.readings_have_own_paths.ensures c.args.settings.now.custom_options c.args.tree.now c.in_ok-readings.readings.items c.in_ok-readings.ensures c.file_count-files.ensures.tree.own)
+    (c.readings_have_own_paths.ensures c.args.settings.now.custom_options c.args.tree.now c.in_ok-readings.readings.items c.in_ok-readings.ensures c.file_count.ensures.tree.own)
 
 pub link_and_make-requires-clause-ready : goal.link_and_make-requires-clause-ready
 link_and_make-requires-clause-ready g c κs within =
     let readings = c.in_ok-readings.readings.items in
     let allows = g.C.Chooses.allows c.args.chooser.now in
     let chosen : c.new-choices.result ≡ map choices_of readings = c.new-choices.ensures ∙ (c.in_ok-chosen_lists.ensures ∙ ap (map choices_of) c.as_slice.ensures.value) in
-    let Ready : Chosen → Type 0 = λ choices. AreReady readings (linked_files readings) choices c.source_count.result in
-    let ready = are_ready c.args.settings.now.custom_options allows c.args.tree.now readings c.in_ok-readings.ensures c.file_count-files.ensures.tree c.source_count.result c.source_count.ensures in
+    let Ready : Chosen → Type 0 = λ choices. AreReady readings (linked_files readings) choices c.source_count-count.result in
+    let ready = are_ready c.args.settings.now.custom_options allows c.args.tree.now readings c.in_ok-readings.ensures c.file_count.ensures.tree c.source_count-count.result c.source_count-count.ensures in
     rw c.as_slice-2.ensures.value (subst Ready (sym chosen) ready)
 
 pub returns-in_err-index-clause-refused : goal.returns-in_err-index-clause-refused

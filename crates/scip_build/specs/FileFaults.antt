@@ -1,0 +1,28 @@
+-- Why the file with a number can't be read, by the fault of the step that refuses it: want of memory is no fault of a file.
+use Rattle.std.specs.Prelude.{◌≡◌, ℕ, ⊤, List}
+use Rattle.proto_lex.specs.declared.fault.LexFault.{LexFault}
+use Rattle.proto_lex.specs.declared.fault.LexFault.TheVariants as lexing
+use Rattle.proto_grammar.specs.declared.tree.CustomOptions.{CustomOptions}
+use Rattle.proto_grammar.specs.declared.fault.SyntaxFault.{SyntaxFault}
+use Rattle.proto_grammar.specs.declared.fault.SyntaxFault.TheVariants as parsing
+use Rattle.scip_build.specs.declared.fault.FileFault.TheVariants.{Lex, Syntax}
+use Rattle.scip_build.specs.declared.fault.BuildFault.{BuildFault}
+use Rattle.scip_build.specs.declared.fault.BuildFault.TheVariants.{Spawn, Memory, File, Duplicate, MissingImport, Unresolved}
+use Rattle.scip_build.specs.Parsed.{IsUnreadable}
+
+abbrev pub fault_of_lexing : ℕ → LexFault → BuildFault
+fault_of_lexing number lexing.Memory = Memory
+fault_of_lexing number fault = File number (Lex fault)
+
+abbrev pub fault_of_parsing : ℕ → SyntaxFault → BuildFault
+fault_of_parsing number parsing.Memory = Memory
+fault_of_parsing number fault = File number (Syntax fault)
+
+-- why the file with this number and these bytes has no contents; of memory nothing is said
+abbrev pub MayRefuseFile : CustomOptions → (number : ℕ) → (bytes : List ℕ) → BuildFault → Type 0
+MayRefuseFile custom number bytes Spawn = ⊥
+MayRefuseFile custom number bytes Memory = ⊤
+MayRefuseFile custom number bytes (File other fault) = (other ≡ number) × IsUnreadable custom bytes fault
+MayRefuseFile custom number bytes (Duplicate first second) = ⊥
+MayRefuseFile custom number bytes (MissingImport place) = ⊥
+MayRefuseFile custom number bytes (Unresolved place) = ⊥

@@ -1,0 +1,19 @@
+//! What the documents of sources are made from.
+
+use crate::reading::Reading;
+use crate::settings::Settings;
+use proto_link::Linker;
+use scip_document::Choices;
+use std::alloc::Global;
+
+/// Files that were read and linked, and what the documents of the sources among them are made by. The
+/// numbers of the sources are those below `count`.
+#[derive(Drop)]
+pub(crate) struct LinkedSources<'a, 'l, 'r> {
+    pub(crate) alloc: Global,
+    pub(crate) linker: &'a Linker<'l>,
+    pub(crate) readings: &'a [Reading<'r>],
+    pub(crate) choices: &'a Choices,
+    pub(crate) settings: &'a Settings,
+    pub(crate) count: usize,
+}

@@ -2,8 +2,8 @@
 use Rattle.std.proofs.Common.{◌≡◌, inl, inr, ℕ, Bool, List, ◌∷◌, refl, ap}
 use Rattle.std.proofs.lemmas.Bool.{cases_order}
 use Rattle.proto_decl.specs.Names.{qualified, dotted}
-use Rattle.proto_link.specs.Files.{File}
-use Rattle.proto_link.specs.Knows.{NameKind}
+use Rattle.proto_visibility.specs.Files.{File}
+use Rattle.proto_visibility.specs.Knows.{NameKind}
 use Rattle.proto_link.specs.Resolves.{Innermost, ResolvesIn}
 use Rattle.proto_link.specs.Resolves.Innermost.{here, farther}
 use Rattle.proto_link.specs.Resolves.ResolvesIn.{absolute, single, compound}

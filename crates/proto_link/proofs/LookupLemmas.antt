@@ -3,8 +3,8 @@ use Rattle.std.proofs.Common.{◌≡◌, ◌↔◌, ℕ, ◌+◌, ◌<◌, Bool,
 use Rattle.proto_decl.specs.Names.{qualified, scopes_of}
 use Rattle.std.proofs.lemmas.List.{append_assoc}
 use denote.Ref.{Bor}
-use Rattle.proto_link.specs.Files.{File}
-use Rattle.proto_link.specs.Knows.{NameKind, KnowsAs}
+use Rattle.proto_visibility.specs.Files.{File}
+use Rattle.proto_visibility.specs.Knows.{NameKind, KnowsAs}
 use Rattle.proto_link.specs.Resolves.{Innermost}
 use Rattle.proto_link.specs.Resolves.Innermost.{here, farther}
 

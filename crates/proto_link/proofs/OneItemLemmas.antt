@@ -10,15 +10,15 @@ use Rattle.proto_lex.specs.Lexed.{AreInOrder}
 use Rattle.proto_decl.specs.Facts.{Facts, AreOfSomeFile, NamesInOrder, PackageInOrder, name_spans, component_spans}
 use Rattle.proto_decl.specs.declared.declaration.Declaration.{Declaration}
 use Rattle.proto_decl.specs.declared.type_use.Component.{Component}
-use Rattle.proto_link.specs.declared.place.FilePlace.{FilePlace}
-use Rattle.proto_link.specs.Files.{File, HasFacts, HaveOrigins}
-use Rattle.proto_link.specs.Items.{Before, Item, IsItem, package_of}
-use Rattle.proto_link.specs.Items.IsItem.{declared, packaged}
-use Rattle.proto_link.specs.Clashes.{NoClash}
+use Rattle.proto_visibility.specs.declared.place.FilePlace.{FilePlace}
+use Rattle.proto_visibility.specs.Files.{File, HasFacts, HaveOrigins}
+use Rattle.proto_visibility.specs.Items.{Before, Item, IsItem, package_of}
+use Rattle.proto_visibility.specs.Items.IsItem.{declared, packaged}
+use Rattle.proto_visibility.specs.Clashes.{NoClash}
 use Rattle.proto_link.specs.Laws.{IsDeclaredAt, HasPackage}
-use Rattle.proto_link.proofs.GivenLemmas.{contained}
-use Rattle.proto_link.proofs.StepLemmas.{only}
-use Rattle.proto_link.proofs.TargetLemmas.{one_list_of_facts}
+use Rattle.proto_visibility.proofs.GivenLemmas.{contained}
+use Rattle.proto_visibility.proofs.StepLemmas.{only}
+use Rattle.proto_visibility.proofs.FactLemmas.{one_list_of_facts}
 
 -- ---- spans in order
 

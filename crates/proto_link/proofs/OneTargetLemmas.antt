@@ -9,28 +9,28 @@ use Rattle.proto_decl.specs.Facts.{Facts, AreOfSomeFile, NamesInOrder, ImportsIn
 use Rattle.proto_decl.specs.declared.declaration.Declaration.{Declaration}
 use Rattle.proto_decl.specs.declared.imported.Imported.{Imported}
 use Rattle.proto_decl.specs.declared.type_use.Use.{Use}
-use Rattle.proto_link.specs.declared.place.FilePlace.{FilePlace}
-use Rattle.proto_link.specs.declared.fault.LinkFault.{LinkFault}
-use Rattle.proto_link.specs.declared.fault.LinkFault.TheVariants as fault
-use Rattle.proto_link.specs.declared.target.Entity.{Entity}
-use Rattle.proto_link.specs.declared.target.Entity.TheVariants.{Declared}
+use Rattle.proto_visibility.specs.declared.place.FilePlace.{FilePlace}
+use Rattle.proto_visibility.specs.declared.fault.LinkFault.{LinkFault}
+use Rattle.proto_visibility.specs.declared.fault.LinkFault.TheVariants as fault
+use Rattle.proto_visibility.specs.declared.entities.Entity.{Entity}
+use Rattle.proto_visibility.specs.declared.entities.Entity.TheVariants.{Declared}
 use Rattle.proto_link.specs.declared.target.Target.{Target}
-use Rattle.proto_link.specs.Files.{File, HasFacts, HaveOrigins, IsSource}
-use Rattle.proto_link.specs.Sees.{Sees, Counts}
-use Rattle.proto_link.specs.Sees.Counts.{seen as counts_seen}
-use Rattle.proto_link.specs.Items.{Before, Item, IsItem}
-use Rattle.proto_link.specs.Clashes.{Clash, NoClash}
-use Rattle.proto_link.specs.Absences.{IsNeeded, Absent}
-use Rattle.proto_link.specs.Absences.IsNeeded.{of_source, of_included}
-use Rattle.proto_link.specs.Knows.{NameKind, Knows}
-use Rattle.proto_link.specs.Knows.NameKind.{OfPackage, OfDeclaration}
-use Rattle.proto_link.specs.Knows.Knows.{declared as known_declared, packaged as known_packaged}
+use Rattle.proto_visibility.specs.Files.{File, HasFacts, HaveOrigins, IsSource}
+use Rattle.proto_visibility.specs.Sees.{Sees, Counts}
+use Rattle.proto_visibility.specs.Sees.Counts.{seen as counts_seen}
+use Rattle.proto_visibility.specs.Items.{Before, Item, IsItem}
+use Rattle.proto_visibility.specs.Clashes.{Clash, NoClash}
+use Rattle.proto_visibility.specs.Absences.{IsNeeded, Absent}
+use Rattle.proto_visibility.specs.Absences.IsNeeded.{of_source, of_included}
+use Rattle.proto_visibility.specs.Knows.{NameKind, Knows}
+use Rattle.proto_visibility.specs.Knows.NameKind.{OfPackage, OfDeclaration}
+use Rattle.proto_visibility.specs.Knows.Knows.{declared as known_declared, packaged as known_packaged}
 use Rattle.proto_link.specs.Targets.{IsNamed, IsTarget}
 use Rattle.proto_link.specs.Targets.IsNamed.{packaged, declared}
-use Rattle.proto_link.specs.Linked.{MayRefuse}
+use Rattle.proto_visibility.specs.Linked.{MayRefuse}
 use Rattle.proto_link.specs.Laws.{IsDeclaredAt, HasPackage}
 use Rattle.proto_link.proofs.LawLemmas.{one_name_a_use, one_broken_file}
-use Rattle.proto_link.proofs.TargetLemmas.{one_list_of_facts}
+use Rattle.proto_visibility.proofs.FactLemmas.{one_list_of_facts}
 use Rattle.proto_link.proofs.OneItemLemmas.{contains_map, one_start, neither, one_FilePlace, one_place, one_declaration, package_not_declared}
 
 module _ (files : List File) (origins : HaveOrigins files)

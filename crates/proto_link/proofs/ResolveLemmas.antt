@@ -3,8 +3,8 @@ use Rattle.std.proofs.Common.{◌≡◌, ℕ, ◌≤◌, Bool, true, false, List
 use Rattle.proto_decl.specs.Names.{qualified, dotted, scopes_of}
 use Rattle.proto_decl.specs.declared.type_use.Component.{Component}
 use Rattle.proto_decl.specs.declared.type_use.Use.{Use}
-use Rattle.proto_link.specs.Files.{File}
-use Rattle.proto_link.specs.Knows.{KnowsAs, is_type, is_aggregate}
+use Rattle.proto_visibility.specs.Files.{File}
+use Rattle.proto_visibility.specs.Knows.{KnowsAs, is_type, is_aggregate}
 use Rattle.proto_link.specs.Resolves.{Innermost, ResolvesIn, Resolves, words_of}
 use Rattle.proto_link.specs.Resolves.ResolvesIn.{absolute, single, compound}
 use Rattle.proto_link.specs.Targets.{IsUnresolved}

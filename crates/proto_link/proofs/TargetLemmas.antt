@@ -8,29 +8,30 @@ use Rattle.std.proofs.lemmas.List.Sums.{sum_by-append, sum_by-cons}
 use Rattle.std.proofs.lemmas.List.Elements.{All-contains}
 use Rattle.std.proofs.lemmas.List.Splits.{length-slice_split}
 use denote.Ref.{Bor}
-use Rattle.std.specs.Option.{option_map}
 use Rattle.proto_decl.specs.Names.{qualified, dotted, components_of, front_of}
 use Rattle.proto_decl.specs.Facts.{Facts}
 use Rattle.proto_decl.specs.Laws.{IsEntity, FrontsAreEntities}
 use Rattle.proto_decl.specs.declared.type_use.Use.{Use}
 use Rattle.proto_decl.specs.declared.declaration.Declaration.{Declaration}
-use Rattle.proto_link.specs.declared.target.Entity.{Entity}
-use Rattle.proto_link.specs.Files.{File, HasFacts}
-use Rattle.proto_link.specs.Sees.{Sees}
-use Rattle.proto_link.specs.Knows.{NameKind, Knows, KnowsAs, is_type}
-use Rattle.proto_link.specs.Knows.NameKind.{OfPackage}
-use Rattle.proto_link.specs.Knows.Knows.{packaged as known_packaged}
+use Rattle.proto_visibility.specs.declared.entities.Entity.{Entity}
+use Rattle.proto_visibility.specs.Files.{File, HasFacts}
+use Rattle.proto_visibility.specs.Sees.{Sees}
+use Rattle.proto_visibility.specs.Knows.{NameKind, Knows, KnowsAs, is_type}
+use Rattle.proto_visibility.specs.Knows.NameKind.{OfPackage}
+use Rattle.proto_visibility.specs.Knows.Knows.{packaged as known_packaged}
 use Rattle.proto_link.specs.Resolves.{Innermost, ResolvesIn, Resolves}
 use Rattle.proto_link.specs.Resolves.Innermost.{here, farther}
 use Rattle.proto_link.specs.Resolves.ResolvesIn.{absolute, single, compound}
 use Rattle.proto_link.specs.Targets.{IsNamed}
 use Rattle.proto_link.specs.Targets.IsNamed.{packaged as named_packaged, declared as named_declared}
-use Rattle.proto_link.specs.Given.{Gives, GivesAs, SeesGiving}
-use Rattle.proto_link.specs.Given.Gives.{declared as gives_declared, packaged as gives_packaged}
-use Rattle.proto_link.specs.Parts.{IsEntityOf, AreEntitiesOf, AreNamed, longer}
-use Rattle.proto_link.specs.Parts.IsEntityOf.{packaged, declared}
-use Rattle.proto_link.proofs.ItemLemmas.{join_push}
-use Rattle.proto_link.proofs.SeeingLemmas.{slice_get_front}
+use Rattle.proto_visibility.specs.Given.{Gives, GivesAs, SeesGiving}
+use Rattle.proto_visibility.specs.Given.Gives.{declared as gives_declared, packaged as gives_packaged}
+use Rattle.proto_visibility.specs.Entities.{IsEntityOf}
+use Rattle.proto_link.specs.Parts.{AreEntitiesOf, AreNamed, longer}
+use Rattle.proto_visibility.specs.Entities.IsEntityOf.{packaged, declared}
+use Rattle.proto_visibility.proofs.ItemLemmas.{join_push}
+use Rattle.proto_visibility.proofs.SeeingLemmas.{slice_get_front}
+use Rattle.proto_visibility.proofs.FactLemmas.{one_list_of_facts}
 
 -- ---- fronts
 
@@ -174,27 +175,9 @@ pub some_facts : {S : Type 0} (Q : S → Type 0) (files : List File) (seen : ℕ
 some_facts Q files seen facts None has none = absurd (none facts has)
 some_facts Q files seen facts (Some other) has some = refl
 
-one_File : (a b : File) → Some a ≡ Some b → a ≡ b
-one_File a b e = cc
-
-one_Facts : (a b : Facts) → Some a ≡ Some b → a ≡ b
-one_Facts a b e = cc
-
-pub one_list_of_facts : (files : List File) (number : ℕ) (facts other : Facts) → HasFacts files number facts → HasFacts files number other → facts ≡ other
-one_list_of_facts files number facts other has its =
-    one_Facts facts other (sym has.known ∙ (ap (λ (f : File). f.facts) (one_File has.file its.file (sym has.numbered ∙ its.numbered)) ∙ its.known))
-
 pub seen_within_files : (files : List File) (file : ℕ) (admits : NameKind → Bool) (name : List ℕ) (seen : ℕ) → SeesGiving files file admits name seen → seen < length files
 seen_within_files files file admits name seen s = slice_get_within files seen s.giving.file s.giving.numbered
 
 pub gives_there : (files : List File) (file : ℕ) (admits : NameKind → Bool) (name : List ℕ) (seen : ℕ) (facts : Facts) → SeesGiving files file admits name seen → HasFacts files seen facts → GivesAs admits name facts
 gives_there files file admits name seen facts s has =
     subst (GivesAs admits name) (one_list_of_facts files seen s.giving.gives.facts facts (facts_known files file admits name seen s) has) s.giving.gives.gives
-
-none_some : {X : Type 0} (x : X) → None ≡ Some x → ⊥
-none_some x e = cc
-
-pub facts_at : (files : List File) (number : ℕ) (file : File) (facts : Option (Bor Facts)) → slice_get files number ≡ Some file → option_map (λ its. its.now) facts ≡ file.facts
-    → MatchOption facts ((other : Facts) → HasFacts files number other → ⊥) (λ its. HasFacts files number its.now)
-facts_at files number file None stands is = λ other has. none_some other (is ∙ (ap (λ (f : File). f.facts) (one_File file has.file (sym stands ∙ has.numbered)) ∙ has.known))
-facts_at files number file (Some its) stands is = record { file = file; numbered = stands; known = sym is }

@@ -1,8 +1,8 @@
 -- What a lookup finds.
 use Rattle.std.specs.Prelude.{◌≡◌, ℕ, List}
 use Rattle.proto_decl.specs.Names.{qualified}
-use Rattle.proto_link.specs.Files.{File}
-use Rattle.proto_link.specs.Knows.{is_type, is_aggregate, KnowsAs}
+use Rattle.proto_visibility.specs.Files.{File}
+use Rattle.proto_visibility.specs.Knows.{is_type, is_aggregate, KnowsAs}
 use Rattle.proto_link.specs.Resolves.{Innermost}
 
 -- the full name of the word in the innermost scope in which it is a type

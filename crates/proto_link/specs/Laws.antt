@@ -4,19 +4,19 @@ use Rattle.std.specs.List.{slice_get}
 use Rattle.proto_decl.specs.Facts.{Facts}
 use Rattle.proto_decl.specs.declared.declaration.Declaration.{Declaration}
 use Rattle.proto_decl.specs.declared.type_use.Use.{Use}
-use Rattle.proto_link.specs.declared.place.FilePlace.{FilePlace}
-use Rattle.proto_link.specs.declared.fault.LinkFault.{LinkFault}
-use Rattle.proto_link.specs.declared.fault.LinkFault.TheVariants.{Memory}
-use Rattle.proto_link.specs.declared.target.Entity.{Entity}
+use Rattle.proto_visibility.specs.declared.place.FilePlace.{FilePlace}
+use Rattle.proto_visibility.specs.declared.fault.LinkFault.{LinkFault}
+use Rattle.proto_visibility.specs.declared.fault.LinkFault.TheVariants.{Memory}
+use Rattle.proto_visibility.specs.declared.entities.Entity.{Entity}
 use Rattle.proto_link.specs.declared.target.Target.{Target}
-use Rattle.proto_link.specs.Files.{File, HasFacts, HaveOrigins, IsSource}
-use Rattle.proto_link.specs.Sees.{Counts}
-use Rattle.proto_link.specs.Items.{package_of}
-use Rattle.proto_link.specs.Clashes.{Clash, NoClash}
-use Rattle.proto_link.specs.Absences.{Absent, Broken}
+use Rattle.proto_visibility.specs.Files.{File, HasFacts, HaveOrigins, IsSource}
+use Rattle.proto_visibility.specs.Sees.{Counts}
+use Rattle.proto_visibility.specs.Items.{package_of}
+use Rattle.proto_visibility.specs.Clashes.{Clash, NoClash}
+use Rattle.proto_visibility.specs.Absences.{Absent, Broken}
 use Rattle.proto_link.specs.Resolves.{Resolves}
 use Rattle.proto_link.specs.Targets.{IsNamed, IsTarget}
-use Rattle.proto_link.specs.Linked.{MayRefuse}
+use Rattle.proto_visibility.specs.Linked.{MayRefuse}
 
 -- a use names one type at most
 abbrev pub OneNameAUse : Type 0

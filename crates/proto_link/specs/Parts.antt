@@ -1,20 +1,12 @@
--- What a full name names in one file, and what its last components do.
+-- What the last components of a full name name.
 use Rattle.std.specs.Prelude.{◌≡◌, ◌+◌, ◌-◌, ◌∷◌, ◌++◌, ℕ, zero, suc, Some, List, length}
 use Rattle.std.specs.List.{slice_get}
 use Rattle.proto_decl.specs.Names.{components_of, front_of}
 use Rattle.proto_decl.specs.Facts.{Facts}
-use Rattle.proto_decl.specs.declared.declaration.Declaration.{Declaration}
-use Rattle.proto_link.specs.declared.target.Entity.{Entity}
-use Rattle.proto_link.specs.declared.target.Entity.TheVariants.{Package, Declared}
-use Rattle.proto_link.specs.Files.{File}
-use Rattle.proto_link.specs.Given.{IsFront}
+use Rattle.proto_visibility.specs.declared.entities.Entity.{Entity}
+use Rattle.proto_visibility.specs.Files.{File}
+use Rattle.proto_visibility.specs.Entities.{IsEntityOf}
 use Rattle.proto_link.specs.Targets.{IsNamed}
-
--- the package of so many components, or the declaration, which has the name
-pub data IsEntityOf (number : ℕ) (facts : Facts) (name : List ℕ) (count : ℕ) : Entity → Type 0 where
-  packaged : IsFront facts.package_name name → IsEntityOf number facts name count (Package count)
-  declared : {index : ℕ} {declaration : Declaration}
-      → slice_get facts.declarations index ≡ Some declaration → declaration.full_name ≡ name → IsEntityOf number facts name count (Declared number index)
 
 -- each of the last so many components of the name names the entity of the name up to it
 pub record AreEntitiesOf (number : ℕ) (facts : Facts) (name : List ℕ) (count : ℕ) (parts : List Entity) : Type 0 where

@@ -3,8 +3,8 @@
 use Rattle.std.specs.Prelude.{ℕ, Bool, true, false, List, [], ◌∷◌, map}
 use Rattle.proto_decl.specs.Names.{qualified, dotted, scopes_of}
 use Rattle.proto_decl.specs.declared.type_use.Use.{Use}
-use Rattle.proto_link.specs.Files.{File}
-use Rattle.proto_link.specs.Knows.{NameKind, is_type, is_aggregate, KnowsAs}
+use Rattle.proto_visibility.specs.Files.{File}
+use Rattle.proto_visibility.specs.Knows.{NameKind, is_type, is_aggregate, KnowsAs}
 
 -- The first of the scopes, innermost first, in which the file knows the word as one of these.
 pub data Innermost (files : List File) (file : ℕ) (admits : NameKind → Bool) (word : List ℕ) : List (List ℕ) → List ℕ → Type 0 where

@@ -5,15 +5,15 @@ use Rattle.proto_decl.specs.Names.{components_of, front_of}
 use Rattle.proto_decl.specs.Facts.{Facts}
 use Rattle.proto_decl.specs.declared.type_use.Use.{Use}
 use Rattle.proto_decl.specs.declared.declaration.Declaration.{Declaration}
-use Rattle.proto_link.specs.declared.fault.LinkFault.{LinkFault}
-use Rattle.proto_link.specs.declared.fault.LinkFault.TheVariants.{Broken, Duplicate, MissingImport, Unresolved, Memory}
-use Rattle.proto_link.specs.declared.target.Entity.{Entity}
-use Rattle.proto_link.specs.declared.target.Entity.TheVariants.{Package, Declared}
+use Rattle.proto_visibility.specs.declared.fault.LinkFault.{LinkFault}
+use Rattle.proto_visibility.specs.declared.fault.LinkFault.TheVariants.{Broken, Duplicate, MissingImport, Unresolved, Memory}
+use Rattle.proto_visibility.specs.declared.entities.Entity.{Entity}
+use Rattle.proto_visibility.specs.declared.entities.Entity.TheVariants.{Package, Declared}
 use Rattle.proto_link.specs.declared.target.Target.{Target}
-use Rattle.proto_link.specs.Files.{File, HasFacts}
-use Rattle.proto_link.specs.Sees.{Sees}
-use Rattle.proto_link.specs.Knows.{Knows}
-use Rattle.proto_link.specs.Knows.NameKind.{OfPackage}
+use Rattle.proto_visibility.specs.Files.{File, HasFacts}
+use Rattle.proto_visibility.specs.Sees.{Sees}
+use Rattle.proto_visibility.specs.Knows.{Knows}
+use Rattle.proto_visibility.specs.Knows.NameKind.{OfPackage}
 use Rattle.proto_link.specs.Resolves.{Resolves}
 
 -- The entity that the file knows by a full name's first components.

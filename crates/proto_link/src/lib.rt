@@ -1,35 +1,18 @@
-//! Which file sees which, which names clash, and what a use names.
+//! What a use of a type names, in files that are linked.
+//!
+//! Which files see which, what clashes and who has which name is the crate `proto_visibility`'s.
 #![tactic(auto)]
 
-mod absent;
-mod all_items;
-mod clash;
-mod counting;
-mod fault;
-mod file_row;
-mod given;
-mod items;
-mod knowing;
 mod laws;
-mod link_file;
 mod linker;
 mod lookup;
-mod names;
-mod origins;
 mod parts;
-mod place;
 mod resolve;
-mod search;
-mod seeing;
-mod steps;
 mod target;
 
-pub use fault::LinkFault;
 pub use laws::{
     one_broken_file, one_declaration_a_name, one_name_a_use, one_refusal, one_target_a_use,
 };
-pub use link_file::LinkFile;
 pub use linker::Linker;
-pub use place::FilePlace;
-pub use steps::have_own_paths;
-pub use target::{Entity, Target};
+pub use proto_visibility::{Entity, FilePlace, LinkFault, LinkFile, have_own_paths};
+pub use target::Target;

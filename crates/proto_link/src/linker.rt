@@ -1,34 +1,17 @@
 //! Files that are linked.
 
-ghost use Rattle.std.specs.Prelude.{ℕ, ◌≡◌, ◌<◌, ◌↔◌, IsTrue, IfOk, IfErr, MatchOption, Contains, length};
+ghost use Rattle.std.specs.Prelude.{ℕ, ◌≡◌, ◌<◌, ◌↔◌, IsTrue, IfOk, IfErr, MatchOption, length};
 ghost use Rattle.proto_decl.specs.Facts.{Facts};
-ghost use Rattle.proto_link.specs.Files.{HaveOwnPaths, HaveOrigins, HasFacts, IsIncludedAt};
-ghost use Rattle.proto_link.specs.Sees.{Sees, Counts};
-ghost use Rattle.proto_link.specs.Clashes.{Clash, NoClash};
-ghost use Rattle.proto_link.specs.FileItems.{AreAllFronts};
-ghost use Rattle.proto_link.specs.Linked.{CanBeLinked, MayRefuse};
-ghost use Rattle.proto_link.specs.Knows.{KnowsAs};
-ghost use Rattle.proto_link.specs.Given.{admits, SeesGiving};
-ghost use Rattle.proto_link.specs.GivenNames.{AreNames};
-ghost use Rattle.proto_link.specs.StepTables.{HasPathAt};
+ghost use Rattle.proto_visibility.specs.Files.{HaveOwnPaths, HaveOrigins, HasFacts, HasPathAt, IsIncludedAt};
+ghost use Rattle.proto_visibility.specs.Sees.{Sees};
+ghost use Rattle.proto_visibility.specs.Linked.{CanBeLinked, MayRefuse};
+ghost use Rattle.proto_link.specs.Targets.{IsTarget, MayRefuseUse};
 
-use crate::absent::first_absent;
-use crate::all_items::{all_fronts, all_items};
-use crate::clash::first_clash;
-use crate::counting::{counted_files, first_unread};
-use crate::fault::LinkFault;
-use crate::file_row::FileRow;
-use crate::given::Role;
-use crate::knowing::first_giving;
-use crate::link_file::LinkFile;
-use crate::names::Names;
-use crate::origins::have_origins;
-use crate::place::FilePlace;
-use crate::seeing::seen_files;
-use crate::steps::numbers_of;
-use proto_decl::FileFacts;
-use sequences::{OwnedText, Sequence};
-use std::alloc::{AllocError, Global};
+use crate::resolve::target_of;
+use crate::target::Target;
+use proto_decl::{FileFacts, Use};
+use proto_visibility::{LinkFault, LinkFile, Namespace};
+use std::alloc::Global;
 use std::marker::Model;
 
 /// Files in which each import that has to be there is, and no full name is declared twice: all
@@ -37,21 +20,16 @@ use std::marker::Model;
 /// Contracts see the list of the files.
 #[derive(Drop)]
 pub struct Linker<'a> {
-    files: &'a [LinkFile<'a>],
-    rows: Vec<FileRow>,
-    names: Names<'a>,
+    namespace: Namespace<'a>,
 }
 
 impl<'a> Model for Linker<'a> {
     ghost use Rattle.std.specs.Prelude.{List};
-    ghost use Rattle.proto_link.specs.Files.{File};
-    ghost use Rattle.proto_link.specs.Linked.{IsLinked};
+    ghost use Rattle.proto_visibility.specs.Files.{File};
 
     ghost Value = { List File };
 
-    ghost view = { λ linker. linker.files.now };
-
-    ghost invariant = { λ linker. IsLinked linker.files.now linker.rows.items linker.names };
+    ghost view = { λ linker. linker.namespace };
 }
 
 impl<'a> Linker<'a> {
@@ -65,23 +43,8 @@ impl<'a> Linker<'a> {
         ensures can_be { IfOk result (λ _. CanBeLinked files.now) }
         ensures refused { IfErr result (MayRefuse files.now) }
     {
-        let numbers = numbers_of(alloc, files)?;
-        let rows = seen_files(alloc, files, &numbers)?;
-        let counted = counted_files(alloc, files, rows.as_slice())?;
-        if let Some(number) = first_unread(files, &counted) {
-            return Err(LinkFault::Broken(number));
-        }
-        let fronts = all_fronts(alloc, files)?;
-        let clash = clash_among(alloc, files, fronts.as_slice(), &counted)?;
-        if let Some((first, second)) = clash {
-            return Err(LinkFault::Duplicate(first, second));
-        }
-        if let Some(place) = first_absent(files, &numbers, &counted) {
-            return Err(LinkFault::MissingImport(place));
-        }
-        have_origins(files);
-        let names = Names::of(alloc, files, fronts.as_slice())?;
-        Ok(Linker { files, rows, names })
+        let namespace = Namespace::new(alloc, files)?;
+        Ok(Linker { namespace })
     }
 
     /// Whether a file sees another: itself, what it imports, and what public imports lead to from
@@ -91,15 +54,7 @@ impl<'a> Linker<'a> {
         requires other { other < length self.now }
         ensures { IsTrue result ↔ Sees self.now file other }
     {
-        self.rows[file].has(other)
-    }
-
-    // A file that a file sees and that gives a name in a role.
-    pub(crate) fn first_giving(&self, file: usize, name: &str, role: Role) -> Option<usize>
-        requires { file < length self.now }
-        ensures { MatchOption result (KnowsAs self.now file (admits role) name.now → ⊥) (SeesGiving self.now file (admits role) name.now) }
-    {
-        first_giving(&self.names, &self.rows[file], name, role)
+        self.namespace.visible(file, other)
     }
 
     /// The files can be linked, and the facts of each are those of some text: what the laws ask
@@ -108,14 +63,7 @@ impl<'a> Linker<'a> {
         ensures can_be { CanBeLinked self.now }
         ensures origins { HaveOrigins self.now }
     {
-        let _files = self.files;
-    }
-
-    // The tables of the names that its files give.
-    pub(crate) fn names(&self) -> &Names<'a>
-        ensures { AreNames self.now result.now }
-    {
-        &self.names
+        self.namespace.linked();
     }
 
     /// The facts of a file, where it has some. Takes no memory.
@@ -123,16 +71,14 @@ impl<'a> Linker<'a> {
         requires { number < length self.now }
         ensures { MatchOption result ((facts : Facts) → HasFacts self.now number facts → ⊥) (λ facts. HasFacts self.now number facts.now) }
     {
-        let files = self.files;
-        let file = &files[number];
-        file.facts
+        self.namespace.facts_of(number)
     }
 
     /// How many files there are. Takes no memory.
     pub fn count(&self) -> usize
         ensures { result ≡ length self.now }
     {
-        self.files.len()
+        self.namespace.count()
     }
 
     /// Whether a file is included, and so no source. Takes no memory.
@@ -140,9 +86,7 @@ impl<'a> Linker<'a> {
         requires { number < length self.now }
         ensures { IsIncludedAt self.now number result }
     {
-        let files = self.files;
-        let file = &files[number];
-        file.is_included()
+        self.namespace.is_included(number)
     }
 
     /// The path of a file. Takes no memory.
@@ -150,32 +94,19 @@ impl<'a> Linker<'a> {
         requires { number < length self.now }
         ensures { HasPathAt self.now result.now number }
     {
-        let files = self.files;
-        let file = &files[number];
-        file.path
+        self.namespace.path_of(number)
     }
 
-    // Whether a file knows a name in a role.
-    pub(crate) fn knows(&self, file: usize, name: &str, role: Role) -> bool
+    /// What a use names, in a file's scopes: by the names of the files that it sees. `Unresolved`,
+    /// at the place of the whole use, where it names no type.
+    ///
+    /// For a source the answer is the only one. An included file may see files that don't count,
+    /// whose names may clash: there a part may be any declaration of its name.
+    pub fn resolve(&self, alloc: Global, file: usize, type_use: &Use) -> Result<Target, LinkFault>
         requires { file < length self.now }
-        ensures { IsTrue result ↔ KnowsAs self.now file (admits role) name.now }
+        ensures target { IfOk result (IsTarget self.now file type_use.now) }
+        ensures refused { IfErr result (MayRefuseUse self.now file type_use.now) }
     {
-        self.first_giving(file, name, role).is_some()
+        target_of(alloc, &self.namespace, file, type_use)
     }
-}
-
-// The first clash of names among the items of the files that count.
-fn clash_among(
-    alloc: Global,
-    files: &[LinkFile],
-    fronts: &[Sequence<OwnedText>],
-    counted: &FileRow,
-) -> Result<Option<(FilePlace, FilePlace)>, AllocError>
-    requires fronts { AreAllFronts files.now fronts.now }
-    requires counted { (number : ℕ) → Contains counted.now number ↔ Counts files.now number }
-    ensures { IfOk result (λ clash. MatchOption clash (NoClash files.now) (λ places. Clash files.now places.0 places.1)) }
-{
-    let items = all_items(alloc, files, fronts, counted)?;
-    let clash = first_clash(alloc, items.as_slice())?;
-    Ok(clash)
 }

@@ -3,15 +3,14 @@
 ghost use Rattle.std.specs.Prelude.{List, ℕ, ◌≡◌, ◌<◌, ◌↔◌, IsTrue, IfOk, OnOk, MatchOption, ◌∷◌, map, length};
 ghost use Rattle.std.specs.String.{string_bytes};
 ghost use Rattle.proto_decl.specs.Names.{qualified, dotted, scopes_of};
-ghost use Rattle.proto_link.specs.Knows.{KnowsAs, is_type};
+ghost use Rattle.proto_visibility.specs.Knows.{KnowsAs, is_type};
 ghost use Rattle.proto_link.specs.Resolves.{Innermost, Resolves};
 ghost use Rattle.proto_link.specs.Targets.{IsUnresolved};
-ghost use Rattle.proto_link.specs.Given.{admits};
+ghost use Rattle.proto_visibility.specs.Given.{admits};
 ghost use Rattle.proto_link.specs.Found.{IsSingle, IsCompound};
 
-use crate::given::Role;
-use crate::linker::Linker;
 use proto_decl::{Component, Use, scope_around};
+use proto_visibility::{Namespace, Role};
 use std::alloc::{AllocError, Global};
 
 // Writes the full name of a name in a scope over a text.
@@ -36,6 +35,7 @@ fn joined(alloc: Global, components: &[Component]) -> Result<String, AllocError>
     }
 }
 
+// The same of a first component and others.
 fn joined_behind(
     alloc: Global,
     first: &Component,
@@ -51,108 +51,113 @@ fn joined_behind(
     Ok(text)
 }
 
-impl Linker<'_> {
-    // The full name of the type that a use of a file names.
-    pub(crate) fn name_of(
-        &self,
-        alloc: Global,
-        file: usize,
-        type_use: &Use,
-    ) -> Result<Option<String>, AllocError>
-        requires { file < length self.now }
-        ensures { IfOk result (λ found. MatchOption found (IsUnresolved self.now file type_use.now) (λ name. Resolves self.now file type_use.now (string_bytes name))) }
-    {
-        let components = type_use.components.as_slice();
-        let words = joined(alloc, components)?;
-        if type_use.has_leading_dot {
-            return Ok(self.if_type(file, words));
-        }
-        let scope = type_use.scope.as_str();
-        match components {
-            [] => Ok(None),
-            [word] => self.single(alloc, file, scope, word.name.as_str()),
-            [first, _, ..] => {
-                self.compound(alloc, file, scope, first.name.as_str(), words.as_str())
-            }
+// The full name of the type that a use of a file names.
+pub(crate) fn name_of(
+    alloc: Global,
+    namespace: &Namespace,
+    file: usize,
+    type_use: &Use,
+) -> Result<Option<String>, AllocError>
+    requires { file < length namespace.now }
+    ensures { IfOk result (λ found. MatchOption found (IsUnresolved namespace.now file type_use.now) (λ name. Resolves namespace.now file type_use.now (string_bytes name))) }
+{
+    let components = type_use.components.as_slice();
+    let words = joined(alloc, components)?;
+    if type_use.has_leading_dot {
+        return Ok(if_type(namespace, file, words));
+    }
+    let scope = type_use.scope.as_str();
+    match components {
+        [] => Ok(None),
+        [word] => single(alloc, namespace, file, scope, word.name.as_str()),
+        [first, _, ..] => {
+            compound(
+                alloc,
+                namespace,
+                file,
+                scope,
+                first.name.as_str(),
+                words.as_str(),
+            )
         }
     }
+}
 
-    // The first of the scopes from this one on in which a file knows a word in this role. The text
-    // is overwritten.
-    fn innermost<'s>(
-        &self,
-        file: usize,
-        role: Role,
-        scope: &'s str,
-        word: &str,
-        text: &mut String,
-    ) -> Result<Option<&'s str>, AllocError>
-        requires { file < length self.now }
-        ensures { IfOk result (λ found. MatchOption found ((start : List ℕ) → Innermost self.now file (admits role) word.now (scopes_of scope.now) start → ⊥) (λ start. Innermost self.now file (admits role) word.now (scopes_of scope.now) start.now)) }
-    {
-        let mut next = Some(scope);
-        while let Some(inner) = next {
-            put_under(text, inner, word)?;
-            if self.knows(file, text.as_str(), role) {
-                return Ok(Some(inner));
-            }
-            next = scope_around(inner);
+// The first of the scopes from this one on in which a file knows a word in this role. The text
+// is overwritten.
+fn innermost<'s>(
+    namespace: &Namespace,
+    file: usize,
+    role: Role,
+    scope: &'s str,
+    word: &str,
+    text: &mut String,
+) -> Result<Option<&'s str>, AllocError>
+    requires { file < length namespace.now }
+    ensures { IfOk result (λ found. MatchOption found ((start : List ℕ) → Innermost namespace.now file (admits role) word.now (scopes_of scope.now) start → ⊥) (λ start. Innermost namespace.now file (admits role) word.now (scopes_of scope.now) start.now)) }
+{
+    let mut next = Some(scope);
+    while let Some(inner) = next {
+        put_under(text, inner, word)?;
+        if namespace.knows(file, text.as_str(), role) {
+            return Ok(Some(inner));
         }
-        Ok(None)
+        next = scope_around(inner);
     }
+    Ok(None)
+}
 
-    // The full name of the type that a word names in these scopes.
-    fn single(
-        &self,
-        alloc: Global,
-        file: usize,
-        scope: &str,
-        word: &str,
-    ) -> Result<Option<String>, AllocError>
-        requires { file < length self.now }
-        ensures { IfOk result (λ found. MatchOption found ((start : List ℕ) → Innermost self.now file is_type word.now (scopes_of scope.now) start → ⊥) (λ name. IsSingle self.now file word.now (scopes_of scope.now) (string_bytes name))) }
-    {
-        let mut text = String::new(alloc);
-        match self.innermost(file, Role::AsType, scope, word, &mut text)? {
-            Some(start) => {
-                put_under(&mut text, start, word)?;
-                Ok(Some(text))
-            }
-            None => Ok(None),
+// The full name of the type that a word names in these scopes.
+fn single(
+    alloc: Global,
+    namespace: &Namespace,
+    file: usize,
+    scope: &str,
+    word: &str,
+) -> Result<Option<String>, AllocError>
+    requires { file < length namespace.now }
+    ensures { IfOk result (λ found. MatchOption found ((start : List ℕ) → Innermost namespace.now file is_type word.now (scopes_of scope.now) start → ⊥) (λ name. IsSingle namespace.now file word.now (scopes_of scope.now) (string_bytes name))) }
+{
+    let mut text = String::new(alloc);
+    match innermost(namespace, file, Role::AsType, scope, word, &mut text)? {
+        Some(start) => {
+            put_under(&mut text, start, word)?;
+            Ok(Some(text))
         }
+        None => Ok(None),
     }
+}
 
-    // The same of more words, of which this is the first.
-    fn compound(
-        &self,
-        alloc: Global,
-        file: usize,
-        scope: &str,
-        first: &str,
-        words: &str,
-    ) -> Result<Option<String>, AllocError>
-        requires { file < length self.now }
-        ensures { IfOk result (λ found. MatchOption found ((name : List ℕ) → IsCompound self.now file first.now words.now (scopes_of scope.now) name → ⊥) (λ name. IsCompound self.now file first.now words.now (scopes_of scope.now) (string_bytes name))) }
-    {
-        let mut text = String::new(alloc);
-        match self.innermost(file, Role::AsAggregate, scope, first, &mut text)? {
-            Some(start) => {
-                put_under(&mut text, start, words)?;
-                Ok(self.if_type(file, text))
-            }
-            None => Ok(None),
+// The same of more words, of which this is the first.
+fn compound(
+    alloc: Global,
+    namespace: &Namespace,
+    file: usize,
+    scope: &str,
+    first: &str,
+    words: &str,
+) -> Result<Option<String>, AllocError>
+    requires { file < length namespace.now }
+    ensures { IfOk result (λ found. MatchOption found ((name : List ℕ) → IsCompound namespace.now file first.now words.now (scopes_of scope.now) name → ⊥) (λ name. IsCompound namespace.now file first.now words.now (scopes_of scope.now) (string_bytes name))) }
+{
+    let mut text = String::new(alloc);
+    match innermost(namespace, file, Role::AsAggregate, scope, first, &mut text)? {
+        Some(start) => {
+            put_under(&mut text, start, words)?;
+            Ok(if_type(namespace, file, text))
         }
+        None => Ok(None),
     }
+}
 
-    // The text, where a file knows a type by it.
-    fn if_type(&self, file: usize, text: String) -> Option<String>
-        requires { file < length self.now }
-        ensures { MatchOption result (KnowsAs self.now file is_type (string_bytes text) → ⊥) (λ name. (string_bytes name ≡ string_bytes text) × KnowsAs self.now file is_type (string_bytes text)) }
-    {
-        if self.knows(file, text.as_str(), Role::AsType) {
-            Some(text)
-        } else {
-            None
-        }
+// The text, where a file knows a type by it.
+fn if_type(namespace: &Namespace, file: usize, text: String) -> Option<String>
+    requires { file < length namespace.now }
+    ensures { MatchOption result (KnowsAs namespace.now file is_type (string_bytes text) → ⊥) (λ name. (string_bytes name ≡ string_bytes text) × KnowsAs namespace.now file is_type (string_bytes text)) }
+{
+    if namespace.knows(file, text.as_str(), Role::AsType) {
+        Some(text)
+    } else {
+        None
     }
 }

@@ -1,19 +1,16 @@
 //! What the components of a full name name.
 
-ghost use Rattle.std.specs.Prelude.{ℕ, List, ◌≡◌, ◌≤◌, IfOk, OnOk, length, map, position, bytes_eq};
+ghost use Rattle.std.specs.Prelude.{ℕ, List, ◌≡◌, ◌≤◌, IfOk, OnOk, length, map};
 ghost use Rattle.proto_decl.specs.Names.{components_of};
 ghost use denote.Ref.{Bor};
-ghost use Rattle.proto_decl.specs.Laws.{IsEntity};
 ghost use Rattle.std.specs.String.{string_bytes};
-ghost use Rattle.proto_link.specs.Knows.{is_type};
-ghost use Rattle.proto_link.specs.Given.{GivesAs};
-ghost use Rattle.proto_link.specs.GivenNames.{AreNamesOf};
-ghost use Rattle.proto_link.specs.Parts.{IsEntityOf, AreEntitiesOf, longer};
+ghost use Rattle.proto_visibility.specs.Knows.{is_type};
+ghost use Rattle.proto_visibility.specs.Given.{GivesAs};
+ghost use Rattle.proto_visibility.specs.Files.{HasFacts};
+ghost use Rattle.proto_link.specs.Parts.{AreEntitiesOf, longer};
 
-use crate::knowing::{index_in, stands_among};
-use crate::names::Names;
-use crate::target::Entity;
-use proto_decl::{Declaration, FileFacts, fronts_are_entities};
+use proto_decl::{FileFacts, fronts_are_entities};
+use proto_visibility::{Entity, Namespace};
 use std::alloc::{AllocError, Global};
 
 // The components of a full name.
@@ -21,44 +18,6 @@ fn components_in(alloc: Global, name: &str) -> Result<Vec<&str>, AllocError>
     ensures { IfOk result (λ parts. map (λ (part : Bor (List ℕ)). part.now) parts.items ≡ components_of name.now) }
 {
     name.split('.').collect(alloc)
-}
-
-// The index of the first declaration with a full name.
-fn first_with(declarations: &[Declaration], name: &str) -> Option<usize>
-    ensures { result ≡ position (λ declaration. bytes_eq declaration.full_name name.now) declarations.now }
-{
-    declarations
-        .iter()
-        .position(|declaration| declaration.full_name.as_str() == name)
-}
-
-// What a full name of so many components names, where it is that of a declaration or a package of
-// the file with this number: by the tables, which have all that types stand in.
-#[tactic(auto, using(crate::proofs::PartLemmas::listed_entity))]
-fn entity_in(names: &Names, number: usize, facts: &FileFacts, name: &str, count: usize) -> Entity
-    requires entity { IsEntity facts.now name.now }
-    requires names { AreNamesOf number facts.now names.now }
-    ensures { IsEntityOf number facts.now name.now count result }
-{
-    if let Some(index) = index_in(names.declaring(name), number) {
-        return Entity::Declared(number, index);
-    }
-    if stands_among(number, names.packaging(name)) {
-        return Entity::Package(count);
-    }
-    other_entity(number, facts, name, count)
-}
-
-// The same by a scan, for what the tables leave out: a field, a value, a oneof or a method.
-#[tactic(auto, using(crate::proofs::PartLemmas::found_entity))]
-fn other_entity(number: usize, facts: &FileFacts, name: &str, count: usize) -> Entity
-    requires { IsEntity facts.now name.now }
-    ensures { IsEntityOf number facts.now name.now count result }
-{
-    match first_with(facts.declarations(), name) {
-        Some(index) => Entity::Declared(number, index),
-        None => Entity::Package(count),
-    }
 }
 
 // Adds a component to a front of so many.
@@ -75,14 +34,14 @@ fn lengthen(front: &mut String, count: usize, component: &str) -> Result<(), All
 // declares it.
 pub(crate) fn parts_in(
     alloc: Global,
-    names: &Names,
+    namespace: &Namespace,
     number: usize,
     facts: &FileFacts,
     name: &str,
     count: usize,
 ) -> Result<Vec<Entity>, AllocError>
     requires declared { GivesAs is_type name.now facts.now }
-    requires names { AreNamesOf number facts.now names.now }
+    requires has { HasFacts namespace.now number facts.now }
     requires count { count ≤ length (components_of name.now) }
     ensures { IfOk result (λ parts. AreEntitiesOf number facts.now name.now count parts.items) }
 {
@@ -95,7 +54,7 @@ pub(crate) fn parts_in(
     for (index, component) in components.iter().enumerate() {
         lengthen(&mut front, index, component)?;
         if index >= skipped {
-            parts.push(entity_in(names, number, facts, front.as_str(), index + 1))?;
+            parts.push(namespace.entity_of(number, facts, front.as_str(), index + 1))?;
         }
     }
     Ok(parts)

@@ -1,6 +1,6 @@
 use Rattle.std.proofs.Common.{◌≡◌, ◌<◌, ◌∷◌, [], ◌++◌, length, ◌∙◌, ap, arith}
 use Rattle.std.specs.String.{string_bytes}
-use Rattle.proto_link.proofs.ItemLemmas.{joined_more}
+use Rattle.proto_visibility.proofs.ItemLemmas.{joined_more}
 use Rattle.proto_link.proofs.lookup.joined_behind.Goals as goal
 
 pub loop-component-preserved : goal.loop-component-preserved

@@ -2,13 +2,13 @@ use Rattle.std.proofs.Common.{◌≡◌, ◌+◌, ◌-◌, ◌++◌, ◌∷◌, 
 use Rattle.std.specs.String.{string_bytes}
 use denote.Ref.{Bor}
 use Rattle.proto_decl.specs.Names.{components_of, front_of}
-use Rattle.proto_link.specs.declared.target.Entity.{Entity}
+use Rattle.proto_visibility.specs.declared.entities.Entity.{Entity}
 use Rattle.proto_link.proofs.TargetLemmas.{AreParts, front_longer, front_is_entity, parts_skip, parts_more}
 use Rattle.proto_link.proofs.parts.parts_in.Goals as goal
 use Rattle.proto_link.proofs.parts.parts_in.Goals.{then-index-skipped+in_ok-push, else-index-skipped}
 
-pub entity_in-requires-clause-entity : goal.entity_in-requires-clause-entity
-entity_in-requires-clause-entity c =
+pub entity_of-requires-clause-entity : goal.entity_of-requires-clause-entity
+entity_of-requires-clause-entity c =
     let name = c.args.name.now in
     let items = c.deref-component-items.result.now in
     let are : map (λ (x : Bor (List ℕ)). x.now) items ≡ components_of name = ap (map (λ (x : Bor (List ℕ)). x.now)) c.deref-component-items.ensures.value ∙ c.in_ok-components.ensures in
@@ -29,9 +29,9 @@ loop-index-preserved c =
       front = front;
       parts = elim c.if-index-skipped.branch [
         | then-index-skipped+in_ok-push w ↦ (
-            let pushed : c.if-index-skipped.parts.items ≡ parts ++ w.entity_in.result ∷ [] = ap (λ (ps : Vec Entity Global). ps.items) w.parts-is ∙ w.in_ok-push.ensures.items in
+            let pushed : c.if-index-skipped.parts.items ≡ parts ++ w.entity_of.result ∷ [] = ap (λ (ps : Vec Entity Global). ps.items) w.parts-is ∙ w.in_ok-push.ensures.items in
             subst (AreParts c.args.number c.args.facts.now name skipped (index + 1)) (sym pushed)
-            (parts_more c.args.number c.args.facts.now name skipped index parts w.as_str.result.now w.entity_in.result w.if-index-skipped.true (w.as_str.ensures.value ∙ front) w.entity_in.ensures c.loop-index.invariant.parts))
+            (parts_more c.args.number c.args.facts.now name skipped index parts w.as_str.result.now w.entity_of.result w.if-index-skipped.true (w.as_str.ensures.value ∙ front) w.entity_of.ensures c.loop-index.invariant.parts))
         | else-index-skipped w ↦ subst (λ (ps : Vec Entity Global). AreParts c.args.number c.args.facts.now name skipped (index + 1) ps.items) (sym w.parts-is)
             (parts_skip c.args.number c.args.facts.now name skipped index parts w.if-index-skipped.false c.loop-index.invariant.parts)
       ];

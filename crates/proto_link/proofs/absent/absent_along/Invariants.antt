@@ -1,5 +1,0 @@
-use Rattle.proto_link.specs.StepTables.{number_in, NoneIsAbsentUpTo}
-use Rattle.proto_link.proofs.absent.absent_along.Given as goal
-
-abbrev pub invariant-loop-import : goal.invariant-loop-import
-invariant-loop-import l = NoneIsAbsentUpTo (number_in l.numbers) l.included l.imports l.import-index

@@ -1,6 +1,0 @@
-use Rattle.proto_link.specs.StepTables.{number_in}
-use Rattle.proto_link.proofs.AbsentLemmas.{NoneUpTo}
-use Rattle.proto_link.proofs.absent.first_absent.Given as goal
-
-abbrev pub invariant-loop-number : goal.invariant-loop-number
-invariant-loop-number l = NoneUpTo l.files (number_in l.numbers) l.counted l.number-index

@@ -1,6 +1,0 @@
-use Rattle.proto_link.specs.NameTables.{AreInPlace}
-use Rattle.proto_link.proofs.AllItemsLemmas.{AreItemsUpTo}
-use Rattle.proto_link.proofs.all_items.all_items.Given as goal
-
-abbrev pub invariant-loop-number : goal.invariant-loop-number
-invariant-loop-number l = record { order : AreInPlace l.items.items; items : AreItemsUpTo l.files l.counted l.number-index l.items.items }

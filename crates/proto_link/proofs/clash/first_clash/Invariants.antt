@@ -1,6 +1,0 @@
-use Rattle.proto_link.specs.NameTables.{AreFirst}
-use Rattle.proto_link.proofs.ClashLemmas.{NoneClash}
-use Rattle.proto_link.proofs.clash.first_clash.Given as goal
-
-abbrev pub invariant-loop-index : goal.invariant-loop-index
-invariant-loop-index l = record { first : AreFirst l.items l.index l.names; clear : NoneClash l.items l.index }

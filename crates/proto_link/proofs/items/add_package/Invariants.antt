@@ -1,5 +1,0 @@
-use Rattle.proto_link.proofs.ItemLemmas.{AreWithFirst}
-use Rattle.proto_link.proofs.items.add_package.Given as goal
-
-abbrev pub invariant-loop-index : goal.invariant-loop-index
-invariant-loop-index l = AreWithFirst l.number l.components l.fn.items.items l.items.items l.index

@@ -1,6 +1,0 @@
-use Rattle.std.proofs.Common.{◌≡◌, map, take}
-use Rattle.proto_link.specs.FileItems.{declared_item}
-use Rattle.proto_link.proofs.items.declared_items.Given as goal
-
-abbrev pub invariant-loop-declaration : goal.invariant-loop-declaration
-invariant-loop-declaration l = l.items.items ≡ map (declared_item l.number) (take l.declaration-index l.declarations)

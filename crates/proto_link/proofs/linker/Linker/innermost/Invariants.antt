@@ -1,9 +1,0 @@
-use Rattle.proto_link.specs.Given.{admits}
-use Rattle.proto_link.proofs.LookupLemmas.{StandsFor, left}
-use Rattle.proto_link.proofs.linker.Linker.innermost.Given as goal
-
-abbrev pub invariant-loop-next : goal.invariant-loop-next
-invariant-loop-next l = StandsFor l.self l.file (admits l.role) l.word l.next l.scope
-
-abbrev pub decreases-loop-next : goal.decreases-loop-next
-decreases-loop-next l = left l.next

@@ -1,7 +1,0 @@
-use Rattle.std.proofs.Common.{[]}
-use Rattle.proto_link.specs.GivenNames.{listed_at, IsDeclaredBy}
-use Rattle.proto_link.proofs.NameLemmas.{HasUpTo}
-use Rattle.proto_link.proofs.names.declared_names.Given as goal
-
-abbrev pub invariant-loop-number : goal.invariant-loop-number
-invariant-loop-number l = HasUpTo (λ name. []) (listed_at l.names) (IsDeclaredBy l.files) l.number

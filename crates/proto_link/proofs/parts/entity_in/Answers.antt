@@ -1,7 +1,0 @@
-use Rattle.std.proofs.Common.{List, ℕ, subst}
-use Rattle.std.specs.List.{Contains}
-use Rattle.proto_link.specs.Parts.IsEntityOf.{packaged}
-use Rattle.proto_link.proofs.parts.entity_in.Goals as goal
-
-pub returns-then-stands_among : goal.returns-then-stands_among
-returns-then-stands_among c = packaged (c.requires.names.packaged c.args.name.now (subst (λ (ns : List ℕ). Contains ns c.args.number) c.packaging.ensures (c.stands_among.ensures.0 c.if-stands_among.true)))

@@ -1,0 +1,246 @@
+-- The first import that isn't there.
+use Rattle.std.proofs.Common.{◌≡◌, ◌↔◌, ◌⊎◌, inl, inr, ℕ, ◌+◌, ◌<◌, ◌≤◌, Bool, true, false, not, ◌||◌, ◌&&◌, zero, suc, List, [], ◌∷◌, length, get_or, map, Option, Some, None, refl, ap, sym, ◌∙◌, subst, arith}
+use Rattle.std.specs.List.{Contains, slice_get}
+use Rattle.std.specs.List.Sorted.{IsStrictlyIncreasing}
+use Rattle.std.specs.Option.{is_none}
+use Rattle.std.proofs.lemmas.Bool.{cases_lt, cases_Bool, false≢true, and_parts, or_cases}
+use Rattle.std.proofs.lemmas.Option.{slice_get_within, slice_get-get_or, slice_get-map, get_or_from_slice_get}
+use Rattle.std.proofs.lemmas.List.{get_or_default}
+use Rattle.std.proofs.lemmas.List.Elements.{Contains-get_or}
+use Rattle.proto_lex.specs.declared.span.Span.{Span}
+use Rattle.proto_lex.specs.Lexed.{AreInOrder}
+use Rattle.proto_decl.specs.Facts.{Facts, ImportsInOrder}
+use Rattle.proto_decl.specs.declared.imported.Imported.{Imported}
+use Rattle.proto_visibility.specs.declared.place.FilePlace.{FilePlace}
+use Rattle.proto_visibility.specs.Files.{File, HasPath, is_public, HasPathAt}
+use Rattle.proto_visibility.specs.Sees.{Counts}
+use Rattle.proto_visibility.specs.Sees.Counts.{seen}
+use Rattle.proto_visibility.specs.Sees.SeesBy.{itself}
+use Rattle.proto_visibility.specs.Items.{Before}
+use Rattle.proto_visibility.specs.Absences.{IsNeeded, IsMissing, Absent, NoAbsent}
+use Rattle.proto_visibility.specs.Absences.IsNeeded.{of_source, of_included}
+use Rattle.proto_visibility.specs.Tables.StepTables.{imports_in, imports_of, is_absent, NoneIsAbsent, IsFirstAbsent}
+use Rattle.proto_visibility.proofs.FileRowLemmas.{not_falling}
+
+-- ---- imports in order
+
+behind_place : (imports : List Imported) (place k : ℕ) (import : Imported) → AreInOrder place (map (λ imported. imported.span) imports) → slice_get imports k ≡ Some import → place ≤ import.span.start
+behind_place [] place k import order stands = absurd (cc)
+behind_place (one ∷ imports) place zero import order stands =
+    let same : one ≡ import = one_Imported one import stands in
+    let start = ap (λ (i : Imported). i.span.start) same in omega (arith, order.0)
+  where
+    one_Imported : (a b : Imported) → Some a ≡ Some b → a ≡ b
+    one_Imported a b e = cc
+behind_place (one ∷ imports) place (suc k) import order stands =
+    let rest = behind_place imports one.span.end k import order.2 stands in omega (arith, order.0, order.1)
+
+starts_rise : (imports : List Imported) (place j k : ℕ) (a b : Imported) → AreInOrder place (map (λ imported. imported.span) imports) → slice_get imports j ≡ Some a → slice_get imports k ≡ Some b → j ≤ k → a.span.start ≤ b.span.start
+starts_rise [] place j k a b order at there h = absurd (cc)
+starts_rise (one ∷ imports) place zero zero a b order at there h =
+    let same : a ≡ b = both a b (sym at ∙ there) in
+    let start = ap (λ (i : Imported). i.span.start) same in omega arith
+  where
+    both : (x y : Imported) → Some x ≡ Some y → x ≡ y
+    both x y e = cc
+starts_rise (one ∷ imports) place zero (suc k) a b order at there h =
+    let same : one ≡ a = both one a at in
+    let start = ap (λ (i : Imported). i.span.start) same in
+    let rest = behind_place imports one.span.end k b order.2 there in omega (arith, order.1)
+  where
+    both : (x y : Imported) → Some x ≡ Some y → x ≡ y
+    both x y e = cc
+starts_rise (one ∷ imports) place (suc j) zero a b order at there h = absurd (omega arith)
+starts_rise (one ∷ imports) place (suc j) (suc k) a b order at there h = starts_rise imports one.span.end j k a b order.2 at there (omega arith)
+
+-- ---- what an import misses
+
+-- in the first so many files of the row no import is absent
+abbrev pub NoneUpTo : List File → (List ℕ → Option ℕ) → (row : List ℕ) → (count : ℕ) → Type 0
+NoneUpTo files number row count = (k : ℕ) (file : File) → k < count → slice_get files (get_or row k 0) ≡ Some file → NoneIsAbsent number file.is_included (imports_of file)
+
+module _ (files : List File) (number : List ℕ → Option ℕ) (numbered : (path : List ℕ) (k : ℕ) → (number path ≡ Some k) ↔ HasPathAt files path k) where
+  has_path : (path : List ℕ) → HasPath files path → is_none (number path) ≡ false
+  has_path path there =
+      let at : slice_get (map (λ file. file.path) files) there.0 ≡ Some path = slice_get-get_or (map (λ file. file.path) files) there.0 path there.1 ∙ ap Some there.2 in
+      let file = file_with files there.0 path at in
+      let found = (numbered path there.0).1 file in
+      ap is_none found
+    where
+      file_with : (fs : List File) (k : ℕ) (p : List ℕ) → slice_get (map (λ file. file.path) fs) k ≡ Some p → (file : File) × (slice_get fs k ≡ Some file) × (file.path ≡ p)
+      file_with [] k p e = absurd (cc)
+      file_with (f ∷ fs) zero p e = (f, refl, one f.path p e)
+        where
+          one : (x y : List ℕ) → Some x ≡ Some y → x ≡ y
+          one x y h = cc
+      file_with (f ∷ fs) (suc k) p e = file_with fs k p e
+
+  no_path : (path : List ℕ) → is_none (number path) ≡ true → HasPath files path → ⊥
+  no_path path absent there = false≢true (sym (has_path path there) ∙ absent)
+
+  path_if : (path : List ℕ) → is_none (number path) ≡ false → HasPath files path
+  path_if path some = elim (cases (number path)) [
+    | inl absent ↦ absurd (false≢true (sym some ∙ ap is_none absent))
+    | inr found ↦ (let there = (numbered path found.0).0 found.1 in path_at there.0 found.0 there.1 there.2)
+  ]
+    where
+      cases : (o : Option ℕ) → (o ≡ None) ⊎ ((k : ℕ) × (o ≡ Some k))
+      cases None = inl refl
+      cases (Some k) = inr (k, refl)
+
+      path_at : (file : File) (k : ℕ) → slice_get files k ≡ Some file → file.path ≡ path → HasPath files path
+      path_at file k stands is =
+          let at : slice_get (map (λ f. f.path) files) k ≡ Some file.path = slice_get-map (λ f. f.path) files k ∙ ap (option_map_path) stands in
+          let within = slice_get_within (map (λ f. f.path) files) k file.path at in
+          (k, within, get_or_from_slice_get (map (λ f. f.path) files) k file.path path at ∙ is)
+        where
+          option_map_path : Option File → Option (List ℕ)
+          option_map_path None = None
+          option_map_path (Some f) = Some f.path
+
+  -- the needed imports that miss a file are the absent ones of the files that count
+  needed_from : (file : File) (k : ℕ) (facts : Facts) (import : Imported) → Counts files k → slice_get files k ≡ Some file → file.facts ≡ Some facts → Contains facts.imports import
+      → (not file.is_included || is_public import.kind) ≡ true → IsNeeded files k import
+  needed_from file k facts import counts stands known listed needed = elim (or_cases (not file.is_included) (is_public import.kind) needed) [
+    | inl source ↦ of_source (record { file = file; numbered = stands; source = is_false file.is_included source }) (record { file = file; numbered = stands; known = known }) listed
+    | inr public ↦ of_included counts (record { file = file; numbered = stands; known = known }) listed public
+  ]
+    where
+      is_false : (b : Bool) → not b ≡ true → b ≡ false
+      is_false true e = sym e
+      is_false false e = refl
+
+  one_File : (a b : File) → Some a ≡ Some b → a ≡ b
+  one_File a b e = cc
+
+  one_Facts : (a b : Facts) → Some a ≡ Some b → a ≡ b
+  one_Facts a b e = cc
+
+  -- what a needed import says of the file that it stands in
+  pub record Needs (k : ℕ) (import : Imported) : Type 0 where
+    pub file : File
+    pub stands : slice_get files k ≡ Some file
+    pub counts : Counts files k
+    pub listed : Contains (imports_of file) import
+    pub needed : (not file.is_included || is_public import.kind) ≡ true
+
+  needs : (k : ℕ) (import : Imported) → IsNeeded files k import → Needs k import
+  needs k import (of_source is known listed) =
+      let same : is.file ≡ known.file = one_File is.file known.file (sym is.numbered ∙ known.numbered) in
+      record {
+        file = is.file;
+        stands = is.numbered;
+        counts = seen is itself;
+        listed = subst (λ f. Contains (imports_in f) import) (sym (ap (λ (f : File). f.facts) same ∙ known.known)) listed;
+        needed = subst (λ b. (not b || is_public import.kind) ≡ true) (sym is.source) refl;
+      }
+  needs k import (of_included counts known listed public) = record {
+    file = known.file;
+    stands = known.numbered;
+    counts = counts;
+    listed = subst (λ f. Contains (imports_in f) import) (sym known.known) listed;
+    needed = subst (λ b. (not known.file.is_included || b) ≡ true) (sym public) (last known.file.is_included);
+  }
+    where
+      last : (b : Bool) → (not b || true) ≡ true
+      last true = refl
+      last false = refl
+
+  -- a missing import is an absent one at some index of its file
+  index_of : (place : FilePlace) (m : IsMissing files place) → (file : File) × (slice_get files place.file ≡ Some file) × Counts files place.file
+      × ((index : ℕ) × (slice_get (imports_of file) index ≡ Some m.import) × (is_absent number file.is_included m.import ≡ true))
+  index_of place m =
+      let n = needs place.file m.import m.needed in (
+        n.file,
+        n.stands,
+        n.counts,
+        (n.listed.0, slice_get-get_or (imports_of n.file) n.listed.0 m.import n.listed.1 ∙ ap Some n.listed.2, both (not n.file.is_included || is_public m.import.kind) (is_none (number m.import.path)) n.needed (none_if m)),
+      )
+    where
+      both : (x y : Bool) → x ≡ true → y ≡ true → (x && y) ≡ true
+      both true y h e = e
+      both false y h e = absurd (false≢true h)
+
+      none_if : (n : IsMissing files place) → is_none (number n.import.path) ≡ true
+      none_if n = elim (cases_Bool (is_none (number n.import.path))) [ inl t ↦ t | inr f ↦ absurd (n.missing (path_if n.import.path f)) ]
+
+  -- ---- the search along the row of those that count
+
+  module _ (row : List ℕ) (counted : (k : ℕ) → Contains row k ↔ Counts files k) where
+    place_in_row : (k : ℕ) → Counts files k → (i : ℕ) × (i < length row) × (get_or row i 0 ≡ k)
+    place_in_row k counts = let there = (counted k).1 counts in (there.0, there.1, get_or_default row there.0 0 k there.1 ∙ there.2)
+
+    not_in_front : (count : ℕ) (place : FilePlace) → NoneUpTo files number row count → (m : IsMissing files place) → (i : ℕ) → i < count → get_or row i 0 ≡ place.file → ⊥
+    not_in_front count place none m i h is =
+        let at = index_of place m in
+        let absent = none i at.0 h (ap (slice_get files) is ∙ at.1) at.3.0 m.import (slice_get_within (imports_of at.0) at.3.0 m.import at.3.1) at.3.1 in
+        false≢true (sym absent ∙ at.3.2)
+
+    pub none_absent : (count : ℕ) → length row ≤ count → NoneUpTo files number row count → NoAbsent files
+    none_absent count all none place m =
+        let at = index_of place m in
+        let i = place_in_row place.file at.2 in
+        not_in_front count place none m i.0 (omega (arith, i.1)) i.2
+
+    pub none_more : (count : ℕ) (file : File) (k : ℕ) → k ≡ get_or row count 0 → slice_get files k ≡ Some file → NoneIsAbsent number file.is_included (imports_of file) → NoneUpTo files number row count → NoneUpTo files number row (count + 1)
+    none_more count file k is stands here none i other h at = elim (cases_lt i count) [
+      | inl before ↦ none i other before at
+      | inr last ↦ (
+          let same : get_or row i 0 ≡ k = ap (λ n. get_or row n 0) (omega arith) ∙ sym is in
+          let equal : file ≡ other = one_File file other (sym stands ∙ (ap (slice_get files) (sym same) ∙ at)) in
+          subst (λ f. NoneIsAbsent number f.is_included (imports_of f)) equal here)
+    ]
+
+    pub is_absent_place : (count : ℕ) (file : File) (k : ℕ) (span : Span) → IsStrictlyIncreasing row → count < length row → k ≡ get_or row count 0 → slice_get files k ≡ Some file
+        → NoneUpTo files number row count → ImportsInOrder (imports_of file) → IsFirstAbsent number file.is_included (imports_of file) span → Absent files (record { file = k; span = span })
+    is_absent_place count file k span rises within is stands none order first =
+        let counts : Counts files k = (counted k).0 (subst (Contains row) (sym is) (Contains-get_or row count 0 within)) in
+        let parts = and_parts (not file.is_included || is_public first.import.kind) (is_none (number first.import.path)) first.absent in
+        let facts = facts_at file first.import (contained (imports_of file) first.index first.import first.stands) in
+        record {
+          missing = record {
+            import = first.import;
+            needed = needed_from file k facts.0 first.import counts stands facts.1 facts.2 parts.0;
+            stands = first.place;
+            missing = no_path first.import.path parts.1;
+          };
+          least = λ other m before. least other m before;
+        }
+      where
+        contained : {X : Type 0} (xs : List X) (j : ℕ) (x : X) → slice_get xs j ≡ Some x → Contains xs x
+        contained xs j x e = (j, slice_get_within xs j x e, get_or_from_slice_get xs j x x e)
+
+        facts_at : (f : File) (import : Imported) → Contains (imports_of f) import → (facts : Facts) × (f.facts ≡ Some facts) × Contains facts.imports import
+        facts_at f import there = elim (cases f.facts) [
+          | inl absent ↦ absurd (omega (arith, (subst (λ g. Contains (imports_in g) import) absent there).1))
+          | inr some ↦ (some.0, some.1, subst (λ g. Contains (imports_in g) import) some.1 there)
+        ]
+          where
+            cases : (o : Option Facts) → (o ≡ None) ⊎ ((x : Facts) × (o ≡ Some x))
+            cases None = inl refl
+            cases (Some x) = inr (x, refl)
+
+        same_file : (other : FilePlace) → (m : IsMissing files other) → other.file ≡ k → other.span.start < span.start → ⊥
+        same_file other m here less =
+            let at = index_of other m in
+            let equal : at.0 ≡ file = one_File at.0 file (sym at.1 ∙ (ap (slice_get files) here ∙ stands)) in
+            let stands_at : slice_get (imports_of file) at.3.0 ≡ Some m.import = subst (λ f. slice_get (imports_of f) at.3.0 ≡ Some m.import) equal at.3.1 in
+            let absent_at : is_absent number file.is_included m.import ≡ true = subst (λ f. is_absent number f.is_included m.import ≡ true) equal at.3.2 in
+            elim (cases_lt at.3.0 first.index) [
+              | inl front ↦ false≢true (sym (first.first at.3.0 m.import front stands_at) ∙ absent_at)
+              | inr behind ↦ (
+                  let rise = starts_rise (imports_of file) 0 first.index at.3.0 first.import m.import order first.stands stands_at behind in
+                  let a = ap (λ (s : Span). s.start) first.place in
+                  let b = ap (λ (s : Span). s.start) m.stands in
+                  omega arith)
+            ]
+
+        least : (other : FilePlace) → IsMissing files other → Before other (record { file = k; span = span }) → ⊥
+        least other m (inl lower) =
+            let at = index_of other m in
+            let i = place_in_row other.file at.2 in
+            elim (cases_lt i.0 count) [
+              | inl front ↦ not_in_front count other none m i.0 front i.2
+              | inr behind ↦ (let rise = not_falling row rises count i.0 behind i.1 in omega (arith, i.2))
+            ]
+        least other m (inr same) = same_file other m same.0 same.1

@@ -1,0 +1,16 @@
+pub mod FileRowLemmas
+pub mod SearchLemmas
+pub mod SeeingLemmas
+pub mod StepLemmas
+pub mod CountingLemmas
+pub mod AbsentLemmas
+pub mod ClashLemmas
+pub mod ItemLemmas
+pub mod AllItemsLemmas
+pub mod GivenLemmas
+pub mod FactLemmas
+pub mod KnowingLemmas
+pub mod EntityLemmas
+pub mod NameLemmas
+pub mod ListedLemmas
+pub mod OriginLemmas

@@ -1,0 +1,11 @@
+use Rattle.std.proofs.Common.{List, MatchOption, subst}
+use Rattle.std.specs.List.{Contains}
+use Rattle.proto_visibility.specs.Items.{Item, IsItem}
+use Rattle.proto_visibility.specs.Clashes.{ClashBy, NoClashBy}
+use Rattle.proto_visibility.proofs.ClashLemmas.{clash_of_items}
+use Rattle.proto_visibility.proofs.namespace.clash_among.Goals as goal
+
+pub returns : goal.returns
+returns c =
+    clash_of_items {I = Contains c.in_ok-items.items.items} {J = IsItem c.args.files.now} c.in_ok-items.ensures.items c.in_ok-clash.clash
+    (subst (λ (xs : List Item). MatchOption c.in_ok-clash.clash (NoClashBy (Contains xs)) (λ places. ClashBy (Contains xs) places.0 places.1)) c.as_slice.ensures.value c.in_ok-clash.ensures)

@@ -1,0 +1,46 @@
+-- Imports of files that aren't there, and included files that can't be read.
+use Rattle.std.specs.Prelude.{◌≡◌, ◌<◌, ℕ, true, Some, None, List, Contains}
+use Rattle.std.specs.List.{slice_get}
+use Rattle.proto_decl.specs.Facts.{Facts}
+use Rattle.proto_decl.specs.declared.imported.Imported.{Imported}
+use Rattle.proto_visibility.specs.declared.place.FilePlace.{FilePlace}
+use Rattle.proto_visibility.specs.Files.{File, HasFacts, IsSource, HasPath, is_public}
+use Rattle.proto_visibility.specs.Sees.{Counts}
+use Rattle.proto_visibility.specs.Items.{Before}
+
+-- An import that has to be there: any of a source, and the public ones of an included file that counts.
+pub data IsNeeded (files : List File) : ℕ → Imported → Type 0 where
+  of_source : {number : ℕ} {facts : Facts} {import : Imported}
+      → IsSource files number → HasFacts files number facts → Contains facts.imports import → IsNeeded files number import
+  of_included : {number : ℕ} {facts : Facts} {import : Imported}
+      → Counts files number → HasFacts files number facts → Contains facts.imports import → is_public import.kind ≡ true → IsNeeded files number import
+
+-- no file has the path of the import at this place, which has to be there
+pub record IsMissing (files : List File) (place : FilePlace) : Type 0 where
+  pub import : Imported
+  pub needed : IsNeeded files place.file import
+  pub stands : import.span ≡ place.span
+  pub missing : HasPath files import.path → ⊥
+
+-- the least such place
+pub record Absent (files : List File) (place : FilePlace) : Type 0 where
+  pub missing : IsMissing files place
+  pub least : (other : FilePlace) → IsMissing files other → Before other place → ⊥
+
+abbrev pub NoAbsent : List File → Type 0
+NoAbsent files = (place : FilePlace) → IsMissing files place → ⊥
+
+-- a file that counts has no facts
+pub record IsUnread (files : List File) (number : ℕ) : Type 0 where
+  pub file : File
+  pub counts : Counts files number
+  pub numbered : slice_get files number ≡ Some file
+  pub unread : file.facts ≡ None
+
+-- the least such file
+pub record Broken (files : List File) (number : ℕ) : Type 0 where
+  pub unread : IsUnread files number
+  pub least : (other : ℕ) → IsUnread files other → other < number → ⊥
+
+abbrev pub NoneBroken : List File → Type 0
+NoneBroken files = (number : ℕ) → IsUnread files number → ⊥

@@ -1,0 +1,16 @@
+-- the files that are linked, and what they import
+pub mod Files
+-- which file sees which, and which files count
+pub mod Sees
+-- the first clash of names, and the first import of a file that isn't there
+pub mod Items
+pub mod Clashes
+pub mod Absences
+-- which files can be linked
+pub mod Linked
+-- which names a file knows, who gives them, and as what
+pub mod Knows
+pub mod Given
+pub mod Entities
+-- the tables by which the code finds them
+pub mod Tables

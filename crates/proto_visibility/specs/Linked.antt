@@ -1,0 +1,31 @@
+-- Which files can be linked, and why others can't.
+use Rattle.std.specs.Prelude.{ℕ, ⊤, List, length}
+use Rattle.proto_visibility.specs.declared.fault.LinkFault.{LinkFault}
+use Rattle.proto_visibility.specs.declared.fault.LinkFault.TheVariants.{Broken, Duplicate, MissingImport, Unresolved, Memory}
+use Rattle.proto_visibility.specs.Files.{File, Imports, HaveOrigins}
+use Rattle.proto_visibility.specs.Clashes.{Clash, NoClash}
+use Rattle.proto_visibility.specs.Absences as absences
+use Rattle.proto_visibility.specs.Tables.StepTables.{AreRowsBy}
+use Rattle.proto_visibility.specs.declared.names.Names.{Names}
+use Rattle.proto_visibility.specs.Tables.GivenNames.{AreNames}
+
+-- the files that count have facts, no clash of names, and each import that has to be there
+pub record CanBeLinked (files : List File) : Type 0 where
+  pub read : absences.NoneBroken files
+  pub clear : NoClash files
+  pub complete : absences.NoAbsent files
+
+-- each fault comes where it holds and none of those before it does; of memory nothing is said; that a use names no type is none of them
+abbrev pub MayRefuse : List File → LinkFault → Type 0
+MayRefuse files (Broken number) = absences.Broken files number
+MayRefuse files (Duplicate first second) = absences.NoneBroken files × Clash files first second
+MayRefuse files (MissingImport place) = absences.NoneBroken files × NoClash files × absences.Absent files place
+MayRefuse files (Unresolved place) = ⊥
+MayRefuse files Memory = ⊤
+
+-- what a linker keeps of its files
+pub record IsLinked (files : List File) (rows : List (List ℕ)) (names : Names) : Type 0 where
+  pub can_be : CanBeLinked files
+  pub origins : HaveOrigins files
+  pub rows_are : AreRowsBy (Imports files) (length files) rows
+  pub names_are : AreNames files names

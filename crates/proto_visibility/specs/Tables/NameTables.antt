@@ -1,0 +1,37 @@
+-- Items in order of place, and a map from names to the first item that has each.
+use Rattle.std.specs.Prelude.{◌≡◌, ℕ, ◌<◌, Option, Some, None, List, ◌||◌, MatchOption, if◌then◌else◌}
+use Rattle.std.specs.List.{slice_get}
+use Rattle.std.specs.HashMap.{HashMap}
+use denote.Ref.{Bor}
+use Rattle.proto_visibility.specs.declared.place.FilePlace.{FilePlace}
+use Rattle.proto_visibility.specs.Items.{Before, Item}
+use Rattle.proto_visibility.specs.Tables.StepTables.{number_in}
+
+-- each item stands before those behind it
+abbrev pub AreInPlace : List Item → Type 0
+AreInPlace items = (j k : ℕ) (a b : Item) → j < k → slice_get items j ≡ Some a → slice_get items k ≡ Some b → Before a.place b.place
+
+-- none of the first so many items has the name
+abbrev pub HasNone : List Item → (count : ℕ) → (name : List ℕ) → Type 0
+HasNone items count name = (k : ℕ) (item : Item) → k < count → slice_get items k ≡ Some item → item.full_name ≡ name → ⊥
+
+-- the item at this index is the first with the name, and one of so many
+pub record IsFirstNamed (items : List Item) (count : ℕ) (name : List ℕ) (index : ℕ) : Type 0 where
+  pub item : Item
+  pub stands : slice_get items index ≡ Some item
+  pub named : item.full_name ≡ name
+  pub within : index < count
+  pub first : HasNone items index name
+
+-- the map has the first of so many items with each name
+abbrev pub AreFirst : {S : Type 0} → List Item → (count : ℕ) → HashMap (Bor (List ℕ)) ℕ S → Type 0
+AreFirst items count names = (name : List ℕ) → MatchOption (number_in names name) (HasNone items count name) (IsFirstNamed items count name)
+
+-- the place of the earlier item, where one of the two is a declaration
+abbrev pub place_if_declared : Option Item → Item → Option FilePlace
+place_if_declared None item = None
+place_if_declared (Some earlier) item = if earlier.is_declaration || item.is_declaration then Some earlier.place else None
+
+abbrev pub clash_with : List Item → (first : Option ℕ) → Item → Option FilePlace
+clash_with items None item = None
+clash_with items (Some index) item = place_if_declared (slice_get items index) item

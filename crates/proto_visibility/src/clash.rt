@@ -1,0 +1,77 @@
+//! The first clash of names.
+
+ghost use Rattle.std.specs.Prelude.{List, ℕ, ◌≡◌, ◌<◌, IfOk, OnOk, IfSome, MatchOption, Some, Contains, length, is_some, if◌then◌else◌};
+ghost use Rattle.std.specs.Str.{bytes_eq};
+ghost use Rattle.proto_visibility.specs.Clashes.{ClashBy, NoClashBy};
+ghost use Rattle.proto_visibility.specs.Tables.NameTables.{AreInPlace, clash_with};
+ghost use Rattle.proto_visibility.specs.Tables.StepTables.{number_in};
+
+use crate::place::FilePlace;
+use std::alloc::{AllocError, Global};
+use std::collections::HashMap;
+use std::marker::Model;
+
+// A declaration or a component of a package statement: where it stands, and the full name that it
+// gives.
+#[derive(Drop)]
+pub(crate) struct Item<'a> {
+    pub(crate) place: FilePlace,
+    pub(crate) full_name: &'a str,
+    pub(crate) is_declaration: bool,
+}
+
+impl<'a> Model for Item<'a> {
+    ghost use Rattle.proto_visibility.specs.Items.{Item};
+
+    ghost Value = { Item };
+
+    ghost view = { λ item. record { place = item.place; full_name = item.full_name.now; is_declaration = item.is_declaration } };
+}
+
+// The first two items, in order of place, that have one full name, where one is a declaration: of
+// those pairs that with the least second place, and then the least first.
+pub(crate) fn first_clash(
+    alloc: Global,
+    items: &[Item],
+) -> Result<Option<(FilePlace, FilePlace)>, AllocError>
+    requires { AreInPlace items.now }
+    ensures { IfOk result (λ clash. MatchOption clash (NoClashBy (Contains items.now)) (λ places. ClashBy (Contains items.now) places.0 places.1)) }
+{
+    let mut names = HashMap::new(alloc);
+    for (index, item) in items.iter().enumerate() {
+        let name = item.full_name;
+        let first = first_named(&mut names, name, index)?;
+        if let Some(earlier) = clash_with(items, first, item) {
+            return Ok(Some((earlier, item.place)));
+        }
+    }
+    Ok(None)
+}
+
+// The index of the first item with a name, where there is one; else this index is kept as its.
+pub(crate) fn first_named<'a>(
+    names: &mut HashMap<&'a str, usize>,
+    name: &'a str,
+    index: usize,
+) -> Result<Option<usize>, AllocError>
+    ensures found { IfOk result (λ first. first ≡ number_in names.old name.now) }
+    ensures kept { IfOk result (λ first. (other : List ℕ) → number_in names.new other ≡ (if is_some first then number_in names.old other else (if bytes_eq name.now other then Some index else number_in names.old other))) }
+{
+    if let Some(first) = names.get(name) {
+        return Ok(Some(*first));
+    }
+    names.insert(name, index)?;
+    Ok(None)
+}
+
+// The place of the first item with a name, where it or the later one is a declaration.
+fn clash_with(items: &[Item], first: Option<usize>, item: &Item) -> Option<FilePlace>
+    ensures { result ≡ clash_with items.now first item.now }
+{
+    let earlier = items.get(first?)?;
+    if earlier.is_declaration || item.is_declaration {
+        Some(earlier.place)
+    } else {
+        None
+    }
+}

@@ -1,0 +1,36 @@
+//! Why files can't be linked.
+
+use crate::place::FilePlace;
+use std::alloc::AllocError;
+
+/// Why files can't be linked, or why a use of a type names none. Where several of the first three
+/// hold, the first of them is answered.
+#[derive(Clone, Copy, Debug, Drop, PartialEq, Eq)]
+pub enum LinkFault {
+    /// The least number of a file without facts, of the sources and the included files that some
+    /// source sees.
+    Broken(usize),
+    /// The places of two declarations, or of a declaration and a component of a package statement,
+    /// that give one full name, of the files as above: of these pairs that with the least second
+    /// place, and then the least first. Places are ordered by file number, then start.
+    Duplicate(FilePlace, FilePlace),
+    /// The first import, by its literal's place, of a path that no file has: any import of a source
+    /// counts, and the public ones of an included file that some source sees.
+    MissingImport(FilePlace),
+    /// A use that names no type, by the place of the whole use: from its leading dot, or its first
+    /// component where it has none, to its last one. `Linker::resolve` alone answers it.
+    Unresolved(FilePlace),
+    /// Memory was refused.
+    Memory,
+}
+
+impl From<AllocError> for LinkFault {
+    ghost use Rattle.std.specs.Prelude.{◌≡◌};
+    ghost use Rattle.proto_visibility.specs.declared.fault.LinkFault.TheVariants.{Memory};
+
+    ghost from_gives = { λ _ e. e ≡ Memory };
+
+    fn from(_refused: AllocError) -> LinkFault {
+        LinkFault::Memory
+    }
+}

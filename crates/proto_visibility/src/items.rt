@@ -1,0 +1,108 @@
+//! The items of a file: its declarations and the components of its package statement.
+
+ghost use Rattle.std.specs.Prelude.{List, ℕ, ◌≡◌, ◌+◌, ◌∷◌, ◌↔◌, IfOk, OnOk, Some, Contains, length, map};
+ghost use Rattle.std.specs.List.{slice_get};
+ghost use Rattle.proto_decl.specs.Names.{dotted};
+ghost use Rattle.proto_visibility.specs.Tables.FileItems.{AreFronts, IsItemOf, declared_item, AreWithPackage};
+ghost use Rattle.proto_visibility.specs.Items.{Item};
+ghost use Rattle.proto_visibility.specs.Tables.NameTables.{AreInPlace};
+
+use crate::clash::Item;
+use crate::place::FilePlace;
+use proto_decl::{Component, Declaration, FileFacts, facts_in_order};
+use sequences::OwnedText;
+use std::alloc::{AllocError, Global};
+
+// For each component of a package's name the name up to it.
+pub(crate) fn package_fronts(
+    alloc: Global,
+    components: &[Component],
+) -> Result<Vec<OwnedText>, AllocError>
+    ensures { IfOk result (λ fronts. AreFronts components.now fronts.items) }
+{
+    match components {
+        [] => Ok(Vec::new(alloc)),
+        [first, others @ ..] => fronts_of(alloc, first, others),
+    }
+}
+
+fn fronts_of(
+    alloc: Global,
+    first: &Component,
+    others: &[Component],
+) -> Result<Vec<OwnedText>, AllocError>
+    ensures { IfOk result (λ fronts. AreFronts (first.now ∷ others.now) fronts.items) }
+{
+    let mut front = String::from_str(alloc, first.name.as_str())?;
+    let mut fronts = Vec::new(alloc);
+    fronts.push(OwnedText::copy_of(alloc, front.as_str())?)?;
+    for component in others {
+        front.push_str(".")?;
+        front.push_str(component.name.as_str())?;
+        fronts.push(OwnedText::copy_of(alloc, front.as_str())?)?;
+    }
+    Ok(fronts)
+}
+
+// The items of a file with this number, in order of place.
+pub(crate) fn file_items<'a>(
+    alloc: Global,
+    number: usize,
+    facts: &'a FileFacts,
+    fronts: &'a [OwnedText],
+) -> Result<Vec<Item<'a>>, AllocError>
+    requires { AreFronts facts.now.package_name fronts.now }
+    ensures order { IfOk result (λ items. AreInPlace items.items) }
+    ensures items { IfOk result (λ items. (item : Item) → Contains items.items item ↔ IsItemOf number facts.now item) }
+{
+    facts_in_order();
+    facts.origin();
+    let mut items = declared_items(alloc, number, facts.declarations())?;
+    add_package(&mut items, number, facts.package_name(), fronts)?;
+    items.sort_by_key(|item| item.place.span.start)?;
+    Ok(items)
+}
+
+fn declared_items(
+    alloc: Global,
+    number: usize,
+    declarations: &[Declaration],
+) -> Result<Vec<Item>, AllocError>
+    ensures { IfOk result (λ items. items.items ≡ map (declared_item number) declarations.now) }
+{
+    let mut items = Vec::new(alloc);
+    for declaration in declarations {
+        items.push(Item {
+            place: FilePlace {
+                file: number,
+                span: declaration.name,
+            },
+            full_name: declaration.full_name.as_str(),
+            is_declaration: true,
+        })?;
+    }
+    Ok(items)
+}
+
+// Adds the components of the package's name.
+fn add_package<'a>(
+    items: &mut Vec<Item<'a>>,
+    number: usize,
+    components: &[Component],
+    fronts: &'a [OwnedText],
+) -> Result<(), AllocError>
+    requires { AreFronts components.now fronts.now }
+    ensures { OnOk result (AreWithPackage number components.now items.old.items items.new.items) }
+{
+    for (index, component) in components.iter().enumerate() {
+        items.push(Item {
+            place: FilePlace {
+                file: number,
+                span: component.span,
+            },
+            full_name: fronts[index].as_str(),
+            is_declaration: false,
+        })?;
+    }
+    Ok(())
+}

@@ -1,0 +1,190 @@
+//! Tables of the names that files give.
+
+ghost use Rattle.std.specs.Prelude.{ℕ, List, ◌≡◌, ◌≤◌, ◌↔◌, ◌⊎◌, ◌++◌, ◌∷◌, [], IfOk, OnOk, Contains, if◌then◌else◌};
+ghost use Rattle.std.specs.List.Sorted.{IsNonDecreasing};
+ghost use Rattle.std.specs.Str.{bytes_eq};
+ghost use Rattle.proto_visibility.specs.declared.names.DeclaredAt.{DeclaredAt};
+ghost use Rattle.proto_visibility.specs.Tables.FileItems.{AreAllFronts};
+ghost use Rattle.proto_visibility.specs.Tables.GivenNames.{listed_at, owned_at, IsDeclaredOf, IsDeclaredIn, AreDeclared, HasFrontAt, AreNames};
+
+use crate::given::Role;
+use crate::link_file::LinkFile;
+use indexmap::IndexMap;
+use proto_decl::{Declaration, DeclarationKind};
+use sequences::{OwnedText, Sequence};
+use std::alloc::{AllocError, Global};
+
+// A declaration of a file, by the file's number and its index there, and its kind.
+#[derive(Clone, Copy, Debug)]
+pub(crate) struct DeclaredAt {
+    pub(crate) file: usize,
+    pub(crate) index: usize,
+    pub(crate) kind: DeclarationKind,
+}
+
+// For each full name the messages, enums and services that have it, and for each package the files
+// that have it or one below it, in order of their numbers.
+#[derive(Drop)]
+pub(crate) struct Names<'a> {
+    declared: IndexMap<&'a str, Vec<DeclaredAt>>,
+    packages: IndexMap<String, Vec<usize>>,
+}
+
+impl<'a> Names<'a> {
+    // The names that files give, by the names of their packages' fronts.
+    pub(crate) fn of(
+        alloc: Global,
+        files: &'a [LinkFile<'a>],
+        fronts: &[Sequence<OwnedText>],
+    ) -> Result<Names<'a>, AllocError>
+        requires { AreAllFronts files.now fronts.now }
+        ensures { IfOk result (AreNames files.now) }
+    {
+        let declared = declared_names(alloc, files)?;
+        let packages = package_names(alloc, fronts)?;
+        Ok(Names { declared, packages })
+    }
+
+    // The messages, enums and services that have a full name.
+    pub(crate) fn declaring(&self, name: &str) -> &[DeclaredAt]
+        ensures { result.now ≡ listed_at self.now.declared name.now }
+    {
+        match self.declared.get(name) {
+            Some(listed) => listed.as_slice(),
+            None => &[],
+        }
+    }
+
+    // The files that have a package or one below it.
+    pub(crate) fn packaging(&self, name: &str) -> &[usize]
+        ensures { result.now ≡ owned_at self.now.packages name.now }
+    {
+        match self.packages.get(name) {
+            Some(listed) => listed.as_slice(),
+            None => &[],
+        }
+    }
+}
+
+// For each full name the messages, enums and services that have it.
+fn declared_names<'a>(
+    alloc: Global,
+    files: &'a [LinkFile<'a>],
+) -> Result<IndexMap<&'a str, Vec<DeclaredAt>>, AllocError>
+    ensures { IfOk result (λ names. AreDeclared files.now (listed_at names)) }
+{
+    let mut names = IndexMap::new(alloc);
+    for (number, file) in files.iter().enumerate() {
+        add_file(&mut names, number, file)?;
+    }
+    Ok(names)
+}
+
+// Adds those of the file with this number.
+fn add_file<'a>(
+    names: &mut IndexMap<&'a str, Vec<DeclaredAt>>,
+    number: usize,
+    file: &LinkFile<'a>,
+) -> Result<(), AllocError>
+    ensures { OnOk result ((name : List ℕ) (one : DeclaredAt) → Contains (listed_at names.new name) one ↔ (Contains (listed_at names.old name) one ⊎ IsDeclaredIn number file.now name one)) }
+{
+    match file.facts {
+        Some(facts) => add_declarations(names, number, facts.declarations()),
+        None => Ok(()),
+    }
+}
+
+fn add_declarations<'a>(
+    names: &mut IndexMap<&'a str, Vec<DeclaredAt>>,
+    number: usize,
+    declarations: &'a [Declaration],
+) -> Result<(), AllocError>
+    ensures { OnOk result ((name : List ℕ) (one : DeclaredAt) → Contains (listed_at names.new name) one ↔ (Contains (listed_at names.old name) one ⊎ ((index : ℕ) × IsDeclaredOf number declarations.now index name one))) }
+{
+    for (index, declaration) in declarations.iter().enumerate() {
+        let kind = declaration.kind;
+        if !Role::AsAggregate.admits(kind) {
+            continue;
+        }
+        let one = DeclaredAt {
+            file: number,
+            index,
+            kind,
+        };
+        add_declared(names, declaration.full_name.as_str(), one)?;
+    }
+    Ok(())
+}
+
+fn add_declared<'a>(
+    names: &mut IndexMap<&'a str, Vec<DeclaredAt>>,
+    name: &'a str,
+    one: DeclaredAt,
+) -> Result<(), AllocError>
+    ensures { OnOk result ((other : List ℕ) → listed_at names.new other ≡ (if bytes_eq name.now other then listed_at names.old other ++ one ∷ [] else listed_at names.old other)) }
+{
+    names.entry(name)?.or_default().push(one)?;
+    Ok(())
+}
+
+// For each of these texts the files that have it.
+fn package_names(
+    alloc: Global,
+    fronts: &[Sequence<OwnedText>],
+) -> Result<IndexMap<String, Vec<usize>>, AllocError>
+    ensures files { IfOk result (λ names. (name : List ℕ) (number : ℕ) → Contains (owned_at names name) number ↔ HasFrontAt fronts.now number name) }
+    ensures order { IfOk result (λ names. (name : List ℕ) → IsNonDecreasing (owned_at names name)) }
+{
+    let mut names = IndexMap::new(alloc);
+    for (number, its) in fronts.iter().enumerate() {
+        add_fronts(alloc, &mut names, number, its.as_slice())?;
+    }
+    Ok(names)
+}
+
+// Adds the file with this number, which is none before those that stand there.
+fn add_fronts(
+    alloc: Global,
+    names: &mut IndexMap<String, Vec<usize>>,
+    number: usize,
+    fronts: &[OwnedText],
+) -> Result<(), AllocError>
+    requires order { (name : List ℕ) → IsNonDecreasing (owned_at names.old name) }
+    requires behind { (name : List ℕ) (other : ℕ) → Contains (owned_at names.old name) other → other ≤ number }
+    ensures files { OnOk result ((name : List ℕ) (other : ℕ) → Contains (owned_at names.new name) other ↔ (Contains (owned_at names.old name) other ⊎ ((other ≡ number) × Contains fronts.now name))) }
+    ensures order { OnOk result ((name : List ℕ) → IsNonDecreasing (owned_at names.new name)) }
+{
+    for front in fronts {
+        add_front(alloc, names, number, front.as_str())?;
+    }
+    Ok(())
+}
+
+fn add_front(
+    alloc: Global,
+    names: &mut IndexMap<String, Vec<usize>>,
+    number: usize,
+    front: &str,
+) -> Result<(), AllocError>
+    ensures { OnOk result ((other : List ℕ) → owned_at names.new other ≡ (if bytes_eq front.now other then owned_at names.old other ++ number ∷ [] else owned_at names.old other)) }
+{
+    if let Some(listed) = names.get_mut(front) {
+        listed.push(number)?;
+        return Ok(());
+    }
+    add_copied(alloc, names, number, front)
+}
+
+// The same, by a copy of the text.
+fn add_copied(
+    alloc: Global,
+    names: &mut IndexMap<String, Vec<usize>>,
+    number: usize,
+    front: &str,
+) -> Result<(), AllocError>
+    ensures { OnOk result ((other : List ℕ) → owned_at names.new other ≡ (if bytes_eq front.now other then owned_at names.old other ++ number ∷ [] else owned_at names.old other)) }
+{
+    let name = String::from_str(alloc, front)?;
+    names.entry(name)?.or_default().push(number)?;
+    Ok(())
+}

@@ -1,0 +1,185 @@
+//! Files whose names are one namespace.
+
+ghost use Rattle.std.specs.Prelude.{ℕ, ◌≡◌, ◌<◌, ◌↔◌, IsTrue, IfOk, IfErr, MatchOption, Contains, length};
+ghost use Rattle.proto_decl.specs.Facts.{Facts};
+ghost use Rattle.proto_decl.specs.Laws.{IsEntity};
+ghost use Rattle.proto_visibility.specs.Entities.{IsEntityOf};
+ghost use Rattle.proto_visibility.specs.Files.{HaveOwnPaths, HaveOrigins, HasFacts, HasPathAt, IsIncludedAt};
+ghost use Rattle.proto_visibility.specs.Sees.{Sees, Counts};
+ghost use Rattle.proto_visibility.specs.Clashes.{Clash, NoClash};
+ghost use Rattle.proto_visibility.specs.Tables.FileItems.{AreAllFronts};
+ghost use Rattle.proto_visibility.specs.Linked.{CanBeLinked, MayRefuse};
+ghost use Rattle.proto_visibility.specs.Knows.{KnowsAs};
+ghost use Rattle.proto_visibility.specs.Given.{admits, SeesGiving};
+
+use crate::absent::first_absent;
+use crate::all_items::{all_fronts, all_items};
+use crate::clash::first_clash;
+use crate::counting::{counted_files, first_unread};
+use crate::entities::{Entity, entity_in};
+use crate::fault::LinkFault;
+use crate::file_row::FileRow;
+use crate::given::Role;
+use crate::knowing::first_giving;
+use crate::link_file::LinkFile;
+use crate::names::Names;
+use crate::origins::have_origins;
+use crate::place::FilePlace;
+use crate::seeing::seen_files;
+use crate::steps::numbers_of;
+use proto_decl::FileFacts;
+use sequences::{OwnedText, Sequence};
+use std::alloc::{AllocError, Global};
+use std::marker::Model;
+
+/// Files in which each import that has to be there is, and no full name is declared twice: all
+/// sources, and the included files that they see, are one namespace.
+///
+/// Contracts see the list of the files.
+#[derive(Drop)]
+pub struct Namespace<'a> {
+    files: &'a [LinkFile<'a>],
+    rows: Vec<FileRow>,
+    names: Names<'a>,
+}
+
+impl<'a> Model for Namespace<'a> {
+    ghost use Rattle.std.specs.Prelude.{List};
+    ghost use Rattle.proto_visibility.specs.Files.{File};
+    ghost use Rattle.proto_visibility.specs.Linked.{IsLinked};
+
+    ghost Value = { List File };
+
+    ghost view = { λ namespace. namespace.files.now };
+
+    ghost invariant = { λ namespace. IsLinked namespace.files.now namespace.rows.items namespace.names };
+}
+
+impl<'a> Namespace<'a> {
+    /// Links files, no two of which have one path, by their numbers in the list.
+    ///
+    /// An included file has an effect only where some source sees it. A weak import counts as a
+    /// plain one.
+    pub fn new(alloc: Global, files: &'a [LinkFile<'a>]) -> Result<Namespace<'a>, LinkFault>
+        requires { HaveOwnPaths files.now }
+        ensures linked { IfOk result (λ namespace. namespace ≡ files.now) }
+        ensures can_be { IfOk result (λ _. CanBeLinked files.now) }
+        ensures refused { IfErr result (MayRefuse files.now) }
+    {
+        let numbers = numbers_of(alloc, files)?;
+        let rows = seen_files(alloc, files, &numbers)?;
+        let counted = counted_files(alloc, files, rows.as_slice())?;
+        if let Some(number) = first_unread(files, &counted) {
+            return Err(LinkFault::Broken(number));
+        }
+        let fronts = all_fronts(alloc, files)?;
+        let clash = clash_among(alloc, files, fronts.as_slice(), &counted)?;
+        if let Some((first, second)) = clash {
+            return Err(LinkFault::Duplicate(first, second));
+        }
+        if let Some(place) = first_absent(files, &numbers, &counted) {
+            return Err(LinkFault::MissingImport(place));
+        }
+        have_origins(files);
+        let names = Names::of(alloc, files, fronts.as_slice())?;
+        Ok(Namespace { files, rows, names })
+    }
+
+    /// Whether a file sees another: itself, what it imports, and what public imports lead to from
+    /// there. Takes no memory.
+    pub fn visible(&self, file: usize, other: usize) -> bool
+        requires file { file < length self.now }
+        requires other { other < length self.now }
+        ensures { IsTrue result ↔ Sees self.now file other }
+    {
+        self.rows[file].has(other)
+    }
+
+    /// A file that a file sees and that gives a name in a role. Takes no memory.
+    pub fn first_giving(&self, file: usize, name: &str, role: Role) -> Option<usize>
+        requires { file < length self.now }
+        ensures { MatchOption result (KnowsAs self.now file (admits role) name.now → ⊥) (SeesGiving self.now file (admits role) name.now) }
+    {
+        first_giving(&self.names, &self.rows[file], name, role)
+    }
+
+    /// The files can be linked, and the facts of each are those of some text: what the laws ask
+    /// for. Takes no memory.
+    pub fn linked(&self)
+        ensures can_be { CanBeLinked self.now }
+        ensures origins { HaveOrigins self.now }
+    {
+        let _files = self.files;
+    }
+
+    /// What a full name of so many components names in a file with these facts, where it is that of
+    /// a declaration or a package of the file. Takes no memory.
+    pub fn entity_of(&self, number: usize, facts: &FileFacts, name: &str, count: usize) -> Entity
+        requires has { HasFacts self.now number facts.now }
+        requires entity { IsEntity facts.now name.now }
+        ensures { IsEntityOf number facts.now name.now count result }
+    {
+        entity_in(&self.names, number, facts, name, count)
+    }
+
+    /// The facts of a file, where it has some. Takes no memory.
+    pub fn facts_of(&self, number: usize) -> Option<&FileFacts>
+        requires { number < length self.now }
+        ensures { MatchOption result ((facts : Facts) → HasFacts self.now number facts → ⊥) (λ facts. HasFacts self.now number facts.now) }
+    {
+        let files = self.files;
+        let file = &files[number];
+        file.facts
+    }
+
+    /// How many files there are. Takes no memory.
+    pub fn count(&self) -> usize
+        ensures { result ≡ length self.now }
+    {
+        self.files.len()
+    }
+
+    /// Whether a file is included, and so no source. Takes no memory.
+    pub fn is_included(&self, number: usize) -> bool
+        requires { number < length self.now }
+        ensures { IsIncludedAt self.now number result }
+    {
+        let files = self.files;
+        let file = &files[number];
+        file.is_included()
+    }
+
+    /// The path of a file. Takes no memory.
+    pub fn path_of(&self, number: usize) -> &str
+        requires { number < length self.now }
+        ensures { HasPathAt self.now result.now number }
+    {
+        let files = self.files;
+        let file = &files[number];
+        file.path
+    }
+
+    /// Whether a file knows a name in a role. Takes no memory.
+    pub fn knows(&self, file: usize, name: &str, role: Role) -> bool
+        requires { file < length self.now }
+        ensures { IsTrue result ↔ KnowsAs self.now file (admits role) name.now }
+    {
+        self.first_giving(file, name, role).is_some()
+    }
+}
+
+// The first clash of names among the items of the files that count.
+fn clash_among(
+    alloc: Global,
+    files: &[LinkFile],
+    fronts: &[Sequence<OwnedText>],
+    counted: &FileRow,
+) -> Result<Option<(FilePlace, FilePlace)>, AllocError>
+    requires fronts { AreAllFronts files.now fronts.now }
+    requires counted { (number : ℕ) → Contains counted.now number ↔ Counts files.now number }
+    ensures { IfOk result (λ clash. MatchOption clash (NoClash files.now) (λ places. Clash files.now places.0 places.1)) }
+{
+    let items = all_items(alloc, files, fronts, counted)?;
+    let clash = first_clash(alloc, items.as_slice())?;
+    Ok(clash)
+}

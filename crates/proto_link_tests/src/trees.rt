@@ -1,7 +1,7 @@
 //! Trees of sources, and what linking answers to them.
 
 ghost use Rattle.std.specs.Prelude.{◌≡◌, ◌↔◌, ◌<◌, IfOk, IsTrue, length};
-ghost use Rattle.proto_link.specs.Files.{HaveOwnPaths};
+ghost use Rattle.proto_visibility.specs.Files.{HaveOwnPaths};
 
 use crate::calls::{accepted, see};
 use crate::lookups::resolve_as_due;

@@ -15,7 +15,7 @@ use Rattle.source_tree.specs.Files.{TreeFile}
 use Rattle.source_tree.specs.Reading.{kept_bytes, max_kept_length}
 use Rattle.scip_model.specs.declared.records.Index.{Index}
 use Rattle.scip_build.specs.Builds.{IsBuilt, IsBuildFault, OfReadings}
-use Rattle.proto_link.specs.Linked.{CanBeLinked}
+use Rattle.proto_visibility.specs.Linked.{CanBeLinked}
 use Rattle.scip_build.specs.Documents.{IsLeastUnresolved}
 use Rattle.scip_build.specs.Files.{FileContents, ReadFile}
 use Rattle.scip_build.specs.Linking.{linked_files, MayRefuseReadings}

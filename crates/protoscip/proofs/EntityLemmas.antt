@@ -15,21 +15,21 @@ use Rattle.proto_decl.specs.Ways.{names_of, component_names, AreHeld}
 use Rattle.proto_decl.specs.declared.imported.Imported.{Imported}
 use Rattle.proto_decl.specs.declared.declaration.Declaration.{Declaration}
 use Rattle.proto_decl.specs.declared.type_use.Component.{Component}
-use Rattle.proto_link.specs.declared.target.Entity.{Entity as Part}
-use Rattle.proto_link.specs.declared.target.Entity.TheVariants as link
-use Rattle.proto_link.specs.Absences.{IsMissing}
-use Rattle.proto_link.specs.Absences.IsNeeded.{of_source}
-use Rattle.proto_link.specs.Clashes.{NoClash}
-use Rattle.proto_link.specs.Files.{File, HasFacts, HaveOrigins, HasPath, IsSource}
-use Rattle.proto_link.specs.Knows.{NameKind, Knows}
-use Rattle.proto_link.specs.Knows.NameKind.{OfPackage as IsPackageKind}
-use Rattle.proto_link.specs.Knows.Knows.{declared as known_declared, packaged as known_packaged}
+use Rattle.proto_visibility.specs.declared.entities.Entity.{Entity as Part}
+use Rattle.proto_visibility.specs.declared.entities.Entity.TheVariants as link
+use Rattle.proto_visibility.specs.Absences.{IsMissing}
+use Rattle.proto_visibility.specs.Absences.IsNeeded.{of_source}
+use Rattle.proto_visibility.specs.Clashes.{NoClash}
+use Rattle.proto_visibility.specs.Files.{File, HasFacts, HaveOrigins, HasPath, IsSource}
+use Rattle.proto_visibility.specs.Knows.{NameKind, Knows}
+use Rattle.proto_visibility.specs.Knows.NameKind.{OfPackage as IsPackageKind}
+use Rattle.proto_visibility.specs.Knows.Knows.{declared as known_declared, packaged as known_packaged}
 use Rattle.proto_link.specs.Laws.{OneDeclarationAName}
-use Rattle.proto_link.specs.Linked.{CanBeLinked}
-use Rattle.proto_link.specs.Sees.{Counts}
-use Rattle.proto_link.specs.Sees.LeadsTo.{at_once}
-use Rattle.proto_link.specs.Sees.SeesBy.{import}
-use Rattle.proto_link.specs.Sees.Counts.{seen}
+use Rattle.proto_visibility.specs.Linked.{CanBeLinked}
+use Rattle.proto_visibility.specs.Sees.{Counts}
+use Rattle.proto_visibility.specs.Sees.LeadsTo.{at_once}
+use Rattle.proto_visibility.specs.Sees.SeesBy.{import}
+use Rattle.proto_visibility.specs.Sees.Counts.{seen}
 use Rattle.proto_link.specs.Targets.{IsNamed}
 use Rattle.proto_link.specs.Targets.IsNamed.{packaged as named_package, declared as named_declared}
 use Rattle.scip_symbol.specs.Package.{Package, IsPackage}

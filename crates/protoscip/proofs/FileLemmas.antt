@@ -5,10 +5,10 @@ use Rattle.std.proofs.lemmas.Option.{slice_get_within}
 use Rattle.std.proofs.lemmas.List.{length-map}
 use Rattle.proto_grammar.specs.declared.tree.CustomOptions.{CustomOptions}
 use Rattle.proto_decl.specs.Seen.{Seen}
-use Rattle.proto_link.specs.declared.place.FilePlace.{FilePlace}
-use Rattle.proto_link.specs.Files.{File}
-use Rattle.proto_link.specs.Items.{Item, IsItem, declared, packaged}
-use Rattle.proto_link.specs.Absences.{IsNeeded, of_source, of_included}
+use Rattle.proto_visibility.specs.declared.place.FilePlace.{FilePlace}
+use Rattle.proto_visibility.specs.Files.{File}
+use Rattle.proto_visibility.specs.Items.{Item, IsItem, declared, packaged}
+use Rattle.proto_visibility.specs.Absences.{IsNeeded, of_source, of_included}
 use Rattle.proto_decl.specs.declared.imported.Imported.{Imported}
 use Rattle.index_hooks.specs.declared.choice.Choice.{Choice}
 use Rattle.source_tree.specs.Files.{TreeFile}

@@ -5,7 +5,7 @@ use Rattle.std.specs.declared.cmp.Ordering.{Ordering}
 use Rattle.std.specs.Result.{result_map_both}
 use Rattle.proto_lex.specs.declared.position.Encoding.{Encoding}
 use Rattle.proto_decl.specs.Seen.{Seen}
-use Rattle.proto_link.specs.Files.{File, IsSource, HaveOrigins}
+use Rattle.proto_visibility.specs.Files.{File, IsSource, HaveOrigins}
 use Rattle.index_hooks.specs.declared.choice.Choice.{Choice}
 use Rattle.source_tree.specs.Files.{TreeFile}
 use Rattle.scip_symbol.specs.Package.{Package, IsPackage}

@@ -8,7 +8,7 @@ use Rattle.proto_grammar.specs.declared.tree.CustomOptions.{CustomOptions}
 use Rattle.proto_decl.specs.Facts.{Facts, AreFactsOf, AreOfSomeFile}
 use Rattle.proto_decl.specs.Seen.{Seen}
 use Rattle.index_hooks.specs.declared.choice.Choice.{Choice}
-use Rattle.proto_link.specs.Files.{File, HaveOrigins}
+use Rattle.proto_visibility.specs.Files.{File, HaveOrigins}
 use Rattle.scip_symbol.specs.Path.{IsGoodPath}
 use Rattle.scip_document.specs.Conditions.{HaveGoodPaths}
 use Rattle.source_tree.specs.Files.{TreeFile}

@@ -12,13 +12,13 @@ use Rattle.proto_decl.specs.Laws.IsEntity.{packaged as entity_packaged, declared
 use Rattle.proto_decl.specs.declared.declaration.Declaration.{Declaration}
 use Rattle.proto_decl.specs.declared.type_use.Component.{Component}
 use Rattle.proto_decl.specs.declared.type_use.Use.{Use}
-use Rattle.proto_link.specs.declared.target.Entity.{Entity as Part}
-use Rattle.proto_link.specs.declared.target.Entity.TheVariants as link
-use Rattle.proto_link.specs.Files.{File, HasFacts, HaveOrigins, IsSource}
-use Rattle.proto_link.specs.Sees.{Sees}
-use Rattle.proto_link.specs.Knows.{NameKind, Knows, is_type}
-use Rattle.proto_link.specs.Knows.NameKind.{OfPackage as IsPackageKind}
-use Rattle.proto_link.specs.Knows.Knows.{declared as known_declared, packaged as known_packaged}
+use Rattle.proto_visibility.specs.declared.entities.Entity.{Entity as Part}
+use Rattle.proto_visibility.specs.declared.entities.Entity.TheVariants as link
+use Rattle.proto_visibility.specs.Files.{File, HasFacts, HaveOrigins, IsSource}
+use Rattle.proto_visibility.specs.Sees.{Sees}
+use Rattle.proto_visibility.specs.Knows.{NameKind, Knows, is_type}
+use Rattle.proto_visibility.specs.Knows.NameKind.{OfPackage as IsPackageKind}
+use Rattle.proto_visibility.specs.Knows.Knows.{declared as known_declared, packaged as known_packaged}
 use Rattle.proto_link.specs.Targets.{IsNamed}
 use Rattle.proto_link.specs.Targets.IsNamed.{packaged as named_package, declared as named_declared}
 use Rattle.proto_link.proofs.TargetLemmas.{used_fit, resolved_type}

@@ -9,9 +9,9 @@ use Rattle.proto_decl.specs.Seen.{Seen}
 use Rattle.proto_decl.specs.declared.declaration.Declaration.{Declaration}
 use Rattle.proto_decl.specs.declared.type_use.Component.{Component}
 use Rattle.proto_decl.specs.declared.type_use.Use.{Use}
-use Rattle.proto_link.specs.declared.target.Entity.{Entity as Part}
-use Rattle.proto_link.specs.Files.{File, HasFacts, IsSource}
-use Rattle.proto_link.specs.Sees.{Counts}
+use Rattle.proto_visibility.specs.declared.entities.Entity.{Entity as Part}
+use Rattle.proto_visibility.specs.Files.{File, HasFacts, IsSource}
+use Rattle.proto_visibility.specs.Sees.{Counts}
 use Rattle.index_hooks.specs.declared.choice.Choice.{Choice}
 use Rattle.source_tree.specs.Files.{TreeFile}
 use Rattle.source_tree.specs.Trees.{IsTree}

@@ -3,7 +3,7 @@
 use Rattle.std.specs.Prelude.{◌≡◌, ◌≢◌, ◌⊎◌, ℕ, List}
 use Rattle.proto_lex.specs.declared.fault.LexFault.{LexFault}
 use Rattle.proto_decl.specs.Seen.{Seen}
-use Rattle.proto_link.specs.declared.place.FilePlace.{FilePlace}
+use Rattle.proto_visibility.specs.declared.place.FilePlace.{FilePlace}
 use Rattle.index_hooks.specs.declared.choice.Choice.{Choice}
 use Rattle.source_tree.specs.Files.{TreeFile}
 use Rattle.scip_document.specs.Chosen.{Chosen}

@@ -10,12 +10,12 @@ use Rattle.proto_decl.specs.Facts.{Facts}
 use Rattle.proto_decl.specs.Seen.{Seen}
 use Rattle.proto_decl.specs.declared.type_use.Use.{Use}
 use Rattle.index_hooks.specs.declared.choice.Choice.{Choice}
-use Rattle.proto_link.specs.Files.{File, HaveOrigins}
+use Rattle.proto_visibility.specs.Files.{File, HaveOrigins}
 use Rattle.proto_link.specs.Laws.{OneRefusal}
-use Rattle.proto_link.specs.Linked.{CanBeLinked, MayRefuse}
-use Rattle.proto_link.specs.declared.place.FilePlace.{FilePlace}
-use Rattle.proto_link.specs.declared.fault.LinkFault.{LinkFault}
-use Rattle.proto_link.specs.declared.fault.LinkFault.TheVariants as link
+use Rattle.proto_visibility.specs.Linked.{CanBeLinked, MayRefuse}
+use Rattle.proto_visibility.specs.declared.place.FilePlace.{FilePlace}
+use Rattle.proto_visibility.specs.declared.fault.LinkFault.{LinkFault}
+use Rattle.proto_visibility.specs.declared.fault.LinkFault.TheVariants as link
 use Rattle.scip_document.specs.Conditions.{IsResolved, AllResolve, IsFirstUnresolved}
 use Rattle.scip_document.specs.Uses.{UsesResolve}
 use Rattle.source_tree.specs.Files.{TreeFile}

@@ -5,7 +5,7 @@ use Rattle.std.specs.Option.{option_map}
 use Rattle.std.specs.declared.cmp.Ordering.TheVariants.{Less}
 use Rattle.std.proofs.lemmas.Option.{same_Some, slice_get-map, slice_get_within}
 use Rattle.proto_lex.specs.declared.position.Encoding.{Encoding}
-use Rattle.proto_link.specs.Files.{File, IsSource}
+use Rattle.proto_visibility.specs.Files.{File, IsSource}
 use Rattle.index_pool.specs.Phase.{AnswersEach, IsLeastFault}
 use Rattle.scip_model.specs.declared.records.Document.{Document}
 use Rattle.scip_symbol.specs.Package.{Package}

@@ -6,7 +6,7 @@ use Rattle.proto_grammar.specs.declared.tree.CustomOptions.{CustomOptions}
 use Rattle.proto_decl.specs.Facts.{Facts}
 use Rattle.proto_decl.specs.Seen.{Seen}
 use Rattle.proto_decl.specs.declared.declaration.Declaration.{Declaration}
-use Rattle.proto_link.specs.Files.{File}
+use Rattle.proto_visibility.specs.Files.{File}
 use Rattle.index_hooks.specs.declared.choice.Choice.{Choice}
 use Rattle.scip_document.specs.Chosen.{Chosen}
 use Rattle.scip_document.specs.Indexes.{IsIndexOf}

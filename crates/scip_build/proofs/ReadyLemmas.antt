@@ -12,7 +12,7 @@ use Rattle.proto_decl.specs.Facts.{Facts, AreFactsOf, AreOfSomeFile}
 use Rattle.proto_decl.specs.Seen.{Seen}
 use Rattle.proto_decl.specs.declared.declaration.Declaration.{Declaration}
 use Rattle.index_hooks.specs.declared.choice.Choice.{Choice}
-use Rattle.proto_link.specs.Files.{File, HasFacts, HaveOrigins, IsSource}
+use Rattle.proto_visibility.specs.Files.{File, HasFacts, HaveOrigins, IsSource}
 use Rattle.scip_symbol.specs.Path.{IsGoodPath}
 use Rattle.scip_document.specs.Chosen.{HasChoice, HaveChoices}
 use Rattle.scip_document.specs.Conditions.{HaveGoodPaths}

@@ -3,7 +3,7 @@ use Rattle.std.proofs.Common.{ℕ, List, inl, inr}
 use Rattle.proto_grammar.specs.declared.tree.CustomOptions.{CustomOptions}
 use Rattle.proto_decl.specs.Seen.{Seen}
 use Rattle.index_hooks.specs.declared.choice.Choice.{Choice}
-use Rattle.proto_link.specs.Linked.{CanBeLinked}
+use Rattle.proto_visibility.specs.Linked.{CanBeLinked}
 use Rattle.source_tree.specs.Files.{TreeFile}
 use Rattle.scip_build.specs.declared.fault.BuildFault.{BuildFault}
 use Rattle.scip_build.specs.declared.fault.BuildFault.TheVariants as build

@@ -3,7 +3,7 @@ use Rattle.std.specs.Prelude.{◌≡◌, ◌⊎◌, ◌<◌, ℕ, ⊤, List, map
 use Rattle.proto_grammar.specs.declared.tree.CustomOptions.{CustomOptions}
 use Rattle.proto_decl.specs.Seen.{Seen}
 use Rattle.index_hooks.specs.declared.choice.Choice.{Choice}
-use Rattle.proto_link.specs.Linked.{CanBeLinked}
+use Rattle.proto_visibility.specs.Linked.{CanBeLinked}
 use Rattle.scip_document.specs.Conditions.{AllResolve}
 use Rattle.scip_document.specs.Indexes.{IsIndexOf}
 use Rattle.source_tree.specs.Files.{TreeFile}

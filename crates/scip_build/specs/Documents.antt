@@ -5,8 +5,8 @@ use Rattle.std.specs.Ordering.{nat_cmp}
 use Rattle.std.specs.Cmp.Lexicographic.{slice_cmp}
 use Rattle.std.specs.List.{slice_get}
 use Rattle.proto_lex.specs.declared.position.Encoding.{Encoding}
-use Rattle.proto_link.specs.declared.place.FilePlace.{FilePlace}
-use Rattle.proto_link.specs.Files.{File, IsSource}
+use Rattle.proto_visibility.specs.declared.place.FilePlace.{FilePlace}
+use Rattle.proto_visibility.specs.Files.{File, IsSource}
 use Rattle.scip_model.specs.declared.records.Document.{Document}
 use Rattle.scip_symbol.specs.Package.{Package}
 use Rattle.scip_document.specs.Chosen.{Chosen, HaveChoices}

@@ -2,10 +2,10 @@
 use Rattle.std.specs.Prelude.{◌≡◌, ℕ, ⊤, Option, Some, None, Result, Ok, Err, List, [], map}
 use Rattle.std.specs.List.{slice_get}
 use Rattle.proto_decl.specs.Facts.{Facts}
-use Rattle.proto_link.specs.declared.fault.LinkFault.TheVariants as link
-use Rattle.proto_link.specs.Files.{File}
-use Rattle.proto_link.specs.Absences.{Broken}
-use Rattle.proto_link.specs.Linked.{CanBeLinked, MayRefuse}
+use Rattle.proto_visibility.specs.declared.fault.LinkFault.TheVariants as link
+use Rattle.proto_visibility.specs.Files.{File}
+use Rattle.proto_visibility.specs.Absences.{Broken}
+use Rattle.proto_visibility.specs.Linked.{CanBeLinked, MayRefuse}
 use Rattle.index_hooks.specs.declared.choice.Choice.{Choice}
 use Rattle.scip_build.specs.declared.fault.FileFault.{FileFault}
 use Rattle.scip_build.specs.declared.fault.BuildFault.{BuildFault}

@@ -1,7 +1,7 @@
 -- What is made of files that were read, and why it isn't.
 use Rattle.std.specs.Prelude.{◌<◌, ℕ, ⊤, List}
-use Rattle.proto_link.specs.Files.{File}
-use Rattle.proto_link.specs.Linked.{CanBeLinked}
+use Rattle.proto_visibility.specs.Files.{File}
+use Rattle.proto_visibility.specs.Linked.{CanBeLinked}
 use Rattle.scip_model.specs.declared.records.Index.{Index}
 use Rattle.scip_document.specs.Chosen.{Chosen}
 use Rattle.scip_document.specs.Conditions.{AllResolve}

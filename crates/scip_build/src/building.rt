@@ -2,7 +2,7 @@
 
 ghost use Rattle.std.specs.Prelude.{◌≡◌, ◌≤◌, IfOk, IfErr, MatchResult};
 ghost use Rattle.index_pool.specs.declared.workers.TheConstants.{MAX_INPUTS};
-ghost use Rattle.proto_link.specs.Files.{HaveOwnPaths};
+ghost use Rattle.proto_visibility.specs.Files.{HaveOwnPaths};
 ghost use Rattle.scip_document.specs.Indexes.{metadata_of};
 ghost use Rattle.scip_build.specs.Linking.{linked_files};
 ghost use Rattle.scip_build.specs.Documents.{AreReady, MayRefuseDocuments};

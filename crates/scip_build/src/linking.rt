@@ -1,9 +1,9 @@
 //! From files that were read to a linker.
 
 ghost use Rattle.std.specs.Prelude.{◌≡◌, IfOk, MatchResult};
-ghost use Rattle.proto_link.specs.Files.{HaveOwnPaths};
-ghost use Rattle.proto_link.specs.Absences.{IsUnread};
-ghost use Rattle.proto_link.specs.Linked.{MayRefuse};
+ghost use Rattle.proto_visibility.specs.Files.{HaveOwnPaths};
+ghost use Rattle.proto_visibility.specs.Absences.{IsUnread};
+ghost use Rattle.proto_visibility.specs.Linked.{MayRefuse};
 ghost use Rattle.scip_build.specs.Linking.{linked_file, linked_files, HasFault, MayRefuseReadings, AreLinked};
 
 use crate::fault::{BuildFault, FileFault};

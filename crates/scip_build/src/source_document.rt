@@ -1,6 +1,6 @@
 //! The document of a source that was read.
 
-ghost use Rattle.proto_link.specs.Files.{IsSource};
+ghost use Rattle.proto_visibility.specs.Files.{IsSource};
 ghost use Rattle.scip_document.specs.Chosen.{HaveChoices};
 ghost use Rattle.scip_document.specs.Conditions.{HaveGoodPaths};
 ghost use Rattle.scip_document.specs.Texts.{HasText};

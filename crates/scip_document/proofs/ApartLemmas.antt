@@ -8,12 +8,12 @@ use Rattle.proto_decl.specs.Names.{dotted}
 use Rattle.proto_decl.specs.Facts.{Facts, AreOfSomeFile}
 use Rattle.proto_decl.specs.Ways.{names_of, component_names, AreNamed, AreHeld}
 use Rattle.proto_decl.specs.declared.declaration.Declaration.{Declaration}
-use Rattle.proto_link.specs.Files.{File, HasFacts, HaveOrigins}
-use Rattle.proto_link.specs.Sees.{Counts}
-use Rattle.proto_link.specs.Clashes.{NoClash}
+use Rattle.proto_visibility.specs.Files.{File, HasFacts, HaveOrigins}
+use Rattle.proto_visibility.specs.Sees.{Counts}
+use Rattle.proto_visibility.specs.Clashes.{NoClash}
 use Rattle.proto_link.specs.Laws.{OneDeclarationAName}
-use Rattle.proto_link.proofs.TargetLemmas.{one_list_of_facts}
-use Rattle.proto_link.proofs.GivenLemmas.{contained}
+use Rattle.proto_visibility.proofs.FactLemmas.{one_list_of_facts}
+use Rattle.proto_visibility.proofs.GivenLemmas.{contained}
 use Rattle.scip_symbol.specs.Package.{Package, IsPackage}
 use Rattle.scip_symbol.specs.Entities.{Entity, OfFile, OfPackage, OfDeclaration, IsEntity, symbol_in}
 use Rattle.scip_symbol.specs.SymbolText.{symbol_text}

@@ -12,9 +12,9 @@ use Rattle.proto_decl.specs.declared.imported.Imported.{Imported}
 use Rattle.proto_decl.specs.declared.type_use.Component.{Component}
 use Rattle.proto_decl.specs.declared.type_use.Use.{Use}
 use Rattle.scip_symbol.specs.Path.{IsGoodPath}
-use Rattle.proto_link.specs.Files.{File, HasFacts, IsSource, HasPath}
-use Rattle.proto_link.specs.Absences.{NoAbsent}
-use Rattle.proto_link.specs.Absences.IsNeeded.{of_source}
+use Rattle.proto_visibility.specs.Files.{File, HasFacts, IsSource, HasPath}
+use Rattle.proto_visibility.specs.Absences.{NoAbsent}
+use Rattle.proto_visibility.specs.Absences.IsNeeded.{of_source}
 use Rattle.scip_document.specs.Chosen.{Chosen, HasChoice, HaveChoices}
 use Rattle.scip_document.specs.Conditions.{HaveGoodPaths}
 use Rattle.scip_document.specs.Texts.{AreOfText}

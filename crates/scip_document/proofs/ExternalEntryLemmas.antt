@@ -10,17 +10,17 @@ use Rattle.std.proofs.lemmas.Option.{same_Some, slice_get_within}
 use Rattle.index_hooks.specs.declared.choice.Choice.{Choice}
 use Rattle.proto_decl.specs.Facts.{Facts}
 use Rattle.proto_decl.specs.declared.declaration.Declaration.{Declaration}
-use Rattle.proto_link.specs.Files.{File, HasFacts, HaveOrigins, IsIncludedAt, IsSource}
-use Rattle.proto_link.specs.Sees.{Counts}
-use Rattle.proto_link.specs.Sees.Counts.{seen}
-use Rattle.proto_link.specs.Clashes.{NoClash}
+use Rattle.proto_visibility.specs.Files.{File, HasFacts, HaveOrigins, IsIncludedAt, IsSource}
+use Rattle.proto_visibility.specs.Sees.{Counts}
+use Rattle.proto_visibility.specs.Sees.Counts.{seen}
+use Rattle.proto_visibility.specs.Clashes.{NoClash}
 use Rattle.proto_link.specs.Laws.{OneDeclarationAName}
 use Rattle.proto_link.specs.Targets.{IsNamed}
 use Rattle.proto_link.specs.Targets.IsNamed.{packaged, declared}
-use Rattle.proto_link.specs.declared.target.Entity.{Entity}
-use Rattle.proto_link.specs.declared.target.Entity.TheVariants as link
-use Rattle.proto_link.proofs.TargetLemmas.{one_list_of_facts}
-use Rattle.proto_link.proofs.GivenLemmas.{contained}
+use Rattle.proto_visibility.specs.declared.entities.Entity.{Entity}
+use Rattle.proto_visibility.specs.declared.entities.Entity.TheVariants as link
+use Rattle.proto_visibility.proofs.FactLemmas.{one_list_of_facts}
+use Rattle.proto_visibility.proofs.GivenLemmas.{contained}
 use Rattle.scip_model.specs.declared.records.Info.{Info}
 use Rattle.scip_symbol.specs.Package.{Package, IsPackage}
 use Rattle.scip_document.specs.Chosen.{Chosen, HaveChoices, HasChoice, IsChosen}

@@ -2,11 +2,11 @@
 use Rattle.std.proofs.Common.{◌≡◌, ℕ, Option, Some, None, List, refl}
 use Rattle.std.specs.List.{slice_get}
 use Rattle.proto_decl.specs.Facts.{Facts}
-use Rattle.proto_link.specs.Files.{File, HasFacts, IsSource}
-use Rattle.proto_link.specs.Sees.{Counts}
-use Rattle.proto_link.specs.Sees.SeesBy.{itself}
-use Rattle.proto_link.specs.Sees.Counts.{seen}
-use Rattle.proto_link.specs.Absences.{NoneBroken}
+use Rattle.proto_visibility.specs.Files.{File, HasFacts, IsSource}
+use Rattle.proto_visibility.specs.Sees.{Counts}
+use Rattle.proto_visibility.specs.Sees.SeesBy.{itself}
+use Rattle.proto_visibility.specs.Sees.Counts.{seen}
+use Rattle.proto_visibility.specs.Absences.{NoneBroken}
 
 pub source-counts : (files : List File) (source : ℕ) → IsSource files source → Counts files source
 source-counts files source is = seen is itself

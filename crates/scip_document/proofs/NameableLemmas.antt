@@ -19,16 +19,16 @@ use Rattle.proto_decl.specs.declared.declaration.DeclarationStep.{DeclarationSte
 use Rattle.proto_decl.specs.declared.declaration.Declaration.{Declaration}
 use Rattle.proto_decl.specs.declared.type_use.Use.{Use}
 use Rattle.scip_symbol.specs.Entities.{IsIdentifier}
-use Rattle.proto_link.specs.Files.{File, HaveOrigins}
-use Rattle.proto_link.specs.Knows.{NameKind, Knows, KnowsAs, is_type}
-use Rattle.proto_link.specs.Knows.Knows.{declared as known_declared, packaged as known_packaged}
+use Rattle.proto_visibility.specs.Files.{File, HaveOrigins}
+use Rattle.proto_visibility.specs.Knows.{NameKind, Knows, KnowsAs, is_type}
+use Rattle.proto_visibility.specs.Knows.Knows.{declared as known_declared, packaged as known_packaged}
 use Rattle.proto_link.specs.Resolves.{Innermost, ResolvesIn}
 use Rattle.proto_link.specs.Resolves.Innermost.{here, farther}
 use Rattle.proto_link.specs.Resolves.ResolvesIn.{absolute, single, compound}
 use Rattle.proto_link.specs.Targets.{IsNamed, IsTarget}
 use Rattle.proto_link.specs.Targets.IsNamed.{packaged as named_package, declared as named_declared}
 use Rattle.proto_link.specs.declared.target.Target.{Target}
-use Rattle.proto_link.specs.declared.target.Entity.{Entity}
+use Rattle.proto_visibility.specs.declared.entities.Entity.{Entity}
 use Rattle.scip_document.specs.Tables.Listing.{IsNameable, AreNameable}
 use Rattle.scip_document.proofs.ApartLemmas.{AreIdentifiers}
 

@@ -8,7 +8,7 @@ use Rattle.std.specs.List.Sorted.{IsStrictlySortedBy}
 use Rattle.std.proofs.lemmas.List.Sorted.{Contains-permutation, IsPermutation-sym}
 use Rattle.std.proofs.lemmas.Option.{same_Some}
 use Rattle.scip_model.specs.declared.records.Document.{Document}
-use Rattle.proto_link.specs.Files.{File}
+use Rattle.proto_visibility.specs.Files.{File}
 use Rattle.scip_document.specs.Indexes.{IsAscendingListOf, document_cmp}
 use Rattle.scip_document.specs.Laws.{OneDocument, OneListOfExternals, OneIndex}
 use Rattle.scip_document.specs.Pieces.{IsRising, AreMerged, OneMergedList}

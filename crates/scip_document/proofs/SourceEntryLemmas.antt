@@ -20,17 +20,17 @@ use Rattle.index_hooks.specs.declared.choice.Choice.{Choice}
 use Rattle.proto_decl.specs.Facts.{Facts}
 use Rattle.proto_decl.specs.declared.declaration.Declaration.{Declaration}
 use Rattle.proto_decl.specs.declared.type_use.Component.{Component}
-use Rattle.proto_link.specs.Files.{File, HaveOrigins}
-use Rattle.proto_link.specs.Clashes.{NoClash}
+use Rattle.proto_visibility.specs.Files.{File, HaveOrigins}
+use Rattle.proto_visibility.specs.Clashes.{NoClash}
 use Rattle.proto_link.specs.Laws.{OneDeclarationAName}
-use Rattle.proto_link.proofs.TargetLemmas.{one_list_of_facts}
+use Rattle.proto_visibility.proofs.FactLemmas.{one_list_of_facts}
 use Rattle.scip_model.specs.declared.records.Info.{Info}
 use Rattle.scip_symbol.specs.Path.{IsGoodPath}
 use Rattle.scip_symbol.specs.Package.{Package, IsPackage}
 use Rattle.scip_symbol.specs.Entities.{Entity, OfFile, OfPackage, OfDeclaration, IsEntity}
 use Rattle.scip_symbol.specs.OneEntity.{IsAmong, declarations_of}
 use Rattle.scip_symbol.proofs.ClashLemmas.{put}
-use Rattle.proto_link.proofs.GivenLemmas.{contained}
+use Rattle.proto_visibility.proofs.GivenLemmas.{contained}
 use Rattle.scip_document.specs.Chosen.{Chosen}
 use Rattle.scip_document.specs.Named.{text_of, package_at, declaration_at}
 use Rattle.scip_document.specs.Entries.{file_entry, package_entry, declaration_entry, HasEntry}

@@ -18,7 +18,7 @@ use Rattle.proto_decl.specs.declared.declaration.Declaration.{Declaration}
 use Rattle.proto_decl.specs.declared.type_use.Component.{Component}
 use Rattle.proto_decl.specs.declared.type_use.Use.{Use}
 use Rattle.scip_symbol.specs.Package.{Package}
-use Rattle.proto_link.specs.Files.{File, HasFacts}
+use Rattle.proto_visibility.specs.Files.{File, HasFacts}
 use Rattle.scip_document.specs.Chosen.{Chosen}
 use Rattle.scip_document.specs.Occurs.{Occurs, range_over, start_of_text, no_role, definition_role, import_role}
 use Rattle.scip_document.specs.Occurs.Occurs.{of_file, of_import, of_package, of_declaration, of_component}

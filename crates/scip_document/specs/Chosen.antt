@@ -3,7 +3,7 @@ use Rattle.std.specs.Prelude.{◌≡◌, ℕ, true, Some, List}
 use Rattle.std.specs.List.{slice_get}
 use Rattle.proto_decl.specs.Facts.{Facts}
 use Rattle.proto_decl.specs.declared.declaration.Declaration.{Declaration}
-use Rattle.proto_link.specs.Files.{File}
+use Rattle.proto_visibility.specs.Files.{File}
 use Rattle.index_hooks.specs.declared.choice.Choice.{Choice}
 use Rattle.scip_document.specs.Named.{HasDeclaration}
 

@@ -5,7 +5,7 @@ use Rattle.proto_lex.specs.declared.span.Span.{Span}
 use Rattle.proto_decl.specs.Facts.{Facts}
 use Rattle.proto_decl.specs.declared.type_use.Use.{Use}
 use Rattle.scip_symbol.specs.Path.{IsGoodPath}
-use Rattle.proto_link.specs.Files.{File, HasFacts, IsSource}
+use Rattle.proto_visibility.specs.Files.{File, HasFacts, IsSource}
 use Rattle.proto_link.specs.Resolves.{Resolves}
 use Rattle.proto_link.specs.Targets.{IsUnresolved}
 

@@ -11,9 +11,9 @@ use Rattle.proto_decl.specs.declared.type_use.Component.{Component}
 use Rattle.scip_symbol.specs.Entities.{OfFile}
 use Rattle.scip_symbol.specs.Entities as symbols
 use Rattle.scip_symbol.specs.Package.{Package}
-use Rattle.proto_link.specs.Files.{File, HasFacts, IsSource}
-use Rattle.proto_link.specs.Items.{package_of}
-use Rattle.proto_link.specs.declared.target.Entity.TheVariants as link
+use Rattle.proto_visibility.specs.Files.{File, HasFacts, IsSource}
+use Rattle.proto_visibility.specs.Items.{package_of}
+use Rattle.proto_visibility.specs.declared.entities.Entity.TheVariants as link
 use Rattle.scip_document.specs.Chosen.{Chosen, IsChosen}
 use Rattle.scip_document.specs.Documentation.{documentation_of}
 use Rattle.scip_document.specs.Named.{HasDeclaration, NamesIn, text_of, package_at, declaration_at}

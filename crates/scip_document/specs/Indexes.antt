@@ -12,7 +12,7 @@ use Rattle.scip_model.specs.declared.records.Metadata.{Metadata}
 use Rattle.scip_model.specs.declared.records.Document.{Document}
 use Rattle.scip_model.specs.declared.records.Info.{Info}
 use Rattle.scip_symbol.specs.Package.{Package}
-use Rattle.proto_link.specs.Files.{File, IsSource}
+use Rattle.proto_visibility.specs.Files.{File, IsSource}
 use Rattle.scip_document.specs.Chosen.{Chosen}
 use Rattle.scip_document.specs.Occurs.{Occurs}
 use Rattle.scip_document.specs.OccurrenceOrder.{occurrence_cmp}

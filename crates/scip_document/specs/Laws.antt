@@ -2,7 +2,7 @@
 -- occurrences of a document tie.
 use Rattle.std.specs.Prelude.{◌≡◌, ℕ, List}
 use Rattle.proto_lex.specs.declared.position.Encoding.{Encoding}
-use Rattle.proto_link.specs.Files.{File}
+use Rattle.proto_visibility.specs.Files.{File}
 use Rattle.scip_model.specs.declared.records.Document.{Document}
 use Rattle.scip_model.specs.declared.records.Occurrence.{Occurrence}
 use Rattle.scip_model.specs.declared.records.Index.{Index}

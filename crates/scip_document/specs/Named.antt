@@ -11,10 +11,10 @@ use Rattle.scip_symbol.specs.Entities.{OfPackage, OfDeclaration, symbol_in}
 use Rattle.scip_symbol.specs.Entities as symbols
 use Rattle.scip_symbol.specs.Package.{Package}
 use Rattle.scip_symbol.specs.SymbolText.{symbol_text}
-use Rattle.proto_link.specs.Files.{File, HasFacts}
+use Rattle.proto_visibility.specs.Files.{File, HasFacts}
 use Rattle.proto_link.specs.Targets.{IsTarget}
-use Rattle.proto_link.specs.declared.target.Entity.{Entity}
-use Rattle.proto_link.specs.declared.target.Entity.TheVariants as link
+use Rattle.proto_visibility.specs.declared.entities.Entity.{Entity}
+use Rattle.proto_visibility.specs.declared.entities.Entity.TheVariants as link
 use Rattle.proto_link.specs.declared.target.Target.{Target}
 
 -- a declaration of one of the files, by the file's number and its own

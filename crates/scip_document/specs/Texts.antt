@@ -1,9 +1,9 @@
 -- The text of a source, and why a document is refused.
 use Rattle.std.specs.Prelude.{◌≡◌, ℕ, ⊤, List}
 use Rattle.proto_decl.specs.Facts.{Facts, AreOfSomeFile}
-use Rattle.proto_link.specs.Files.{File, HasFacts}
-use Rattle.proto_link.specs.declared.fault.LinkFault.{LinkFault}
-use Rattle.proto_link.specs.declared.fault.LinkFault.TheVariants.{Broken, Duplicate, MissingImport, Unresolved, Memory}
+use Rattle.proto_visibility.specs.Files.{File, HasFacts}
+use Rattle.proto_visibility.specs.declared.fault.LinkFault.{LinkFault}
+use Rattle.proto_visibility.specs.declared.fault.LinkFault.TheVariants.{Broken, Duplicate, MissingImport, Unresolved, Memory}
 use Rattle.scip_document.specs.Conditions.{IsFirstUnresolved}
 
 -- the facts are those of a file with this text

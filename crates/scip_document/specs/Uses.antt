@@ -2,7 +2,7 @@
 use Rattle.std.specs.Prelude.{List, ℕ, Contains}
 use Rattle.proto_decl.specs.Facts.{Facts}
 use Rattle.proto_decl.specs.declared.type_use.Use.{Use}
-use Rattle.proto_link.specs.Files.{File, HasFacts}
+use Rattle.proto_visibility.specs.Files.{File, HasFacts}
 use Rattle.scip_document.specs.Conditions.{IsResolved}
 
 -- each use of a file names a type

@@ -4,7 +4,7 @@ ghost use Rattle.std.specs.Prelude.{ℕ, ◌≡◌, ◌<◌, ◌≤◌, ◌∷�
 ghost use Rattle.proto_decl.specs.Names.{dotted};
 ghost use Rattle.proto_decl.specs.Ways.{component_names};
 ghost use Rattle.scip_symbol.specs.Path.{IsGoodPath};
-ghost use Rattle.proto_link.specs.Files.{IsSource};
+ghost use Rattle.proto_visibility.specs.Files.{IsSource};
 ghost use Rattle.scip_document.specs.Chosen.{HasChoice, HaveChoices};
 ghost use Rattle.scip_document.specs.Conditions.{HaveGoodPaths};
 ghost use Rattle.scip_document.specs.Entries.{file_entry, package_entry, declaration_entry, HasEntry};

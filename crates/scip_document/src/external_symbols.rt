@@ -3,8 +3,8 @@
 ghost use Rattle.std.specs.Prelude.{◌<◌, ◌↔◌, [], OnOk, IfOk, MatchBool, All, Contains, length};
 ghost use Rattle.std.specs.List.{AllZip};
 ghost use Rattle.std.specs.List.Sorted.{IsStrictlySortedBy};
-ghost use Rattle.proto_link.specs.Files.{IsSource};
-ghost use Rattle.proto_link.specs.declared.target.Entity.TheVariants.{Declared};
+ghost use Rattle.proto_visibility.specs.Files.{IsSource};
+ghost use Rattle.proto_visibility.specs.declared.entities.Entity.TheVariants.{Declared};
 ghost use Rattle.scip_document.specs.Chosen.{HasChoice, HaveChoices};
 ghost use Rattle.scip_document.specs.Conditions.{IsResolved, AllResolve};
 ghost use Rattle.scip_document.specs.Entries.{IsKeptEntry};

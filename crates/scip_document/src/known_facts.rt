@@ -2,8 +2,8 @@
 
 ghost use Rattle.proto_decl.specs.Laws.{FactsStandInText};
 ghost use Rattle.proto_lex.specs.PositionLaws.{CharactersRise};
-ghost use Rattle.proto_link.specs.Files.{HaveOrigins};
-ghost use Rattle.proto_link.specs.Linked.{CanBeLinked};
+ghost use Rattle.proto_visibility.specs.Files.{HaveOrigins};
+ghost use Rattle.proto_visibility.specs.Linked.{CanBeLinked};
 ghost use Rattle.proto_link.specs.Laws.{OneDeclarationAName, OneTargetAUse};
 ghost use Rattle.scip_symbol.specs.Package.{IsPackage};
 ghost use Rattle.scip_document.specs.Laws.{NoTies};

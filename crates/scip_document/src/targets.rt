@@ -2,7 +2,7 @@
 
 ghost use Rattle.std.specs.Prelude.{◌≡◌, ◌++◌, ◌∷◌, [], IfOk, IfErr, OnOk};
 ghost use Rattle.std.specs.List.{AllZip};
-ghost use Rattle.proto_link.specs.Files.{HasFacts, IsSource};
+ghost use Rattle.proto_visibility.specs.Files.{HasFacts, IsSource};
 ghost use Rattle.proto_link.specs.Targets.{IsTarget};
 ghost use Rattle.scip_document.specs.Texts.{MayRefuseDocument};
 

@@ -12,7 +12,7 @@ ghost use Rattle.proto_decl.specs.declared.declaration.Declaration.{Declaration}
 ghost use Rattle.proto_decl.specs.declared.type_use.Component.{Component};
 ghost use Rattle.proto_decl.specs.declared.type_use.Use.{Use};
 ghost use Rattle.proto_link.specs.declared.target.Target.{Target};
-ghost use Rattle.proto_link.specs.declared.target.Entity.{Entity};
+ghost use Rattle.proto_visibility.specs.declared.entities.Entity.{Entity};
 ghost use Rattle.scip_symbol.specs.Entities.{OfPackage, IsEntity};
 ghost use Rattle.scip_document.specs.Chosen.{HaveChoices};
 ghost use Rattle.scip_document.specs.Named.{HasDeclaration, text_of};

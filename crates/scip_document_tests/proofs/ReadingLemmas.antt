@@ -9,7 +9,7 @@ use Rattle.index_hooks.specs.declared.choice.Choice.{Choice}
 use Rattle.proto_decl.specs.Facts.{Facts}
 use Rattle.proto_grammar.specs.declared.tree.CustomOptions.TheVariants.{Refuse}
 use Rattle.scip_symbol.specs.Path.{IsGoodPath}
-use Rattle.proto_link.specs.Files.{File, IsSource}
+use Rattle.proto_visibility.specs.Files.{File, IsSource}
 use Rattle.scip_document.specs.Chosen.{Chosen, HaveChoices}
 use Rattle.scip_document.specs.Conditions.{HaveGoodPaths}
 use Rattle.scip_document.specs.Texts.{AreOfText, HasText}

@@ -6,7 +6,7 @@ use Rattle.std.proofs.lemmas.Option.{slice_get_within}
 use Rattle.std.proofs.lemmas.Bool.{cases_lt, false≢true}
 use Rattle.std.proofs.lemmas.List.Elements.{All-contains}
 use Rattle.proto_decl.specs.Facts.{Facts}
-use Rattle.proto_link.specs.Files.{File, HasFacts, IsIncludedAt}
+use Rattle.proto_visibility.specs.Files.{File, HasFacts, IsIncludedAt}
 use Rattle.scip_document.specs.Conditions.{IsResolved, AllResolve}
 use Rattle.scip_document_tests.specs.Reads.{ResolveAt}
 

@@ -7,7 +7,7 @@ use Rattle.proto_parse.specs.Derives.{Derives}
 use Rattle.proto_decl.specs.Facts.{Facts, AreFactsOf}
 use Rattle.proto_decl.specs.declared.type_use.Use.{Use}
 use Rattle.scip_symbol.specs.Path.{IsGoodPath}
-use Rattle.proto_link.specs.Files.{File, HasFacts, IsSource}
+use Rattle.proto_visibility.specs.Files.{File, HasFacts, IsSource}
 use Rattle.scip_document.specs.Conditions.{IsResolved}
 
 -- A source that was read.

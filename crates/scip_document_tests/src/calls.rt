@@ -1,6 +1,6 @@
 //! The calls that may want for memory, and how a test tells what it saw.
 
-ghost use Rattle.proto_link.specs.Files.{IsSource};
+ghost use Rattle.proto_visibility.specs.Files.{IsSource};
 ghost use Rattle.scip_document.specs.Chosen.{HaveChoices};
 ghost use Rattle.scip_document.specs.Conditions.{AllResolve, HaveGoodPaths};
 ghost use Rattle.scip_document.specs.Texts.{HasText};

@@ -9,10 +9,10 @@ use Rattle.proto_decl.specs.declared.type_use.Use.{Use}
 use Rattle.index_hooks.specs.declared.choice.Choice.{Choice}
 use Rattle.scip_model.specs.declared.records.Info.{Info}
 use Rattle.scip_symbol.specs.Package.{Package}
-use Rattle.proto_link.specs.Files.{File, HasFacts, IsSource, IsIncludedAt}
+use Rattle.proto_visibility.specs.Files.{File, HasFacts, IsSource, IsIncludedAt}
 use Rattle.proto_link.specs.Targets.{IsTarget}
-use Rattle.proto_link.specs.declared.target.Entity.{Entity}
-use Rattle.proto_link.specs.declared.target.Entity.TheVariants as link
+use Rattle.proto_visibility.specs.declared.entities.Entity.{Entity}
+use Rattle.proto_visibility.specs.declared.entities.Entity.TheVariants as link
 use Rattle.proto_link.specs.declared.target.Target.{Target}
 use Rattle.scip_document.specs.Chosen.{Chosen, HasChoice, IsChosen, IsKept}
 use Rattle.scip_document.specs.Entries.{declaration_entry, IsKeptEntry}

@@ -15,10 +15,10 @@ use Rattle.proto_decl.specs.declared.type_use.Use.{Use}
 use Rattle.scip_symbol.specs.Entities.{OfFile, OfPackage}
 use Rattle.scip_symbol.specs.Entities as symbols
 use Rattle.scip_symbol.specs.Package.{Package}
-use Rattle.proto_link.specs.Files.{File}
+use Rattle.proto_visibility.specs.Files.{File}
 use Rattle.proto_link.specs.declared.target.Target.{Target}
-use Rattle.proto_link.specs.declared.target.Entity.{Entity}
-use Rattle.proto_link.specs.declared.target.Entity.TheVariants as link
+use Rattle.proto_visibility.specs.declared.entities.Entity.{Entity}
+use Rattle.proto_visibility.specs.declared.entities.Entity.TheVariants as link
 use Rattle.scip_document.specs.Chosen.{Chosen}
 use Rattle.scip_document.specs.Named.{HasDeclaration, text_of, package_at, declaration_at}
 use Rattle.scip_document.specs.Occurs.{occurrence_over, start_of_text, no_role, definition_role, import_role}

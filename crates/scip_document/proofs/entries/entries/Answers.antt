@@ -3,7 +3,7 @@ use Rattle.std.specs.Ordering.{is_lt}
 use Rattle.std.proofs.lemmas.Option.{MatchOption-at_some}
 use Rattle.std.proofs.lemmas.List.Sorted.{answers_always}
 use Rattle.proto_decl.specs.Facts.{Facts}
-use Rattle.proto_link.specs.Files.{HasFacts}
+use Rattle.proto_visibility.specs.Files.{HasFacts}
 use Rattle.proto_link.proofs.TargetLemmas.{some_facts}
 use Rattle.scip_symbol.specs.Path.{IsGoodPath}
 use Rattle.scip_document.specs.Tables.EntryLists.{source_entries, choices_for}

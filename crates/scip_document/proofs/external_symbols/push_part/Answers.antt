@@ -1,5 +1,5 @@
 use Rattle.std.proofs.Common.{OnOk, sym, subst}
-use Rattle.proto_link.specs.declared.target.Entity.{Entity}
+use Rattle.proto_visibility.specs.declared.entities.Entity.{Entity}
 use Rattle.scip_document.specs.Tables.ExternalLists.{Adds, IsOfPart}
 use Rattle.scip_document.proofs.external_symbols.push_part.Goals as goal
 

@@ -5,7 +5,7 @@ use Rattle.std.proofs.lemmas.List.Elements.{Contains-get_or}
 use Rattle.std.proofs.lemmas.Result.{on_ok_weaker}
 use Rattle.proto_decl.specs.Facts.{Facts}
 use Rattle.proto_decl.specs.declared.type_use.Use.{Use}
-use Rattle.proto_link.specs.Files.{HasFacts, IsSource}
+use Rattle.proto_visibility.specs.Files.{HasFacts, IsSource}
 use Rattle.proto_link.proofs.TargetLemmas.{some_facts}
 use Rattle.scip_document.specs.Conditions.{IsResolved}
 use Rattle.scip_document.specs.Tables.ExternalLists.{Adds, FromFront, IsOfUse}

@@ -1,7 +1,7 @@
 use Rattle.std.proofs.Common.{◌≡◌, ◌∙◌, ap, refl, List, ℕ, Option, Some, ◌++◌, length}
 use Rattle.std.specs.List.{slice_get}
 use Rattle.std.proofs.lemmas.Option.{slice_get_read}
-use Rattle.proto_link.specs.declared.target.Entity.{Entity}
+use Rattle.proto_visibility.specs.declared.entities.Entity.{Entity}
 use Rattle.scip_document.specs.Tables.Listing.{each_from, at_part, at_component}
 use Rattle.scip_document.proofs.ListingLemmas.{each_added}
 use Rattle.scip_document.proofs.use_occurrences.add_target.Goals as goal

@@ -1,7 +1,7 @@
 use Rattle.std.proofs.Common.{◌≡◌, ◌∙◌, List, Some, length, refl, sym, ap, subst}
 use Rattle.std.specs.List.{slice_get}
 use Rattle.std.proofs.lemmas.Option.{slice_get_read}
-use Rattle.proto_link.specs.Files.{File, IsSource}
+use Rattle.proto_visibility.specs.Files.{File, IsSource}
 use Rattle.scip_document.specs.Chosen.{HaveChoices}
 use Rattle.scip_document.specs.Conditions.{HaveGoodPaths}
 use Rattle.scip_document.specs.Texts.{HasText}

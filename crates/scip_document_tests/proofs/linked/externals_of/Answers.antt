@@ -1,5 +1,5 @@
 use Rattle.std.proofs.Common.{List, sym, subst}
-use Rattle.proto_link.specs.Files.{File}
+use Rattle.proto_visibility.specs.Files.{File}
 use Rattle.scip_document.specs.Chosen.{HaveChoices}
 use Rattle.scip_document_tests.proofs.ReadingLemmas.{have_choices}
 use Rattle.scip_document_tests.proofs.linked.externals_of.Goals as goal

@@ -2,7 +2,7 @@ use Rattle.std.proofs.Common.{List, subst}
 use Rattle.std.specs.Prelude.{All, IsTrue}
 use Rattle.std.proofs.lemmas.Result.{IfOk-weaker}
 use Rattle.proto_decl.specs.declared.type_use.Use.{Use}
-use Rattle.proto_link.specs.Files.{IsIncludedAt}
+use Rattle.proto_visibility.specs.Files.{IsIncludedAt}
 use Rattle.scip_document.specs.Conditions.{IsResolved}
 use Rattle.scip_document_tests.specs.Reads.{ResolveAt}
 use Rattle.scip_document_tests.proofs.ResolveLemmas.{of_facts, no_facts, included}

@@ -1,13 +1,19 @@
 # What the scripts share that run the built program as a user would and compare what it gives: to be
 # sourced, with `set -u`. Sets top, program, work (an empty folder, which goes at the end), right and
-# wrong; the program is built where it isn't as new as its sources.
+# wrong. The program is the built one that PROTOSCIP names in the environment; without it this repository's,
+# built where it isn't as new as its sources.
 #
 # Needs only bash and coreutils; run_as_nobody, run as root, setpriv (util-linux).
 
 top=$(dirname "$(dirname "$(readlink -f "${BASH_SOURCE[0]}")")")
 work=$(mktemp -d) || exit 1
 trap 'chmod -R u+rwx "$work" && rm -rf "$work"' EXIT
-program=$top/protoscip
+program=$top/protoscip built=$top/crates/protoscip_cli/out/protoscip_cli
+if [ -n "${PROTOSCIP-}" ]; then
+    # Under the name that help and command line faults print.
+    mkdir "$work/bin" && cp "$PROTOSCIP" "$work/bin/protoscip" || exit 1
+    program=$work/bin/protoscip built=$program
+fi
 right=0 wrong=0
 : >"$work/in"
 
@@ -51,6 +57,34 @@ is_empty() {
 run() {
     "$program" "$@" <"$work/in" >"$work/out" 2>"$work/err"
     status=$?
+}
+
+# in_pieces COUNT ARGUMENT..: `run`, to which $work/in comes as its first COUNT bytes and then, once the program
+# has taken those, the rest.
+in_pieces() {
+    local first=$1 talker waits=0
+    shift
+    mkfifo "$work/pieces"
+    # What is written and not yet taken is seen by the end that is opened for both.
+    exec 7<>"$work/pieces"
+    "$program" "$@" <"$work/pieces" >"$work/out" 2>"$work/err" 7<&- &
+    talker=$!
+    head -c "$first" "$work/in" >&7
+    while read -r -t 0 -u 7 && [ "$waits" -lt 500 ]; do
+        waits=$((waits + 1))
+        sleep 0.01
+    done
+    [ "$waits" -lt 500 ] || verdict "$*: a first piece of $first bytes" 'taken' 'not taken in five seconds'
+    tail -c "+$((first + 1))" "$work/in" >&7
+    exec 7<&-
+    wait "$talker"
+    status=$?
+    rm "$work/pieces"
+}
+
+# slowly: copies a byte at a time, so that the pipe before it is full most of the time.
+slowly() {
+    dd bs=1 status=none
 }
 
 # fault NAME STATUS LINE: the last run gave nothing but this line on standard error.
@@ -135,7 +169,7 @@ as_nobody() {
 
 # run_as_nobody ARGUMENT..: `run`, as nobody, of a copy of the program, since he may not reach the repository.
 run_as_nobody() {
-    [ -e "$work/program" ] || cp "$top/crates/protoscip_cli/out/protoscip_cli" "$work/program" || exit 1
+    [ -e "$work/program" ] || cp "$built" "$work/program" || exit 1
     as_nobody "$work/program" "$@" <"$work/in" >"$work/out" 2>"$work/err"
     status=$?
 }

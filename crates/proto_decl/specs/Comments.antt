@@ -26,14 +26,16 @@ last_line lexed span = line_of lexed.text span.end
 
 -- a token is the first on its line: no token that begins before it touches that line
 abbrev pub IsFirstOnLine : Lexed → Span → Type 0
-IsFirstOnLine lexed span = All (λ t. t.span.start < span.start → Touches lexed.text t.span (first_line lexed span) → ⊥) lexed.tokens
+IsFirstOnLine lexed span = All
+    (λ t. t.span.start < span.start → Touches lexed.text t.span (first_line lexed span) → ⊥) lexed.tokens
 
 -- each comment begins on the line on which the one before it ends, or on the next
 abbrev pub AreJoined : Lexed → List Comment → Type 0
 AreJoined lexed [] = Unit {0}
 AreJoined lexed (comment ∷ []) = Unit {0}
 AreJoined lexed (comment ∷ (next ∷ others)) =
-    (last_line lexed comment.span ≤ first_line lexed next.span) × (first_line lexed next.span ≤ last_line lexed comment.span + 1) × AreJoined lexed (next ∷ others)
+    (last_line lexed comment.span ≤ first_line lexed next.span)
+    × (first_line lexed next.span ≤ last_line lexed comment.span + 1) × AreJoined lexed (next ∷ others)
 
 -- the last comment ends on the line before a line
 abbrev pub EndBefore : Lexed → (line : ℕ) → List Comment → Type 0
@@ -59,11 +61,13 @@ pub record AreLongestLeading (lexed : Lexed) (line : ℕ) (comments : List Comme
 -- The leading text of a declaration with this first token: the texts of the longest such list, a line each. Where the
 -- token isn't the first on its line there is none.
 pub data IsLeadingText (lexed : Lexed) (first : Span) : List ℕ → Type 0 where
-  leading : {comments : List Comment} → IsFirstOnLine lexed first → AreLongestLeading lexed (first_line lexed first) comments
+  leading : {comments : List Comment} → IsFirstOnLine lexed first
+      → AreLongestLeading lexed (first_line lexed first) comments
       → IsLeadingText lexed first (join_with_byte 10 (map (text_of lexed) comments))
   not_first : (IsFirstOnLine lexed first → ⊥) → IsLeadingText lexed first []
 
--- The first comment behind a declaration's closing token, where it begins on that token's line and no token stands between.
+-- The first comment behind a declaration's closing token, where it begins on that token's line and no token stands
+-- between.
 pub record IsTrailing (lexed : Lexed) (closing : Span) (comment : Comment) : Type 0 where
   pub listed : Contains lexed.comments comment
   pub behind : closing.end ≤ comment.span.start
@@ -73,5 +77,6 @@ pub record IsTrailing (lexed : Lexed) (closing : Span) (comment : Comment) : Typ
 
 -- The trailing text of a declaration with this closing token.
 pub data IsTrailingText (lexed : Lexed) (closing : Span) : List ℕ → Type 0 where
-  trailing : {comment : Comment} → IsTrailing lexed closing comment → IsTrailingText lexed closing (text_of lexed comment)
+  trailing : {comment : Comment} → IsTrailing lexed closing comment
+      → IsTrailingText lexed closing (text_of lexed comment)
   none : ((comment : Comment) → IsTrailing lexed closing comment → ⊥) → IsTrailingText lexed closing []

@@ -33,7 +33,11 @@ abbrev pub joined_literals : (text : List ℕ) → List Span → List ℕ
 joined_literals text literals = flat_map (λ literal. between_quotes (part_of text literal)) literals
 
 abbrev pub imported_by : (text : List ℕ) → Import → Imported
-imported_by text import = record { path = joined_literals text import.literals; kind = import.kind; span = whole_span import.literals }
+imported_by text import = record {
+  path = joined_literals text import.literals;
+  kind = import.kind;
+  span = whole_span import.literals;
+}
 
 -- What imports import, in order.
 abbrev pub imports_of : (text : List ℕ) → List Import → List Imported

@@ -18,12 +18,14 @@ OneLeadingText = (lexed : Lexed) (first : Span) (text other : List ℕ) → IsLe
     → IsLeadingText lexed first text → IsLeadingText lexed first other → text ≡ other
 
 abbrev pub OneTrailingText : Type 0
-OneTrailingText = (lexed : Lexed) (closing : Span) (text other : List ℕ) → IsLexed lexed.text lexed.tokens lexed.comments
+OneTrailingText = (lexed : Lexed) (closing : Span) (text other : List ℕ)
+    → IsLexed lexed.text lexed.tokens lexed.comments
     → IsTrailingText lexed closing text → IsTrailingText lexed closing other → text ≡ other
 
 -- A file has one list of facts.
 abbrev pub OneFacts : Type 0
-OneFacts = (number : ℕ) (lexed : Lexed) (file : File) (facts other : Facts) → IsLexed lexed.text lexed.tokens lexed.comments
+OneFacts = (number : ℕ) (lexed : Lexed) (file : File) (facts other : Facts)
+    → IsLexed lexed.text lexed.tokens lexed.comments
     → AreFactsOf number lexed file facts → AreFactsOf number lexed file other → facts ≡ other
 
 -- The simple name of a declaration is what stands at its name's place, and its full name is that in its scope.
@@ -34,13 +36,16 @@ pub record IsNamedAt (text : List ℕ) (declaration : Declaration) : Type 0 wher
   pub full : declaration.full_name ≡ qualified scope (part_of text declaration.name)
 
 abbrev pub NamesAreSpelled : Type 0
-NamesAreSpelled = (custom : CustomOptions) (number : ℕ) (lexed : Lexed) (file : File) (facts : Facts) → IsLexed lexed.text lexed.tokens lexed.comments
-    → Derives custom lexed.text lexed.tokens file → AreFactsOf number lexed file facts → All (IsNamedAt lexed.text) facts.declarations
+NamesAreSpelled = (custom : CustomOptions) (number : ℕ) (lexed : Lexed) (file : File) (facts : Facts)
+    → IsLexed lexed.text lexed.tokens lexed.comments
+    → Derives custom lexed.text lexed.tokens file → AreFactsOf number lexed file facts
+    → All (IsNamedAt lexed.text) facts.declarations
 
 -- The full name of a scope of a file: of its package, which is the root's where it has none, or of a declaration.
 pub data IsScope (facts : Facts) : List ℕ → Type 0 where
   of_package : IsScope facts (dotted (map (λ component. component.name) facts.package_name))
-  of_declaration : {declaration : Declaration} → Contains facts.declarations declaration → IsScope facts declaration.full_name
+  of_declaration : {declaration : Declaration} → Contains facts.declarations declaration
+      → IsScope facts declaration.full_name
 
 -- A declaration has a simple name in a scope of its file.
 pub record StandsInScope (facts : Facts) (declaration : Declaration) : Type 0 where
@@ -52,17 +57,22 @@ pub record StandsInScope (facts : Facts) (declaration : Declaration) : Type 0 wh
 
 -- What a file names: a package, by the first components of its own, or a declaration.
 pub data IsEntity (facts : Facts) : List ℕ → Type 0 where
-  packaged : {count : ℕ} → 0 < count → count ≤ length facts.package_name → IsEntity facts (dotted (map (λ component. component.name) (take count facts.package_name)))
-  declared : {declaration : Declaration} → Contains facts.declarations declaration → IsEntity facts declaration.full_name
+  packaged : {count : ℕ} → 0 < count → count ≤ length facts.package_name
+      → IsEntity facts (dotted (map (λ component. component.name) (take count facts.package_name)))
+  declared : {declaration : Declaration} → Contains facts.declarations declaration
+      → IsEntity facts declaration.full_name
 
--- The first components of a declaration's full name, any number of them, make the full name of a package or a declaration of its file.
+-- The first components of a declaration's full name, any number of them, make the full name of a package or a
+-- declaration of its file.
 abbrev pub FrontsAreEntities : Facts → Type 0
 FrontsAreEntities facts =
-    All (λ declaration. (count : ℕ) → 0 < count → count ≤ length (components_of declaration.full_name) → IsEntity facts (front_of declaration.full_name count)) facts.declarations
+    All (λ declaration. (count : ℕ) → 0 < count → count ≤ length (components_of declaration.full_name)
+    → IsEntity facts (front_of declaration.full_name count)) facts.declarations
 
 -- The scopes of a full name are that name and the scopes of the scope around it.
 abbrev pub ScopesNest : Type 0
-ScopesNest = (scope name : List ℕ) → IsSimple name → scopes_of (qualified scope name) ≡ qualified scope name ∷ scopes_of scope
+ScopesNest = (scope name : List ℕ) → IsSimple name
+    → scopes_of (qualified scope name) ≡ qualified scope name ∷ scopes_of scope
 
 -- The components of the package's name and of uses, the imports and the declared names are parts of the text.
 pub record StandInText (text : List ℕ) (facts : Facts) : Type 0 where

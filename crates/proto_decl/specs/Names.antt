@@ -1,5 +1,6 @@
 -- Names and scopes (proto3 specification, "Identifiers"; proto3 language guide, "Packages and Name Resolution").
-use Rattle.std.specs.Prelude.{ℕ, ◌≡◌, ◌<◌, ◌==◌, not, true, if◌then◌else◌, List, [], ◌∷◌, ◌++◌, length, take, map, reverse}
+use Rattle.std.specs.Prelude.{ℕ, ◌≡◌, ◌<◌, ◌==◌, not, true, if◌then◌else◌, List, [], ◌∷◌, ◌++◌, length, take, map}
+use Rattle.std.specs.Prelude.{reverse}
 use Rattle.std.specs.List.{join_with_byte, list_all, slice_split}
 use Rattle.proto_lex.specs.declared.span.Span.{Span}
 use Rattle.proto_lex.specs.Lexed.{part_of}
@@ -40,7 +41,9 @@ fronts_before_dots (byte ∷ others) =
     let longer = map (λ front. byte ∷ front) (fronts_before_dots others) in if byte == 46 then [] ∷ longer else longer
 
 -- The scope with this full name and those around it, innermost first: the enclosing messages or the service, the
--- package, each parent package, and the root. Those between it and the root are the fronts of its name, but the empty one.
+-- package, each parent package, and the root. Those between it and the root are the fronts of its name, but the empty
+-- one.
 abbrev pub scopes_of : List ℕ → List (List ℕ)
 scopes_of [] = [] ∷ []
-scopes_of (byte ∷ scope) = (byte ∷ scope) ∷ (reverse (map (λ front. byte ∷ front) (fronts_before_dots scope)) ++ [] ∷ [])
+scopes_of (byte ∷ scope) = (byte ∷ scope)
+    ∷ (reverse (map (λ front. byte ∷ front) (fronts_before_dots scope)) ++ [] ∷ [])

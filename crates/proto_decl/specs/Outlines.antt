@@ -17,7 +17,9 @@ use Rattle.proto_parse.specs.Tree.{Body, MessageTree}
 use Rattle.proto_parse.specs.Tree.Body.{NoMore, LeafThen, MessageThen}
 use Rattle.proto_decl.specs.Names.{qualified, dotted}
 use Rattle.proto_decl.specs.declared.kind.DeclarationKind.{DeclarationKind}
-use Rattle.proto_decl.specs.declared.kind.DeclarationKind.TheVariants.{Message, Enum as EnumKind, Service as ServiceKind, Field, Oneof as OneofKind, Value, Method}
+use Rattle.proto_decl.specs.declared.kind.DeclarationKind.TheVariants.{Message, Enum as EnumKind}
+use Rattle.proto_decl.specs.declared.kind.DeclarationKind.TheVariants.{Service as ServiceKind, Field}
+use Rattle.proto_decl.specs.declared.kind.DeclarationKind.TheVariants.{Oneof as OneofKind, Value, Method}
 use Rattle.proto_decl.specs.declared.declaration.DeclarationStep.{DeclarationStep}
 use Rattle.proto_decl.specs.declared.declaration.Outline.{Outline}
 use Rattle.proto_decl.specs.declared.surrounding.Surrounding.{Surrounding}
@@ -45,14 +47,19 @@ inside text surrounding kind heading = record {
 
 -- What surrounds an enum's values: the enum's scope, and the path through the enum.
 abbrev pub beside : (text : List ℕ) → Surrounding → DeclarationKind → Heading → Surrounding
-beside text surrounding kind heading = record { scope = surrounding.scope; path = surrounding.path ++ step_to text kind heading ∷ [] }
+beside text surrounding kind heading =
+    record { scope = surrounding.scope; path = surrounding.path ++ step_to text kind heading ∷ [] }
 
 abbrev pub in_enum : (text : List ℕ) → Surrounding → Enum → List Outline
-in_enum text surrounding enum = outline_at text surrounding EnumKind enum.heading ∷ map (outline_at text (beside text surrounding EnumKind enum.heading) Value) enum.values
+in_enum text surrounding enum =
+    outline_at text surrounding EnumKind enum.heading
+    ∷ map (outline_at text (beside text surrounding EnumKind enum.heading) Value) enum.values
 
 -- The fields of a oneof stand where it stands.
 abbrev pub in_oneof : (text : List ℕ) → Surrounding → Oneof → List Outline
-in_oneof text surrounding oneof = outline_at text surrounding OneofKind oneof.heading ∷ map (λ field. outline_at text surrounding Field field.heading) oneof.fields
+in_oneof text surrounding oneof =
+    outline_at text surrounding OneofKind oneof.heading
+    ∷ map (λ field. outline_at text surrounding Field field.heading) oneof.fields
 
 abbrev pub in_leaf : (text : List ℕ) → Surrounding → Leaf → List Outline
 in_leaf text surrounding (leaf.Enum enum) = in_enum text surrounding enum
@@ -64,14 +71,19 @@ abbrev pub in_body : (text : List ℕ) → Surrounding → Body → List Outline
 in_body text surrounding NoMore = []
 in_body text surrounding (LeafThen leaf others) = in_leaf text surrounding leaf ++ in_body text surrounding others
 in_body text surrounding (MessageThen heading inner others) =
-    outline_at text surrounding Message heading ∷ (in_body text (inside text surrounding Message heading) inner ++ in_body text surrounding others)
+    outline_at text surrounding Message heading
+    ∷ (in_body text (inside text surrounding Message heading) inner ++ in_body text surrounding others)
 
 abbrev pub in_message : (text : List ℕ) → Surrounding → MessageTree → List Outline
-in_message text surrounding message = outline_at text surrounding Message message.heading ∷ in_body text (inside text surrounding Message message.heading) message.body
+in_message text surrounding message =
+    outline_at text surrounding Message message.heading
+    ∷ in_body text (inside text surrounding Message message.heading) message.body
 
 abbrev pub in_service : (text : List ℕ) → Surrounding → Service → List Outline
 in_service text surrounding service =
-    outline_at text surrounding ServiceKind service.heading ∷ map (λ method. outline_at text (inside text surrounding ServiceKind service.heading) Method method.heading) service.methods
+    outline_at text surrounding ServiceKind service.heading
+    ∷ map (λ method. outline_at text
+    (inside text surrounding ServiceKind service.heading) Method method.heading) service.methods
 
 abbrev pub in_item : (text : List ℕ) → Surrounding → FileItem → List Outline
 in_item text surrounding (item.Message message) = in_message text surrounding message

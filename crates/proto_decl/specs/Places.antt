@@ -11,6 +11,8 @@ named_spans facts = name_spans facts.declarations ++ component_spans facts.packa
 
 -- The components of uses stand apart from these, and an import begins where none of all those does.
 pub record StandApart (facts : Facts) : Type 0 where
-  pub uses : (used named : Span) → Contains (use_spans facts.uses) used → Contains (named_spans facts) named → AreApart used named
-  pub imports : (imported : Imported) (named : Span) → Contains facts.imports imported → Contains (named_spans facts ++ use_spans facts.uses) named
+  pub uses : (used named : Span) → Contains (use_spans facts.uses) used → Contains (named_spans facts) named
+      → AreApart used named
+  pub imports : (imported : Imported) (named : Span) → Contains facts.imports imported
+      → Contains (named_spans facts ++ use_spans facts.uses) named
       → imported.span.start ≢ named.start

@@ -60,7 +60,8 @@ abbrev pub uses_in_message : (text scope : List ℕ) → MessageTree → List Us
 uses_in_message text scope message = uses_in_body text (qualified scope (name_of text message.heading)) message.body
 
 abbrev pub uses_in_service : (text scope : List ℕ) → Service → List Use
-uses_in_service text scope service = flat_map (uses_of_method text (qualified scope (name_of text service.heading))) service.methods
+uses_in_service text scope service =
+    flat_map (uses_of_method text (qualified scope (name_of text service.heading))) service.methods
 
 abbrev pub uses_in_item : (text scope : List ℕ) → FileItem → List Use
 uses_in_item text scope (item.Message message) = uses_in_message text scope message

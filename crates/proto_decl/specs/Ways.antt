@@ -1,10 +1,12 @@
--- The ways to the declarations of a file: by the names on a way its full name is made, and what stands on it is declared.
+-- The ways to the declarations of a file: by the names on a way its full name is made, and what stands on it is
+-- declared.
 use Rattle.std.specs.Prelude.{◌≡◌, ◌≢◌, ℕ, List, [], ◌∷◌, ◌++◌, map, All, Contains}
 use Rattle.proto_lex.specs.Lexes.{Spells}
 use Rattle.proto_lex.specs.declared.token.TokenKind.TheVariants.{Identifier}
 use Rattle.proto_decl.specs.Names.{dotted}
 use Rattle.proto_decl.specs.declared.kind.DeclarationKind.{DeclarationKind}
-use Rattle.proto_decl.specs.declared.kind.DeclarationKind.TheVariants.{Message, Enum, Service, Field, Oneof, Value, Method}
+use Rattle.proto_decl.specs.declared.kind.DeclarationKind.TheVariants.{Message, Enum, Service, Field, Oneof, Value}
+use Rattle.proto_decl.specs.declared.kind.DeclarationKind.TheVariants.{Method}
 use Rattle.proto_decl.specs.declared.declaration.DeclarationStep.{DeclarationStep}
 use Rattle.proto_decl.specs.declared.declaration.Declaration.{Declaration}
 use Rattle.proto_decl.specs.declared.type_use.Component.{Component}
@@ -37,6 +39,7 @@ pub record AreNamed (components : List Component) (declarations : List Declarati
 -- Each front of a way leads to a declaration, and the names of the package's components and those of the way, joined by
 -- dots, are the full name.
 pub record AreHeld (components : List Component) (declarations : List Declaration) : Type 0 where
-  pub holder : (d : Declaration) (outer inner : List DeclarationStep) → Contains declarations d → d.path ≡ outer ++ inner → outer ≢ []
+  pub holder : (d : Declaration) (outer inner : List DeclarationStep) → Contains declarations d
+      → d.path ≡ outer ++ inner → outer ≢ []
       → (other : Declaration) × Contains declarations other × (other.path ≡ outer)
   pub full_names : All (λ d. d.full_name ≡ dotted (component_names components ++ names_of d.path)) declarations

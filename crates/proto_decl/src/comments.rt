@@ -1,6 +1,7 @@
 //! Which comments document a declaration.
 
-ghost use Rattle.std.specs.Prelude.{◌≡◌, ◌+◌, ◌≤◌, ◌↔◌, ◌∷◌, ◌++◌, map, string_bytes, All, IsTrue, IfOk, OnOk, IfSome, MatchOption};
+ghost use Rattle.std.specs.Prelude.{◌≡◌, ◌+◌, ◌≤◌, ◌↔◌, ◌∷◌, ◌++◌, map, string_bytes, All, IsTrue, IfOk, OnOk, IfSome};
+ghost use Rattle.std.specs.Prelude.{MatchOption};
 ghost use Rattle.std.specs.List.{join_with_byte};
 ghost use Rattle.proto_lex.specs.Position.{line_of};
 ghost use Rattle.proto_lex.specs.Lexed.{AreApart};
@@ -110,7 +111,8 @@ pub(crate) fn leading_text(
 /// Whether the comment at this span begins on the line on which another span ends, with no token
 /// between.
 fn follows(lexed: &Tokens<'_>, comment: Span, closing: Span) -> bool
-    ensures { IsTrue result ↔ (line_of lexed.now.text comment.start ≡ line_of lexed.now.text closing.end) × NoneBetween lexed.now.tokens closing.end comment.start }
+    ensures { IsTrue result ↔ (line_of lexed.now.text comment.start ≡ line_of lexed.now.text closing.end)
+        × NoneBetween lexed.now.tokens closing.end comment.start }
 {
     if lexed.text().line(comment.start) != lexed.text().line(closing.end) {
         return false;
@@ -120,7 +122,8 @@ fn follows(lexed: &Tokens<'_>, comment: Span, closing: Span) -> bool
 
 /// The comment that trails a declaration with this closing token.
 fn trailing_comment(lexed: &Tokens<'_>, closing: Span) -> Option<Comment>
-    ensures found { MatchOption result ((comment : Comment) → spec.IsTrailing lexed.now closing comment → ⊥) (spec.IsTrailing lexed.now closing) }
+    ensures found { MatchOption result ((comment : Comment) → spec.IsTrailing lexed.now closing comment → ⊥)
+        (spec.IsTrailing lexed.now closing) }
     ensures stands { IfSome result (spec.StandsIn lexed.now) }
 {
     let comments = lexed.comments();

@@ -49,7 +49,13 @@ fn simple_name(path: &[DeclarationStep]) -> &str
 impl Declaration {
     /// What a callback sees of it. Takes no memory.
     pub fn view(&self) -> DeclView<'_>
-        ensures { result ≡ record { kind = self.now.kind; name = simple_name self.now.path; full_name = self.now.full_name; leading = self.now.leading; trailing = self.now.trailing } }
+        ensures { result ≡ record {
+          kind = self.now.kind;
+          name = simple_name self.now.path;
+          full_name = self.now.full_name;
+          leading = self.now.leading;
+          trailing = self.now.trailing;
+        } }
     {
         DeclView::new(
             self.kind,

@@ -27,8 +27,8 @@ use std::alloc::{AllocError, Global};
 fn are_lexed(lexed: &Tokens<'_>)
     ensures { IsLexed lexed.now.text lexed.now.tokens lexed.now.comments }
 {
-    let _tokens = lexed.tokens();
-    let _comments = lexed.comments();
+    lexed.tokens();
+    lexed.comments();
 }
 
 /// What is known of the spans of a tree that these tokens derive.

@@ -27,12 +27,26 @@ impl Model for FileFacts {
 
     ghost Value = { Facts };
 
-    ghost view = { λ inside. record { number = inside.number; package_name = inside.package_name; imports = inside.imports; declarations = inside.declarations; uses = inside.uses } };
+    ghost view = { λ inside. record {
+      number = inside.number;
+      package_name = inside.package_name;
+      imports = inside.imports;
+      declarations = inside.declarations;
+      uses = inside.uses;
+    } };
 
-    ghost invariant = { λ inside. AreOfSomeFile (record { number = inside.number; package_name = inside.package_name; imports = inside.imports; declarations = inside.declarations; uses = inside.uses }) };
+    ghost invariant = { λ inside. AreOfSomeFile
+        (record {
+          number = inside.number;
+          package_name = inside.package_name;
+          imports = inside.imports;
+          declarations = inside.declarations;
+          uses = inside.uses;
+        }) };
 }
 
 impl FileFacts {
+    /// The facts of some file, of these parts. Takes no memory.
     pub(crate) fn new(
         number: usize,
         package_name: Sequence<Component>,
@@ -40,8 +54,20 @@ impl FileFacts {
         declarations: Sequence<Declaration>,
         uses: Sequence<Use>,
     ) -> FileFacts
-        requires { AreOfSomeFile (record { number = number; package_name = package_name; imports = imports; declarations = declarations; uses = uses }) }
-        ensures { result ≡ record { number = number; package_name = package_name; imports = imports; declarations = declarations; uses = uses } }
+        requires { AreOfSomeFile (record {
+          number = number;
+          package_name = package_name;
+          imports = imports;
+          declarations = declarations;
+          uses = uses;
+        }) }
+        ensures { result ≡ record {
+          number = number;
+          package_name = package_name;
+          imports = imports;
+          declarations = declarations;
+          uses = uses;
+        } }
     {
         FileFacts {
             number,

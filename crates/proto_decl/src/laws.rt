@@ -1,10 +1,12 @@
 //! Laws: what the definitions say of facts, whatever the code does.
 
 ghost use Rattle.std.specs.Prelude.{All};
-ghost use Rattle.proto_decl.specs.Facts.{Facts, AreOfSomeFile, NamesInOrder, UsesInOrder, ImportsInOrder, PackageInOrder, NamesAreFilled, UsesAreFilled};
+ghost use Rattle.proto_decl.specs.Facts.{Facts, AreOfSomeFile, NamesInOrder, UsesInOrder, ImportsInOrder};
+ghost use Rattle.proto_decl.specs.Facts.{PackageInOrder, NamesAreFilled, UsesAreFilled};
 ghost use Rattle.proto_decl.specs.Names.{IsSimple};
 ghost use Rattle.proto_decl.specs.Places.{StandApart};
-ghost use Rattle.proto_decl.specs.Laws.{OneLeadingText, OneTrailingText, OneFacts, NamesAreSpelled, StandsInScope, FrontsAreEntities, FactsStandInText, ScopesNest};
+ghost use Rattle.proto_decl.specs.Laws.{OneLeadingText, OneTrailingText, OneFacts, NamesAreSpelled, StandsInScope};
+ghost use Rattle.proto_decl.specs.Laws.{FrontsAreEntities, FactsStandInText, ScopesNest};
 
 use proto_parse::{names_have_components, spans_in_order, spans_of_tokens};
 
@@ -72,7 +74,8 @@ pub fn names_are_spelled()
 /// declaration; and the components of its package's name are simple.
 pub fn scopes_are_known()
     ensures declarations { (facts : Facts) → AreOfSomeFile facts → All (StandsInScope facts) facts.declarations }
-    ensures package_name { (facts : Facts) → AreOfSomeFile facts → All (λ component. IsSimple component.name) facts.package_name }
+    ensures package_name { (facts : Facts) → AreOfSomeFile facts
+        → All (λ component. IsSimple component.name) facts.package_name }
 {
     spans_of_tokens();
 }

@@ -3,7 +3,8 @@
 ghost use Rattle.std.specs.Prelude.{◌≡◌, ◌++◌, map, All, IfOk, OnOk};
 ghost use Rattle.std.specs.List.{flat_map};
 ghost use Rattle.proto_lex.specs.Lexed.{IsPart};
-ghost use Rattle.proto_decl.specs.Spans.{OfHeading, OfField, OfMethod, OfLeaf, OfEnum, OfOneof, OfMessage, OfService, OfItem};
+ghost use Rattle.proto_decl.specs.Spans.{OfHeading, OfField, OfMethod, OfLeaf, OfEnum, OfOneof, OfMessage, OfService};
+ghost use Rattle.proto_decl.specs.Spans.{OfItem};
 ghost use Rattle.proto_decl.specs.Outlines as spec;
 
 use crate::declaration::Outline;
@@ -47,7 +48,8 @@ fn outline_enum(
     outlines: &mut Vec<Outline>,
 ) -> Result<(), AllocError>
     requires { OfEnum (IsPart text.now) declared.now }
-    ensures { OnOk result (outlines.new.items ≡ outlines.old.items ++ spec.in_enum text.now surrounding.now declared.now) }
+    ensures { OnOk result (outlines.new.items
+        ≡ outlines.old.items ++ spec.in_enum text.now surrounding.now declared.now) }
 {
     let heading = declared.heading;
     outlines.push(outline_at(alloc, text, surrounding, DeclarationKind::Enum, heading)?)?;
@@ -64,7 +66,8 @@ fn outline_values(
     outlines: &mut Vec<Outline>,
 ) -> Result<(), AllocError>
     requires { All (OfHeading (IsPart text.now)) values.now }
-    ensures { OnOk result (outlines.new.items ≡ outlines.old.items ++ map (spec.outline_at text.now surrounding.now DeclarationKind.Value) values.now) }
+    ensures { OnOk result (outlines.new.items
+        ≡ outlines.old.items ++ map (spec.outline_at text.now surrounding.now DeclarationKind.Value) values.now) }
 {
     for value in values {
         outlines.push(outline_at(alloc, text, surrounding, DeclarationKind::Value, *value)?)?;
@@ -81,7 +84,8 @@ fn outline_fields(
     outlines: &mut Vec<Outline>,
 ) -> Result<(), AllocError>
     requires { All (OfField (IsPart text.now)) fields.now }
-    ensures { OnOk result (outlines.new.items ≡ outlines.old.items ++ map (λ field. spec.outline_at text.now surrounding.now DeclarationKind.Field field.heading) fields.now) }
+    ensures { OnOk result (outlines.new.items
+        ≡ outlines.old.items ++ map (λ field. spec.outline_at text.now surrounding.now DeclarationKind.Field field.heading) fields.now) }
 {
     for field in fields {
         outlines.push(outline_at(
@@ -104,7 +108,8 @@ fn outline_methods(
     outlines: &mut Vec<Outline>,
 ) -> Result<(), AllocError>
     requires { All (OfMethod (IsPart text.now)) methods.now }
-    ensures { OnOk result (outlines.new.items ≡ outlines.old.items ++ map (λ method. spec.outline_at text.now surrounding.now DeclarationKind.Method method.heading) methods.now) }
+    ensures { OnOk result (outlines.new.items
+        ≡ outlines.old.items ++ map (λ method. spec.outline_at text.now surrounding.now DeclarationKind.Method method.heading) methods.now) }
 {
     for method in methods {
         outlines.push(outline_at(
@@ -127,7 +132,8 @@ fn outline_oneof(
     outlines: &mut Vec<Outline>,
 ) -> Result<(), AllocError>
     requires { OfOneof (IsPart text.now) declared.now }
-    ensures { OnOk result (outlines.new.items ≡ outlines.old.items ++ spec.in_oneof text.now surrounding.now declared.now) }
+    ensures { OnOk result (outlines.new.items
+        ≡ outlines.old.items ++ spec.in_oneof text.now surrounding.now declared.now) }
 {
     outlines.push(outline_at(
         alloc,
@@ -154,7 +160,8 @@ fn outline_service(
     outlines: &mut Vec<Outline>,
 ) -> Result<(), AllocError>
     requires { OfService (IsPart text.now) declared.now }
-    ensures { OnOk result (outlines.new.items ≡ outlines.old.items ++ spec.in_service text.now surrounding.now declared.now) }
+    ensures { OnOk result (outlines.new.items
+        ≡ outlines.old.items ++ spec.in_service text.now surrounding.now declared.now) }
 {
     let heading = declared.heading;
     outlines.push(outline_at(alloc, text, surrounding, DeclarationKind::Service, heading)?)?;
@@ -192,7 +199,8 @@ fn outline_message(
     outlines: &mut Vec<Outline>,
 ) -> Result<(), AllocError>
     requires { OfMessage (IsPart text.now) message.now }
-    ensures { OnOk result (outlines.new.items ≡ outlines.old.items ++ spec.in_message text.now surrounding.now message.now) }
+    ensures { OnOk result (outlines.new.items
+        ≡ outlines.old.items ++ spec.in_message text.now surrounding.now message.now) }
 {
     let heading = message.heading;
     outlines.push(outline_at(alloc, text, surrounding, DeclarationKind::Message, heading)?)?;

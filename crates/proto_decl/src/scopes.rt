@@ -6,7 +6,9 @@ ghost use Rattle.proto_decl.specs.Names.{scopes_of};
 /// Where the last dot of a name stands.
 #[tactic(auto, using(crate::proofs::ScopeLemmas::found_dot))]
 fn last_dot(name: &str) -> Option<usize>
-    ensures last { MatchOption result ((i : ℕ) → i < length name.now → get_or name.now i 0 ≢ 46) (λ dot. (dot < length name.now) × (get_or name.now dot 0 ≡ 46) × ((i : ℕ) → dot < i → i < length name.now → get_or name.now i 0 ≢ 46)) }
+    ensures last { MatchOption result ((i : ℕ) → i < length name.now → get_or name.now i 0 ≢ 46)
+        (λ dot. (dot < length name.now) × (get_or name.now dot 0 ≡ 46)
+        × ((i : ℕ) → dot < i → i < length name.now → get_or name.now i 0 ≢ 46)) }
     ensures whole { IfSome result (IsCharBoundary name.now) }
 {
     name.rfind('.')
@@ -18,7 +20,8 @@ fn last_dot(name: &str) -> Option<usize>
 /// So the scopes of a use are its `scope`, and from each one the next. Takes no memory.
 #[tactic(auto, using(crate::proofs::ScopeLemmas::around_dot, crate::proofs::ScopeLemmas::around_none))]
 pub fn scope_around(scope: &str) -> Option<&str>
-    ensures around { MatchOption result (scope.now ≡ []) (λ outer. scopes_of scope.now ≡ scope.now ∷ scopes_of outer.now) }
+    ensures around { MatchOption result (scope.now ≡ [])
+        (λ outer. scopes_of scope.now ≡ scope.now ∷ scopes_of outer.now) }
     ensures shorter { IfSome result (λ outer. length outer.now < length scope.now) }
 {
     if scope.is_empty() {

@@ -12,7 +12,8 @@ use proto_lex::{Span, Tokens};
 /// How many tokens begin before an offset.
 fn tokens_begun(lexed: &Tokens<'_>, offset: usize) -> usize
     ensures within { result ≤ length lexed.now.tokens }
-    ensures parted { IsPartitionPoint (λ t. t.span.start < offset) (λ t. offset ≤ t.span.start) lexed.now.tokens result }
+    ensures parted { IsPartitionPoint (λ t. t.span.start < offset)
+        (λ t. offset ≤ t.span.start) lexed.now.tokens result }
 {
     lexed
         .tokens()
@@ -32,7 +33,8 @@ fn tokens_ended(lexed: &Tokens<'_>, offset: usize) -> usize
 /// How many comments begin before an offset.
 pub(crate) fn comments_begun(lexed: &Tokens<'_>, offset: usize) -> usize
     ensures within { result ≤ length lexed.now.comments }
-    ensures parted { IsPartitionPoint (λ c. c.span.start < offset) (λ c. offset ≤ c.span.start) lexed.now.comments result }
+    ensures parted { IsPartitionPoint (λ c. c.span.start < offset)
+        (λ c. offset ≤ c.span.start) lexed.now.comments result }
 {
     lexed
         .comments()
@@ -42,7 +44,8 @@ pub(crate) fn comments_begun(lexed: &Tokens<'_>, offset: usize) -> usize
 /// How many comments end on a line before this one.
 pub(crate) fn comments_above(lexed: &Tokens<'_>, line: usize) -> usize
     ensures within { result ≤ length lexed.now.comments }
-    ensures parted { IsPartitionPoint (λ c. line_of lexed.now.text c.span.end < line) (λ c. line ≤ line_of lexed.now.text c.span.end) lexed.now.comments result }
+    ensures parted { IsPartitionPoint (λ c. line_of lexed.now.text c.span.end < line)
+        (λ c. line ≤ line_of lexed.now.text c.span.end) lexed.now.comments result }
 {
     let text = lexed.text();
     lexed
@@ -65,7 +68,8 @@ pub(crate) fn is_first_on_line(lexed: &Tokens<'_>, first: Span) -> bool
 
 /// Whether no token that ends by an offset touches its line.
 fn is_clear_before(lexed: &Tokens<'_>, offset: usize) -> bool
-    ensures { IsTrue result ↔ All (λ t. t.span.end ≤ offset → Touches lexed.now.text t.span (line_of lexed.now.text offset) → ⊥) lexed.now.tokens }
+    ensures { IsTrue result ↔ All (λ t. t.span.end ≤ offset
+        → Touches lexed.now.text t.span (line_of lexed.now.text offset) → ⊥) lexed.now.tokens }
 {
     let ended = tokens_ended(lexed, offset);
     if ended == 0 {
@@ -78,7 +82,8 @@ fn is_clear_before(lexed: &Tokens<'_>, offset: usize) -> bool
 
 /// Whether no token that begins at an offset or behind it touches its line.
 fn is_clear_behind(lexed: &Tokens<'_>, offset: usize) -> bool
-    ensures { IsTrue result ↔ All (λ t. offset ≤ t.span.start → Touches lexed.now.text t.span (line_of lexed.now.text offset) → ⊥) lexed.now.tokens }
+    ensures { IsTrue result ↔ All (λ t. offset ≤ t.span.start
+        → Touches lexed.now.text t.span (line_of lexed.now.text offset) → ⊥) lexed.now.tokens }
 {
     let begun = tokens_begun(lexed, offset);
     let tokens = lexed.tokens();
@@ -93,8 +98,10 @@ fn is_clear_behind(lexed: &Tokens<'_>, offset: usize) -> bool
 /// Whether no token before the span touches its first line, and none behind it its last one.
 fn is_clear_around(lexed: &Tokens<'_>, span: Span) -> bool
     ensures { IsTrue result
-        ↔ All (λ t. t.span.end ≤ span.start → Touches lexed.now.text t.span (line_of lexed.now.text span.start) → ⊥) lexed.now.tokens
-        × All (λ t. span.end ≤ t.span.start → Touches lexed.now.text t.span (line_of lexed.now.text span.end) → ⊥) lexed.now.tokens }
+        ↔ All (λ t. t.span.end ≤ span.start → Touches lexed.now.text t.span (line_of lexed.now.text span.start)
+        → ⊥) lexed.now.tokens
+        × All (λ t. span.end ≤ t.span.start → Touches lexed.now.text t.span (line_of lexed.now.text span.end)
+        → ⊥) lexed.now.tokens }
 {
     if !is_clear_before(lexed, span.start) {
         return false;

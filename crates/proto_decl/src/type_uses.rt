@@ -92,7 +92,8 @@ fn use_fields(
     uses: &mut Vec<Use>,
 ) -> Result<(), AllocError>
     requires { All (OfField (IsPart text.now)) fields.now }
-    ensures { OnOk result (uses.new.items ≡ uses.old.items ++ flat_map (λ field. spec.uses_of_type text.now scope.now field.field_type) fields.now) }
+    ensures { OnOk result (uses.new.items
+        ≡ uses.old.items ++ flat_map (λ field. spec.uses_of_type text.now scope.now field.field_type) fields.now) }
 {
     for field in fields {
         use_type(alloc, text, scope, &field.field_type, uses)?;
@@ -109,7 +110,8 @@ fn use_methods(
     uses: &mut Vec<Use>,
 ) -> Result<(), AllocError>
     requires { All (OfMethod (IsPart text.now)) methods.now }
-    ensures { OnOk result (uses.new.items ≡ uses.old.items ++ flat_map (spec.uses_of_method text.now scope.now) methods.now) }
+    ensures { OnOk result (uses.new.items
+        ≡ uses.old.items ++ flat_map (spec.uses_of_method text.now scope.now) methods.now) }
 {
     for method in methods {
         uses.push(use_of(alloc, text, scope, &method.input)?)?;

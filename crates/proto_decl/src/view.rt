@@ -22,7 +22,13 @@ impl<'a> Model for DeclView<'a> {
 
     ghost Value = { Seen };
 
-    ghost view = { λ v. record { kind = v.kind; name = v.name.now; full_name = v.full_name.now; leading = v.leading.now; trailing = v.trailing.now } };
+    ghost view = { λ v. record {
+      kind = v.kind;
+      name = v.name.now;
+      full_name = v.full_name.now;
+      leading = v.leading.now;
+      trailing = v.trailing.now;
+    } };
 }
 
 impl<'a> DeclView<'a> {
@@ -35,7 +41,13 @@ impl<'a> DeclView<'a> {
         leading: &'a str,
         trailing: &'a str,
     ) -> DeclView<'a>
-        ensures { result ≡ record { kind = kind; name = name.now; full_name = full_name.now; leading = leading.now; trailing = trailing.now } }
+        ensures { result ≡ record {
+          kind = kind;
+          name = name.now;
+          full_name = full_name.now;
+          leading = leading.now;
+          trailing = trailing.now;
+        } }
     {
         DeclView {
             kind,

@@ -20,7 +20,8 @@ pub fn declarations_stand_in_declarations()
 /// what holds a declaration is declared there too.
 pub fn names_are_identifiers()
     ensures named { (facts : Facts) → AreOfSomeFile facts → AreNamed facts.package_name facts.declarations }
-    ensures ways { (facts : Facts) → AreOfSomeFile facts → All (λ declaration. declaration.path ≢ []) facts.declarations }
+    ensures ways { (facts : Facts) → AreOfSomeFile facts
+        → All (λ declaration. declaration.path ≢ []) facts.declarations }
     ensures held { (facts : Facts) → AreOfSomeFile facts → AreHeld facts.package_name facts.declarations }
 {
     spans_of_tokens();

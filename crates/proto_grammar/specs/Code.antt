@@ -14,12 +14,14 @@ use Rattle.proto_grammar.specs.declared.tree.MapField.{MapField}
 use Rattle.proto_grammar.specs.declared.tree.Enum.{Enum}
 use Rattle.proto_grammar.specs.declared.tree.Oneof.{Oneof}
 use Rattle.proto_grammar.specs.declared.tree.Leaf.{Leaf}
-use Rattle.proto_grammar.specs.declared.tree.Leaf.TheVariants.{Enum as EnumLeaf, Oneof as OneofLeaf, Field as FieldLeaf, MapField as MapLeaf}
+use Rattle.proto_grammar.specs.declared.tree.Leaf.TheVariants.{Enum as EnumLeaf, Oneof as OneofLeaf, Field as FieldLeaf}
+use Rattle.proto_grammar.specs.declared.tree.Leaf.TheVariants.{MapField as MapLeaf}
 use Rattle.proto_grammar.specs.Tree.{Body, MessageTree}
 use Rattle.proto_grammar.specs.Tree.Body.{NoMore, LeafThen, MessageThen}
 
 abbrev pub span_code : Coded Span
-span_code = code_by (ℕ × ℕ) (coded× coded_ℕ coded_ℕ) (λ s. (s.start, s.end)) (λ p. record { start = p.0; end = p.1 }) (λ _. refl)
+span_code = code_by (ℕ × ℕ) (coded× coded_ℕ coded_ℕ) (λ s. (s.start, s.end)) (λ p. record { start = p.0; end = p.1 })
+    (λ _. refl)
 
 abbrev pub heading_code : Coded Heading
 heading_code =
@@ -64,7 +66,8 @@ type_code = code_by (Span ⊎ TypeName) (coded⊎ span_code type_name_code) type
 abbrev pub field_code : Coded Field
 field_code =
     code_by (Heading × (Option Label × FieldType)) (coded× heading_code (coded× (coded_option label_code) type_code))
-    (λ f. (f.heading, (f.label, f.field_type))) (λ p. record { heading = p.0; label = p.1.0; field_type = p.1.1 }) (λ _. refl)
+    (λ f. (f.heading, (f.label, f.field_type))) (λ p. record { heading = p.0; label = p.1.0; field_type = p.1.1 })
+    (λ _. refl)
 
 abbrev pub map_code : Coded MapField
 map_code =
@@ -129,11 +132,13 @@ abbrev pub top_of : List Body → Body
 top_of [] = NoMore
 top_of (body ∷ stack) = body
 
-pub made_by-steps_of : (body : Body) (after : List Step) (stack : List Body) → made_by (steps_of body after) stack ≡ made_by after (body ∷ stack)
+pub made_by-steps_of : (body : Body) (after : List Step) (stack : List Body)
+    → made_by (steps_of body after) stack ≡ made_by after (body ∷ stack)
 made_by-steps_of NoMore after stack = refl
 made_by-steps_of (LeafThen leaf others) after stack = made_by-steps_of others (Some (inl leaf) ∷ after) stack
 made_by-steps_of (MessageThen heading inner others) after stack =
-    made_by-steps_of inner (steps_of others (Some (inr heading) ∷ after)) stack ∙ made_by-steps_of others (Some (inr heading) ∷ after) (inner ∷ stack)
+    made_by-steps_of inner (steps_of others (Some (inr heading) ∷ after)) stack
+    ∙ made_by-steps_of others (Some (inr heading) ∷ after) (inner ∷ stack)
 
 abbrev pub body_code : Coded Body
 body_code =
@@ -142,4 +147,5 @@ body_code =
 
 abbrev pub message_code : Coded MessageTree
 message_code =
-    code_by (Heading × Body) (coded× heading_code body_code) (λ m. (m.heading, m.body)) (λ p. record { heading = p.0; body = p.1 }) (λ _. refl)
+    code_by (Heading × Body) (coded× heading_code body_code) (λ m. (m.heading, m.body))
+    (λ p. record { heading = p.0; body = p.1 }) (λ _. refl)

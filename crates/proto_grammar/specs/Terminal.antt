@@ -1,9 +1,13 @@
 -- What single tokens are, and what stands next, as tests.
-use Rattle.std.specs.Prelude.{ℕ, ◌-◌, Bool, true, false, ◌==◌, ◌&&◌, ◌||◌, not, Option, Some, None, List, [], ◌∷◌, length, take, drop, bytes_eq, codes}
+use Rattle.std.specs.Prelude.{ℕ, ◌-◌, Bool, true, false, ◌==◌, ◌&&◌, ◌||◌, not, Option, Some, None, List, [], ◌∷◌}
+use Rattle.std.specs.Prelude.{length, take, drop, bytes_eq, codes}
 use Rattle.std.specs.Option.{option_map_or}
 use Rattle.std.specs.List.{list_any}
 use Rattle.proto_lex.specs.declared.token.TokenKind.{TokenKind}
-use Rattle.proto_lex.specs.declared.token.TokenKind.TheVariants.{Identifier, Integer, Float, StringLiteral, Semicolon, Equals, OpenBrace, CloseBrace, OpenBracket, CloseBracket, OpenParenthesis, CloseParenthesis, Less, Greater, Comma, Dot, Colon, Plus, Minus, Slash}
+use Rattle.proto_lex.specs.declared.token.TokenKind.TheVariants.{Identifier, Integer, Float, StringLiteral, Semicolon}
+use Rattle.proto_lex.specs.declared.token.TokenKind.TheVariants.{Equals, OpenBrace, CloseBrace, OpenBracket}
+use Rattle.proto_lex.specs.declared.token.TokenKind.TheVariants.{CloseBracket, OpenParenthesis, CloseParenthesis, Less}
+use Rattle.proto_lex.specs.declared.token.TokenKind.TheVariants.{Greater, Comma, Dot, Colon, Plus, Minus, Slash}
 use Rattle.proto_grammar.specs.Lexeme.{Lexeme}
 
 abbrev pub number_of : TokenKind → ℕ
@@ -34,7 +38,11 @@ is_kind wanted kind = number_of kind == number_of wanted
 -- "Fields": the words of the scalar types, and those among them that may be the key of a map.
 abbrev pub key_words : List (List ℕ)
 key_words =
-    codes "int32" ∷ (codes "int64" ∷ (codes "uint32" ∷ (codes "uint64" ∷ (codes "sint32" ∷ (codes "sint64" ∷ (codes "fixed32" ∷ (codes "fixed64" ∷ (codes "sfixed32" ∷ (codes "sfixed64" ∷ (codes "bool" ∷ (codes "string" ∷ [])))))))))))
+    codes "int32" ∷ (codes "int64"
+    ∷ (codes "uint32" ∷ (codes "uint64"
+    ∷ (codes "sint32" ∷ (codes "sint64"
+    ∷ (codes "fixed32" ∷ (codes "fixed64"
+    ∷ (codes "sfixed32" ∷ (codes "sfixed64" ∷ (codes "bool" ∷ (codes "string" ∷ [])))))))))))
 
 abbrev pub scalar_words : List (List ℕ)
 scalar_words = codes "double" ∷ (codes "float" ∷ (codes "bytes" ∷ key_words))

@@ -3,7 +3,8 @@
 ghost use Rattle.std.specs.Prelude.{◌≡◌};
 ghost use Rattle.proto_grammar.specs.Gives.{Gives};
 ghost use Rattle.proto_grammar.specs.declared.tree.CustomOptions.TheVariants.{Skip};
-ghost use Rattle.proto_grammar.specs.Reading.Fields.{numbered_at, typed_at, label_at, field_at, oneof_field_at, pass_field_at, map_field_at};
+ghost use Rattle.proto_grammar.specs.Reading.Fields.{numbered_at, typed_at, label_at, field_at, oneof_field_at};
+ghost use Rattle.proto_grammar.specs.Reading.Fields.{pass_field_at, map_field_at};
 
 use crate::fault::SyntaxFault;
 use crate::parser::Parser;

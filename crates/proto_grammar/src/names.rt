@@ -3,7 +3,9 @@
 ghost use Rattle.std.specs.Prelude.{◌≡◌};
 ghost use Rattle.proto_grammar.specs.Gives.{Gives};
 ghost use Rattle.proto_grammar.specs.declared.tree.CustomOptions.TheVariants.{Skip};
-ghost use Rattle.proto_grammar.specs.Reading.Names.{dot_name_at, dot_names_at, name_at, pass_dot_name_at, pass_name_at, pass_dot_names_at, leading_dot_at, type_name_at, pass_type_name_at, named_type_at, type_at};
+ghost use Rattle.proto_grammar.specs.Reading.Names.{dot_name_at, dot_names_at, name_at, pass_dot_name_at, pass_name_at};
+ghost use Rattle.proto_grammar.specs.Reading.Names.{pass_dot_names_at, leading_dot_at, type_name_at, pass_type_name_at};
+ghost use Rattle.proto_grammar.specs.Reading.Names.{named_type_at, type_at};
 
 use crate::fault::SyntaxFault;
 use crate::kept::keep;
@@ -45,6 +47,7 @@ impl<'t> Parser<'t> {
         Ok(components)
     }
 
+    /// A `.` and an identifier that aren't kept.
     #[tactic(auto, unfolding(crate::specs::Reading::Names::pass_dot_name_at))]
     fn pass_dot_name(&mut self) -> Result<(), SyntaxFault>
         ensures { Gives Skip (λ x. x) self.new result (pass_dot_name_at self.old) }
@@ -62,6 +65,7 @@ impl<'t> Parser<'t> {
         self.pass_dot_names()
     }
 
+    /// The components behind the first one, which aren't kept.
     fn pass_dot_names(&mut self) -> Result<(), SyntaxFault>
         ensures { Gives Skip (λ x. x) self.new result (pass_dot_names_at self.old) }
     {
@@ -71,6 +75,7 @@ impl<'t> Parser<'t> {
         Ok(())
     }
 
+    /// The `.` before a name, if one stands next.
     #[tactic(auto, unfolding(crate::specs::Reading::Names::leading_dot_at))]
     fn leading_dot(&mut self) -> Result<Option<Span>, SyntaxFault>
         ensures { Gives Skip (λ x. x) self.new result (leading_dot_at self.old) }

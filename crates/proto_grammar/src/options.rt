@@ -3,7 +3,11 @@
 ghost use Rattle.std.specs.Prelude.{◌≡◌, ◌+◌, ◌<◌, ◌≤◌, length};
 ghost use Rattle.proto_grammar.specs.Gives.{Gives};
 ghost use Rattle.proto_grammar.specs.declared.tree.CustomOptions.TheVariants.{Skip};
-ghost use Rattle.proto_grammar.specs.Reading.Options.{extension_at, part_at, dot_part_at, dot_parts_at, option_name_at, literal_at, literals_at, strings_at, deeper_at, closed_at, aggregate_at, signed_at, constant_at, setting_at, comma_setting_at, comma_settings_at, option_at, bracketed_at, options_at};
+ghost use Rattle.proto_grammar.specs.Reading.Options.{extension_at, part_at, dot_part_at, dot_parts_at, option_name_at};
+ghost use Rattle.proto_grammar.specs.Reading.Options.{literal_at, literals_at, strings_at, deeper_at, closed_at};
+ghost use Rattle.proto_grammar.specs.Reading.Options.{aggregate_at, signed_at, constant_at, setting_at};
+ghost use Rattle.proto_grammar.specs.Reading.Options.{comma_setting_at, comma_settings_at, option_at, bracketed_at};
+ghost use Rattle.proto_grammar.specs.Reading.Options.{options_at};
 
 use crate::fault::SyntaxFault;
 use crate::parser::Parser;
@@ -37,6 +41,7 @@ impl<'t> Parser<'t> {
         Ok(())
     }
 
+    /// A `.` and a part of an option's name.
     #[tactic(auto, unfolding(crate::specs::Reading::Options::dot_part_at))]
     fn dot_part(&mut self, custom: CustomOptions) -> Result<(), SyntaxFault>
         ensures { Gives custom (λ x. x) self.new result (dot_part_at custom self.old) }
@@ -45,6 +50,7 @@ impl<'t> Parser<'t> {
         self.part(custom)
     }
 
+    /// The parts of an option's name behind the first one.
     fn dot_parts(&mut self, custom: CustomOptions) -> Result<(), SyntaxFault>
         ensures { Gives custom (λ x. x) self.new result (dot_parts_at custom self.old) }
     {
@@ -54,6 +60,7 @@ impl<'t> Parser<'t> {
         Ok(())
     }
 
+    /// An option's name.
     #[tactic(auto, unfolding(crate::specs::Reading::Options::option_name_at))]
     fn option_name(&mut self, custom: CustomOptions) -> Result<(), SyntaxFault>
         ensures { Gives custom (λ x. x) self.new result (option_name_at custom self.old) }
@@ -62,6 +69,7 @@ impl<'t> Parser<'t> {
         self.dot_parts(custom)
     }
 
+    /// One string literal.
     #[tactic(auto, unfolding(crate::specs::Reading::Options::literal_at))]
     fn literal(&mut self) -> Result<(), SyntaxFault>
         ensures { Gives Skip (λ x. x) self.new result (literal_at self.old) }
@@ -70,6 +78,7 @@ impl<'t> Parser<'t> {
         Ok(())
     }
 
+    /// The literals behind the first one.
     fn literals(&mut self) -> Result<(), SyntaxFault>
         ensures { Gives Skip (λ x. x) self.new result (literals_at self.old) }
     {
@@ -134,6 +143,7 @@ impl<'t> Parser<'t> {
         Ok(depth)
     }
 
+    /// An option statement (proto3 specification, "Option").
     #[tactic(auto, unfolding(crate::specs::Reading::Options::option_at))]
     pub fn option(&mut self, custom: CustomOptions) -> Result<(), SyntaxFault>
         ensures { Gives custom (λ x. x) self.new result (option_at custom self.old) }
@@ -175,6 +185,7 @@ impl<'t> Parser<'t> {
         Ok(())
     }
 
+    /// An option's name, `=` and its value.
     #[tactic(auto, unfolding(crate::specs::Reading::Options::setting_at))]
     fn setting(&mut self, custom: CustomOptions) -> Result<(), SyntaxFault>
         ensures { Gives custom (λ x. x) self.new result (setting_at custom self.old) }
@@ -184,6 +195,7 @@ impl<'t> Parser<'t> {
         self.constant(custom)
     }
 
+    /// A comma and the setting behind it.
     #[tactic(auto, unfolding(crate::specs::Reading::Options::comma_setting_at))]
     fn comma_setting(&mut self, custom: CustomOptions) -> Result<(), SyntaxFault>
         ensures { Gives custom (λ x. x) self.new result (comma_setting_at custom self.old) }
@@ -192,6 +204,7 @@ impl<'t> Parser<'t> {
         self.setting(custom)
     }
 
+    /// The settings behind the first one.
     fn comma_settings(&mut self, custom: CustomOptions) -> Result<(), SyntaxFault>
         ensures { Gives custom (λ x. x) self.new result (comma_settings_at custom self.old) }
     {
@@ -201,6 +214,7 @@ impl<'t> Parser<'t> {
         Ok(())
     }
 
+    /// Options in brackets.
     #[tactic(auto, unfolding(crate::specs::Reading::Options::bracketed_at))]
     fn bracketed(&mut self, custom: CustomOptions) -> Result<(), SyntaxFault>
         ensures { Gives custom (λ x. x) self.new result (bracketed_at custom self.old) }

@@ -5,7 +5,9 @@ ghost use Rattle.std.specs.List.{list_any};
 ghost use Rattle.std.specs.Option.{option_map_or};
 ghost use Rattle.proto_grammar.specs.Gives.{Gives};
 ghost use Rattle.proto_grammar.specs.declared.tree.CustomOptions.TheVariants.{Skip};
-ghost use Rattle.proto_grammar.specs.Terminal.{first, others, first_is, of_kind, is_word, key_words, scalar_words, is_scalar, is_key, is_sign, is_numeral, is_number, is_plain_literal, between_quotes, begins_scalar, is_end};
+ghost use Rattle.proto_grammar.specs.Terminal.{first, others, first_is, of_kind, is_word, key_words, scalar_words};
+ghost use Rattle.proto_grammar.specs.Terminal.{is_scalar, is_key, is_sign, is_numeral, is_number, is_plain_literal};
+ghost use Rattle.proto_grammar.specs.Terminal.{between_quotes, begins_scalar, is_end};
 ghost use Rattle.proto_grammar.specs.Reading.Steps.{token_that, span_at};
 ghost use Rattle.proto_grammar.specs.Lexeme.{lexemes_of};
 ghost use Rattle.proto_grammar.specs.View.{lexeme_view};
@@ -87,12 +89,14 @@ impl<'t> Lexeme<'t> {
     }
 }
 
+/// Whether the word names a scalar type.
 fn is_scalar_word(word: &str) -> bool
     ensures { result ≡ list_any (bytes_eq word.now) scalar_words }
 {
     matches!(word, "double" | "float" | "bytes") || is_key_word(word)
 }
 
+/// Whether the word names a scalar type that may be a map's key.
 fn is_key_word(word: &str) -> bool
     ensures { result ≡ list_any (bytes_eq word.now) key_words }
 {
@@ -113,6 +117,7 @@ fn is_key_word(word: &str) -> bool
     )
 }
 
+/// Whether a `\` stands among the bytes.
 fn has_backslash(text: &[u8]) -> bool
     ensures { result ≡ list_any (λ byte. byte == 92) text.now }
 {

@@ -3,13 +3,15 @@
 ghost use Rattle.std.specs.Prelude.{◌≡◌};
 ghost use Rattle.proto_grammar.specs.Gives.{Gives};
 ghost use Rattle.proto_grammar.specs.declared.tree.CustomOptions.TheVariants.{Skip};
-ghost use Rattle.proto_grammar.specs.Reading.Reserved.{plain_integer_at, integer_at, range_end_at, range_at, reserved_item_at, comma_item_at, comma_items_at, reserved_at};
+ghost use Rattle.proto_grammar.specs.Reading.Reserved.{plain_integer_at, integer_at, range_end_at, range_at};
+ghost use Rattle.proto_grammar.specs.Reading.Reserved.{reserved_item_at, comma_item_at, comma_items_at, reserved_at};
 
 use crate::fault::SyntaxFault;
 use crate::parser::Parser;
 use proto_lex::TokenKind;
 
 impl<'t> Parser<'t> {
+    /// A whole number without a sign.
     #[tactic(auto, unfolding(crate::specs::Reading::Reserved::plain_integer_at))]
     fn plain_integer(&mut self) -> Result<(), SyntaxFault>
         ensures { Gives Skip (λ x. x) self.new result (plain_integer_at self.old) }
@@ -29,6 +31,7 @@ impl<'t> Parser<'t> {
         self.plain_integer()
     }
 
+    /// The end of a range: `max` or a whole number.
     #[tactic(auto, unfolding(crate::specs::Reading::Reserved::range_end_at))]
     fn range_end(&mut self, negative: bool) -> Result<(), SyntaxFault>
         ensures { Gives Skip (λ x. x) self.new result (range_end_at negative self.old) }
@@ -40,6 +43,7 @@ impl<'t> Parser<'t> {
         self.integer(negative)
     }
 
+    /// A number, or a range of numbers.
     #[tactic(auto, unfolding(crate::specs::Reading::Reserved::range_at))]
     fn range(&mut self, negative: bool) -> Result<(), SyntaxFault>
         ensures { Gives Skip (λ x. x) self.new result (range_at negative self.old) }
@@ -52,6 +56,7 @@ impl<'t> Parser<'t> {
         Ok(())
     }
 
+    /// What is reserved: a name where `names` is true, and else a range.
     #[tactic(auto, unfolding(crate::specs::Reading::Reserved::reserved_item_at))]
     fn reserved_item(&mut self, negative: bool, names: bool) -> Result<(), SyntaxFault>
         ensures { Gives Skip (λ x. x) self.new result (reserved_item_at negative names self.old) }
@@ -62,6 +67,7 @@ impl<'t> Parser<'t> {
         self.range(negative)
     }
 
+    /// A comma and what is reserved behind it.
     #[tactic(auto, unfolding(crate::specs::Reading::Reserved::comma_item_at))]
     fn comma_item(&mut self, negative: bool, names: bool) -> Result<(), SyntaxFault>
         ensures { Gives Skip (λ x. x) self.new result (comma_item_at negative names self.old) }
@@ -70,6 +76,7 @@ impl<'t> Parser<'t> {
         self.reserved_item(negative, names)
     }
 
+    /// What is reserved behind the first item.
     fn comma_items(&mut self, negative: bool, names: bool) -> Result<(), SyntaxFault>
         ensures { Gives Skip (λ x. x) self.new result (comma_items_at negative names self.old) }
     {

@@ -7,6 +7,7 @@ use Rattle.proto_lex.specs.declared.span.Span.{Span}
 use Rattle.proto_lex.specs.declared.token.Token.{Token}
 use Rattle.proto_lex.specs.declared.token.CommentKind.{CommentKind}
 use Rattle.proto_lex.specs.declared.token.CommentKind.TheVariants.{Line, Block}
+use Rattle.proto_lex.specs.Ascii as ascii
 
 -- a part of a text touches the lines from that of its start to that of its end; no token or comment ends with a \n
 abbrev pub Touches : List ℕ → Span → ℕ → Type 0
@@ -14,7 +15,8 @@ Touches text span line = (line_of text span.start ≤ line) × (line ≤ line_of
 
 -- a comment stands alone where no token touches any of the lines that it touches
 abbrev pub StandsAlone : List ℕ → List Token → Span → Type 0
-StandsAlone text tokens comment = All (λ t. (line : ℕ) → Touches text comment line → Touches text t.span line → ⊥) tokens
+StandsAlone text tokens comment =
+    All (λ t. (line : ℕ) → Touches text comment line → Touches text t.span line → ⊥) tokens
 
 -- no token stands between two offsets
 abbrev pub NoneBetween : List Token → (from upto : ℕ) → Type 0
@@ -27,5 +29,5 @@ without_first_space (byte ∷ others) = if byte == 32 then others else byte ∷ 
 -- the text of a comment, which is spelled so: of a line comment what follows the slashes, without one \r at its end
 -- and then without one space at its start; of a block comment all that stands between its marks
 abbrev pub comment_text : CommentKind → List ℕ → List ℕ
-comment_text Line spelling = without_first_space (strip_last 13 (drop 2 spelling))
+comment_text Line spelling = without_first_space (strip_last ascii.carriage_return (drop 2 spelling))
 comment_text Block spelling = take (length spelling - 4) (drop 2 spelling)

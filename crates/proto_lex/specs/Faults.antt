@@ -9,41 +9,51 @@ use Rattle.proto_lex.specs.declared.fault.LexFault.{LexFault}
 use Rattle.proto_lex.specs.declared.fault.LexFault.TheVariants.{BadByte, OpenString, OpenComment, BadEscape, BadNumber}
 use Rattle.proto_lex.specs.declared.token.TokenKind.{TokenKind}
 use Rattle.proto_lex.specs.declared.token.CommentKind.{CommentKind}
+use Rattle.proto_lex.specs.Ascii as ascii
 
 -- in a string, the bytes after a place are characters and escapes up to a later place, after which these are left
 pub data StaysInString (quote : ℕ) : (place : ℕ) (bytes : List ℕ) (later : ℕ) (left : List ℕ) → Type 0 where
   here : {place : ℕ} {bytes : List ℕ} → StaysInString quote place bytes place bytes
   character : {place later b : ℕ} {others left : List ℕ}
-      → is_plain quote b ≡ true → StaysInString quote (place + 1) others later left → StaysInString quote place (b ∷ others) later left
+      → is_plain quote b ≡ true → StaysInString quote (place + 1) others later left
+      → StaysInString quote place (b ∷ others) later left
   escape : {place later : ℕ} {letters others left : List ℕ}
-      → IsEscape letters → StaysInString quote (place + (1 + length letters)) others later left → StaysInString quote place (92 ∷ (letters ++ others)) later left
+      → IsEscape letters → StaysInString quote (place + (1 + length letters)) others later left
+      → StaysInString quote place (ascii.backslash ∷ (letters ++ others)) later left
 
 -- why what opens a string at `opening` is none, where these bytes stand from `place` on
 pub data IsStringFault (quote opening : ℕ) : (place : ℕ) → List ℕ → LexFault → Type 0 where
   -- a \n or the end of the text comes first
   cut : {place later : ℕ} {bytes left : List ℕ}
-      → StaysInString quote place bytes later left → starts (λ b. not (nat_eq b 10)) left ≡ false → IsStringFault quote opening place bytes (OpenString opening)
+      → StaysInString quote place bytes later left → starts (λ b. not (nat_eq b ascii.line_feed)) left ≡ false
+      → IsStringFault quote opening place bytes (OpenString opening)
   -- a NUL
-  nul : {place later : ℕ} {bytes left : List ℕ} → StaysInString quote place bytes later (0 ∷ left) → IsStringFault quote opening place bytes (BadByte later)
+  nul : {place later : ℕ} {bytes left : List ℕ} → StaysInString quote place bytes later (ascii.nul ∷ left)
+      → IsStringFault quote opening place bytes (BadByte later)
   -- a `\` that begins no escape
-  no_escape : {place later : ℕ} {bytes left : List ℕ} → StaysInString quote place bytes later (92 ∷ left)
-      → ((letters rest : List ℕ) → IsEscape letters → left ≡ letters ++ rest → ⊥) → IsStringFault quote opening place bytes (BadEscape later)
+  no_escape : {place later : ℕ} {bytes left : List ℕ} → StaysInString quote place bytes later (ascii.backslash ∷ left)
+      → ((letters rest : List ℕ) → IsEscape letters → left ≡ letters ++ rest → ⊥)
+      → IsStringFault quote opening place bytes (BadEscape later)
 
 -- why no blank, comment or token stands at a place, where these bytes are the rest of the text
 pub data IsFaultAt : (place : ℕ) → List ℕ → LexFault → Type 0 where
-  unknown : {place b : ℕ} {others : List ℕ} → is_blank b ≡ false → is_letter b ≡ false → is_digit b ≡ false → is_quote b ≡ false
+  unknown : {place b : ℕ} {others : List ℕ} → is_blank b ≡ false → is_letter b ≡ false → is_digit b ≡ false
+      → is_quote b ≡ false
       → sign_kind b ≡ None → IsFaultAt place (b ∷ others) (BadByte place)
-  no_number : {place : ℕ} {bytes : List ℕ} → begins_number bytes ≡ true → (IsInteger (run_of bytes) → ⊥) → (IsFloat (run_of bytes) → ⊥)
+  no_number : {place : ℕ} {bytes : List ℕ} → begins_number bytes ≡ true → (IsInteger (run_of bytes) → ⊥)
+      → (IsFloat (run_of bytes) → ⊥)
       → IsFaultAt place bytes (BadNumber place)
   no_close : {place : ℕ} {others : List ℕ} → ((inside rest : List ℕ) → EndsBlock inside → others ≡ inside ++ rest → ⊥)
-      → IsFaultAt place (47 ∷ (42 ∷ others)) (OpenComment place)
-  no_string : {place quote : ℕ} {others : List ℕ} {fault : LexFault} → is_quote quote ≡ true → IsStringFault quote place (place + 1) others fault
+      → IsFaultAt place (ascii.slash ∷ (ascii.star ∷ others)) (OpenComment place)
+  no_string : {place quote : ℕ} {others : List ℕ} {fault : LexFault} → is_quote quote ≡ true
+      → IsStringFault quote place (place + 1) others fault
       → IsFaultAt place (quote ∷ others) fault
 
 -- the bytes after a place are blanks, comments and tokens up to this fault
 pub data Meets : (place : ℕ) → List ℕ → LexFault → Type 0 where
   fault : {place : ℕ} {bytes : List ℕ} {f : LexFault} → IsFaultAt place bytes f → Meets place bytes f
-  blank : {place b : ℕ} {rest : List ℕ} {f : LexFault} → is_blank b ≡ true → Meets (place + 1) rest f → Meets place (b ∷ rest) f
+  blank : {place b : ℕ} {rest : List ℕ} {f : LexFault} → is_blank b ≡ true → Meets (place + 1) rest f
+      → Meets place (b ∷ rest) f
   comment : {place : ℕ} {k : CommentKind} {word rest : List ℕ} {f : LexFault}
       → IsComment k word rest → Meets (place + length word) rest f → Meets place (word ++ rest) f
   token : {place : ℕ} {k : TokenKind} {word rest : List ℕ} {f : LexFault}
@@ -51,10 +61,12 @@ pub data Meets : (place : ℕ) → List ℕ → LexFault → Type 0 where
 
 -- the bytes begin with a byte order mark
 abbrev pub begins_mark : List ℕ → Bool
-begins_mark (a ∷ (b ∷ (c ∷ _))) = nat_eq a 239 && nat_eq b 187 && nat_eq c 191
+begins_mark (a ∷ (b ∷ (c ∷ _))) = nat_eq a ascii.mark_first && nat_eq b ascii.mark_second && nat_eq c ascii.mark_third
 begins_mark _ = false
 
--- the first fault of the text, after a byte order mark where it begins with one (that the first counts is the profile's)
+-- the first fault of the text, after a byte order mark where it begins with one (that the first counts is the
+-- profile's)
 pub data IsFirstFault : List ℕ → LexFault → Type 0 where
   unmarked : {text : List ℕ} {f : LexFault} → begins_mark text ≡ false → Meets 0 text f → IsFirstFault text f
-  marked : {rest : List ℕ} {f : LexFault} → Meets 3 rest f → IsFirstFault (239 ∷ (187 ∷ (191 ∷ rest))) f
+  marked : {rest : List ℕ} {f : LexFault} → Meets 3 rest f
+      → IsFirstFault (ascii.mark_first ∷ (ascii.mark_second ∷ (ascii.mark_third ∷ rest))) f

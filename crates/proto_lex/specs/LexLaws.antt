@@ -21,7 +21,8 @@ OneComments =
 
 -- A text has at most one first fault,
 abbrev pub OneFirstFault : Type 0
-OneFirstFault = (text : List ℕ) (fault other : LexFault) → IsFirstFault text fault → IsFirstFault text other → fault ≡ other
+OneFirstFault = (text : List ℕ) (fault other : LexFault) → IsFirstFault text fault → IsFirstFault text other
+    → fault ≡ other
 
 -- none where it lexes,
 abbrev pub NoFaultWhereItLexes : Type 0
@@ -33,7 +34,8 @@ NoFaultWhereItLexes =
 abbrev pub LexesOrFaults : Type 0
 LexesOrFaults =
     (text : List ℕ)
-    → ((tokens : List Token) × (comments : List Comment) × Lexes text tokens comments) ⊎ ((fault : LexFault) × IsFirstFault text fault)
+    → ((tokens : List Token) × (comments : List Comment) × Lexes text tokens comments)
+    ⊎ ((fault : LexFault) × IsFirstFault text fault)
 
 -- Where a token stands, no longer spelling of a token stands.
 abbrev pub LongestToken : Type 0

@@ -1,4 +1,5 @@
-use Rattle.std.specs.Prelude.{◌≡◌, ℕ, ◌+◌, true, false, ◌||◌, cond, Option, Some, None, List, [], ◌∷◌, ◌++◌, length, nat_eq}
+use Rattle.std.specs.Prelude.{◌≡◌, ℕ, ◌+◌, true, false, ◌||◌, cond, Option, Some, None, List, [], ◌∷◌, ◌++◌, length}
+use Rattle.std.specs.Prelude.{nat_eq}
 use Rattle.std.specs.List.{list_all}
 use Rattle.proto_lex.specs.Bytes.{is_blank, is_letter, is_digit, is_word, is_quote, starts}
 use Rattle.proto_lex.specs.Numbers.{IsInteger, IsFloat, run_of}
@@ -10,35 +11,38 @@ use Rattle.proto_lex.specs.declared.token.TokenKind.{TokenKind}
 use Rattle.proto_lex.specs.declared.token.TokenKind.TheVariants as kind
 use Rattle.proto_lex.specs.declared.token.Comment.{Comment}
 use Rattle.proto_lex.specs.declared.token.CommentKind.{CommentKind}
+use Rattle.proto_lex.specs.Ascii as ascii
 
 -- The tokens and comments of a text (proto3 specification, Lexical elements).
 
 -- the sign that is this one character
 abbrev pub sign_kind : ℕ → Option TokenKind
 sign_kind b =
-    cond (nat_eq b 59) (Some kind.Semicolon) (
-    cond (nat_eq b 61) (Some kind.Equals) (
-    cond (nat_eq b 123) (Some kind.OpenBrace) (
-    cond (nat_eq b 125) (Some kind.CloseBrace) (
-    cond (nat_eq b 91) (Some kind.OpenBracket) (
-    cond (nat_eq b 93) (Some kind.CloseBracket) (
-    cond (nat_eq b 40) (Some kind.OpenParenthesis) (
-    cond (nat_eq b 41) (Some kind.CloseParenthesis) (
-    cond (nat_eq b 60) (Some kind.Less) (
-    cond (nat_eq b 62) (Some kind.Greater) (
-    cond (nat_eq b 44) (Some kind.Comma) (
-    cond (nat_eq b 46) (Some kind.Dot) (
-    cond (nat_eq b 58) (Some kind.Colon) (
-    cond (nat_eq b 43) (Some kind.Plus) (
-    cond (nat_eq b 45) (Some kind.Minus) (
-    cond (nat_eq b 47) (Some kind.Slash) None)))))))))))))))
+    cond (nat_eq b ascii.semicolon) (Some kind.Semicolon) (
+    cond (nat_eq b ascii.equals) (Some kind.Equals) (
+    cond (nat_eq b ascii.open_brace) (Some kind.OpenBrace) (
+    cond (nat_eq b ascii.close_brace) (Some kind.CloseBrace) (
+    cond (nat_eq b ascii.open_bracket) (Some kind.OpenBracket) (
+    cond (nat_eq b ascii.close_bracket) (Some kind.CloseBracket) (
+    cond (nat_eq b ascii.open_parenthesis) (Some kind.OpenParenthesis) (
+    cond (nat_eq b ascii.close_parenthesis) (Some kind.CloseParenthesis) (
+    cond (nat_eq b ascii.less) (Some kind.Less) (
+    cond (nat_eq b ascii.greater) (Some kind.Greater) (
+    cond (nat_eq b ascii.comma) (Some kind.Comma) (
+    cond (nat_eq b ascii.dot) (Some kind.Dot) (
+    cond (nat_eq b ascii.colon) (Some kind.Colon) (
+    cond (nat_eq b ascii.plus) (Some kind.Plus) (
+    cond (nat_eq b ascii.minus) (Some kind.Minus) (
+    cond (nat_eq b ascii.slash) (Some kind.Slash) None)))))))))))))))
 
 -- the bytes spell a token of this kind
 pub data Spells : TokenKind → List ℕ → Type 0 where
-  identifier : {b : ℕ} {others : List ℕ} → is_letter b ≡ true → list_all is_word others ≡ true → Spells kind.Identifier (b ∷ others)
+  identifier : {b : ℕ} {others : List ℕ} → is_letter b ≡ true → list_all is_word others ≡ true
+      → Spells kind.Identifier (b ∷ others)
   integer : {word : List ℕ} → IsInteger word → Spells kind.Integer word
   float : {word : List ℕ} → IsFloat word → Spells kind.Float word
-  literal : {quote : ℕ} {others : List ℕ} → is_quote quote ≡ true → EndsLiteral quote others → Spells kind.StringLiteral (quote ∷ others)
+  literal : {quote : ℕ} {others : List ℕ} → is_quote quote ≡ true → EndsLiteral quote others
+      → Spells kind.StringLiteral (quote ∷ others)
   sign : {b : ℕ} {k : TokenKind} → sign_kind b ≡ Some k → Spells k (b ∷ [])
 
 -- such a word is a whole token where this rest of the text follows: an identifier doesn't go on, a number is its
@@ -48,7 +52,7 @@ IsWhole kind.Identifier word rest = starts is_word rest ≡ false
 IsWhole kind.Integer word rest = run_of (word ++ rest) ≡ word
 IsWhole kind.Float word rest = run_of (word ++ rest) ≡ word
 IsWhole kind.Dot word rest = starts is_digit rest ≡ false
-IsWhole kind.Slash word rest = starts (λ b. nat_eq b 47 || nat_eq b 42) rest ≡ false
+IsWhole kind.Slash word rest = starts (λ b. nat_eq b ascii.slash || nat_eq b ascii.star) rest ≡ false
 IsWhole _ word rest = Unit {0}
 
 -- the token of this kind, before the rest of the text
@@ -75,6 +79,8 @@ pub data LexesFrom : (at : ℕ) (bytes : List ℕ) → List Token → List Comme
 -- the text is a gap, a token, a gap and so on, where a gap is blanks and comments; a byte order mark at its very
 -- start is a blank (the profile's)
 pub data Lexes : (text : List ℕ) → (tokens : List Token) → (comments : List Comment) → Type 0 where
-  unmarked : {text : List ℕ} {tokens : List Token} {comments : List Comment} → LexesFrom 0 text tokens comments → Lexes text tokens comments
+  unmarked : {text : List ℕ} {tokens : List Token} {comments : List Comment} → LexesFrom 0 text tokens comments
+      → Lexes text tokens comments
   marked : {rest : List ℕ} {tokens : List Token} {comments : List Comment}
-      → LexesFrom 3 rest tokens comments → Lexes (239 ∷ (187 ∷ (191 ∷ rest))) tokens comments
+      → LexesFrom 3 rest tokens comments
+      → Lexes (ascii.mark_first ∷ (ascii.mark_second ∷ (ascii.mark_third ∷ rest))) tokens comments

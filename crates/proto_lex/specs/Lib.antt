@@ -3,6 +3,7 @@ pub mod Text
 pub mod Position
 pub mod PositionLaws
 -- what spells tokens and comments
+pub mod Ascii
 pub mod Bytes
 pub mod Numbers
 pub mod Literals

@@ -1,13 +1,15 @@
 -- The position of an offset: its line and its column.
-use Rattle.std.specs.Prelude.{ℕ, ◌≡◌, ◌+◌, ◌<◌, ◌≤◌, Bool, ◌==◌, nat_lt, if◌then◌else◌, List, [], ◌∷◌, take, count_by, sum_by}
+use Rattle.std.specs.Prelude.{ℕ, ◌≡◌, ◌+◌, ◌<◌, ◌≤◌, Bool, ◌==◌, nat_lt, if◌then◌else◌, List, [], ◌∷◌, take, count_by}
+use Rattle.std.specs.Prelude.{sum_by}
 use Rattle.std.specs.List.{after_last}
 use Rattle.proto_lex.specs.declared.position.Encoding.{Encoding}
 use Rattle.proto_lex.specs.declared.position.Encoding.TheVariants.{Utf8, Utf16}
 use Rattle.proto_lex.specs.declared.position.Position.{Position}
+use Rattle.proto_lex.specs.Ascii as ascii
 
 -- A line ends at `\n` alone.
 abbrev pub is_line_end : ℕ → Bool
-is_line_end byte = byte == 10
+is_line_end byte = byte == ascii.line_feed
 
 -- The offsets after the line ends of bytes that stand at an offset.
 abbrev pub later_line_starts : (at : ℕ) → List ℕ → List ℕ

@@ -1,12 +1,15 @@
-use Rattle.std.specs.Prelude.{◌≡◌, ℕ, zero, suc, ◌+◌, ◌-◌, ◌⊎◌, Bool, true, false, ◌||◌, ◌&&◌, not, cond, Option, Some, None, Result, Ok, Err, List, [], ◌∷◌, ◌++◌, length, take, drop, nat_eq, nat_le}
+use Rattle.std.specs.Prelude.{◌≡◌, ℕ, zero, suc, ◌+◌, ◌-◌, ◌⊎◌, Bool, true, false, ◌||◌, ◌&&◌, not, cond, Option, Some}
+use Rattle.std.specs.Prelude.{None, Result, Ok, Err, List, [], ◌∷◌, ◌++◌, length, take, drop, nat_eq, nat_le}
 use Rattle.std.specs.List.{list_all, prefix_len}
-use Rattle.proto_lex.specs.Bytes.{is_blank, is_letter, is_digit, is_octal_digit, is_hex_digit, is_word, is_plus_or_minus, is_exponent_mark, is_hex_mark, is_quote, starts}
+use Rattle.proto_lex.specs.Bytes.{is_blank, is_letter, is_digit, is_octal_digit, is_hex_digit, is_word}
+use Rattle.proto_lex.specs.Bytes.{is_plus_or_minus, is_exponent_mark, is_hex_mark, is_quote, starts}
 use Rattle.proto_lex.specs.Numbers.{begins_number, run_of}
 use Rattle.proto_lex.specs.Literals.{is_escape_letter}
 use Rattle.proto_lex.specs.Comments.{begins_close}
 use Rattle.proto_lex.specs.Lexes.{sign_kind, part}
 use Rattle.proto_lex.specs.declared.fault.LexFault.{LexFault}
-use Rattle.proto_lex.specs.declared.fault.LexFault.TheVariants.{Memory, BadByte, OpenString, OpenComment, BadEscape, BadNumber}
+use Rattle.proto_lex.specs.declared.fault.LexFault.TheVariants.{Memory, BadByte, OpenString, OpenComment, BadEscape}
+use Rattle.proto_lex.specs.declared.fault.LexFault.TheVariants.{BadNumber}
 use Rattle.proto_lex.specs.declared.lexer.piece.Piece.{Piece}
 use Rattle.proto_lex.specs.declared.lexer.piece.PieceKind.{PieceKind}
 use Rattle.proto_lex.specs.declared.lexer.piece.PieceKind.TheVariants as piece
@@ -16,6 +19,7 @@ use Rattle.proto_lex.specs.declared.token.TokenKind.{TokenKind}
 use Rattle.proto_lex.specs.declared.token.TokenKind.TheVariants as kind
 use Rattle.proto_lex.specs.declared.token.Comment.{Comment}
 use Rattle.proto_lex.specs.declared.token.CommentKind.TheVariants as comment
+use Rattle.proto_lex.specs.Ascii as ascii
 
 -- What the lexer's private functions give, with the fault that comes first. Public contracts speak of `Lexes`.
 
@@ -32,7 +36,7 @@ abbrev pub past : (ℕ → Bool) → List ℕ → List ℕ
 past test bytes = drop (prefix_len test bytes) bytes
 
 abbrev pub is_in_line : ℕ → Bool
-is_in_line b = not (nat_eq b 10)
+is_in_line b = not (nat_eq b ascii.line_feed)
 
 -- numbers
 
@@ -50,7 +54,7 @@ is_zero_integer (x ∷ others) = cond (is_hex_mark x) (are_hex_digits others) (l
 
 abbrev pub is_integer : List ℕ → Bool
 is_integer [] = false
-is_integer (d ∷ others) = cond (nat_eq d 48) (is_zero_integer others) (is_digit d && list_all is_digit others)
+is_integer (d ∷ others) = cond (nat_eq d ascii.zero) (is_zero_integer others) (is_digit d && list_all is_digit others)
 
 abbrev pub past_sign : List ℕ → List ℕ
 past_sign [] = []
@@ -65,12 +69,13 @@ ends_fraction bytes = is_exponent_or_none (past is_digit bytes)
 
 abbrev pub ends_whole : List ℕ → Bool
 ends_whole [] = false
-ends_whole (b ∷ others) = cond (nat_eq b 46) (ends_fraction others) (is_exponent_or_none (b ∷ others))
+ends_whole (b ∷ others) = cond (nat_eq b ascii.dot) (ends_fraction others) (is_exponent_or_none (b ∷ others))
 
 abbrev pub is_float : List ℕ → Bool
 is_float [] = false
 is_float (b ∷ others) =
-    cond (nat_eq b 46) (starts is_digit others && ends_fraction others) (is_digit b && ends_whole (past is_digit others))
+    cond (nat_eq b ascii.dot) (starts is_digit others && ends_fraction others)
+    (is_digit b && ends_whole (past is_digit others))
 
 abbrev pub number_kind : List ℕ → Option TokenKind
 number_kind run = cond (is_integer run) (Some kind.Integer) (cond (is_float run) (Some kind.Float) None)
@@ -92,11 +97,12 @@ begins_with_hex count bytes = nat_le count (length bytes) && list_all is_hex_dig
 
 abbrev pub begins_last_unicode : List ℕ → Bool
 begins_last_unicode [] = false
-begins_last_unicode (d ∷ others) = nat_eq d 48 && begins_with_hex 4 others
+begins_last_unicode (d ∷ others) = nat_eq d ascii.zero && begins_with_hex 4 others
 
 abbrev pub begins_long_unicode : List ℕ → Bool
 begins_long_unicode (a ∷ (b ∷ (c ∷ others))) =
-    nat_eq a 48 && nat_eq b 48 && cond (nat_eq c 48) (begins_with_hex 5 others) (nat_eq c 49 && begins_last_unicode others)
+    nat_eq a ascii.zero && nat_eq b ascii.zero
+    && cond (nat_eq c ascii.zero) (begins_with_hex 5 others) (nat_eq c ascii.one && begins_last_unicode others)
 begins_long_unicode _ = false
 
 -- how many bytes an escape takes after its `\`; a second hexadecimal digit, and a second and third octal one, are
@@ -106,8 +112,8 @@ escape_len [] = None
 escape_len (b ∷ others) =
     cond (is_escape_letter b || is_octal_digit b) (Some 1) (
     cond (is_hex_mark b) (cond (begins_with_hex 1 others) (Some 2) None) (
-    cond (nat_eq b 117) (cond (begins_with_hex 4 others) (Some 5) None) (
-    cond (nat_eq b 85) (cond (begins_long_unicode others) (Some 9) None) None)))
+    cond (nat_eq b ascii.lower_u) (cond (begins_with_hex 4 others) (Some 5) None) (
+    cond (nat_eq b ascii.upper_u) (cond (begins_long_unicode others) (Some 9) None) None)))
 
 abbrev pub escaped : ℕ → Option ℕ → Read ℕ
 escaped at None = Err (BadEscape at)
@@ -116,9 +122,9 @@ escaped at (Some len) = Ok (len + 1)
 -- how many bytes the character b, or the escape that it begins, takes in a string that opens at a place
 unfoldable pub character_at : (opening at b : ℕ) → List ℕ → Read ℕ
 character_at opening at b others =
-    cond (nat_eq b 10) (Err (OpenString opening)) (
-    cond (nat_eq b 0) (Err (BadByte at)) (
-    cond (nat_eq b 92) (escaped at (escape_len others)) (Ok 1)))
+    cond (nat_eq b ascii.line_feed) (Err (OpenString opening)) (
+    cond (nat_eq b ascii.nul) (Err (BadByte at)) (
+    cond (nat_eq b ascii.backslash) (escaped at (escape_len others)) (Ok 1)))
 
 -- how many bytes a string takes, of which so many were read and the next `skip` are known to be in it
 unfoldable pub literal_at : (quote opening skip len : ℕ) → List ℕ → Read ℕ
@@ -146,8 +152,9 @@ past_first (b ∷ others) = others
 
 abbrev pub slash_at : ℕ → List ℕ → Read Piece
 slash_at at others =
-    cond (starts (nat_eq 47) others) (Ok (record { kind = piece.Comment comment.Line; len = 1 + prefix_len is_in_line others })) (
-    cond (starts (nat_eq 42) others) (blocked at (block_at 2 (past_first others))) (Ok (token kind.Slash 1)))
+    cond (starts (nat_eq ascii.slash) others)
+    (Ok (record { kind = piece.Comment comment.Line; len = 1 + prefix_len is_in_line others })) (
+    cond (starts (nat_eq ascii.star) others) (blocked at (block_at 2 (past_first others))) (Ok (token kind.Slash 1)))
 
 abbrev pub signed : ℕ → Option TokenKind → Read Piece
 signed at None = Err (BadByte at)
@@ -160,7 +167,7 @@ piece_at at (b ∷ others) =
     cond (is_letter b) (Ok (token kind.Identifier (1 + prefix_len is_word others))) (
     cond (begins_number (b ∷ others)) (number_at at (b ∷ others)) (
     cond (is_quote b) (literal_at b at 0 1 others >>= λ len. Ok (token kind.StringLiteral len)) (
-    cond (nat_eq b 47) (slash_at at others) (
+    cond (nat_eq b ascii.slash) (slash_at at others) (
     signed at (sign_kind b))))))
 
 -- the whole text
@@ -180,24 +187,29 @@ joined front (Ok later) = Ok (pieces (front.tokens ++ later.tokens) (front.comme
 -- the pieces read so far, and the one at a span
 abbrev pub with_last : Pieces → PieceKind → Span → Pieces
 with_last front piece.Blank span = front
-with_last front (piece.Comment k) span = record front { comments = front.comments ++ record { kind = k; span = span } ∷ [] }
+with_last front (piece.Comment k) span =
+    record front { comments = front.comments ++ record { kind = k; span = span } ∷ [] }
 with_last front (piece.Token k) span = record front { tokens = front.tokens ++ record { kind = k; span = span } ∷ [] }
 
 -- a piece, and those after it
 abbrev pub with_first : PieceKind → ℕ → ℕ → Pieces → Pieces
 with_first piece.Blank at len later = later
-with_first (piece.Comment k) at len later = record later { comments = record { kind = k; span = part at len } ∷ later.comments }
-with_first (piece.Token k) at len later = record later { tokens = record { kind = k; span = part at len } ∷ later.tokens }
+with_first (piece.Comment k) at len later =
+    record later { comments = record { kind = k; span = part at len } ∷ later.comments }
+with_first (piece.Token k) at len later =
+    record later { tokens = record { kind = k; span = part at len } ∷ later.tokens }
 
 -- the pieces from a place on, where the next `skip` bytes belong to the piece before
 unfoldable pub pieces_at : (skip at : ℕ) → List ℕ → Read Pieces
 pieces_at skip at [] = Ok (pieces [] [])
 pieces_at (suc skip) at (b ∷ others) = pieces_at skip (at + 1) others
 pieces_at zero at (b ∷ others) =
-    piece_at at (b ∷ others) >>= λ p. pieces_at (p.len - 1) (at + 1) others >>= λ later. Ok (with_first p.kind at p.len later)
+    piece_at at (b ∷ others) >>= λ p. pieces_at (p.len - 1) (at + 1) others >>= λ later. Ok
+    (with_first p.kind at p.len later)
 
 abbrev pub mark_len : List ℕ → ℕ
-mark_len (a ∷ (b ∷ (c ∷ rest))) = cond (nat_eq a 239 && nat_eq b 187 && nat_eq c 191) 3 0
+mark_len (a ∷ (b ∷ (c ∷ rest))) =
+    cond (nat_eq a ascii.mark_first && nat_eq b ascii.mark_second && nat_eq c ascii.mark_third) 3 0
 mark_len _ = 0
 
 unfoldable pub pieces_of : List ℕ → Read Pieces

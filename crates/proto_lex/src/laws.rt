@@ -1,7 +1,9 @@
 //! Laws: what the definitions say of texts, tokens and positions, whatever the code does.
 
-ghost use Rattle.proto_lex.specs.LexLaws.{OneTokens, OneComments, OneFirstFault, NoFaultWhereItLexes, LexesOrFaults, LongestToken};
-ghost use Rattle.proto_lex.specs.PositionLaws.{CharactersRise, BytesRise, LinesFit, ColumnsFit, ByteColumnsFit, ColumnsCountUtf16, Utf16ColumnsFit};
+ghost use Rattle.proto_lex.specs.LexLaws.{OneTokens, OneComments, OneFirstFault, NoFaultWhereItLexes, LexesOrFaults};
+ghost use Rattle.proto_lex.specs.LexLaws.{LongestToken};
+ghost use Rattle.proto_lex.specs.PositionLaws.{CharactersRise, BytesRise, LinesFit, ColumnsFit, ByteColumnsFit};
+ghost use Rattle.proto_lex.specs.PositionLaws.{ColumnsCountUtf16, Utf16ColumnsFit};
 
 /// Positions of one text keep the order of their offsets.
 pub fn positions_rise()

@@ -31,7 +31,8 @@ struct Pieces {
 
 /// Adds what stands at `span`, if it is a token or a comment.
 fn push_piece(found: &mut Pieces, kind: PieceKind, span: Span) -> Result<(), LexFault>
-    ensures pushed { OnOk result (pieces found.new.tokens.items found.new.comments.items ≡ with_last (pieces found.old.tokens.items found.old.comments.items) kind span) }
+    ensures pushed { OnOk result (pieces found.new.tokens.items found.new.comments.items
+        ≡ with_last (pieces found.old.tokens.items found.old.comments.items) kind span) }
     ensures memory { IfErr result (λ fault. fault ≡ LexFault.Memory) }
 {
     match kind {

@@ -36,7 +36,8 @@ impl<'a> Model for Text<'a> {
 
     ghost view = { λ inside. inside.text.now };
 
-    ghost invariant = { λ inside. IsText inside.text.now × (inside.line_starts.items ≡ spec.line_starts inside.text.now) };
+    ghost invariant = { λ inside. IsText inside.text.now
+        × (inside.line_starts.items ≡ spec.line_starts inside.text.now) };
 }
 
 impl<'a> Text<'a> {
@@ -101,7 +102,8 @@ impl<'a> Text<'a> {
     /// The line of `offset`, whose start is the last that is not after it.
     fn line_at(&self, offset: usize) -> usize
         ensures within { result < length (line_starts self.now) }
-        ensures parted { IsPartitionPoint (λ start. start ≤ offset) (λ start. offset < start) (line_starts self.now) (result + 1) }
+        ensures parted { IsPartitionPoint (λ start. start ≤ offset) (λ start. offset < start) (line_starts self.now)
+            (result + 1) }
     {
         self.line_starts
             .partition_point(|start| *start as usize <= offset)

@@ -25,12 +25,17 @@ impl<'a> Model for Tokens<'a> {
 
     ghost Value = { Lexed };
 
-    ghost view = { λ inside. record { text = inside.text.now; tokens = inside.tokens.items; comments = inside.comments.items } };
+    ghost view = { λ inside. record {
+      text = inside.text.now;
+      tokens = inside.tokens.items;
+      comments = inside.comments.items;
+    } };
 
     ghost invariant = { λ inside. IsLexed inside.text.now inside.tokens.items inside.comments.items };
 }
 
 impl<'a> Tokens<'a> {
+    /// A text with its only lexing. Takes no memory.
     pub(crate) fn new(text: &'a Text<'a>, tokens: Vec<Token>, comments: Vec<Comment>) -> Tokens<'a>
         requires { IsLexed text.now tokens.items comments.items }
         ensures { result ≡ record { text = text.now; tokens = tokens.items; comments = comments.items } }
@@ -67,7 +72,8 @@ impl<'a> Tokens<'a> {
         ensures in_order { AreInOrder 0 (map (λ c. c.span) self.now.comments) }
 
         // A line comment goes up to the end of its line, a block comment up to its first `*/`.
-        ensures spelled { All (λ c. IsComment c.kind (part_of self.now.text c.span) (drop c.span.end self.now.text)) self.now.comments }
+        ensures spelled { All (λ c. IsComment c.kind (part_of self.now.text c.span)
+            (drop c.span.end self.now.text)) self.now.comments }
 
         // No token overlaps a comment.
         ensures apart { All (λ t. All (λ c. AreApart t.span c.span) self.now.comments) self.now.tokens }

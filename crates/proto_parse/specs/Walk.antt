@@ -29,22 +29,32 @@ pub data Mark : Type 0 where
   Literal : (span : Span) → Mark
   Other : (span : Span) → Mark
 
--- The marks are at tokens, in the order of the tokens. A declaration's first token may be the next mark's too; any other mark has its token for itself.
+-- The marks are at tokens, in the order of the tokens. A declaration's first token may be the next mark's too; any
+-- other mark has its token for itself.
 pub data Among : List Mark → List Lexeme → Type 0 where
   none : {tokens : List Lexeme} → Among [] tokens
   skip : {marks : List Mark} {t : Lexeme} {rest : List Lexeme} → Among marks rest → Among marks (t ∷ rest)
-  first : {marks : List Mark} {t : Lexeme} {rest : List Lexeme} → Among marks (t ∷ rest) → Among (First t.span ∷ marks) (t ∷ rest)
-  name : {marks : List Mark} {t : Lexeme} {rest : List Lexeme} → t.kind ≡ Identifier → Among marks rest → Among (Name t.span ∷ marks) (t ∷ rest)
-  literal : {marks : List Mark} {t : Lexeme} {rest : List Lexeme} → t.kind ≡ StringLiteral → Among marks rest → Among (Literal t.span ∷ marks) (t ∷ rest)
-  other : {marks : List Mark} {t : Lexeme} {rest : List Lexeme} → Among marks rest → Among (Other t.span ∷ marks) (t ∷ rest)
+  first : {marks : List Mark} {t : Lexeme} {rest : List Lexeme} → Among marks (t ∷ rest)
+      → Among (First t.span ∷ marks) (t ∷ rest)
+  name : {marks : List Mark} {t : Lexeme} {rest : List Lexeme} → t.kind ≡ Identifier → Among marks rest
+      → Among (Name t.span ∷ marks) (t ∷ rest)
+  literal : {marks : List Mark} {t : Lexeme} {rest : List Lexeme} → t.kind ≡ StringLiteral → Among marks rest
+      → Among (Literal t.span ∷ marks) (t ∷ rest)
+  other : {marks : List Mark} {t : Lexeme} {rest : List Lexeme} → Among marks rest
+      → Among (Other t.span ∷ marks) (t ∷ rest)
 
--- Each mark begins at the place or behind it; behind a declaration's first token the next one begins where it does or behind, behind another mark where that one ends or behind.
+-- Each mark begins at the place or behind it; behind a declaration's first token the next one begins where it does or
+-- behind, behind another mark where that one ends or behind.
 abbrev pub MarksAreInOrder : (place : ℕ) → List Mark → Type 0
 MarksAreInOrder place [] = Unit {0}
-MarksAreInOrder place (First span ∷ marks) = (place ≤ span.start) × (span.start < span.end) × MarksAreInOrder span.start marks
-MarksAreInOrder place (Name span ∷ marks) = (place ≤ span.start) × (span.start < span.end) × MarksAreInOrder span.end marks
-MarksAreInOrder place (Literal span ∷ marks) = (place ≤ span.start) × (span.start < span.end) × MarksAreInOrder span.end marks
-MarksAreInOrder place (Other span ∷ marks) = (place ≤ span.start) × (span.start < span.end) × MarksAreInOrder span.end marks
+MarksAreInOrder place (First span ∷ marks) =
+    (place ≤ span.start) × (span.start < span.end) × MarksAreInOrder span.start marks
+MarksAreInOrder place (Name span ∷ marks) =
+    (place ≤ span.start) × (span.start < span.end) × MarksAreInOrder span.end marks
+MarksAreInOrder place (Literal span ∷ marks) =
+    (place ≤ span.start) × (span.start < span.end) × MarksAreInOrder span.end marks
+MarksAreInOrder place (Other span ∷ marks) =
+    (place ≤ span.start) × (span.start < span.end) × MarksAreInOrder span.end marks
 
 -- The marks of each of a list, in order, before others.
 abbrev pub each_then : {A : Type 0} → (A → List Mark → List Mark) → List A → List Mark → List Mark
@@ -76,10 +86,12 @@ abbrev pub heading_then : Heading → List Mark → List Mark
 heading_then heading marks = First heading.first ∷ (Name heading.name ∷ (Other heading.closing ∷ marks))
 
 abbrev pub field_then : Field → List Mark → List Mark
-field_then field marks = First field.heading.first ∷ type_then field.field_type (Name field.heading.name ∷ (Other field.heading.closing ∷ marks))
+field_then field marks = First field.heading.first
+    ∷ type_then field.field_type (Name field.heading.name ∷ (Other field.heading.closing ∷ marks))
 
 abbrev pub map_field_then : MapField → List Mark → List Mark
-map_field_then field marks = First field.heading.first ∷ (Name field.key ∷ type_then field.value (Name field.heading.name ∷ (Other field.heading.closing ∷ marks)))
+map_field_then field marks = First field.heading.first
+    ∷ (Name field.key ∷ type_then field.value (Name field.heading.name ∷ (Other field.heading.closing ∷ marks)))
 
 abbrev pub enum_then : Enum → List Mark → List Mark
 enum_then enum marks = heading_then enum.heading (each_then heading_then enum.values marks)
@@ -103,7 +115,8 @@ message_then message marks = heading_then message.heading (body_then message.bod
 
 abbrev pub method_then : Method → List Mark → List Mark
 method_then method marks =
-    First method.heading.first ∷ (Name method.heading.name ∷ type_name_then method.input (type_name_then method.output (Other method.heading.closing ∷ marks)))
+    First method.heading.first ∷ (Name method.heading.name
+    ∷ type_name_then method.input (type_name_then method.output (Other method.heading.closing ∷ marks)))
 
 abbrev pub service_then : Service → List Mark → List Mark
 service_then service marks = heading_then service.heading (each_then method_then service.methods marks)
@@ -126,11 +139,13 @@ marks_of_imports file = each_then import_then file.imports []
 abbrev pub marks_of_package : File → List Mark
 marks_of_package file = each_then names_then (option_to_list file.package_name) []
 
--- The spans of the package's name stand between those of the items before the package statement and those of the items behind it.
+-- The spans of the package's name stand between those of the items before the package statement and those of the items
+-- behind it.
 abbrev pub IsAmongItems : (components : List Span) → List FileItem → List Lexeme → Type 0
 IsAmongItems components items tokens =
     (before : List FileItem)
-    × ((behind : List FileItem) × ((items ≡ before ++ behind) × Among (each_then item_then before (names_then components (each_then item_then behind []))) tokens))
+    × ((behind : List FileItem) × ((items ≡ before ++ behind)
+    × Among (each_then item_then before (names_then components (each_then item_then behind []))) tokens))
 
 abbrev pub PackageIsAmongItems : Option (List Span) → List FileItem → List Lexeme → Type 0
 PackageIsAmongItems None items tokens = Unit {0}

@@ -62,6 +62,7 @@ fn enum_item(parser: &mut Parser<'_>, custom: CustomOptions) -> Result<Option<He
     Ok(Some(value(parser, custom)?))
 }
 
+/// What stands before an enum's closing brace: its values.
 fn enum_items(
     parser: &mut Parser<'_>,
     alloc: Global,

@@ -4,7 +4,9 @@ ghost use Rattle.std.specs.Prelude.{◌≡◌, codes};
 ghost use Rattle.proto_parse.specs.Choice.{file_statement_of};
 ghost use Rattle.proto_grammar.specs.Gives.{Gives};
 ghost use Rattle.proto_grammar.specs.declared.tree.CustomOptions.TheVariants.{Skip};
-ghost use Rattle.proto_parse.specs.Reading.Files.{stripped_at, spelled_at, syntax_at, import_kind_at, path_literal_at, path_literals_at, import_at, package_at, only_package_at, statement_at, statements_at, file_at};
+ghost use Rattle.proto_parse.specs.Reading.Files.{stripped_at, spelled_at, syntax_at, import_kind_at, path_literal_at};
+ghost use Rattle.proto_parse.specs.Reading.Files.{path_literals_at, import_at, package_at, only_package_at};
+ghost use Rattle.proto_parse.specs.Reading.Files.{statement_at, statements_at, file_at};
 
 use crate::enums::enumeration;
 use crate::messages::{MAX_MESSAGE_DEPTH, extend, message};
@@ -74,6 +76,7 @@ fn syntax(parser: &mut Parser<'_>) -> Result<(), SyntaxFault>
     Ok(())
 }
 
+/// The word `weak` or `public` of an import, if one stands next.
 #[tactic(auto, unfolding(crate::specs::Reading::Files::import_kind_at))]
 fn import_kind(parser: &mut Parser<'_>) -> Result<ImportKind, SyntaxFault>
     ensures { Gives Skip (λ x. x) parser.new result (import_kind_at parser.old) }
@@ -89,6 +92,7 @@ fn import_kind(parser: &mut Parser<'_>) -> Result<ImportKind, SyntaxFault>
     Ok(ImportKind::Plain)
 }
 
+/// One literal of a path, which is kept.
 #[tactic(auto, unfolding(crate::specs::Reading::Files::path_literal_at))]
 fn path_literal(parser: &mut Parser<'_>) -> Result<Option<Span>, SyntaxFault>
     ensures { Gives Skip (λ x. x) parser.new result (path_literal_at parser.old) }

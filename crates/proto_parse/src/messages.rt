@@ -6,7 +6,9 @@ ghost use Rattle.proto_grammar.specs.Gives.{Gives};
 ghost use Rattle.proto_grammar.specs.declared.tree.CustomOptions.TheVariants.{Skip};
 ghost use Rattle.proto_grammar.specs.Terminal.{closes};
 ghost use Rattle.proto_grammar.specs.Reading.Steps.{until_at, adding};
-ghost use Rattle.proto_parse.specs.Reading.Messages.{oneof_item_at, oneof_items_at, oneof_at, extend_item_at, extend_items_at, extend_at, message_item_at, message_of_at, message_at};
+ghost use Rattle.proto_parse.specs.Reading.Messages.{oneof_item_at, oneof_items_at, oneof_at, extend_item_at};
+ghost use Rattle.proto_parse.specs.Reading.Messages.{extend_items_at, extend_at, message_item_at, message_of_at};
+ghost use Rattle.proto_parse.specs.Reading.Messages.{message_at};
 
 use crate::enums::{enumeration, heading};
 use crate::statement::MessageStatement;
@@ -40,6 +42,7 @@ fn oneof_item(
     Ok(Some(parser.oneof_field(alloc, custom)?))
 }
 
+/// What stands before a oneof's closing brace: its fields.
 fn oneof_items(
     parser: &mut Parser<'_>,
     alloc: Global,
@@ -70,6 +73,7 @@ fn oneof(
     Ok(Oneof { heading, fields })
 }
 
+/// What stands in an extend: a lone `;` or a field, neither of which is kept.
 #[tactic(auto, unfolding(crate::specs::Reading::Messages::extend_item_at))]
 fn extend_item(parser: &mut Parser<'_>) -> Result<(), SyntaxFault>
     ensures { Gives Skip (λ x. x) parser.new result (extend_item_at parser.old) }
@@ -81,6 +85,7 @@ fn extend_item(parser: &mut Parser<'_>) -> Result<(), SyntaxFault>
     parser.pass_field(CustomOptions::Skip)
 }
 
+/// What stands before an extend's closing brace.
 fn extend_items(parser: &mut Parser<'_>) -> Result<(), SyntaxFault>
     ensures { Gives Skip (λ x. x) parser.new result (extend_items_at parser.old) }
 {
@@ -143,9 +148,8 @@ fn message_statement(parser: &Parser<'_>) -> MessageStatement
     MessageStatement::Field
 }
 
-/// A message, in which at most `levels` messages stand inside one another, itself
-/// the outermost (proto3 specification,
-/// "Message definition").
+/// A message, in which at most `levels` messages stand inside one another, itself the outermost
+/// (proto3 specification, "Message definition").
 #[cycle(parser)]
 #[tactic(auto, unfolding(crate::specs::Reading::Messages::message_at, crate::specs::Reading::Messages::message_of_at))]
 pub(crate) fn message(
@@ -173,7 +177,8 @@ fn items(
     custom: CustomOptions,
     levels: usize,
 ) -> Result<Vec<MessageItem>, SyntaxFault>
-    ensures { Gives custom (λ x. x.items) parser.new result (until_at closes (adding (message_item_at custom (message_at custom levels))) [] parser.old) }
+    ensures { Gives custom (λ x. x.items) parser.new result
+        (until_at closes (adding (message_item_at custom (message_at custom levels))) [] parser.old) }
 {
     let mut items = Vec::new(alloc);
     'items: while !parser.is_at(TokenKind::CloseBrace) {

@@ -3,7 +3,9 @@
 ghost use Rattle.std.specs.Prelude.{◌≡◌};
 ghost use Rattle.proto_grammar.specs.Gives.{Gives};
 ghost use Rattle.proto_grammar.specs.declared.tree.CustomOptions.TheVariants.{Skip};
-ghost use Rattle.proto_parse.specs.Reading.Services.{stream_at, method_type_at, method_item_at, method_items_at, method_body_at, method_end_at, method_at, service_item_at, service_items_at, service_at};
+ghost use Rattle.proto_parse.specs.Reading.Services.{stream_at, method_type_at, method_item_at, method_items_at};
+ghost use Rattle.proto_parse.specs.Reading.Services.{method_body_at, method_end_at, method_at, service_item_at};
+ghost use Rattle.proto_parse.specs.Reading.Services.{service_items_at, service_at};
 
 use crate::enums::heading;
 use proto_grammar::{CustomOptions, Heading, Method, Parser, Service, SyntaxFault, TypeName, keep};
@@ -34,6 +36,7 @@ fn method_type(parser: &mut Parser<'_>, alloc: Global) -> Result<TypeName, Synta
     Ok(name)
 }
 
+/// What stands in a method's body: a lone `;` or an option.
 #[tactic(auto, unfolding(crate::specs::Reading::Services::method_item_at))]
 fn method_item(parser: &mut Parser<'_>, custom: CustomOptions) -> Result<(), SyntaxFault>
     ensures { Gives custom (λ x. x) parser.new result (method_item_at custom parser.old) }
@@ -45,6 +48,7 @@ fn method_item(parser: &mut Parser<'_>, custom: CustomOptions) -> Result<(), Syn
     parser.option(custom)
 }
 
+/// What stands before the closing brace of a method's body.
 fn method_items(parser: &mut Parser<'_>, custom: CustomOptions) -> Result<(), SyntaxFault>
     ensures { Gives custom (λ x. x) parser.new result (method_items_at custom parser.old) }
 {
@@ -54,6 +58,7 @@ fn method_items(parser: &mut Parser<'_>, custom: CustomOptions) -> Result<(), Sy
     Ok(())
 }
 
+/// A method's body. Gives its `{`.
 #[tactic(auto, unfolding(crate::specs::Reading::Services::method_body_at))]
 fn method_body(parser: &mut Parser<'_>, custom: CustomOptions) -> Result<Span, SyntaxFault>
     ensures { Gives custom (λ x. x) parser.new result (method_body_at custom parser.old) }
@@ -75,6 +80,7 @@ fn method_end(parser: &mut Parser<'_>, custom: CustomOptions) -> Result<Span, Sy
     method_body(parser, custom)
 }
 
+/// A method (proto3 specification, "Service definition").
 #[tactic(auto, unfolding(crate::specs::Reading::Services::method_at))]
 fn method(
     parser: &mut Parser<'_>,
@@ -121,6 +127,7 @@ fn service_item(
     Ok(Some(method(parser, alloc, custom)?))
 }
 
+/// What stands before a service's closing brace: its methods.
 fn service_items(
     parser: &mut Parser<'_>,
     alloc: Global,

@@ -1,7 +1,8 @@
 -- Fields (proto3 specification, "Normal field", "Oneof and oneof field" and "Map field").
 use Rattle.std.specs.Prelude.{◌≡◌, false, Option, Some, None, List, ◌∷◌, codes}
 use Rattle.proto_lex.specs.declared.span.Span.{Span}
-use Rattle.proto_lex.specs.declared.token.TokenKind.TheVariants.{Identifier, Integer, Semicolon, Equals, Less, Greater, Comma}
+use Rattle.proto_lex.specs.declared.token.TokenKind.TheVariants.{Identifier, Integer, Semicolon, Equals, Less, Greater}
+use Rattle.proto_lex.specs.declared.token.TokenKind.TheVariants.{Comma}
 use Rattle.proto_grammar.specs.declared.tree.CustomOptions.{CustomOptions}
 use Rattle.proto_grammar.specs.declared.tree.Heading.{Heading}
 use Rattle.proto_grammar.specs.declared.tree.Label.{Label}
@@ -18,7 +19,8 @@ use Rattle.proto_grammar.specs.Grammar.Options.{IsOptions}
 -- IDENT "=" INT [ fieldOptions ] ";", of a field that begins with the first token.
 pub data IsNumbered (custom : CustomOptions) (first : Span) : List Lexeme → Heading → List Lexeme → Type 0 where
   numbered : {a b c d e f : List Lexeme} {name equals number closing : Span}
-      → One (of_kind Identifier) a name b → One (of_kind Equals) b equals c → One (of_kind Integer) c number d → IsOptions custom d e → One (of_kind Semicolon) e closing f
+      → One (of_kind Identifier) a name b → One (of_kind Equals) b equals c → One (of_kind Integer) c number d
+      → IsOptions custom d e → One (of_kind Semicolon) e closing f
       → IsNumbered custom first a (record { first = first; name = name; closing = closing }) f
 
 -- type IDENT "=" INT [ fieldOptions ] ";", of a field with this first token and label.
@@ -31,7 +33,8 @@ pub data IsTyped (custom : CustomOptions) (first : Span) (label : Option Label) 
 pub data IsLabel : List Lexeme → Option Label → List Lexeme → Type 0 where
   repeated : {a b : List Lexeme} {word : Span} → One (is_word (codes "repeated")) a word b → IsLabel a (Some Repeated) b
   optional : {a b : List Lexeme} {word : Span} → One (is_word (codes "optional")) a word b → IsLabel a (Some Optional) b
-  no_label : {a : List Lexeme} → first_is (is_word (codes "repeated")) a ≡ false → first_is (is_word (codes "optional")) a ≡ false → IsLabel a None a
+  no_label : {a : List Lexeme} → first_is (is_word (codes "repeated")) a ≡ false
+      → first_is (is_word (codes "optional")) a ≡ false → IsLabel a None a
 
 -- field = [ "repeated" | "optional" ] type IDENT "=" INT [ fieldOptions ] ";"
 pub data IsField (custom : CustomOptions) : List Lexeme → Field → List Lexeme → Type 0 where
@@ -40,11 +43,13 @@ pub data IsField (custom : CustomOptions) : List Lexeme → Field → List Lexem
 
 -- oneofField = type IDENT "=" INT [ fieldOptions ] ";"
 pub data IsOneofField (custom : CustomOptions) : List Lexeme → Field → List Lexeme → Type 0 where
-  oneof_field : {t : Lexeme} {rest b : List Lexeme} {field : Field} → IsTyped custom t.span None (t ∷ rest) field b → IsOneofField custom (t ∷ rest) field b
+  oneof_field : {t : Lexeme} {rest b : List Lexeme} {field : Field} → IsTyped custom t.span None (t ∷ rest) field b
+      → IsOneofField custom (t ∷ rest) field b
 
 -- mapField = "map" "<" KEY "," type ">" IDENT "=" INT [ fieldOptions ] ";"
 pub data IsMapField (custom : CustomOptions) : List Lexeme → MapField → List Lexeme → Type 0 where
   map_field : {a b c d e f g h : List Lexeme} {first less key comma greater : Span} {value : FieldType} {heading : Heading}
-      → One (is_word (codes "map")) a first b → One (of_kind Less) b less c → One is_key c key d → One (of_kind Comma) d comma e
+      → One (is_word (codes "map")) a first b → One (of_kind Less) b less c → One is_key c key d
+      → One (of_kind Comma) d comma e
       → IsType e value f → One (of_kind Greater) f greater g → IsNumbered custom first g heading h
       → IsMapField custom a (record { heading = heading; key = key; value = value }) h

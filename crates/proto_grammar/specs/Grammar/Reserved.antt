@@ -9,8 +9,10 @@ use Rattle.proto_grammar.specs.Grammar.Options.{IsStrings}
 
 -- INT. Where numbers may be negative, [ "-" ] INT.
 pub data IsInteger : (negative : Bool) → List Lexeme → List Lexeme → Type 0 where
-  plain : {negative : Bool} {a b : List Lexeme} {number : Span} → One (of_kind Integer) a number b → IsInteger negative a b
-  minus : {a b c : List Lexeme} {minus number : Span} → One (of_kind Minus) a minus b → One (of_kind Integer) b number c → IsInteger true a c
+  plain : {negative : Bool} {a b : List Lexeme} {number : Span} → One (of_kind Integer) a number b
+      → IsInteger negative a b
+  minus : {a b c : List Lexeme} {minus number : Span} → One (of_kind Minus) a minus b
+      → One (of_kind Integer) b number c → IsInteger true a c
 
 -- INT | "max", the end of a range
 pub data IsRangeEnd (negative : Bool) : List Lexeme → List Lexeme → Type 0 where
@@ -20,7 +22,8 @@ pub data IsRangeEnd (negative : Bool) : List Lexeme → List Lexeme → Type 0 w
 -- range = INT [ "to" ( INT | "max" ) ]
 -- enumRange = [ "-" ] INT [ "to" ( [ "-" ] INT | "max" ) ]
 pub data IsRange (negative : Bool) : List Lexeme → List Lexeme → Type 0 where
-  single : {a b : List Lexeme} → IsInteger negative a b → first_is (is_word (codes "to")) b ≡ false → IsRange negative a b
+  single : {a b : List Lexeme} → IsInteger negative a b → first_is (is_word (codes "to")) b ≡ false
+      → IsRange negative a b
   range : {a b c d : List Lexeme} {word : Span}
       → IsInteger negative a b → One (is_word (codes "to")) b word c → IsRangeEnd negative c d → IsRange negative a d
 
@@ -30,10 +33,12 @@ pub data IsReservedItem (negative : Bool) : (names : Bool) → List Lexeme → L
   number : {a b : List Lexeme} → IsRange negative a b → IsReservedItem negative false a b
 
 pub data IsCommaItem (negative names : Bool) : List Lexeme → List Lexeme → Type 0 where
-  comma_item : {a b c : List Lexeme} {comma : Span} → One (of_kind Comma) a comma b → IsReservedItem negative names b c → IsCommaItem negative names a c
+  comma_item : {a b c : List Lexeme} {comma : Span} → One (of_kind Comma) a comma b → IsReservedItem negative names b c
+      → IsCommaItem negative names a c
 
 -- reserved = "reserved" ( range { "," range } | strings { "," strings } ) ";", in a message
--- enumReserved = "reserved" ( enumRange { "," enumRange } | strings { "," strings } ) ";", in an enum, where numbers may be negative
+-- enumReserved = "reserved" ( enumRange { "," enumRange } | strings { "," strings } ) ";", in an enum, where numbers
+-- may be negative
 pub data IsReserved (negative : Bool) : List Lexeme → List Lexeme → Type 0 where
   reserved : {names : Bool} {a b c d e : List Lexeme} {keyword semicolon : Span}
       → One (is_word (codes "reserved")) a keyword b → first_is (of_kind StringLiteral) b ≡ names

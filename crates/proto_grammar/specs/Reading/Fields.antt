@@ -1,7 +1,8 @@
 -- Fields.
 use Rattle.std.specs.Prelude.{cond, Option, Some, None, codes}
 use Rattle.proto_lex.specs.declared.span.Span.{Span}
-use Rattle.proto_lex.specs.declared.token.TokenKind.TheVariants.{Identifier, Integer, Semicolon, Equals, Less, Greater, Comma}
+use Rattle.proto_lex.specs.declared.token.TokenKind.TheVariants.{Identifier, Integer, Semicolon, Equals, Less, Greater}
+use Rattle.proto_lex.specs.declared.token.TokenKind.TheVariants.{Comma}
 use Rattle.proto_grammar.specs.declared.tree.CustomOptions.{CustomOptions}
 use Rattle.proto_grammar.specs.declared.tree.Heading.{Heading}
 use Rattle.proto_grammar.specs.declared.tree.Label.{Label}

@@ -30,7 +30,8 @@ unfoldable pub pass_name_at : Read (Unit {0})
 pass_name_at tokens = token_that (of_kind Identifier) tokens >>= λ first. pass_dot_names_at first.1
 
 unfoldable pub leading_dot_at : Read (Option Span)
-leading_dot_at tokens = cond (first_is (of_kind Dot) tokens) (token_that (of_kind Dot) tokens >>= λ dot. Some (Some dot.0, dot.1)) (Some (None, tokens))
+leading_dot_at tokens = cond (first_is (of_kind Dot) tokens)
+    (token_that (of_kind Dot) tokens >>= λ dot. Some (Some dot.0, dot.1)) (Some (None, tokens))
 
 unfoldable pub type_name_at : Read TypeName
 type_name_at tokens = do

@@ -1,10 +1,13 @@
 -- Options.
 use Rattle.std.specs.Prelude.{ℕ, ◌+◌, ◌-◌, ◌==◌, cond, Some, None, [], ◌∷◌, codes}
-use Rattle.proto_lex.specs.declared.token.TokenKind.TheVariants.{Identifier, StringLiteral, Semicolon, Equals, OpenBrace, CloseBrace, OpenBracket, CloseBracket, OpenParenthesis, CloseParenthesis, Comma, Dot}
+use Rattle.proto_lex.specs.declared.token.TokenKind.TheVariants.{Identifier, StringLiteral, Semicolon, Equals}
+use Rattle.proto_lex.specs.declared.token.TokenKind.TheVariants.{OpenBrace, CloseBrace, OpenBracket, CloseBracket}
+use Rattle.proto_lex.specs.declared.token.TokenKind.TheVariants.{OpenParenthesis, CloseParenthesis, Comma, Dot}
 use Rattle.proto_grammar.specs.declared.tree.CustomOptions.{CustomOptions}
 use Rattle.proto_grammar.specs.declared.tree.CustomOptions.TheVariants.{Refuse, Skip}
 use Rattle.proto_grammar.specs.Lexeme.{Lexeme}
-use Rattle.proto_grammar.specs.Terminal.{first, others, first_is, of_kind, is_word, is_sign, is_numeral, is_number, not_next}
+use Rattle.proto_grammar.specs.Terminal.{first, others, first_is, of_kind, is_word, is_sign, is_numeral, is_number}
+use Rattle.proto_grammar.specs.Terminal.{not_next}
 use Rattle.proto_grammar.specs.Reading.Steps.{◌>>=◌, Read, token_that, until_at, passing}
 use Rattle.proto_grammar.specs.Reading.Names.{pass_name_at, pass_type_name_at}
 

@@ -9,20 +9,24 @@ unfoldable pub plain_integer_at : Read (Unit {0})
 plain_integer_at tokens = token_that (of_kind Integer) tokens >>= λ number. Some (tt, number.1)
 
 unfoldable pub integer_at : Bool → Read (Unit {0})
-integer_at negative tokens = cond (negative && first_is (of_kind Minus) tokens) (plain_integer_at (others tokens)) (plain_integer_at tokens)
+integer_at negative tokens = cond (negative && first_is (of_kind Minus) tokens) (plain_integer_at (others tokens))
+    (plain_integer_at tokens)
 
 unfoldable pub range_end_at : Bool → Read (Unit {0})
-range_end_at negative tokens = cond (first_is (is_word (codes "max")) tokens) (Some (tt, others tokens)) (integer_at negative tokens)
+range_end_at negative tokens =
+    cond (first_is (is_word (codes "max")) tokens) (Some (tt, others tokens)) (integer_at negative tokens)
 
 unfoldable pub range_at : Bool → Read (Unit {0})
 range_at negative tokens =
-    integer_at negative tokens >>= λ number. cond (first_is (is_word (codes "to")) number.1) (range_end_at negative (others number.1)) (Some (tt, number.1))
+    integer_at negative tokens >>= λ number. cond (first_is (is_word (codes "to")) number.1)
+    (range_end_at negative (others number.1)) (Some (tt, number.1))
 
 unfoldable pub reserved_item_at : Bool → Bool → Read (Unit {0})
 reserved_item_at negative names tokens = cond names (strings_at tokens) (range_at negative tokens)
 
 unfoldable pub comma_item_at : Bool → Bool → Read (Unit {0})
-comma_item_at negative names tokens = token_that (of_kind Comma) tokens >>= λ comma. reserved_item_at negative names comma.1
+comma_item_at negative names tokens =
+    token_that (of_kind Comma) tokens >>= λ comma. reserved_item_at negative names comma.1
 
 unfoldable pub comma_items_at : Bool → Bool → Read (Unit {0})
 comma_items_at negative names tokens = until_at (not_next Comma) (passing (comma_item_at negative names)) tt tokens

@@ -1,5 +1,6 @@
 -- What a step reads from the tokens before it, with the tokens left: single tokens, and repetition.
-use Rattle.std.specs.Prelude.{ℕ, zero, suc, Bool, cond, Option, Some, None, option_and_then, option_to_list, List, ◌++◌, length}
+use Rattle.std.specs.Prelude.{ℕ, zero, suc, Bool, cond, Option, Some, None, option_and_then, option_to_list, List, ◌++◌}
+use Rattle.std.specs.Prelude.{length}
 use Rattle.proto_lex.specs.declared.span.Span.{Span}
 use Rattle.proto_grammar.specs.Lexeme.{Lexeme}
 use Rattle.proto_grammar.specs.Terminal.{first, others}
@@ -22,7 +23,8 @@ span_at tokens = first tokens >>= λ t. Some (t.span, tokens)
 -- Steps from a state, up to where they end. The number bounds how many.
 abbrev pub until_by : {S : Type 0} → (List Lexeme → Bool) → (S → Read S) → ℕ → S → Read S
 until_by ends step zero s tokens = cond (ends tokens) (Some (s, tokens)) None
-until_by ends step (suc n) s tokens = cond (ends tokens) (Some (s, tokens)) (step s tokens >>= λ x. until_by ends step n x.0 x.1)
+until_by ends step (suc n) s tokens =
+    cond (ends tokens) (Some (s, tokens)) (step s tokens >>= λ x. until_by ends step n x.0 x.1)
 
 unfoldable pub until_at : {S : Type 0} → (List Lexeme → Bool) → (S → Read S) → S → Read S
 until_at ends step s tokens = until_by ends step (length tokens) s tokens

@@ -8,12 +8,14 @@ ghost use Rattle.proto_lex.specs.Text.{max_text_length};
 use crate::fault::LexFault;
 use crate::lexer::bytes::{all_hex_digits, is_octal_digit, tail};
 
+/// Whether the byte is an escape by itself after a `\`.
 fn is_escape_letter(b: u8) -> bool
     ensures { result ≡ is_escape_letter b }
 {
     b"abfnrtv?".contains(&b) || matches!(b, b'\\' | b'"' | b'\'')
 }
 
+/// Whether the bytes begin with `count` hexadecimal digits.
 fn begins_with_hex(count: usize, bytes: &[u8]) -> bool
     ensures { result ≡ begins_with_hex count bytes.now }
 {

@@ -4,7 +4,9 @@ ghost use Rattle.std.specs.Prelude.{◌≡◌, ℕ, ◌+◌, ◌<◌, ◌≤◌,
 ghost use Rattle.std.specs.List.{list_all};
 ghost use Rattle.proto_lex.specs.Bytes.{is_digit, is_octal_digit, is_hex_digit};
 ghost use Rattle.proto_lex.specs.Numbers.{begins_hexadecimal, goes_on, run_after, run_of, begins_number};
-ghost use Rattle.proto_lex.specs.Reading.{are_digits, are_hex_digits, is_zero_integer, is_integer, past_sign, is_exponent_or_none, ends_fraction, ends_whole, is_float, number_kind, number_at};
+ghost use Rattle.proto_lex.specs.Reading.{are_digits, are_hex_digits, is_zero_integer, is_integer, past_sign};
+ghost use Rattle.proto_lex.specs.Reading.{is_exponent_or_none, ends_fraction, ends_whole, is_float, number_kind};
+ghost use Rattle.proto_lex.specs.Reading.{number_at};
 ghost use Rattle.proto_lex.specs.Text.{max_text_length};
 
 use crate::fault::LexFault;
@@ -25,6 +27,7 @@ pub(crate) fn begins_number(bytes: &[u8]) -> bool
     }
 }
 
+/// Whether the bytes begin with `0x` or `0X`.
 fn begins_hexadecimal(bytes: &[u8]) -> bool
     ensures { result ≡ begins_hexadecimal bytes.now }
 {
@@ -34,6 +37,7 @@ fn begins_hexadecimal(bytes: &[u8]) -> bool
     }
 }
 
+/// Whether a number's run, in which `last` stands, goes on with `next`.
 fn goes_on(may_hold_signs: bool, last: u8, next: u8) -> bool
     ensures { result ≡ goes_on may_hold_signs last next }
 {
@@ -73,12 +77,14 @@ fn run_of(bytes: &[u8]) -> &[u8]
     }
 }
 
+/// Whether the bytes are decimal digits, at least one.
 fn are_digits(bytes: &[u8]) -> bool
     ensures { result ≡ are_digits bytes.now }
 {
     !bytes.is_empty() && all_digits(bytes)
 }
 
+/// Whether the bytes are hexadecimal digits, at least one.
 fn are_hex_digits(bytes: &[u8]) -> bool
     ensures { result ≡ are_hex_digits bytes.now }
 {
@@ -95,6 +101,7 @@ fn is_zero_integer(others: &[u8]) -> bool
     }
 }
 
+/// Whether the run is a decimal, an octal or a hexadecimal integer.
 fn is_integer(run: &[u8]) -> bool
     ensures { result ≡ is_integer run.now }
 {
@@ -104,6 +111,7 @@ fn is_integer(run: &[u8]) -> bool
     }
 }
 
+/// The bytes after a `+` or `-`, if one begins them.
 fn past_sign(bytes: &[u8]) -> &[u8]
     ensures { result.now ≡ past_sign bytes.now }
 {
@@ -113,6 +121,7 @@ fn past_sign(bytes: &[u8]) -> &[u8]
     }
 }
 
+/// Whether the bytes are an exponent, or none at all.
 fn is_exponent_or_none(bytes: &[u8]) -> bool
     ensures { result ≡ is_exponent_or_none bytes.now }
 {
@@ -140,6 +149,7 @@ fn ends_whole(bytes: &[u8]) -> bool
     }
 }
 
+/// Whether the run is a floating-point number.
 fn is_float(run: &[u8]) -> bool
     ensures { result ≡ is_float run.now }
 {
@@ -150,6 +160,7 @@ fn is_float(run: &[u8]) -> bool
     }
 }
 
+/// The kind of number that the run spells, if it spells one.
 fn number_kind(run: &[u8]) -> Option<TokenKind>
     ensures { result ≡ number_kind run.now }
 {

@@ -27,6 +27,7 @@ pub(crate) struct Piece {
     pub len: usize,
 }
 
+/// Whether the bytes begin with `*/`.
 fn begins_close(bytes: &[u8]) -> bool
     ensures { result ≡ begins_close bytes.now }
 {
@@ -51,6 +52,7 @@ fn block_len(others: &[u8]) -> Option<usize>
     None
 }
 
+/// The kind of the sign that is this one character.
 fn sign_kind(b: u8) -> Option<TokenKind>
     ensures { result ≡ sign_kind b }
 {
@@ -75,6 +77,7 @@ fn sign_kind(b: u8) -> Option<TokenKind>
     }
 }
 
+/// A token of this kind, which takes so many bytes.
 fn token(kind: TokenKind, len: usize) -> Piece
     ensures { result ≡ token kind len }
 {

@@ -26,57 +26,73 @@ use Rattle.proto_parse.specs.Grammar.Services.{IsService}
 pub data SpellsJoined : List Lexeme → List ℕ → List Lexeme → Type 0 where
   none : {a : List Lexeme} → not_next StringLiteral a ≡ true → SpellsJoined a [] a
   some : {t : Lexeme} {rest after : List Lexeme} {text : List ℕ}
-      → of_kind StringLiteral t ≡ true → SpellsJoined rest text after → SpellsJoined (t ∷ rest) (between_quotes t.spelling ++ text) after
+      → of_kind StringLiteral t ≡ true → SpellsJoined rest text after
+      → SpellsJoined (t ∷ rest) (between_quotes t.spelling ++ text) after
 
 -- syntax = "syntax" "=" strings ";", where the strings spell `proto3` when joined
 pub data IsSyntax : List Lexeme → List Lexeme → Type 0 where
   syntax : {a b c d e : List Lexeme} {keyword equals semicolon : Span}
-      → One (is_word (codes "syntax")) a keyword b → One (of_kind Equals) b equals c → SpellsJoined c (codes "proto3") d → One (of_kind Semicolon) d semicolon e
+      → One (is_word (codes "syntax")) a keyword b → One (of_kind Equals) b equals c
+      → SpellsJoined c (codes "proto3") d → One (of_kind Semicolon) d semicolon e
       → IsSyntax a e
 
 -- [ "weak" | "public" ]
 pub data IsImportKind : List Lexeme → ImportKind → List Lexeme → Type 0 where
   weak : {a b : List Lexeme} {word : Span} → One (is_word (codes "weak")) a word b → IsImportKind a Weak b
   public : {a b : List Lexeme} {word : Span} → One (is_word (codes "public")) a word b → IsImportKind a Public b
-  neither : {a : List Lexeme} → first_is (is_word (codes "weak")) a ≡ false → first_is (is_word (codes "public")) a ≡ false → IsImportKind a Plain a
+  neither : {a : List Lexeme} → first_is (is_word (codes "weak")) a ≡ false
+      → first_is (is_word (codes "public")) a ≡ false → IsImportKind a Plain a
 
 -- A literal of a path: no `\` stands in it (the profile's).
 pub data IsPathLiteral : List Lexeme → Option Span → List Lexeme → Type 0 where
-  path_literal : {a b : List Lexeme} {literal : Span} → One is_plain_literal a literal b → IsPathLiteral a (Some literal) b
+  path_literal : {a b : List Lexeme} {literal : Span} → One is_plain_literal a literal b
+      → IsPathLiteral a (Some literal) b
 
 -- import = "import" [ "weak" | "public" ] strings ";"
 pub data IsImport : List Lexeme → Import → List Lexeme → Type 0 where
   import : {a b c d e f : List Lexeme} {keyword literal semicolon : Span} {kind : ImportKind} {literals : List Span}
       → One (is_word (codes "import")) a keyword b → IsImportKind b kind c
-      → One is_plain_literal c literal d → Until (not_next StringLiteral) (Adds IsPathLiteral) (literal ∷ []) d literals e
+      → One is_plain_literal c literal d
+      → Until (not_next StringLiteral) (Adds IsPathLiteral) (literal ∷ []) d literals e
       → One (of_kind Semicolon) e semicolon f
       → IsImport a (record { kind = kind; literals = literals }) f
 
 -- package = "package" name ";"
 pub data IsPackage : List Lexeme → List Span → List Lexeme → Type 0 where
   package_statement : {a b c d : List Lexeme} {keyword semicolon : Span} {components : List Span}
-      → One (is_word (codes "package")) a keyword b → IsName b components c → One (of_kind Semicolon) c semicolon d → IsPackage a components d
+      → One (is_word (codes "package")) a keyword b → IsName b components c → One (of_kind Semicolon) c semicolon d
+      → IsPackage a components d
 
--- import | package | option | message | enum | service | ";", as the first word chooses, from the file so far to the file with it.
+-- import | package | option | message | enum | service | ";", as the first word chooses, from the file so far to the
+-- file with it.
 -- There is at most one package statement.
 pub data IsStatement (custom : CustomOptions) : File → List Lexeme → File → List Lexeme → Type 0 where
-  empty : {file : File} {a b : List Lexeme} {semicolon : Span} → file_statement_of a ≡ chosen.Empty → One (of_kind Semicolon) a semicolon b → IsStatement custom file a file b
+  empty : {file : File} {a b : List Lexeme} {semicolon : Span} → file_statement_of a ≡ chosen.Empty
+      → One (of_kind Semicolon) a semicolon b → IsStatement custom file a file b
   import : {file : File} {a b : List Lexeme} {import : Import}
-      → file_statement_of a ≡ chosen.Import → IsImport a import b → IsStatement custom file a (record file { imports = file.imports ++ import ∷ [] }) b
+      → file_statement_of a ≡ chosen.Import → IsImport a import b
+      → IsStatement custom file a (record file { imports = file.imports ++ import ∷ [] }) b
   package_statement : {file : File} {a b : List Lexeme} {components : List Span}
-      → file_statement_of a ≡ chosen.Package → file.package_name ≡ None → IsPackage a components b → IsStatement custom file a (record file { package_name = Some components }) b
-  option : {file : File} {a b : List Lexeme} → file_statement_of a ≡ chosen.Option → IsOption custom a b → IsStatement custom file a file b
+      → file_statement_of a ≡ chosen.Package → file.package_name ≡ None → IsPackage a components b
+      → IsStatement custom file a (record file { package_name = Some components }) b
+  option : {file : File} {a b : List Lexeme} → file_statement_of a ≡ chosen.Option → IsOption custom a b
+      → IsStatement custom file a file b
   message : {file : File} {a b : List Lexeme} (message : MessageTree)
-      → file_statement_of a ≡ chosen.Message → IsMessage custom max_message_depth a message b → IsStatement custom file a (record file { items = file.items ++ item.Message message ∷ [] }) b
+      → file_statement_of a ≡ chosen.Message → IsMessage custom max_message_depth a message b
+      → IsStatement custom file a (record file { items = file.items ++ item.Message message ∷ [] }) b
   enum : {file : File} {a b : List Lexeme} {enum : Enum}
-      → file_statement_of a ≡ chosen.Enum → IsEnum custom a enum b → IsStatement custom file a (record file { items = file.items ++ item.Enum enum ∷ [] }) b
+      → file_statement_of a ≡ chosen.Enum → IsEnum custom a enum b
+      → IsStatement custom file a (record file { items = file.items ++ item.Enum enum ∷ [] }) b
   service : {file : File} {a b : List Lexeme} {service : Service}
-      → file_statement_of a ≡ chosen.Service → IsService custom a service b → IsStatement custom file a (record file { items = file.items ++ item.Service service ∷ [] }) b
-  extend : {file : File} {a b : List Lexeme} → file_statement_of a ≡ chosen.Extend → IsExtend custom a b → IsStatement custom file a file b
+      → file_statement_of a ≡ chosen.Service → IsService custom a service b
+      → IsStatement custom file a (record file { items = file.items ++ item.Service service ∷ [] }) b
+  extend : {file : File} {a b : List Lexeme} → file_statement_of a ≡ chosen.Extend → IsExtend custom a b
+      → IsStatement custom file a file b
 
 abbrev pub empty_file : File
 empty_file = record { package_name = None; imports = []; items = [] }
 
 -- file = syntax { import | package | option | message | enum | service | ";" }, up to the last token
 pub data IsFile (custom : CustomOptions) : List Lexeme → File → Type 0 where
-  file : {a b c : List Lexeme} {file : File} → IsSyntax a b → Until is_end (IsStatement custom) empty_file b file c → IsFile custom a file
+  file : {a b c : List Lexeme} {file : File} → IsSyntax a b → Until is_end (IsStatement custom) empty_file b file c
+      → IsFile custom a file

@@ -1,5 +1,6 @@
 -- Files.
-use Rattle.std.specs.Prelude.{ℕ, ◌==◌, cond, Option, Some, None, List, [], ◌∷◌, ◌++◌, length, drop, codes, nat_eq, is_some}
+use Rattle.std.specs.Prelude.{ℕ, ◌==◌, cond, Option, Some, None, List, [], ◌∷◌, ◌++◌, length, drop, codes, nat_eq}
+use Rattle.std.specs.Prelude.{is_some}
 use Rattle.std.specs.List.{starts_with}
 use Rattle.proto_lex.specs.declared.span.Span.{Span}
 use Rattle.proto_lex.specs.declared.token.TokenKind.TheVariants.{StringLiteral, Semicolon, Equals}
@@ -11,7 +12,8 @@ use Rattle.proto_grammar.specs.declared.tree.FileItem.TheVariants as item
 use Rattle.proto_grammar.specs.declared.tree.File.{File}
 use Rattle.proto_parse.specs.declared.statement.FileStatement.{FileStatement}
 use Rattle.proto_parse.specs.declared.statement.FileStatement.TheVariants as chosen
-use Rattle.proto_grammar.specs.Terminal.{first, others, first_is, of_kind, is_word, is_plain_literal, not_next, is_end, between_quotes}
+use Rattle.proto_grammar.specs.Terminal.{first, others, first_is, of_kind, is_word, is_plain_literal, not_next, is_end}
+use Rattle.proto_grammar.specs.Terminal.{between_quotes}
 use Rattle.proto_parse.specs.Choice.{file_statement_of}
 use Rattle.proto_parse.specs.Limits.{max_message_depth}
 use Rattle.proto_parse.specs.Grammar.Files.{empty_file}
@@ -24,10 +26,12 @@ use Rattle.proto_parse.specs.Reading.Services.{service_at}
 -- The next literal, off the front of a text.
 unfoldable pub stripped_at : List ℕ → Read (List ℕ)
 stripped_at text tokens =
-    first tokens >>= λ t. cond (starts_with nat_eq text (between_quotes t.spelling)) (Some (drop (length (between_quotes t.spelling)) text, others tokens)) None
+    first tokens >>= λ t. cond (starts_with nat_eq text (between_quotes t.spelling))
+    (Some (drop (length (between_quotes t.spelling)) text, others tokens)) None
 
 unfoldable pub spelled_at : List ℕ → Read (Unit {0})
-spelled_at text tokens = until_at (not_next StringLiteral) stripped_at text tokens >>= λ left. cond (length left.0 == 0) (Some (tt, left.1)) None
+spelled_at text tokens = until_at (not_next StringLiteral) stripped_at text tokens >>= λ left. cond
+    (length left.0 == 0) (Some (tt, left.1)) None
 
 unfoldable pub syntax_at : Read (Unit {0})
 syntax_at tokens = do
@@ -67,16 +71,22 @@ package_at tokens = do
 
 unfoldable pub only_package_at : File → Read File
 only_package_at file tokens =
-    cond (is_some file.package_name) None (package_at tokens >>= λ x. Some (record file { package_name = Some x.0 }, x.1))
+    cond (is_some file.package_name) None
+    (package_at tokens >>= λ x. Some (record file { package_name = Some x.0 }, x.1))
 
 abbrev pub statement_by : FileStatement → CustomOptions → File → Read File
 statement_by chosen.Empty custom file tokens = token_that (of_kind Semicolon) tokens >>= λ x. Some (file, x.1)
-statement_by chosen.Import custom file tokens = import_at tokens >>= λ x. Some (record file { imports = file.imports ++ x.0 ∷ [] }, x.1)
+statement_by chosen.Import custom file tokens =
+    import_at tokens >>= λ x. Some (record file { imports = file.imports ++ x.0 ∷ [] }, x.1)
 statement_by chosen.Package custom file tokens = only_package_at file tokens
 statement_by chosen.Option custom file tokens = option_at custom tokens >>= λ x. Some (file, x.1)
-statement_by chosen.Message custom file tokens = message_at custom max_message_depth tokens >>= λ x. Some (record file { items = file.items ++ item.Message x.0 ∷ [] }, x.1)
-statement_by chosen.Enum custom file tokens = enum_at custom tokens >>= λ x. Some (record file { items = file.items ++ item.Enum x.0 ∷ [] }, x.1)
-statement_by chosen.Service custom file tokens = service_at custom tokens >>= λ x. Some (record file { items = file.items ++ item.Service x.0 ∷ [] }, x.1)
+statement_by chosen.Message custom file tokens =
+    message_at custom max_message_depth tokens >>= λ x. Some
+    (record file { items = file.items ++ item.Message x.0 ∷ [] }, x.1)
+statement_by chosen.Enum custom file tokens =
+    enum_at custom tokens >>= λ x. Some (record file { items = file.items ++ item.Enum x.0 ∷ [] }, x.1)
+statement_by chosen.Service custom file tokens =
+    service_at custom tokens >>= λ x. Some (record file { items = file.items ++ item.Service x.0 ∷ [] }, x.1)
 statement_by chosen.Extend custom file tokens = extend_at custom tokens >>= λ x. Some (file, x.1)
 statement_by chosen.Other custom file tokens = None
 

@@ -72,7 +72,8 @@ oneof_at custom tokens = do
   Some (record { heading = heading.0; fields = fields.0 }, close_brace.1)
 
 unfoldable pub extend_item_at : Read (Unit {0})
-extend_item_at tokens = cond (first_is (of_kind Semicolon) tokens) (Some (tt, others tokens)) (pass_field_at Skip tokens)
+extend_item_at tokens = cond (first_is (of_kind Semicolon) tokens) (Some (tt, others tokens))
+    (pass_field_at Skip tokens)
 
 unfoldable pub extend_items_at : Read (Unit {0})
 extend_items_at tokens = until_at closes (passing extend_item_at) tt tokens
@@ -92,12 +93,15 @@ message_item_by chosen.Empty custom inner tokens = token_that (of_kind Semicolon
 message_item_by chosen.Message custom inner tokens = inner tokens >>= λ x. Some (Some (Message x.0), x.1)
 message_item_by chosen.Enum custom inner tokens = enum_at custom tokens >>= λ x. Some (Some (Leaf (leaf.Enum x.0)), x.1)
 message_item_by chosen.Option custom inner tokens = option_at custom tokens >>= λ x. Some (None, x.1)
-message_item_by chosen.Oneof custom inner tokens = oneof_at custom tokens >>= λ x. Some (Some (Leaf (leaf.Oneof x.0)), x.1)
-message_item_by chosen.Map custom inner tokens = map_field_at custom tokens >>= λ x. Some (Some (Leaf (leaf.MapField x.0)), x.1)
+message_item_by chosen.Oneof custom inner tokens =
+    oneof_at custom tokens >>= λ x. Some (Some (Leaf (leaf.Oneof x.0)), x.1)
+message_item_by chosen.Map custom inner tokens =
+    map_field_at custom tokens >>= λ x. Some (Some (Leaf (leaf.MapField x.0)), x.1)
 message_item_by chosen.Reserved custom inner tokens = reserved_at false tokens >>= λ x. Some (None, x.1)
 message_item_by chosen.Extend custom inner tokens = extend_at custom tokens >>= λ x. Some (None, x.1)
 message_item_by chosen.Extensions custom inner tokens = None
-message_item_by chosen.Field custom inner tokens = field_at custom tokens >>= λ x. Some (Some (Leaf (leaf.Field x.0)), x.1)
+message_item_by chosen.Field custom inner tokens =
+    field_at custom tokens >>= λ x. Some (Some (Leaf (leaf.Field x.0)), x.1)
 
 unfoldable pub message_item_at : CustomOptions → Read MessageTree → Read (Option MessageItem)
 message_item_at custom inner tokens = message_item_by (message_statement_of tokens) custom inner tokens

@@ -1,7 +1,8 @@
 -- Services.
 use Rattle.std.specs.Prelude.{cond, Option, Some, None, List, [], codes}
 use Rattle.proto_lex.specs.declared.span.Span.{Span}
-use Rattle.proto_lex.specs.declared.token.TokenKind.TheVariants.{Identifier, Semicolon, OpenBrace, CloseBrace, OpenParenthesis, CloseParenthesis}
+use Rattle.proto_lex.specs.declared.token.TokenKind.TheVariants.{Identifier, Semicolon, OpenBrace, CloseBrace}
+use Rattle.proto_lex.specs.declared.token.TokenKind.TheVariants.{OpenParenthesis, CloseParenthesis}
 use Rattle.proto_grammar.specs.declared.tree.CustomOptions.{CustomOptions}
 use Rattle.proto_grammar.specs.declared.tree.TypeName.{TypeName}
 use Rattle.proto_grammar.specs.declared.tree.Method.{Method}
@@ -24,7 +25,8 @@ method_type_at tokens = do
   Some (name.0, close_parenthesis.1)
 
 unfoldable pub method_item_at : CustomOptions → Read (Unit {0})
-method_item_at custom tokens = cond (first_is (of_kind Semicolon) tokens) (Some (tt, others tokens)) (option_at custom tokens)
+method_item_at custom tokens =
+    cond (first_is (of_kind Semicolon) tokens) (Some (tt, others tokens)) (option_at custom tokens)
 
 unfoldable pub method_items_at : CustomOptions → Read (Unit {0})
 method_items_at custom tokens = until_at closes (passing (method_item_at custom)) tt tokens
@@ -37,7 +39,8 @@ method_body_at custom tokens = do
   Some (open_brace.0, close_brace.1)
 
 unfoldable pub method_end_at : CustomOptions → Read Span
-method_end_at custom tokens = cond (first_is (of_kind Semicolon) tokens) (token_that (of_kind Semicolon) tokens) (method_body_at custom tokens)
+method_end_at custom tokens = cond (first_is (of_kind Semicolon) tokens) (token_that (of_kind Semicolon) tokens)
+    (method_body_at custom tokens)
 
 unfoldable pub method_at : CustomOptions → Read Method
 method_at custom tokens = do
@@ -47,7 +50,14 @@ method_at custom tokens = do
   returns ← token_that (is_word (codes "returns")) input.1
   output ← method_type_at returns.1
   closing ← method_end_at custom output.1
-  Some (record { heading = record { first = first.0; name = name.0; closing = closing.0 }; input = input.0; output = output.0 }, closing.1)
+  Some (
+    record {
+      heading = record { first = first.0; name = name.0; closing = closing.0 };
+      input = input.0;
+      output = output.0;
+    },
+    closing.1,
+  )
 
 unfoldable pub service_item_at : CustomOptions → Read (Option Method)
 service_item_at custom tokens =

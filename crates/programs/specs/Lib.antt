@@ -8,8 +8,7 @@ pub mod Answering
 -- `index` and `shell`: what their options say, why there is no package or no tree, and what they do
 pub mod Choices
 pub mod Settings
-pub mod PackageFaults
-pub mod LoadLines
+pub mod StartFaults
 pub mod Starting
 pub mod TreeRuns
 pub mod Indexing

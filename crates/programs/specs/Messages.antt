@@ -1,6 +1,7 @@
 -- What a program says on standard error, and the status that it ends with.
 use Rattle.std.specs.Prelude.{◌≡◌, ◌<◌, ◌-◌, ◌^◌, ◌++◌, ◌⊎◌, ℕ, List, Option, codes}
 use Rattle.std.specs.Io.KnownBytes.{Appends}
+use Rattle.programs.specs.declared.statuses.TheConstants.{MEMORY_STATUS}
 
 -- P holds where no write failed, which the writer's counts of failures tell below their limit
 abbrev pub Heard : ℕ → ℕ → Type 0 → Type 0
@@ -15,7 +16,7 @@ abbrev pub memory_line : List ℕ
 memory_line = codes "protoscip: Memory"
 
 abbrev pub memory_status : ℕ
-memory_status = 4
+memory_status = MEMORY_STATUS
 
 -- the stream of messages, before and after, and the exit status, where a program stops: the line that is due is said, with the
 -- status that is due; or, where memory doesn't suffice for it, that of want of memory, with that status

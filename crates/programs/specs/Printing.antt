@@ -4,10 +4,11 @@
 use Rattle.std.specs.Prelude.{ℕ, ◌⊎◌, List, Option, codes}
 use Rattle.scip_model.specs.WholeWrites.{IsWritten, IsCutOff}
 use Rattle.programs.specs.Messages.{IsSilent, Tells}
+use Rattle.programs.specs.declared.statuses.TheConstants.{STREAM_STATUS}
 
 -- all of it is written, and nothing is said; or a write fails after a first part of it, and that is said
 abbrev pub Prints : {W M : Type 0} → (contents : W → Option (List ℕ)) → (failures : W → ℕ) → (said : M → Option (List ℕ)) → (unsaid : M → ℕ)
     → (text : List ℕ) → W → W → M → M → (status : ℕ) → Type 0
 Prints contents failures said unsaid text first now before after status =
     (IsWritten contents failures first now text × IsSilent before after status)
-    ⊎ ((count : ℕ) × IsCutOff contents failures first now text count × Tells said unsaid (codes "protoscip: Write") 3 before after status)
+    ⊎ ((count : ℕ) × IsCutOff contents failures first now text count × Tells said unsaid (codes "protoscip: Write") STREAM_STATUS before after status)

@@ -9,6 +9,7 @@ use Rattle.scip_wire.specs.declared.wire_fault.WireFault.TheVariants as wire
 use Rattle.source_files.specs.declared.file_fault.FileFault.{FileFault}
 use Rattle.source_files.specs.declared.file_fault.FileFault.TheVariants as file
 use Rattle.programs.specs.declared.query_fault.QueryFault.{QueryFault}
+use Rattle.programs.specs.declared.statuses.TheConstants.{INDEX_STATUS, MEMORY_STATUS, STREAM_STATUS}
 use Rattle.programs.specs.declared.query_fault.QueryFault.TheVariants.{Unreadable, Wire, Read, Write, Memory}
 
 -- the name of a fault of an index's bytes
@@ -49,16 +50,16 @@ line_of path (Write count) = codes "protoscip: Write"
 line_of path Memory = codes "protoscip: Memory"
 
 abbrev pub wire_status : WireFault → ℕ
-wire_status wire.Memory = 4
-wire_status _ = 5
+wire_status wire.Memory = MEMORY_STATUS
+wire_status _ = INDEX_STATUS
 
 -- the exit status: 3 where a stream or the file fails, 5 where the file holds no index, 4 for want of memory
 abbrev pub status_of : QueryFault → ℕ
-status_of Unreadable = 3
+status_of Unreadable = STREAM_STATUS
 status_of (Wire fault) = wire_status fault
-status_of Read = 3
-status_of (Write count) = 3
-status_of Memory = 4
+status_of Read = STREAM_STATUS
+status_of (Write count) = STREAM_STATUS
+status_of Memory = MEMORY_STATUS
 
 -- want of memory is one fault, whichever step it comes in
 abbrev pub fault_of_file : FileFault → QueryFault

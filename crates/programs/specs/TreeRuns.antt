@@ -11,10 +11,11 @@ use Rattle.protoscip.specs.declared.fault.Fault.{Fault}
 use Rattle.protoscip.specs.FaultLines.{line_of}
 use Rattle.protoscip.specs.Statuses.{status_of}
 use Rattle.command_line.specs.declared.options.IndexOptions.{IndexOptions}
-use Rattle.programs.specs.declared.starting.StartFault.{StartFault}
+use Rattle.programs.specs.declared.start_fault.StartFault.{StartFault}
 use Rattle.programs.specs.Messages.{IsSilent, Tells}
 use Rattle.programs.specs.Settings.{package_in}
-use Rattle.programs.specs.Starting.{MayNotStart, line_of as start_line, status_of as start_status}
+use Rattle.programs.specs.StartFaults.{line_of as start_line, status_of as start_status}
+use Rattle.programs.specs.Starting.{MayNotStart}
 
 -- the end of a run over a tree: nothing is said of a success; of a fault its line is, with its status
 abbrev pub Ends : {M A : Type 0} → (said : M → Option (List ℕ)) → (unsaid : M → ℕ) → List TreeFile → Result A Fault → M → M → (status : ℕ) → Type 0

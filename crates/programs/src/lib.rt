@@ -13,9 +13,9 @@ mod querying;
 
 // The programs about a tree: what their options say of the run, and why there is no package or no tree.
 mod choices;
-mod load_line;
 mod package;
 mod settings;
+mod start_fault;
 mod starting;
 
 // `index`: the index of a tree goes to a file.
@@ -27,9 +27,10 @@ mod serving;
 // The laws.
 mod laws;
 
-// What is printed and said.
+// What is printed and said, and the exit status.
 mod messages;
 mod output;
+mod statuses;
 
 pub use choices::OptionChoices;
 pub use laws::headline_of_options;

@@ -4,11 +4,9 @@ ghost use Rattle.std.specs.Prelude.{◌≡◌, ◌++◌, ℕ, List, IfOk, codes,
 ghost use Rattle.std.specs.Io.KnownBytes.{Appends};
 ghost use Rattle.programs.specs.Messages.{Heard, Tells};
 
+use crate::statuses::MEMORY_STATUS;
 use scip_model::{Sink, write_all};
 use std::alloc::AllocError;
-
-/// The exit status of a program that wants for memory.
-pub(crate) const MEMORY_STATUS: u8 = 4;
 
 /// Says in one line why a program stops, and gives the exit status: this one; or, where memory didn't
 /// suffice for the line, that of want of memory, of which it is said instead. What the stream doesn't

@@ -3,11 +3,9 @@
 ghost use Rattle.programs.specs.Printing.{Prints};
 
 use crate::messages::report;
+use crate::statuses::STREAM_STATUS;
 use scip_model::{Sink, write_all};
 use std::alloc::Global;
-
-/// The exit status of a program whose streams or files fail.
-pub(crate) const STREAM_STATUS: u8 = 3;
 
 /// Prints a text, and gives the exit status. Where a write fails, that is said.
 pub(crate) fn print<W: Sink, M: Sink>(

@@ -3,6 +3,7 @@
 ghost use Rattle.std.specs.Prelude.{◌≡◌, IfOk, string_bytes};
 ghost use Rattle.programs.specs.QueryFaults.{line_of, placed_line, status_of, wire_name, wire_offset};
 
+use crate::statuses::{INDEX_STATUS, MEMORY_STATUS, STREAM_STATUS};
 use scip_query::AnswerFault;
 use scip_wire::WireFault;
 use source_files::FileFault;
@@ -102,9 +103,9 @@ impl QueryFault {
         ensures { result ≡ status_of self.now }
     {
         match self {
-            QueryFault::Unreadable | QueryFault::Read | QueryFault::Write(_) => 3,
-            QueryFault::Memory | QueryFault::Wire(WireFault::Memory) => 4,
-            QueryFault::Wire(_) => 5,
+            QueryFault::Unreadable | QueryFault::Read | QueryFault::Write(_) => STREAM_STATUS,
+            QueryFault::Memory | QueryFault::Wire(WireFault::Memory) => MEMORY_STATUS,
+            QueryFault::Wire(_) => INDEX_STATUS,
         }
     }
 }

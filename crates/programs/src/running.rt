@@ -15,6 +15,7 @@ ghost use Rattle.scip_model.specs.WholeReads.{IsReadBriefly};
 ghost use Rattle.protoscip.specs.declared.fault.Fault.{Fault};
 ghost use Rattle.protoscip.specs.Dump.{Dumps, LeavesReader, LeavesWriter, dump_tree};
 ghost use Rattle.programs.specs.declared.query_fault.QueryFault.{QueryFault};
+ghost use Rattle.programs.specs.declared.statuses.TheConstants.{COMMAND_LINE_STATUS};
 ghost use Rattle.programs.specs.Answering.{Answers};
 ghost use Rattle.programs.specs.Indexing.{Indexed};
 ghost use Rattle.programs.specs.Messages.{Heard, Tells, memory_line, memory_status};
@@ -26,11 +27,11 @@ ghost use Rattle.programs.specs.TreeRuns.{Ends};
 
 use crate::dumping::dump_source;
 use crate::indexing::index;
-use crate::messages::{MEMORY_STATUS, report};
+use crate::messages::report;
 use crate::output::print;
-use crate::package::COMMAND_LINE_STATUS;
 use crate::querying::query;
 use crate::serving::shell;
+use crate::statuses::{COMMAND_LINE_STATUS, MEMORY_STATUS};
 use command_line::Request;
 use scip_model::{Feed, Sink, write_all};
 use source_files::ReadFiles;
@@ -40,7 +41,7 @@ use std::thread::Threads;
 
 /// Says why a command line is refused. What the stream of messages doesn't take is lost.
 fn refuse<M: Sink>(text: &str, messages: &mut M) -> u8
-    ensures status { result ≡ 2 }
+    ensures status { result ≡ COMMAND_LINE_STATUS }
     ensures said { Heard (M.failures messages.old) (M.failures messages.new)
         (Appends (M.contents messages.old) (M.contents messages.new) text.now) }
 {
@@ -94,7 +95,7 @@ pub fn run<R: Threads + Wait, F: ReadFiles, I: Feed, W: Sink, O: Sink, M: Sink>(
         Prints W.contents W.failures M.contents M.failures text out.old out.new messages.old messages.new result
         × (input.new ≡ input.old) × (file.new ≡ file.old))) }
     // Of a refused command line it is said why.
-    ensures refused { IfOk asked.now (λ request. IfSome (refused_text request) (λ text. (result ≡ 2)
+    ensures refused { IfOk asked.now (λ request. IfSome (refused_text request) (λ text. (result ≡ COMMAND_LINE_STATUS)
         × Heard (M.failures messages.old) (M.failures messages.new)
         (Appends (M.contents messages.old) (M.contents messages.new) text)
         × (input.new ≡ input.old) × (out.new ≡ out.old) × (file.new ≡ file.old))) }

@@ -1,7 +1,7 @@
 use Rattle.std.proofs.Common.{Ok, Err, refl, subst}
 use Rattle.protoscip.specs.FaultLines.{line_of}
 use Rattle.programs.specs.Messages.{Tells}
-use Rattle.programs.specs.Starting.{line_of as start_line}
+use Rattle.programs.specs.StartFaults.{line_of as start_line}
 use Rattle.programs.specs.TreeRuns.{not_started, over_tree}
 use Rattle.programs.proofs.indexing.index.Goals as goal
 

@@ -1,0 +1,72 @@
+//! Why a program about a tree doesn't start.
+
+ghost use Rattle.std.specs.Prelude.{◌≡◌, IfOk, string_bytes};
+ghost use Rattle.programs.specs.StartFaults.{line_of, status_of};
+
+use crate::statuses::{COMMAND_LINE_STATUS, MEMORY_STATUS, SOURCES_STATUS, STREAM_STATUS};
+use source_files::LoadFault;
+use std::alloc::{AllocError, Global};
+
+/// Why a program about a tree doesn't start: the first of those that hold, but want of memory, which may
+/// come at any step.
+#[derive(Debug, Drop)]
+pub(crate) enum StartFault {
+    /// The manager, the name or the release of the package begins with a space or is `.`.
+    BadPart,
+    /// There is no tree of the files, or memory ran out.
+    Load(LoadFault),
+}
+
+impl From<AllocError> for StartFault {
+    ghost use Rattle.source_files.specs.declared.load_fault.LoadFault.TheVariants.{Memory};
+    ghost use Rattle.programs.specs.declared.start_fault.StartFault.TheVariants.{Load};
+
+    ghost from_gives = { λ _ e. e ≡ Load Memory };
+
+    fn from(_refused: AllocError) -> StartFault {
+        StartFault::Load(LoadFault::Memory)
+    }
+}
+
+impl From<LoadFault> for StartFault {
+    ghost use Rattle.programs.specs.declared.start_fault.StartFault.TheVariants.{Load};
+
+    ghost from_gives = { λ fault e. e ≡ Load fault };
+
+    fn from(fault: LoadFault) -> StartFault {
+        StartFault::Load(fault)
+    }
+}
+
+impl StartFault {
+    /// The line, without its end, that says this.
+    pub(crate) fn line(&self, alloc: Global) -> Result<String, AllocError>
+        ensures { IfOk result (λ line. string_bytes line ≡ line_of self.now) }
+    {
+        match self {
+            StartFault::BadPart => format!(in alloc; "protoscip: BadPart"),
+            StartFault::Load(fault) => match fault {
+                LoadFault::Unreadable(name) => format!(in alloc; "protoscip: {name}: Unreadable"),
+                LoadFault::TooMany => format!(in alloc; "protoscip: TooMany"),
+                LoadFault::BadPath(path) => format!(in alloc; "protoscip: {path}: BadPath"),
+                LoadFault::SamePath(path) => format!(in alloc; "protoscip: {path}: SamePath"),
+                LoadFault::Memory => format!(in alloc; "protoscip: Memory"),
+            },
+        }
+    }
+
+    /// The exit status.
+    pub(crate) fn status(&self) -> u8
+        ensures { result ≡ status_of self.now }
+    {
+        match self {
+            StartFault::BadPart => COMMAND_LINE_STATUS,
+            StartFault::Load(fault) => match fault {
+                LoadFault::Unreadable(_) => STREAM_STATUS,
+                LoadFault::TooMany | LoadFault::BadPath(_) | LoadFault::SamePath(_) =>
+                    SOURCES_STATUS,
+                LoadFault::Memory => MEMORY_STATUS,
+            },
+        }
+    }
+}

@@ -1,27 +1,10 @@
 -- What arguments and options are given, in the rows that the rules of `clap` give for the words.
-use Rattle.std.specs.Prelude.{
-  ◌≡◌,
-  ◌≤◌,
-  ℕ,
-  List,
-  [],
-  Option,
-  Some,
-  None,
-  codes,
-  map,
-  string_bytes,
-  unwrap_or,
-  if◌then◌else◌,
-  nat_le,
-  ◌&&◌,
-}
+use Rattle.std.specs.Prelude.{◌≡◌, ◌≤◌, ℕ, List, [], Option, Some, None, codes, map, string_bytes, unwrap_or, if◌then◌else◌, nat_le, ◌&&◌}
 use Rattle.std.specs.Option.{option_map, option_map_or}
 use Rattle.std.specs.Str.Parse.{digits_value, without_leading_plus}
 use Rattle.clap.specs.Words.{Row, Text, all_of, first_of, one_of}
 use Rattle.clap.specs.ValueTests.{is_unsigned_in}
 use Rattle.command_line.specs.Words.{custom_options_word, doc_word, positions_word}
-use Rattle.command_line.specs.declared.options.TheConstants.{DEFAULT_WORKERS, MAX_WORKERS}
 use Rattle.command_line.specs.declared.options.IndexOptions.{IndexOptions}
 use Rattle.command_line.specs.declared.options.DocWord.{DocWord}
 use Rattle.command_line.specs.declared.options.PositionsWord.{PositionsWord}
@@ -35,18 +18,18 @@ rows_in program = option_map_or (λ p. p.1) program []
 abbrev pub text_of : Text → List Row → Text
 text_of id rows = unwrap_or (first_of id rows) []
 
--- the number from 1 to the greatest that the text spells, with or without a plus sign and zeros before it;
+-- the number from 1 to 16 that the text spells, with or without a plus sign and zeros before it;
 -- `clap` refuses every other text
 abbrev pub workers_in : Text → ℕ
-workers_in text = if is_unsigned_in 1 MAX_WORKERS text then digits_value 10 (without_leading_plus text) else DEFAULT_WORKERS
+workers_in text = if is_unsigned_in 1 16 text then digits_value 10 (without_leading_plus text) else 4
 
--- such a number, or the default
+-- a number from 1 to 16, or 4
 abbrev pub fitting : Option ℕ → ℕ
-fitting None = DEFAULT_WORKERS
-fitting (Some n) = if nat_le 1 n && nat_le n MAX_WORKERS then n else DEFAULT_WORKERS
+fitting None = 4
+fitting (Some n) = if nat_le 1 n && nat_le n 16 then n else 4
 
 abbrev pub workers_of : List Row → ℕ
-workers_of rows = option_map_or workers_in (one_of (codes "workers") rows) DEFAULT_WORKERS
+workers_of rows = option_map_or workers_in (one_of (codes "workers") rows) 4
 
 abbrev pub doc_of : List Row → Option DocWord
 doc_of rows = option_map doc_word (first_of (codes "doc") rows)
@@ -61,7 +44,7 @@ custom_options_of rows = custom_options_word (text_of (codes "custom-options") r
 pub record Carries (rows : List Row) (options : IndexOptions) : Type 0 where
   pub root : string_bytes options.root ≡ text_of (codes "ROOT") rows
   pub workers : options.workers ≡ workers_of rows
-  pub workers_fit : (1 ≤ options.workers) × (options.workers ≤ MAX_WORKERS)
+  pub workers_fit : (1 ≤ options.workers) × (options.workers ≤ 16)
   pub project_root : string_bytes options.project_root ≡ text_of (codes "project-root") rows
   pub manager : string_bytes options.manager ≡ text_of (codes "manager") rows
   pub «package» : string_bytes options.«package» ≡ text_of (codes "package") rows

@@ -5,7 +5,6 @@ use Rattle.std.specs.Borrow.{Bor}
 use Rattle.clap.specs.Words.{App, Rule, Shape, Text, new_app, new_rule, with_rule, with_subcommand}
 use Rattle.clap.specs.declared.builder.action.ArgAction.TheVariants.{Append}
 use Rattle.clap.specs.declared.builder.value_parser.ValueParser.TheVariants as values
-use Rattle.command_line.specs.declared.options.TheConstants.{MAX_WORKERS}
 use Rattle.command_line.specs.declared.words.WordLists.{WordLists}
 
 -- ---- arguments and options
@@ -26,10 +25,10 @@ or_default text rule = record rule { defaults = text ∷ [] }
 abbrev pub taking_words : Bor (List (Bor Text)) → Rule → Rule
 taking_words words rule = record rule { parser = Some (values.Names words) }
 
--- a number from 1 to the greatest, and 4 where it isn't given
+-- a number from 1 to 16, and 4 where it isn't given
 abbrev pub workers_rule : Rule
 workers_rule = record (or_default (codes "4") (option_rule (codes "workers"))) {
-  parser = Some (values.Unsigned 1 MAX_WORKERS);
+  parser = Some (values.Unsigned 1 16);
 }
 
 -- an option that may be given again

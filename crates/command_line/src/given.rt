@@ -2,7 +2,6 @@
 
 ghost use Rattle.std.specs.Prelude.{◌≡◌, ◌≤◌, IfOk, [], map, string_bytes, option_map, unwrap_or};
 ghost use Rattle.clap.specs.Words.{all_of, first_of, found_of, rows_of};
-ghost use Rattle.command_line.specs.declared.options.TheConstants.{MAX_WORKERS};
 ghost use Rattle.command_line.specs.Given.{
   Carries,
   custom_options_of,
@@ -17,11 +16,14 @@ use crate::names::{
     CUSTOM_OPTIONS, DOC, INCLUDE, MANAGER, ONLY, PACKAGE, POSITIONS, PROJECT_ROOT, RELEASE, ROOT,
     WORKERS,
 };
-use crate::options::{
-    CustomOptionsWord, DEFAULT_WORKERS, DocWord, IndexOptions, MAX_WORKERS, PositionsWord,
-};
+use crate::options::{CustomOptionsWord, DocWord, IndexOptions, PositionsWord};
 use clap::ArgMatches;
 use std::alloc::{AllocError, Global};
+
+/// How many threads work, where `clap` gives no number.
+const DEFAULT_WORKERS: usize = 4;
+
+const MAX_WORKERS: usize = 16;
 
 /// The first text of an argument or option: what it is given, or its default.
 fn first_of<'a>(given: &ArgMatches<'a>, id: &str) -> Option<&'a str>
@@ -81,18 +83,18 @@ fn copies_of(alloc: Global, texts: &[&str]) -> Result<Vec<String>, AllocError>
     Ok(copies)
 }
 
-/// The number of threads. `clap` takes no number but 1 to `MAX_WORKERS`.
+/// The number of threads. `clap` takes no number but 1 to 16.
 fn workers_of(given: &ArgMatches<'_>) -> usize
     ensures number { result ≡ workers_of (rows_of (found_of given.now)) }
-    ensures fits { (1 ≤ result) × (result ≤ MAX_WORKERS) }
+    ensures fits { (1 ≤ result) × (result ≤ 16) }
 {
     fitting(given.get_one::<usize>(WORKERS))
 }
 
-/// A number from 1 to `MAX_WORKERS`, or the default for any other.
+/// A number from 1 to 16, or the default for any other.
 fn fitting(number: Option<usize>) -> usize
     ensures number { result ≡ fitting number }
-    ensures fits { (1 ≤ result) × (result ≤ MAX_WORKERS) }
+    ensures fits { (1 ≤ result) × (result ≤ 16) }
 {
     match number {
         Some(number) if 1 <= number && number <= MAX_WORKERS => number,

@@ -10,8 +10,6 @@ mod request;
 mod tree;
 mod words;
 
-pub use options::{
-    CustomOptionsWord, DEFAULT_WORKERS, DocWord, IndexOptions, MAX_WORKERS, PositionsWord,
-};
+pub use options::{CustomOptionsWord, DocWord, IndexOptions, PositionsWord};
 pub use reading::{request_of, request_of_process};
 pub use request::Request;

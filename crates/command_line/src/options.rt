@@ -1,21 +1,13 @@
 //! What `index` and `shell` are told of a tree.
 
 ghost use Rattle.std.specs.Prelude.{◌≤◌};
-ghost use Rattle.command_line.specs.declared.options.TheConstants.{MAX_WORKERS};
 
-/// How many threads may work, at most. The crate that runs them takes as many, which `programs` proves.
-pub const MAX_WORKERS: usize = 16;
-
-/// How many threads work, where it isn't said.
-pub const DEFAULT_WORKERS: usize = 4;
-
-/// The values of the argument ROOT and of the options of `index` and `shell`. An option that isn't given
-/// has its default.
+/// The values of the argument ROOT and of the options of `index` and `shell`. An option that isn't given has its default.
 #[derive(Debug, Drop)]
 pub struct IndexOptions {
     /// The path of the folder whose sources are indexed, as it was written.
     pub root: String,
-    /// How many threads, 1 to `MAX_WORKERS`; `DEFAULT_WORKERS` where it isn't said.
+    /// How many threads, 1 to 16; 4 where it isn't said.
     pub workers: usize,
     /// Where the sources' folder lies, as a URI; `file:///` where it isn't said.
     pub project_root: String,
@@ -35,7 +27,7 @@ pub struct IndexOptions {
     pub positions: PositionsWord,
     /// What is done about custom options; they are refused where it isn't said.
     pub custom_options: CustomOptionsWord,
-    ghost workers_fit: { (1 ≤ workers) × (workers ≤ MAX_WORKERS) },
+    ghost workers_fit: { (1 ≤ workers) × (workers ≤ 16) },
 }
 
 /// A word of `--doc`.

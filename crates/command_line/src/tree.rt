@@ -59,7 +59,6 @@ fn taking_words<'a>(option: Arg<'a>, words: &'a [&'a str]) -> Arg<'a>
     option.value_parser(words)
 }
 
-/// How many threads work.
 fn workers<'a>(alloc: Global) -> Arg<'a>
     ensures rule { rule_of result ≡ workers_rule }
     ensures local { result.global ≡ false }
@@ -72,7 +71,6 @@ fn workers<'a>(alloc: Global) -> Arg<'a>
         .default_value("4")
 }
 
-/// The folders with included files.
 fn include<'a>(alloc: Global) -> Arg<'a>
     ensures rule { rule_of result ≡ include_rule }
     ensures local { result.global ≡ false }

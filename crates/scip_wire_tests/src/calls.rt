@@ -1,0 +1,48 @@
+//! Calls of the encoding that are made again after want of memory, where the second answer counts.
+
+use scip_model::Index;
+use scip_wire::{SpellFault, WireFault, encoded_len, read_index, spell_index};
+use std::alloc::Global;
+use std::process::Abort;
+
+/// Sees that what a case says holds. (A formatted assertion is proved once, here.)
+pub fn see(rt: &impl Abort, holds: bool, case: &str) {
+    assert!(rt; holds, "{case}");
+}
+
+/// Sees that no row of a table went wrong; else it names the first that did, from 0.
+pub fn see_all(rt: &impl Abort, wrong: Option<usize>) {
+    assert!(rt; wrong.is_none(), "row {wrong:?}");
+}
+
+/// The index that the bytes decode to. They are read again after `Memory`.
+pub fn decoded(alloc: Global, bytes: &[u8]) -> Result<Index, WireFault> {
+    match read_index(alloc, bytes) {
+        Err(WireFault::Memory) => read_index(alloc, bytes),
+        answer => answer,
+    }
+}
+
+/// The bytes of the index. They are spelled again after `Memory`.
+pub fn spelled(alloc: Global, index: &Index) -> Result<Vec<u8>, SpellFault> {
+    match spell_index(alloc, index) {
+        Err(SpellFault::Memory) => spell_index(alloc, index),
+        answer => answer,
+    }
+}
+
+/// Whether an index is spelled as these bytes, without more memory than it needs.
+pub fn is_spelled(alloc: Global, index: &Index, want: &[u8]) -> bool {
+    match spelled(alloc, index) {
+        Ok(bytes) => *bytes == *want && bytes.capacity() <= want.len().saturating_mul(2),
+        Err(_) => false,
+    }
+}
+
+/// Whether an index has so many bytes.
+pub fn is_long(index: &Index, size: usize) -> bool {
+    match encoded_len(index) {
+        Ok(length) => length as usize == size,
+        Err(_) => false,
+    }
+}

@@ -1,12 +1,16 @@
-//! Calls that are made again after `Memory`.
+//! Calls that are made again after `Memory`, where the second answer counts.
 
-use crate::see::see;
-use crate::streams::{AtEnd, Dripping, Limits, Narrow};
+use crate::streams::{Dripping, Limits, Narrow};
 use scip_model::{Index, Info, Std};
 use scip_query::{AnswerFault, Place, Queries, QueryFault};
 use scip_wire::{WireFault, read_index};
 use std::alloc::{AllocError, Global};
 use std::process::Abort;
+
+/// Sees that what a case says holds. (A formatted assertion is proved once, here.)
+pub fn see(rt: &impl Abort, holds: bool, case: &str) {
+    assert!(rt; holds, "{case}");
+}
 
 fn read(alloc: Global, bytes: &[u8]) -> Result<Index, WireFault> {
     match read_index(alloc, bytes) {
@@ -42,16 +46,15 @@ pub fn queries(rt: &impl Abort, alloc: Global, bytes: &[u8]) -> Result<Queries, 
     }
 }
 
-/// What `references` answers.
+/// What `references` answers about a line and column of `a.proto`.
 pub fn references(
     alloc: Global,
     asked: &Queries,
-    path: &str,
-    position: (u32, u32),
+    line: u32,
+    column: u32,
 ) -> Result<Vec<Place>, QueryFault> {
-    let (line, column) = position;
-    match asked.references(alloc, path, line, column) {
-        Err(QueryFault::Memory) => asked.references(alloc, path, line, column),
+    match asked.references(alloc, "a.proto", line, column) {
+        Err(QueryFault::Memory) => asked.references(alloc, "a.proto", line, column),
         answer => answer,
     }
 }
@@ -60,122 +63,99 @@ pub fn references(
 pub fn definitions(
     alloc: Global,
     asked: &Queries,
-    path: &str,
-    position: (u32, u32),
+    line: u32,
+    column: u32,
 ) -> Result<Vec<Place>, QueryFault> {
-    let (line, column) = position;
-    match asked.definitions(alloc, path, line, column) {
-        Err(QueryFault::Memory) => asked.definitions(alloc, path, line, column),
+    match asked.definitions(alloc, "a.proto", line, column) {
+        Err(QueryFault::Memory) => asked.definitions(alloc, "a.proto", line, column),
         answer => answer,
     }
 }
 
 /// What `documentation` answers.
-pub fn documentation<'a>(
+pub fn documentation(
     alloc: Global,
-    asked: &'a Queries,
-    path: &str,
-    position: (u32, u32),
-) -> Result<Vec<&'a str>, QueryFault> {
-    let (line, column) = position;
-    match asked.documentation(alloc, path, line, column) {
-        Err(QueryFault::Memory) => asked.documentation(alloc, path, line, column),
+    asked: &Queries,
+    line: u32,
+    column: u32,
+) -> Result<Vec<&str>, QueryFault> {
+    match asked.documentation(alloc, "a.proto", line, column) {
+        Err(QueryFault::Memory) => asked.documentation(alloc, "a.proto", line, column),
         answer => answer,
     }
 }
 
 /// What `symbols` answers.
-pub fn symbols<'a>(
-    alloc: Global,
-    asked: &'a Queries,
-    path: &str,
-) -> Result<Vec<&'a Info>, QueryFault> {
-    match asked.symbols(alloc, path) {
-        Err(QueryFault::Memory) => asked.symbols(alloc, path),
+pub fn symbols(alloc: Global, asked: &Queries) -> Result<Vec<&Info>, QueryFault> {
+    match asked.symbols(alloc, "a.proto") {
+        Err(QueryFault::Memory) => asked.symbols(alloc, "a.proto"),
         answer => answer,
     }
 }
 
-/// How many bytes the answers of a test have, at most.
-pub const ROOM: usize = 4096;
+/// What is asked: one command, or all that a reader gives.
+#[derive(Clone, Copy)]
+pub enum Ask<'a> {
+    One(&'a [u8]),
+    All(Dripping<'a>),
+}
 
-/// A writer that takes all.
-pub const WIDE: Limits = Limits {
-    a_call: ROOM,
-    in_all: ROOM,
-    at_end: AtEnd::Fails,
-};
-
-/// What was answered, and what the writer then has.
-pub type Answered = (Result<(), AnswerFault>, Vec<u8>);
-
-/// What `answer` answers to a writer with these limits. After `Memory`, which has to come with
-/// nothing written, it is asked again. The writer gets its memory first, so that writing takes none.
-pub fn answered(
+/// What one call answers, and how many bytes its writer then has.
+fn asked_once(
     alloc: Global,
     asked: &Queries,
-    command: &[u8],
+    ask: Ask<'_>,
+    room: &mut [u8],
     limits: Limits,
-) -> Result<Answered, AllocError> {
-    let bytes = Vec::with_capacity(alloc, ROOM)?;
-    let mut sink = Std::new(Narrow { bytes, limits });
-    let mut answer = asked.answer(alloc, command, &mut sink);
-    if answer == Err(AnswerFault::Memory) {
-        answer = asked.answer(alloc, command, &mut sink);
-    }
-    Ok((answer, sink.into_inner().bytes))
+) -> (Result<(), AnswerFault>, usize) {
+    let size = room.len();
+    let mut sink = Std::new(Narrow { room, limits });
+    let answer = match ask {
+        Ask::One(command) => asked.answer(alloc, command, &mut sink),
+        Ask::All(reader) => asked.answer_all(alloc, &mut Std::new(reader), &mut sink),
+    };
+    let left = sink.into_inner().room.len();
+    (answer, size.saturating_sub(left))
 }
 
-/// The answer to a command.
-pub fn answer(
-    rt: &impl Abort,
+/// The same, asked again after `Memory`.
+fn asked_again(
     alloc: Global,
     asked: &Queries,
-    command: &[u8],
-) -> Result<Vec<u8>, AllocError> {
-    let (answer, bytes) = answered(alloc, asked, command, WIDE)?;
-    see(rt, answer == Ok(()), "answered");
-    Ok(bytes)
-}
-
-/// Sees the answer to a command.
-pub fn see_answer(
-    rt: &impl Abort,
-    alloc: Global,
-    asked: &Queries,
-    command: &[u8],
-    due: &[u8],
-    case: &str,
-) -> Result<(), AllocError> {
-    let answer = answer(rt, alloc, asked, command)?;
-    see(rt, answer.as_slice() == due, case);
-    Ok(())
-}
-
-/// Sees the answers to commands.
-pub fn see_answers(
-    rt: &impl Abort,
-    alloc: Global,
-    asked: &Queries,
-    cases: &[(&str, &str)],
-) -> Result<(), AllocError> {
-    for (command, due) in cases {
-        let case = *command;
-        see_answer(rt, alloc, asked, case.as_bytes(), due.as_bytes(), case)?;
-    }
-    Ok(())
-}
-
-/// What one call of `answer_all` answers, with a new writer.
-pub fn conversed(
-    alloc: Global,
-    asked: &Queries,
-    reader: Dripping<'_>,
+    ask: Ask<'_>,
+    room: &mut [u8],
     limits: Limits,
-) -> Result<Answered, AllocError> {
-    let bytes = Vec::with_capacity(alloc, ROOM)?;
-    let mut answers = Std::new(Narrow { bytes, limits });
-    let mut commands = Std::new(reader);
-    let answer = asked.answer_all(alloc, &mut commands, &mut answers);
-    Ok((answer, answers.into_inner().bytes))
+) -> (Result<(), AnswerFault>, usize) {
+    let (answer, count) = asked_once(alloc, asked, ask, room, limits);
+    if answer != Err(AnswerFault::Memory) {
+        return (answer, count);
+    }
+    asked_once(alloc, asked, ask, room, limits)
+}
+
+/// What is due: the answer, and the bytes that a writer has which has room for them alone.
+#[derive(Clone, Copy)]
+pub struct Due<'a> {
+    pub answer: Result<(), AnswerFault>,
+    pub written: &'a [u8],
+}
+
+/// Sees what is answered and written, of 256 bytes at most.
+pub fn see_asked(
+    rt: &impl Abort,
+    alloc: Global,
+    asked: &Queries,
+    ask: Ask<'_>,
+    limits: Limits,
+    due: Due<'_>,
+) {
+    let mut room = [0u8; 256];
+    let (room, _) = room.split_at_mut(due.written.len().min(256));
+    let (answer, count) = asked_again(alloc, asked, ask, room, limits);
+    see(rt, answer == due.answer, "answered");
+    see(
+        rt,
+        count == due.written.len() && *room == *due.written,
+        "written",
+    );
 }

@@ -4,28 +4,14 @@
 #[cfg(test)]
 mod asked;
 #[cfg(test)]
-mod changes;
-#[cfg(test)]
 mod checks;
-#[cfg(test)]
-mod commands;
 #[cfg(test)]
 mod conversations;
 #[cfg(test)]
-mod foreign;
-#[cfg(test)]
-mod generated;
+mod indexes;
 #[cfg(test)]
 mod lookups;
 #[cfg(test)]
-mod plan;
-#[cfg(test)]
-mod samples;
-#[cfg(test)]
-mod scans;
-#[cfg(test)]
-mod see;
-#[cfg(test)]
-mod spelled;
+mod rows;
 #[cfg(test)]
 mod streams;

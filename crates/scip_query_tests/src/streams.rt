@@ -36,38 +36,40 @@ impl Read for Dripping<'_> {
     }
 }
 
-/// What a writer does once it has taken all that it may.
-#[derive(Clone, Copy, Debug, PartialEq, Eq)]
+/// What a writer does once it has no room left.
+#[derive(Clone, Copy, PartialEq, Eq)]
 pub enum AtEnd {
     Fails,
     TakesNothing,
 }
 
-/// How many bytes a writer takes a call, and how many in all.
+/// How many bytes a writer takes a call, and what it does at its end.
 #[derive(Clone, Copy)]
 pub struct Limits {
     pub a_call: usize,
-    pub in_all: usize,
     pub at_end: AtEnd,
 }
 
-/// A writer that takes so many bytes.
+/// A writer that takes all that it has room for.
+pub const ALL_AT_ONCE: Limits = Limits {
+    a_call: usize::MAX,
+    at_end: AtEnd::Fails,
+};
+
+/// A writer into room that it doesn't own.
 #[derive(Drop)]
-pub struct Narrow {
-    pub bytes: Vec<u8>,
+pub struct Narrow<'a> {
+    pub room: &'a mut [u8],
     pub limits: Limits,
 }
 
-impl Write for Narrow {
+impl Write for Narrow<'_> {
     fn write(&mut self, bytes: &[u8]) -> io::Result<usize> {
-        let limits = self.limits;
-        let count = bytes.len().min(limits.a_call).min(limits.in_all);
-        if count == 0 && limits.at_end == AtEnd::Fails {
+        if self.room.is_empty() && self.limits.at_end == AtEnd::Fails {
             return Err(io::Error::from(ErrorKind::Interrupted));
         }
-        self.bytes.extend_from_slice(bytes.split_at(count).0)?;
-        self.limits.in_all -= count;
-        Ok(count)
+        let count = bytes.len().min(self.limits.a_call);
+        self.room.write(bytes.split_at(count).0)
     }
 
     fn flush(&mut self) -> io::Result<()> {

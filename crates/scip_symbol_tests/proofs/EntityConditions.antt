@@ -28,16 +28,6 @@ spaced_file = record {
   ending = refl;
 }
 
-pub inner_file : IsEntity (OfFile (codes "a/b.proto"))
-inner_file = record {
-  short = omega arith;
-  printable = printable (codes "a/b.proto") refl;
-  components = All-cons IsComponent (codes "a") (codes "b.proto" ∷ []) (record { some = λ e. cc; no_dot = λ e. cc; no_dots = λ e. cc })
-      (All-cons IsComponent (codes "b.proto") [] (record { some = λ e. cc; no_dot = λ e. cc; no_dots = λ e. cc }) (All-nil IsComponent));
-  name = codes "a/b";
-  ending = refl;
-}
-
 word : (name : List ℕ) (text : List ℕ) → IsIdentifier text → name ≡ text → IsIdentifier name
 word name text h e = subst IsIdentifier (sym e) h
 
@@ -56,13 +46,4 @@ message a e = (
   All-nil IsIdentifier,
   λ none. cc,
   All-cons IsNamed a [] (word a.name (codes "A") (identifier refl refl) e) (All-nil IsNamed),
-)
-
-pub declared : (p : List ℕ) (a b : DeclarationStep) → p ≡ codes "p" → a.name ≡ codes "A" → b.name ≡ codes "b"
-    → IsEntity (OfDeclaration (p ∷ []) (a ∷ b ∷ []))
-declared p a b d e f = (
-  All-cons IsIdentifier p [] (word p (codes "p") (identifier refl refl) d) (All-nil IsIdentifier),
-  λ none. cc,
-  All-cons IsNamed a (b ∷ []) (word a.name (codes "A") (identifier refl refl) e)
-      (All-cons IsNamed b [] (word b.name (codes "b") (identifier refl refl) f) (All-nil IsNamed)),
 )

@@ -6,10 +6,4 @@ mod calls;
 #[cfg(test)]
 mod entities;
 #[cfg(test)]
-mod fronts;
-#[cfg(test)]
-mod laws;
-#[cfg(test)]
 mod symbols;
-#[cfg(test)]
-mod texts;

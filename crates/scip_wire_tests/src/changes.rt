@@ -1,9 +1,8 @@
 //! Each change of one byte of an index: it is read, and then written and read again as it was, or
 //! refused by name.
 
-use crate::decoded::{decoded, is_spelled, spelled};
-use crate::samples::MESSAGE;
-use crate::see::see;
+use crate::calls::{decoded, is_spelled, see, spelled};
+use crate::indexes::MESSAGE;
 use scip_model::Index;
 use scip_wire::WireFault;
 use std::alloc::Global;

@@ -2,21 +2,15 @@
 #![tactic(auto)]
 
 #[cfg(test)]
+mod calls;
+#[cfg(test)]
 mod changes;
 #[cfg(test)]
-mod decoded;
-#[cfg(test)]
-mod fields;
+mod indexes;
 #[cfg(test)]
 mod large;
 #[cfg(test)]
 mod refusals;
-#[cfg(test)]
-mod sample;
-#[cfg(test)]
-mod samples;
-#[cfg(test)]
-mod see;
 #[cfg(test)]
 mod spellings;
 #[cfg(test)]

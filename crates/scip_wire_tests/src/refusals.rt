@@ -1,9 +1,8 @@
 //! Bytes that are refused, with the fault that comes first, worked out by hand from the Protocol
 //! Buffers encoding and `scip.proto`.
 
-use crate::decoded::decoded;
-use crate::samples::{MESSAGE, UNPACKED};
-use crate::see::see_all;
+use crate::calls::{decoded, see_all};
+use crate::indexes::{MESSAGE, UNPACKED};
 use scip_wire::WireFault;
 use std::alloc::Global;
 
@@ -49,7 +48,9 @@ fn cut_bytes_are_refused(rt: HostRuntime) {
     see_all(&rt, first_other_cut(rt.alloc(), bytes, 30, second));
 }
 
-static OF_TAGS: [Refusal<'static>; 11] = [
+// The first row: a byte 0x0B is the tag of field 1 with the start of a group, which is refused at byte 0.
+static REFUSALS: [Refusal<'static>; 29] = [
+    // Of tags.
     (b"\x0B", WireFault::Group(0)),
     (b"\x0C", WireFault::Group(0)),
     (b"\x00", WireFault::FieldZero(0)),
@@ -64,14 +65,7 @@ static OF_TAGS: [Refusal<'static>; 11] = [
         WireFault::Varint(0),
     ),
     (b"\x12\x01\x0B\x00", WireFault::Group(2)),
-];
-
-#[test]
-fn faults_of_tags(rt: HostRuntime) {
-    see_all(&rt, first_other(rt.alloc(), &OF_TAGS));
-}
-
-static OF_MESSAGES: [Refusal<'static>; 6] = [
+    // Of messages.
     (b"\x0A\x00\x0A\x00", WireFault::Repeated(2)),
     (b"\x0A\x04\x12\x00\x12\x00", WireFault::Repeated(4)),
     (b"\x12\x03\x0A\x01\xFF", WireFault::Utf8(2)),
@@ -84,14 +78,7 @@ static OF_MESSAGES: [Refusal<'static>; 6] = [
         b"\x12\x10\x12\x0E\x0A\x0C\x01\x08\xFF\xFF\xFF\xFF\xFF\xFF\xFF\xFF\xFF\x01",
         WireFault::BadRange(2),
     ),
-];
-
-#[test]
-fn faults_of_messages(rt: HostRuntime) {
-    see_all(&rt, first_other(rt.alloc(), &OF_MESSAGES));
-}
-
-static CLAIMED: [Refusal<'static>; 5] = [
+    // Lengths that bytes only claim.
     (b"\x12\xFF\xFF\xFF\xFF\x07", WireFault::Truncated(0)),
     (
         b"\x12\xFF\xFF\xFF\xFF\xFF\xFF\xFF\xFF\xFF\x01",
@@ -100,14 +87,7 @@ static CLAIMED: [Refusal<'static>; 5] = [
     (b"\x12\x04\x12\x02\x0A\x05", WireFault::Truncated(4)),
     (b"\x12\x05\x12\x03\x0A\x01\x80", WireFault::Truncated(4)),
     (b"\x12\x06\x12\x04\x0A\x02\x01\x80", WireFault::Truncated(4)),
-];
-
-#[test]
-fn lengths_that_bytes_only_claim(rt: HostRuntime) {
-    see_all(&rt, first_other(rt.alloc(), &CLAIMED));
-}
-
-static FIRST_OF_TWO: [Refusal<'static>; 7] = [
+    // The first of two.
     // A second metadata's own length is checked first, its content not at all.
     (b"\x0A\x00\x0A\x05\x00", WireFault::Truncated(2)),
     (b"\x0A\x00\x0A\x02\x0B\x00", WireFault::Repeated(2)),
@@ -128,6 +108,6 @@ static FIRST_OF_TWO: [Refusal<'static>; 7] = [
 ];
 
 #[test]
-fn the_first_of_two_faults(rt: HostRuntime) {
-    see_all(&rt, first_other(rt.alloc(), &FIRST_OF_TWO));
+fn the_first_fault_of_bytes(rt: HostRuntime) {
+    see_all(&rt, first_other(rt.alloc(), &REFUSALS));
 }

@@ -1,8 +1,7 @@
 //! Writers that take little or fail.
 
-use crate::decoded::decoded;
-use crate::samples::{MESSAGE, NO_DOCUMENT};
-use crate::see::see;
+use crate::calls::{decoded, see};
+use crate::indexes::NO_DOCUMENT;
 use scip_model::{Index, Std};
 use scip_wire::{WriteFault, write_index};
 use std::alloc::Global;
@@ -24,15 +23,23 @@ pub struct Limits {
     pub at_end: AtEnd,
 }
 
-/// A writer into room that it doesn't own.
+/// A writer that takes all that it has room for.
+pub const ALL_AT_ONCE: Limits = Limits {
+    a_call: usize::MAX,
+    at_end: AtEnd::Fails,
+};
+
+/// A writer into room that it doesn't own. It counts its calls.
 #[derive(Drop)]
 struct Narrow<'a> {
     room: &'a mut [u8],
     limits: Limits,
+    calls: u32,
 }
 
 impl Write for Narrow<'_> {
     fn write(&mut self, bytes: &[u8]) -> io::Result<usize> {
+        self.calls = self.calls.wrapping_add(1);
         if self.room.is_empty() && self.limits.at_end == AtEnd::Fails {
             return Err(io::Error::from(ErrorKind::Interrupted));
         }
@@ -45,34 +52,37 @@ impl Write for Narrow<'_> {
     }
 }
 
-/// What one call of `write_index` answers, and how many bytes its writer then has.
-fn written_once(
-    alloc: Global,
-    index: &Index,
-    room: &mut [u8],
-    limits: Limits,
-) -> (Result<(), WriteFault>, usize) {
-    let size = room.len();
-    let mut sink = Std::new(Narrow { room, limits });
-    let answer = write_index(alloc, index, &mut sink);
-    let left = sink.into_inner().room.len();
-    (answer, size.saturating_sub(left))
+/// What `write_index` answers, how many bytes its writer then has, and how often it was called.
+#[derive(Clone, Copy)]
+pub struct Outcome {
+    pub answer: Result<(), WriteFault>,
+    pub count: usize,
+    pub calls: u32,
 }
 
-/// What `write_index` answers, and how many bytes its writer then has. After `Memory`, which has to
-/// come with nothing written, it is called again, and the second answer counts.
-fn written(
-    rt: &impl Abort,
-    alloc: Global,
-    index: &Index,
-    room: &mut [u8],
-    limits: Limits,
-) -> (Result<(), WriteFault>, usize) {
-    let (answer, count) = written_once(alloc, index, room, limits);
-    if answer != Err(WriteFault::Memory) {
-        return (answer, count);
+fn written_once(alloc: Global, index: &Index, room: &mut [u8], limits: Limits) -> Outcome {
+    let size = room.len();
+    let calls = 0;
+    let mut sink = Std::new(Narrow {
+        room,
+        limits,
+        calls,
+    });
+    let answer = write_index(alloc, index, &mut sink);
+    let writer = sink.into_inner();
+    Outcome {
+        answer,
+        count: size.saturating_sub(writer.room.len()),
+        calls: writer.calls,
     }
-    see(rt, count == 0, "Memory comes with nothing written");
+}
+
+/// What becomes of an index with this room. After `Memory` it is written again, and that counts.
+pub fn written(alloc: Global, index: &Index, room: &mut [u8], limits: Limits) -> Outcome {
+    let first = written_once(alloc, index, room, limits);
+    if first.answer != Err(WriteFault::Memory) {
+        return first;
+    }
     written_once(alloc, index, room, limits)
 }
 
@@ -81,7 +91,6 @@ fn written(
 pub fn see_first(
     rt: &impl Abort,
     alloc: Global,
-    case: &str,
     index: &Index,
     first: &[u8],
     limits: Limits,
@@ -89,9 +98,9 @@ pub fn see_first(
 ) {
     let mut room = [0u8; 200];
     let (room, _) = room.split_at_mut(first.len().min(200));
-    let (answer, count) = written(rt, alloc, index, room, limits);
-    see(rt, count == first.len() && *room == *first, case);
-    see(rt, answer == want, case);
+    let found = written(alloc, index, room, limits);
+    see(rt, found.count == first.len() && *room == *first, "bytes");
+    see(rt, found.answer == want, "answer");
 }
 
 /// Sees that a writer that takes less than all of the bytes gets the first of them, and that the
@@ -99,38 +108,26 @@ pub fn see_first(
 fn see_cut_off(rt: &impl Abort, alloc: Global, index: &Index, bytes: &[u8], limits: Limits) {
     for count in 0..bytes.len() {
         let want = Err(WriteFault::Write(count));
-        see_first(rt, alloc, "cut off", index, &bytes[..count], limits, want);
+        see_first(rt, alloc, index, &bytes[..count], limits, want);
     }
-    see_first(rt, alloc, "whole", index, bytes, limits, Ok(()));
+    see_first(rt, alloc, index, bytes, limits, Ok(()));
 }
 
-/// Sees how an index is cut off by writers that take so many bytes a call.
-fn see_both_ends(rt: &impl Abort, alloc: Global, index: &Index, bytes: &[u8], a_call: usize) {
-    let at_end = AtEnd::Fails;
-    see_cut_off(rt, alloc, index, bytes, Limits { a_call, at_end });
-    let at_end = AtEnd::TakesNothing;
-    see_cut_off(rt, alloc, index, bytes, Limits { a_call, at_end });
-}
-
-/// Sees how what these bytes decode to is cut off.
-fn see_sample(rt: &impl Abort, alloc: Global, bytes: &[u8], a_call: usize) {
-    match decoded(alloc, bytes) {
-        Ok(index) => see_both_ends(rt, alloc, &index, bytes, a_call),
-        Err(_) => see(rt, false, "read"),
+/// Sees writers that take one byte, seven or all a call, and then fail or take nothing.
+fn see_writers(rt: &impl Abort, alloc: Global, index: &Index, bytes: &[u8]) {
+    for a_call in &[1, 7, usize::MAX] {
+        let a_call = *a_call;
+        let at_end = AtEnd::Fails;
+        see_cut_off(rt, alloc, index, bytes, Limits { a_call, at_end });
+        let at_end = AtEnd::TakesNothing;
+        see_cut_off(rt, alloc, index, bytes, Limits { a_call, at_end });
     }
 }
-
-/// The bytes of indexes, and how many of them a writer takes a call.
-const CASES: [(&[u8], usize); 4] = [
-    (NO_DOCUMENT, 1),
-    (NO_DOCUMENT, 7),
-    (NO_DOCUMENT, 100),
-    (MESSAGE, usize::MAX),
-];
 
 #[test]
 fn writers_that_take_little_or_fail_and_stop_at_each_byte(rt: HostRuntime) {
-    for (bytes, a_call) in &CASES {
-        see_sample(&rt, rt.alloc(), bytes, *a_call);
+    match decoded(rt.alloc(), NO_DOCUMENT) {
+        Ok(index) => see_writers(&rt, rt.alloc(), &index, NO_DOCUMENT),
+        Err(_) => see(&rt, false, "read"),
     }
 }

@@ -6,8 +6,4 @@ mod calls;
 #[cfg(test)]
 mod limits;
 #[cfg(test)]
-mod refusals;
-#[cfg(test)]
-mod symbols;
-#[cfg(test)]
 mod trees;

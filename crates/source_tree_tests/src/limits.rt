@@ -1,7 +1,7 @@
-//! The most files of a tree.
+//! The most files of a tree, and the longest path.
 
-use crate::calls::{see, with_included_again};
-use source_tree::{MAX_FILES, Source, Tree, TreeFault};
+use crate::calls::{fault_of, see, sources};
+use source_tree::{Source, Tree, TreeFault};
 use std::alloc::{AllocError, Global};
 use std::test::Fail;
 
@@ -18,42 +18,38 @@ fn nameless(alloc: Global, count: usize) -> Result<Vec<Source>, AllocError> {
     Ok(files)
 }
 
-/// Whether so many files without a path are refused for this, and all come back.
-fn are_refused(
-    alloc: Global,
-    sources: usize,
-    included: usize,
-    due: TreeFault,
-) -> Result<bool, AllocError> {
-    let of_sources = nameless(alloc, sources)?;
-    let of_included = nameless(alloc, included)?;
-    match with_included_again(alloc, of_sources, of_included) {
-        Ok(_) => Ok(false),
-        Err((lists, fault)) => {
-            let whole = lists.0.len() == sources && lists.1.len() == included;
-            Ok(whole && fault == due)
-        }
-    }
+fn fault_of_many(alloc: Global, count: usize) -> Result<Option<TreeFault>, AllocError> {
+    fault_of(alloc, nameless(alloc, count)?)
 }
 
-/// So many sources, so many included files, and what they are refused for.
-const REFUSED: [(usize, usize, TreeFault); 7] = [
-    (65_536, 0, TreeFault::BadPath(0)),
-    (65_537, 0, TreeFault::TooMany),
-    (0, 65_536, TreeFault::BadPath(0)),
-    (0, 65_537, TreeFault::TooMany),
-    (40_000, 25_536, TreeFault::BadPath(0)),
-    (40_000, 25_537, TreeFault::TooMany),
-    (65_536, 1, TreeFault::TooMany),
-];
+/// What a source is refused for whose path has so many bytes and the ending.
+fn fault_of_long(alloc: Global, before: usize) -> Result<Option<TreeFault>, AllocError> {
+    let mut path = String::new(alloc);
+    for _ in 0..before {
+        path.push('a')?;
+    }
+    path.push_str(".proto")?;
+    fault_of(alloc, sources(alloc, &[(path.as_str(), "")])?)
+}
+
+/// Whether 65,536 files are judged by their paths, and one more is too many; and whether a path of
+/// 4,096 bytes is taken, and one more is too long.
+fn are_limits(alloc: Global) -> Result<bool, AllocError> {
+    Ok(
+        fault_of_many(alloc, 65_536)? == Some(TreeFault::BadPath(0))
+            && fault_of_many(alloc, 65_537)? == Some(TreeFault::TooMany)
+            && fault_of_long(alloc, 4_090)?.is_none()
+            && fault_of_long(alloc, 4_091)? == Some(TreeFault::BadPath(0)),
+    )
+}
 
 #[test]
-fn most_files(rt: HostRuntime) -> Result<(), Fail> {
-    see(&rt, MAX_FILES == 65_536, "the number");
-    for (sources, included, due) in &REFUSED {
-        let so = are_refused(rt.alloc(), *sources, *included, *due)?;
-        see(&rt, so, "too many");
-    }
+fn most_files_and_the_longest_path(rt: HostRuntime) -> Result<(), Fail> {
+    let are = match are_limits(rt.alloc()) {
+        Err(_) => are_limits(rt.alloc())?,
+        Ok(are) => are,
+    };
+    see(&rt, are, "limits");
     Ok(())
 }
 
@@ -79,13 +75,23 @@ fn is_whole(tree: &Tree) -> bool {
     tree.path(0) == "00001.proto" && tree.path(39_999) == "40000.proto"
 }
 
-#[test]
-fn whole_tree(rt: HostRuntime) -> Result<(), Fail> {
-    let sources = numbered(rt.alloc(), 40_000)?;
-    let included = numbered(rt.alloc(), 25_536)?;
-    match with_included_again(rt.alloc(), sources, included) {
-        Ok(tree) => see(&rt, is_whole(&tree), "whole"),
-        Err(_) => see(&rt, false, "refused"),
+/// Whether many files make a tree, which they do in time.
+fn are_taken(alloc: Global) -> Result<bool, AllocError> {
+    let sources = numbered(alloc, 40_000)?;
+    let included = numbered(alloc, 25_536)?;
+    match Tree::with_included(alloc, sources, included) {
+        Ok(tree) => Ok(is_whole(&tree)),
+        Err((_, TreeFault::Memory)) => Err(AllocError),
+        Err(_) => Ok(false),
     }
+}
+
+#[test]
+fn many_files(rt: HostRuntime) -> Result<(), Fail> {
+    let are = match are_taken(rt.alloc()) {
+        Err(_) => are_taken(rt.alloc())?,
+        Ok(are) => are,
+    };
+    see(&rt, are, "whole");
     Ok(())
 }

@@ -1,97 +1,88 @@
-//! Trees of sources and included files.
+//! A tree of sources and included files, and what is refused.
 
-use crate::calls::{answer_text, new_text, see_answer};
+use crate::calls::{fault_of, see, sources};
 use source_tree::{
-    one_sorting_by_path, one_tree, refusals_exclude_each_other, trees_are_not_refused,
+    Tree, TreeFault, one_sorting_by_path, one_tree, refusals_exclude_each_other,
+    trees_are_not_refused,
 };
+use std::alloc::{AllocError, Global};
 use std::test::Fail;
 
-/// Sources, included files, and what is due.
-const CASES: [(&str, &str, &str); 15] = [
-    ("", "", "0"),
-    // Paths are ordered by their bytes.
-    (
-        "z.proto=1;\u{e9}.proto=2;a/z.proto=3;a.proto=4;B.proto=5;",
-        "",
-        "B.proto=5;a.proto=4;a/z.proto=3;z.proto=1;\u{e9}.proto=2;5",
-    ),
-    // Included files come behind all sources.
-    (
-        "z.proto=1;y.proto=2;",
-        "b.proto=3;a.proto=4;",
-        "y.proto=2;z.proto=1;+a.proto=4;+b.proto=3;2",
-    ),
-    // One whose path a source has doesn't count, whatever it holds.
-    (
-        "a.proto=1;",
-        "a.proto=2;b.proto=3;a.proto=1;",
-        "a.proto=1;+b.proto=3;1",
-    ),
-    // Of those with one path the first listed counts.
-    (
-        "z.proto=1;",
-        "t.proto=2;s.proto=3;t.proto=4;t.proto=2;s.proto=5;",
-        "z.proto=1;+s.proto=3;+t.proto=2;1",
-    ),
-    // A tree of included files alone.
-    (
-        "",
-        "b.proto=1;a.proto=2;b.proto=3;",
-        "+a.proto=2;+b.proto=1;0",
-    ),
-    // Two sources with one path: they come back sorted, and the included files as they were.
-    (
-        "b.proto=1;a.proto=2;b.proto=3;",
-        "t.proto=4;s.proto=5;b.proto=6;",
-        "SamePath(2): a.proto=2;b.proto=1;b.proto=3;|t.proto=4;s.proto=5;b.proto=6;",
-    ),
-    // A bad path of an included file goes before it, though that file wouldn't count.
-    (
-        "b.proto=1;a.proto=2;b.proto=3;",
-        "t.proto=4;b.txt=5;b.txt=6;",
-        "BadPath(4): b.proto=1;a.proto=2;b.proto=3;|t.proto=4;b.txt=5;b.txt=6;",
-    ),
-    // The least number, through the sources first.
-    (
-        "b.proto=1;a=2;b=3;",
-        "t=4;",
-        "BadPath(1): b.proto=1;a=2;b=3;|t=4;",
-    ),
-    ("a.proto=;", "", "a.proto=;1"),
-    ("b.proto=1;a.proto=2;", "", "a.proto=2;b.proto=1;2"),
-    // Files with one path keep their order.
-    (
-        "a.proto=2;a.proto=1;",
-        "",
-        "SamePath(1): a.proto=2;a.proto=1;|",
-    ),
-    // The first pair, and its second file.
-    (
-        "c.proto=1;b.proto=2;c.proto=3;b.proto=4;",
-        "",
-        "SamePath(1): b.proto=2;b.proto=4;c.proto=1;c.proto=3;|",
-    ),
-    (
-        "b.proto=1;b.proto=1;b.proto=1;",
-        "",
-        "SamePath(1): b.proto=1;b.proto=1;b.proto=1;|",
-    ),
-    (
-        "b.proto=1;a.proto=2;c=3;b.proto=4;",
-        "",
-        "BadPath(2): b.proto=1;a.proto=2;c=3;b.proto=4;|",
-    ),
+// The first file: of the sources `z.proto` and `y.proto` comes `y.proto` first, which holds a 2. The last
+// two are included; one with a source's path doesn't count, and of two with one path the first listed does.
+const DUE: [(&str, &[u8]); 4] = [
+    ("y.proto", b"2"),
+    ("z.proto", b"1"),
+    ("a.proto", b"4"),
+    ("b.proto", b"3"),
 ];
 
-// Sources alone are answered likewise by `Tree::new`.
-#[test]
-fn cases(rt: HostRuntime) -> Result<(), Fail> {
-    for (sources, included, due) in &CASES {
-        see_answer(&rt, answer_text(rt.alloc(), sources, included), due)?;
-        if included.is_empty() {
-            see_answer(&rt, new_text(rt.alloc(), sources), due)?;
+fn is_due(tree: &Tree) -> bool {
+    for number in 0..tree.file_count() {
+        let is = match DUE.get(number) {
+            Some((path, bytes)) => tree.path(number) == *path && *tree.bytes(number) == **bytes,
+            None => false,
+        };
+        if !is || tree.is_included(number) != (number >= 2) {
+            return false;
         }
     }
+    tree.file_count() == 4 && tree.source_count() == 2
+}
+
+fn is_made(alloc: Global) -> Result<bool, AllocError> {
+    let of_sources = sources(alloc, &[("z.proto", "1"), ("y.proto", "2")])?;
+    let of_included = sources(
+        alloc,
+        &[
+            ("b.proto", "3"),
+            ("a.proto", "4"),
+            ("y.proto", "5"),
+            ("b.proto", "6"),
+        ],
+    )?;
+    match Tree::with_included(alloc, of_sources, of_included) {
+        Ok(tree) => Ok(is_due(&tree)),
+        Err((_, TreeFault::Memory)) => Err(AllocError),
+        Err(_) => Ok(false),
+    }
+}
+
+#[test]
+fn sources_and_included_files(rt: HostRuntime) -> Result<(), Fail> {
+    let is = match is_made(rt.alloc()) {
+        Err(_) => is_made(rt.alloc())?,
+        Ok(is) => is,
+    };
+    see(&rt, is, "tree");
+    Ok(())
+}
+
+/// What two sources are refused for.
+fn fault_of_two(alloc: Global, one: &str, other: &str) -> Result<Option<TreeFault>, AllocError> {
+    fault_of(alloc, sources(alloc, &[(one, "1"), (other, "2")])?)
+}
+
+fn fault_again(alloc: Global, one: &str, other: &str) -> Result<Option<TreeFault>, AllocError> {
+    match fault_of_two(alloc, one, other) {
+        Err(_) => fault_of_two(alloc, one, other),
+        fault => fault,
+    }
+}
+
+/// Paths that no file may have.
+const BAD: [&str; 5] = ["/a.proto", "a//b.proto", "../a.proto", "a.txt", ""];
+
+#[test]
+fn bad_paths_and_two_sources_with_one_path(rt: HostRuntime) -> Result<(), Fail> {
+    for path in &BAD {
+        let fault = fault_again(rt.alloc(), path, "a.proto")?;
+        see(&rt, fault == Some(TreeFault::BadPath(0)), path);
+    }
+    let fault = fault_again(rt.alloc(), "a.proto", "a.proto")?;
+    see(&rt, fault == Some(TreeFault::SamePath(1)), "one path");
+    let fault = fault_again(rt.alloc(), "a.proto", "b.proto")?;
+    see(&rt, fault.is_none(), "two paths");
     Ok(())
 }
 

@@ -3,6 +3,17 @@
 use scip_model::Index;
 use scip_wire::{SpellFault, WireFault, encoded_len, read_index, spell_index};
 use std::alloc::Global;
+use std::process::Abort;
+
+/// Sees that what a case says holds. (A formatted assertion is proved once, here.)
+pub fn see(rt: &impl Abort, holds: bool, case: &str) {
+    assert!(rt; holds, "{case}");
+}
+
+/// Sees that no row of a table went wrong; else it names the first that did, from 0.
+pub fn see_all(rt: &impl Abort, wrong: Option<usize>) {
+    assert!(rt; wrong.is_none(), "row {wrong:?}");
+}
 
 /// The index that the bytes decode to. They are read again after `Memory`.
 pub fn decoded(alloc: Global, bytes: &[u8]) -> Result<Index, WireFault> {
@@ -20,10 +31,10 @@ pub fn spelled(alloc: Global, index: &Index) -> Result<Vec<u8>, SpellFault> {
     }
 }
 
-/// Whether an index is spelled as these bytes.
+/// Whether an index is spelled as these bytes, without more memory than it needs.
 pub fn is_spelled(alloc: Global, index: &Index, want: &[u8]) -> bool {
     match spelled(alloc, index) {
-        Ok(bytes) => *bytes == *want,
+        Ok(bytes) => *bytes == *want && bytes.capacity() <= want.len().saturating_mul(2),
         Err(_) => false,
     }
 }

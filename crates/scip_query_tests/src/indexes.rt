@@ -1,0 +1,58 @@
+//! The bytes of indexes, worked out by hand from the Protocol Buffers encoding and `scip.proto`. A line
+//! each has a document's tag, length and path, an occurrence (`\x12`), or a symbol entry (`\x1A`).
+
+/// A file with a package `p`, `message Foo {}`, and `message M { string Foo = 1; Foo x = 2; }`, whose
+/// field is named like a type.
+//
+// Its first occurrence: `\x12`, of 0x27 bytes; its range `\x0A`, of three numbers: line 0, from 0 to 0;
+// its symbol `\x12`, of 0x1E bytes; its roles `\x18`: 1, a definition.
+pub const FIELD_NAMED_LIKE_A_TYPE: &[u8; 449] = b"\x12\xBE\x03\x0A\x07a.proto\
+\x12\x27\x0A\x03\x00\x00\x00\x12\x1Escip-protobuf . . . `a.proto`/\x18\x01\
+\x12\x1F\x0A\x03\x01\x08\x09\x12\x16scip-protobuf . . . p/\x18\x01\
+\x12\x23\x0A\x03\x02\x08\x0B\x12\x1Ascip-protobuf . . . p/Foo#\x18\x01\
+\x12\x21\x0A\x03\x03\x08\x09\x12\x18scip-protobuf . . . p/M#\x18\x01\
+\x12\x25\x0A\x03\x03\x13\x16\x12\x1Cscip-protobuf . . . p/M#Foo.\x18\x01\
+\x12\x21\x0A\x03\x03\x1C\x1F\x12\x1Ascip-protobuf . . . p/Foo#\
+\x12\x23\x0A\x03\x03\x20\x21\x12\x1Ascip-protobuf . . . p/M#x.\x18\x01\
+\x1A\x20\x0A\x1Escip-protobuf . . . `a.proto`/\
+\x1A\x18\x0A\x16scip-protobuf . . . p/\
+\x1A\x1C\x0A\x1Ascip-protobuf . . . p/Foo#\
+\x1A\x1A\x0A\x18scip-protobuf . . . p/M#\
+\x1A\x1E\x0A\x1Cscip-protobuf . . . p/M#Foo.\
+\x1A\x1C\x0A\x1Ascip-protobuf . . . p/M#x.";
+
+/// A message with a leading and a trailing text, and its field with a trailing one.
+pub const DOCUMENTED: &[u8; 78] = b"\x12\x4C\x0A\x07a.proto\
+\x12\x0B\x0A\x03\x03\x08\x09\x12\x02A#\x18\x01\
+\x12\x0D\x0A\x03\x04\x08\x09\x12\x04A#x.\x18\x01\
+\x1A\x15\x0A\x02A#\x1A\x09One.\nTwo.\x1A\x04tail\
+\x1A\x0E\x0A\x04A#x.\x1A\x06 unit ";
+
+/// The same local symbol in two documents, defined and used in each.
+pub const LOCAL_IN_TWO_DOCUMENTS: &[u8; 78] = b"\x12\x25\x0A\x01a\
+\x12\x10\x0A\x03\x00\x00\x01\x12\x07local 1\x18\x01\
+\x12\x0E\x0A\x03\x00\x02\x03\x12\x07local 1\
+\x12\x25\x0A\x01b\
+\x12\x10\x0A\x03\x00\x00\x01\x12\x07local 1\x18\x01\
+\x12\x0E\x0A\x03\x00\x02\x03\x12\x07local 1";
+
+/// Ranges that hold, overlap and end in one another, two that are one with symbols and roles of their
+/// own, and an empty one.
+pub const OVERLAPPING: &[u8; 47] = b"\x12\x2D\x0A\x01a\
+\x12\x08\x0A\x03\x00\x00\x09\x12\x01x\
+\x12\x08\x0A\x03\x00\x02\x05\x12\x01z\
+\x12\x0A\x0A\x03\x00\x02\x05\x12\x01y\x18\x04\
+\x12\x08\x0A\x03\x00\x05\x05\x12\x01w";
+
+/// The index of a file `a.proto` with one message, `A`.
+pub const MESSAGE: &[u8; 200] =
+    b"\x0A\x1C\x12\x0E\x0A\x09protoscip\x12\x011\x1A\x08file:///\x20\x01\
+\x12\xA7\x01\x0A\x07a.proto\
+\x12\x27\x0A\x03\x00\x00\x00\x12\x1Escip-protobuf . . . `a.proto`/\x18\x01\
+\x12\x1F\x0A\x03\x01\x08\x09\x12\x16scip-protobuf . . . A#\x18\x01\
+\x1A\x1B\x0A\x16scip-protobuf . . . A#\x32\x01A\
+\x1A\x29\x0A\x1Escip-protobuf . . . `a.proto`/\x32\x07a.proto\
+\x22\x08Protobuf\x30\x01";
+
+/// One document `a` with an occurrence whose end lies before its start.
+pub const REVERSED: &[u8; 15] = b"\x12\x0D\x0A\x01a\x12\x08\x0A\x03\x01\x09\x08\x12\x01x";

@@ -10,24 +10,9 @@ use std::process::Abort;
 /// The statement that each source begins with.
 pub const SYNTAX: &str = "syntax = \"proto3\";\n";
 
-/// Why a source has no tree.
-#[derive(Clone, Copy, Debug, Drop, PartialEq, Eq)]
-pub enum NoTree {
-    Lex(LexFault),
-    Syntax(SyntaxFault),
-}
-
-/// A source, behind the syntax statement where a table says so, and its fault.
-pub type Case = (&'static str, SyntaxFault);
-
-/// Ends the test where this isn't so.
-pub fn see(rt: &impl Abort, so: bool, what: &str) {
-    assert!(rt; so, "{what}");
-}
-
-/// Ends the test where a case of its table went wrong, with the first such case, from 0.
-pub fn see_all(rt: &impl Abort, wrong: Option<usize>) {
-    assert!(rt; wrong.is_none(), "case {wrong:?}");
+/// Ends the test where something went wrong: a row of its table, from 0, or a place.
+pub fn see(rt: &impl Abort, wrong: Option<usize>) {
+    assert!(rt; wrong.is_none(), "wrong at {wrong:?}");
 }
 
 fn text_of<'a>(alloc: Global, source: &'a [u8]) -> Result<Text<'a>, LexFault> {
@@ -63,98 +48,126 @@ fn tree_of(alloc: Global, tokens: &Tokens<'_>, custom: CustomOptions) -> Result<
     }
 }
 
-/// Whether the tree of tokens is what a look wants.
-fn is_seen(
+/// Why tokens have no tree such as a look wants, if so. A tree that is another counts as none that
+/// memory was there for.
+fn fault_of_tokens(
     alloc: Global,
     tokens: &Tokens<'_>,
     custom: CustomOptions,
     look: Look,
-) -> Result<bool, SyntaxFault> {
+) -> Option<SyntaxFault> {
     match tree_of(alloc, tokens, custom) {
-        Ok(file) => Ok(look.is_right(&file)),
-        Err(fault) => Err(fault),
+        Ok(file) => look.fault_of(&file),
+        Err(fault) => Some(fault),
     }
 }
 
-fn is_text_seen(
+fn fault_of_text(
     alloc: Global,
     text: &Text<'_>,
     custom: CustomOptions,
     look: Look,
-) -> Result<bool, NoTree> {
+) -> Option<SyntaxFault> {
     match tokens_of(alloc, text) {
-        Ok(tokens) => is_seen(alloc, &tokens, custom, look).map_err(NoTree::Syntax),
-        Err(fault) => Err(NoTree::Lex(fault)),
+        Ok(tokens) => fault_of_tokens(alloc, &tokens, custom, look),
+        Err(_) => Some(SyntaxFault::Memory),
     }
 }
 
-/// Whether the tree of a whole source is what a look wants.
-pub fn is_source_seen(
+/// Why a source has no tree such as a look wants, if so. One with no tokens counts as one that memory
+/// ran out for, which no test wants.
+pub fn fault_of_source(
     alloc: Global,
     source: &str,
     custom: CustomOptions,
     look: Look,
-) -> Result<bool, NoTree> {
+) -> Option<SyntaxFault> {
     match text_of(alloc, source.as_bytes()) {
-        Ok(text) => is_text_seen(alloc, &text, custom, look),
-        Err(fault) => Err(NoTree::Lex(fault)),
+        Ok(text) => fault_of_text(alloc, &text, custom, look),
+        Err(_) => Some(SyntaxFault::Memory),
     }
 }
 
-/// Why a whole source has no tree, if it has none.
-pub fn refusal(alloc: Global, source: &str, custom: CustomOptions) -> Option<NoTree> {
-    is_source_seen(alloc, source, custom, Look::Nothing).err()
-}
-
 /// Three texts, joined.
-pub fn joined<'a>(
-    alloc: Global,
-    front: &'a str,
-    middle: &'a str,
-    end: &'a str,
-) -> Result<String, AllocError> {
+pub fn joined(alloc: Global, front: &str, middle: &str, end: &str) -> Result<String, AllocError> {
     [front, middle, end].join(alloc, "")
 }
 
 /// Why these three texts, joined, have no tree, if they have none.
-pub fn refusal_of(
+pub fn fault_of(
     alloc: Global,
     front: &str,
     middle: &str,
     end: &str,
     custom: CustomOptions,
-) -> Result<Option<NoTree>, AllocError> {
-    let source = joined(alloc, front, middle, end)?;
-    Ok(refusal(alloc, source.as_str(), custom))
-}
-
-/// The first source that has no tree, behind the syntax statement.
-pub fn first_refused(
-    alloc: Global,
-    rests: &[&str],
-    custom: CustomOptions,
-) -> Result<Option<usize>, AllocError> {
-    for (index, rest) in rests.iter().enumerate() {
-        if refusal_of(alloc, SYNTAX, rest, "", custom)?.is_some() {
-            return Ok(Some(index));
-        }
+) -> Option<SyntaxFault> {
+    match joined(alloc, front, middle, end) {
+        Ok(source) => fault_of_source(alloc, source.as_str(), custom, Look::Nothing),
+        Err(_) => Some(SyntaxFault::Memory),
     }
-    Ok(None)
 }
 
-/// The first case with another fault, or with none, behind this front.
-pub fn first_other_fault(
+/// The offset of a fault, or 0.
+pub fn offset_of(fault: SyntaxFault) -> usize {
+    match fault {
+        SyntaxFault::NotProto3(offset)
+        | SyntaxFault::CustomOption(offset)
+        | SyntaxFault::Aggregate(offset)
+        | SyntaxFault::Extend(offset)
+        | SyntaxFault::TwoPackages(offset)
+        | SyntaxFault::ImportEscape(offset)
+        | SyntaxFault::TooDeep(offset)
+        | SyntaxFault::Grammar(offset) => offset,
+        SyntaxFault::Memory => 0,
+    }
+}
+
+/// This fault at another offset.
+fn moved(fault: SyntaxFault, offset: usize) -> SyntaxFault {
+    match fault {
+        SyntaxFault::NotProto3(_) => SyntaxFault::NotProto3(offset),
+        SyntaxFault::CustomOption(_) => SyntaxFault::CustomOption(offset),
+        SyntaxFault::Aggregate(_) => SyntaxFault::Aggregate(offset),
+        SyntaxFault::Extend(_) => SyntaxFault::Extend(offset),
+        SyntaxFault::TwoPackages(_) => SyntaxFault::TwoPackages(offset),
+        SyntaxFault::ImportEscape(_) => SyntaxFault::ImportEscape(offset),
+        SyntaxFault::TooDeep(_) => SyntaxFault::TooDeep(offset),
+        SyntaxFault::Grammar(_) => SyntaxFault::Grammar(offset),
+        SyntaxFault::Memory => SyntaxFault::Memory,
+    }
+}
+
+/// Whether a source, behind a front, has this fault where its `^` is.
+fn is_refused(
     alloc: Global,
     front: &str,
-    cases: &[Case],
+    marked: &str,
+    fault: SyntaxFault,
     custom: CustomOptions,
-) -> Result<Option<usize>, AllocError> {
-    for (index, (rest, want)) in cases.iter().enumerate() {
-        if refusal_of(alloc, front, rest, "", custom)? != Some(NoTree::Syntax(*want)) {
-            return Ok(Some(index));
+) -> bool {
+    match marked.split_once('^') {
+        Some((before, behind)) => {
+            let want = moved(fault, front.len().wrapping_add(before.len()));
+            fault_of(alloc, front, before, behind, custom) == Some(want)
+        }
+        None => false,
+    }
+}
+
+/// The first source that has another fault, or has it elsewhere.
+pub fn first_other(
+    alloc: Global,
+    front: &str,
+    sources: &[&str],
+    fault: SyntaxFault,
+    custom: CustomOptions,
+) -> Option<usize> {
+    for (index, marked) in sources.iter().enumerate() {
+        if !is_refused(alloc, front, marked, fault, custom) {
+            return Some(index);
         }
     }
-    Ok(None)
+    None
 }
 
 fn spans_of_text(alloc: Global, text: &Text<'_>) -> Result<Vec<Span>, AllocError> {

@@ -1,233 +1,273 @@
-//! Sources that the grammar doesn't have, and where the fault stands.
+//! Sources that the grammar doesn't have: which fault each has is named by the test, and where it is
+//! by a `^`, which is taken out. No contract says this. Behind `SYNTAX`, offsets grow by 19.
 
-use crate::calls::{Case, NoTree, SYNTAX, first_other_fault, joined, refusal_of, see_all};
+use crate::calls::{SYNTAX, fault_of, first_other, joined, offset_of, see};
 use proto_parse::{CustomOptions, SyntaxFault};
 use std::alloc::{AllocError, Global};
 use std::test::Fail;
 
-const NOT_PROTO3: [Case; 13] = [
-    ("", SyntaxFault::NotProto3(0)),
-    ("  // only a comment\n", SyntaxFault::NotProto3(20)),
-    ("syntax = \"proto2\";\n", SyntaxFault::NotProto3(9)),
-    ("syntax = \"proto2\"", SyntaxFault::NotProto3(9)),
-    ("syntax = \"pro\" 'to2';", SyntaxFault::NotProto3(9)),
-    ("syntax = \"proto\\x33\";", SyntaxFault::NotProto3(9)),
-    ("syntax = 'proto3' '3';", SyntaxFault::NotProto3(9)),
-    ("syntax = '';", SyntaxFault::NotProto3(9)),
-    ("\"syntax\" = \"proto3\";", SyntaxFault::NotProto3(0)),
-    (" ; syntax = \"proto3\";", SyntaxFault::NotProto3(1)),
-    ("message A {}", SyntaxFault::NotProto3(0)),
-    ("/**/ proto3", SyntaxFault::NotProto3(5)),
-    (
-        "// a\nsyntax = /* b */ 'proto2';",
-        SyntaxFault::NotProto3(22),
-    ),
+/// The third row reads: the literal behind `syntax =`, at 9, doesn't spell `proto3`.
+const NOT_PROTO3: [&str; 13] = [
+    "^",
+    "  // only a comment\n^",
+    "syntax = ^\"proto2\";\n",
+    "syntax = ^\"proto2\"",
+    "syntax = ^\"pro\" 'to2';",
+    "syntax = ^\"proto\\x33\";",
+    "syntax = ^'proto3' '3';",
+    "syntax = ^'';",
+    "^\"syntax\" = \"proto3\";",
+    " ^; syntax = \"proto3\";",
+    "^message A {}",
+    "/**/ ^proto3",
+    "// a\nsyntax = /* b */ ^'proto2';",
 ];
 
 #[test]
-fn texts_that_are_not_proto3(rt: HostRuntime) -> Result<(), Fail> {
-    let wrong = first_other_fault(rt.alloc(), "", &NOT_PROTO3, CustomOptions::Refuse)?;
-    see_all(&rt, wrong);
-    Ok(())
+fn texts_that_are_not_proto3(rt: HostRuntime) {
+    see(
+        &rt,
+        first_other(
+            rt.alloc(),
+            "",
+            &NOT_PROTO3,
+            SyntaxFault::NotProto3(0),
+            CustomOptions::Refuse,
+        ),
+    );
 }
 
-const SYNTAX_STATEMENTS: [Case; 6] = [
-    ("syntax", SyntaxFault::Grammar(6)),
-    ("syntax \"proto3\";", SyntaxFault::Grammar(7)),
-    ("syntax = 3;", SyntaxFault::Grammar(9)),
-    ("syntax = ;", SyntaxFault::Grammar(9)),
-    ("syntax = \"proto3\"", SyntaxFault::Grammar(17)),
-    ("syntax = \"proto3\" x", SyntaxFault::Grammar(18)),
+/// The first row reads: behind the word `syntax` tokens are missing, at 6.
+const SYNTAX_STATEMENTS: [&str; 6] = [
+    "syntax^",
+    "syntax ^\"proto3\";",
+    "syntax = ^3;",
+    "syntax = ^;",
+    "syntax = \"proto3\"^",
+    "syntax = \"proto3\" ^x",
 ];
 
 #[test]
-fn faults_of_syntax_statements(rt: HostRuntime) -> Result<(), Fail> {
-    let wrong = first_other_fault(rt.alloc(), "", &SYNTAX_STATEMENTS, CustomOptions::Refuse)?;
-    see_all(&rt, wrong);
-    Ok(())
+fn faults_of_syntax_statements(rt: HostRuntime) {
+    see(
+        &rt,
+        first_other(
+            rt.alloc(),
+            "",
+            &SYNTAX_STATEMENTS,
+            SyntaxFault::Grammar(0),
+            CustomOptions::Refuse,
+        ),
+    );
 }
 
-const BY_NAME: [Case; 16] = [
-    ("message A { extend B {} }", SyntaxFault::Extend(31)),
-    ("message A { extend x = 1; }", SyntaxFault::Extend(31)),
-    ("extend B {}", SyntaxFault::Extend(19)),
-    ("option a = {};", SyntaxFault::Aggregate(30)),
-    (
-        "message A { int32 x = 1 [a = {}]; }",
-        SyntaxFault::Aggregate(48),
-    ),
-    ("option (x) = 1;", SyntaxFault::CustomOption(26)),
-    ("option a.(b) = 1;", SyntaxFault::CustomOption(28)),
-    ("enum E { A = 0 [(x) = 1]; }", SyntaxFault::CustomOption(35)),
-    ("package a;\npackage b;", SyntaxFault::TwoPackages(30)),
-    ("package a;\npackage", SyntaxFault::TwoPackages(30)),
-    ("import \"a\\x2e\";", SyntaxFault::ImportEscape(26)),
-    ("import \"a\" 'b\\\\' 3", SyntaxFault::ImportEscape(30)),
-    ("option(x)=1;", SyntaxFault::CustomOption(25)),
-    ("option a={", SyntaxFault::Aggregate(28)),
-    ("package a;package b;", SyntaxFault::TwoPackages(29)),
-    ("import'\\n';", SyntaxFault::ImportEscape(25)),
+/// The first row reads: the word `extend` begins a statement of a message, at 31 behind `SYNTAX`.
+const EXTENDS: [&str; 5] = [
+    "message A { ^extend B {} }",
+    "message A { ^extend x = 1; }",
+    "^extend B {}",
+    "/* a */ ^extend B {}",
+    "message A { /* b */ ^extend B {} }",
+];
+
+/// The first row reads: a `{` begins the value of an option, at 30.
+const AGGREGATES: [&str; 4] = [
+    "option a = ^{};",
+    "message A { int32 x = 1 [a = ^{}]; }",
+    "option a=^{",
+    "option a = // b\n^{};",
+];
+
+/// The first row reads: a `(` begins the name of an option, at 26.
+const CUSTOM_OPTIONS: [&str; 6] = [
+    "option ^(x) = 1;",
+    "option a.^(b) = 1;",
+    "enum E { A = 0 [^(x) = 1]; }",
+    "option^(x)=1;",
+    "option /* a */ ^(x) = 1;",
+    "option a. /* b */ ^(c) = 1;",
+];
+
+/// The first row reads: the word of the second package statement, at 30.
+const TWO_PACKAGES: [&str; 4] = [
+    "package a;\n^package b;",
+    "package a;\n^package",
+    "package a;^package b;",
+    "package a; /* b */ ^package c;",
+];
+
+/// The second row reads: the second literal of a path has a `\\`, at 30.
+const IMPORT_ESCAPES: [&str; 6] = [
+    "import ^\"a\\x2e\";",
+    "import \"a\" ^'b\\\\' 3",
+    "import^'\\n';",
+    "import 'a' /* b */ ^'c\\n';",
+    "import public /* a */ ^\"\\n\";",
+    "import weak ^'\\\\';",
+];
+
+/// The first source behind `SYNTAX` that isn't refused so.
+fn first_not(alloc: Global, fault: SyntaxFault, sources: &[&str]) -> Option<usize> {
+    first_other(alloc, SYNTAX, sources, fault, CustomOptions::Refuse)
+}
+
+#[test]
+fn refusals_by_name(rt: HostRuntime) {
+    let alloc = rt.alloc();
+    see(&rt, first_not(alloc, SyntaxFault::Extend(0), &EXTENDS));
+    see(
+        &rt,
+        first_not(alloc, SyntaxFault::Aggregate(0), &AGGREGATES),
+    );
+    see(
+        &rt,
+        first_not(alloc, SyntaxFault::CustomOption(0), &CUSTOM_OPTIONS),
+    );
+    see(
+        &rt,
+        first_not(alloc, SyntaxFault::TwoPackages(0), &TWO_PACKAGES),
+    );
+    see(
+        &rt,
+        first_not(alloc, SyntaxFault::ImportEscape(0), &IMPORT_ESCAPES),
+    );
+}
+
+/// The first row reads: no key of a map is a `float`, at 35.
+const TOKENS: [&str; 40] = [
+    "message A { map<^float, int32> m = 1; }",
+    "message A { map<^E, int32> m = 1; }",
+    "message A { repeated map^<int32, A> m = 1; }",
+    "service S { rpc F(stream^) returns (A); }",
+    "service S { rpc F(^int32) returns (A); }",
+    "service S { rpc F(A) ^return (A); }",
+    "service S { ^message A {} }",
+    "service S { rpc F(A) returns (A) { ^x } }",
+    "option a = -^{};",
+    "option a = -^\"x\";",
+    "option a = -inf^.b;",
+    "option a = -^-1;",
+    "option a = ^[1];",
+    "option ^.a = 1;",
+    "option a. ^= 1;",
+    "package a^.5;",
+    "package ^.a;",
+    "import ^a;",
+    "import weak ^public 'a';",
+    "message A { ^extensions 1; }",
+    "message A { int32 x = ^-1; }",
+    "message A { int32 x = ^1.5; }",
+    "message A { int32 x = 1 [^]; }",
+    "message A { int32 x = 1 [a^]; }",
+    "message A { int32 x = 1 [a = 1,^]; }",
+    "message A { reserved^; }",
+    "message A { reserved ^-1; }",
+    "message A { reserved 1, ^'a'; }",
+    "message A { reserved 1 to^; }",
+    "message A { reserved 'a', ^1; }",
+    "message A { oneof o { repeated int32 ^x = 1; } }",
+    "message A { optional repeated int32 ^x = 1; }",
+    "message A {^",
+    "enum E { A = ^1.5; }",
+    "enum E { extend ^A {} }",
+    "^}",
+    "^extensions 1;",
+    "service S { ^extend B {} }",
+    "option a = ^< b: 1 >;",
+    "option^",
+];
+
+/// The first row reads: behind a sign and a comment no `{` can stand, at 40.
+const BEHIND_COMMENTS: [&str; 6] = [
+    "option a = - /* b */ ^{};",
+    "option a = + // b\n^+1;",
+    "package a. /* b */ ^5;",
+    "service S { /* a */ ^extend B {} }",
+    "/* a */ ^}",
+    "package a // b^",
 ];
 
 #[test]
-fn refusals_by_name(rt: HostRuntime) -> Result<(), Fail> {
-    let wrong = first_other_fault(rt.alloc(), SYNTAX, &BY_NAME, CustomOptions::Refuse)?;
-    see_all(&rt, wrong);
-    Ok(())
+fn tokens_that_cannot_stand_there(rt: HostRuntime) {
+    let alloc = rt.alloc();
+    see(&rt, first_not(alloc, SyntaxFault::Grammar(0), &TOKENS));
+    see(
+        &rt,
+        first_not(alloc, SyntaxFault::Grammar(0), &BEHIND_COMMENTS),
+    );
 }
 
-const BEHIND_COMMENTS: [Case; 15] = [
-    ("option /* a */ (x) = 1;", SyntaxFault::CustomOption(34)),
-    ("option a. /* b */ (c) = 1;", SyntaxFault::CustomOption(37)),
-    ("option a = // b\n{};", SyntaxFault::Aggregate(35)),
-    ("/* a */ extend B {}", SyntaxFault::Extend(27)),
-    ("message A { /* b */ extend B {} }", SyntaxFault::Extend(39)),
-    (
-        "package a; /* b */ package c;",
-        SyntaxFault::TwoPackages(38),
-    ),
-    ("import 'a' /* b */ 'c\\n';", SyntaxFault::ImportEscape(38)),
-    (
-        "import public /* a */ \"\\n\";",
-        SyntaxFault::ImportEscape(41),
-    ),
-    ("import weak '\\\\';", SyntaxFault::ImportEscape(31)),
-    ("option a = - /* b */ {};", SyntaxFault::Grammar(40)),
-    ("option a = + // b\n+1;", SyntaxFault::Grammar(37)),
-    ("package a. /* b */ 5;", SyntaxFault::Grammar(38)),
-    (
-        "service S { /* a */ extend B {} }",
-        SyntaxFault::Grammar(39),
-    ),
-    ("/* a */ }", SyntaxFault::Grammar(27)),
-    ("package a // b", SyntaxFault::Grammar(33)),
+/// The first row reads: where custom options are read past, a name has to stand in parentheses, at 27.
+const READ_PAST: [&str; 30] = [
+    "option (^) = 1;",
+    "option (a ^= 1;",
+    "option (^1) = 1;",
+    "option a = ^(b);",
+    "option a = -^{};",
+    "option a = ^[{}];",
+    "option a = {^",
+    "option a = {{};^",
+    "option a = {}^};",
+    "message A { extend x ^= 1; }",
+    "extend B { message M ^{} }",
+    "extend B { map^<int32, A> m = 1; }",
+    "extend B { option ^(a) = 1; }",
+    "extend B { int32 x = 1;^",
+    "service S { ^extend B {} }",
+    "message A { ^extensions 1; }",
+    "option a = ^< b: 1 >;",
+    "option a = ^[1];",
+    "option a = + /* b */ ^{};",
+    "option a.(^) = 1;",
+    "option (a). ^= 1;",
+    "option (a)^(b) = 1;",
+    "option (.a.b.^) = 1;",
+    "message A { int32 x = 1 [a = {]; }^",
+    "extend B^;",
+    "extend ^{}",
+    "extend B { oneof o ^{} }",
+    "extend B { message ^= 1; }",
+    "extend B { int32 x = 1; } ^}",
+    "extend B { /* c */ extend D ^{} }",
 ];
 
 #[test]
-fn refusals_behind_comments(rt: HostRuntime) -> Result<(), Fail> {
-    let wrong = first_other_fault(rt.alloc(), SYNTAX, &BEHIND_COMMENTS, CustomOptions::Refuse)?;
-    see_all(&rt, wrong);
-    Ok(())
+fn faults_where_custom_options_are_read_past(rt: HostRuntime) {
+    let (alloc, skip) = (rt.alloc(), CustomOptions::Skip);
+    let grammar = SyntaxFault::Grammar(0);
+    see(&rt, first_other(alloc, SYNTAX, &READ_PAST, grammar, skip));
+    let escape = SyntaxFault::ImportEscape(0);
+    see(
+        &rt,
+        first_other(alloc, SYNTAX, &["import ^'a\\n';"], escape, skip),
+    );
+    let two = SyntaxFault::TwoPackages(0);
+    see(
+        &rt,
+        first_other(alloc, SYNTAX, &["package a;\n^package b;"], two, skip),
+    );
 }
 
-const TOKENS: [Case; 40] = [
-    (
-        "message A { map<float, int32> m = 1; }",
-        SyntaxFault::Grammar(35),
-    ),
-    (
-        "message A { map<E, int32> m = 1; }",
-        SyntaxFault::Grammar(35),
-    ),
-    (
-        "message A { repeated map<int32, A> m = 1; }",
-        SyntaxFault::Grammar(43),
-    ),
-    (
-        "service S { rpc F(stream) returns (A); }",
-        SyntaxFault::Grammar(43),
-    ),
-    (
-        "service S { rpc F(int32) returns (A); }",
-        SyntaxFault::Grammar(37),
-    ),
-    (
-        "service S { rpc F(A) return (A); }",
-        SyntaxFault::Grammar(40),
-    ),
-    ("service S { message A {} }", SyntaxFault::Grammar(31)),
-    (
-        "service S { rpc F(A) returns (A) { x } }",
-        SyntaxFault::Grammar(54),
-    ),
-    ("option a = -{};", SyntaxFault::Grammar(31)),
-    ("option a = -\"x\";", SyntaxFault::Grammar(31)),
-    ("option a = -inf.b;", SyntaxFault::Grammar(34)),
-    ("option a = --1;", SyntaxFault::Grammar(31)),
-    ("option a = [1];", SyntaxFault::Grammar(30)),
-    ("option .a = 1;", SyntaxFault::Grammar(26)),
-    ("option a. = 1;", SyntaxFault::Grammar(29)),
-    ("package a.5;", SyntaxFault::Grammar(28)),
-    ("package .a;", SyntaxFault::Grammar(27)),
-    ("import a;", SyntaxFault::Grammar(26)),
-    ("import weak public 'a';", SyntaxFault::Grammar(31)),
-    ("message A { extensions 1; }", SyntaxFault::Grammar(31)),
-    ("message A { int32 x = -1; }", SyntaxFault::Grammar(41)),
-    ("message A { int32 x = 1.5; }", SyntaxFault::Grammar(41)),
-    ("message A { int32 x = 1 []; }", SyntaxFault::Grammar(44)),
-    ("message A { int32 x = 1 [a]; }", SyntaxFault::Grammar(45)),
-    (
-        "message A { int32 x = 1 [a = 1,]; }",
-        SyntaxFault::Grammar(50),
-    ),
-    ("message A { reserved; }", SyntaxFault::Grammar(39)),
-    ("message A { reserved -1; }", SyntaxFault::Grammar(40)),
-    ("message A { reserved 1, 'a'; }", SyntaxFault::Grammar(43)),
-    ("message A { reserved 1 to; }", SyntaxFault::Grammar(44)),
-    ("message A { reserved 'a', 1; }", SyntaxFault::Grammar(45)),
-    (
-        "message A { oneof o { repeated int32 x = 1; } }",
-        SyntaxFault::Grammar(56),
-    ),
-    (
-        "message A { optional repeated int32 x = 1; }",
-        SyntaxFault::Grammar(55),
-    ),
-    ("message A {", SyntaxFault::Grammar(30)),
-    ("enum E { A = 1.5; }", SyntaxFault::Grammar(32)),
-    ("enum E { extend A {} }", SyntaxFault::Grammar(35)),
-    ("}", SyntaxFault::Grammar(19)),
-    ("extensions 1;", SyntaxFault::Grammar(19)),
-    ("service S { extend B {} }", SyntaxFault::Grammar(31)),
-    ("option a = < b: 1 >;", SyntaxFault::Grammar(30)),
-    ("option", SyntaxFault::Grammar(25)),
-];
+/// What stands inside 64 messages. The first row reads: the word of the 65th message, at 659.
+const TOO_DEEP: [&str; 3] = ["^message A{}", "^message =", "/* */ ^message"];
 
-#[test]
-fn tokens_that_cannot_stand_there(rt: HostRuntime) -> Result<(), Fail> {
-    let wrong = first_other_fault(rt.alloc(), SYNTAX, &TOKENS, CustomOptions::Refuse)?;
-    see_all(&rt, wrong);
-    Ok(())
-}
-
-/// Messages inside one another: how many, what stands in the innermost, how many braces close them,
-/// and the fault, if there is one.
-type Nested = (usize, &'static str, usize, Option<SyntaxFault>);
-
-const NESTED: [Nested; 4] = [
-    (64, "", 64, None),
-    (65, "", 65, Some(SyntaxFault::TooDeep(659))),
-    (64, "message =", 0, Some(SyntaxFault::TooDeep(659))),
-    (64, "/* */ message", 0, Some(SyntaxFault::TooDeep(665))),
-];
-
-/// The syntax statement, and what opens messages inside one another.
-fn opened(alloc: Global, depth: usize) -> Result<String, AllocError> {
-    let front = "message A{".repeat(alloc, depth)?;
+/// The syntax statement, and what opens 64 messages inside one another.
+fn opened(alloc: Global) -> Result<String, AllocError> {
+    let front = "message A{".repeat(alloc, 64)?;
     joined(alloc, SYNTAX, front.as_str(), "")
-}
-
-/// Whether messages inside one another are accepted, or refused so.
-fn is_answered(alloc: Global, nested: &Nested) -> Result<bool, AllocError> {
-    let (depth, rest, closing, want) = *nested;
-    let front = opened(alloc, depth)?;
-    let end = "}".repeat(alloc, closing)?;
-    let custom = CustomOptions::Refuse;
-    let found = refusal_of(alloc, front.as_str(), rest, end.as_str(), custom)?;
-    Ok(found == want.map(NoTree::Syntax))
-}
-
-fn first_wrong(alloc: Global) -> Result<Option<usize>, AllocError> {
-    for (index, nested) in NESTED.iter().enumerate() {
-        if !is_answered(alloc, nested)? {
-            return Ok(Some(index));
-        }
-    }
-    Ok(None)
 }
 
 #[test]
 fn sixty_four_messages_inside_one_another(rt: HostRuntime) -> Result<(), Fail> {
-    see_all(&rt, first_wrong(rt.alloc())?);
+    let front = opened(rt.alloc())?;
+    let end = "}".repeat(rt.alloc(), 64)?;
+    let refuse = CustomOptions::Refuse;
+    let found = fault_of(rt.alloc(), front.as_str(), "", end.as_str(), refuse);
+    see(&rt, found.map(offset_of));
+    let deep = SyntaxFault::TooDeep(0);
+    see(
+        &rt,
+        first_other(rt.alloc(), front.as_str(), &TOO_DEEP, deep, refuse),
+    );
     Ok(())
 }

@@ -1,10 +1,10 @@
-//! A source with every production, cut, and with each of its tokens left out or replaced.
+//! A source with every production, cut, and with each of its tokens left out or replaced. No contract
+//! says that the fault is the one that reading from left to right meets first.
 
-use crate::calls::{NoTree, refusal, refusal_of, see, see_all, spans_of};
+use crate::calls::{fault_of, offset_of, see, spans_of};
 use proto_lex::Span;
-use proto_parse::{CustomOptions, SyntaxFault};
+use proto_parse::CustomOptions;
 use std::alloc::{AllocError, Global};
-use std::process::Abort;
 use std::test::Fail;
 
 const RICH: &str = "syntax = 'pro' \"to3\"; import public 'a' \"b\"; import weak 'c'; package p.q;
@@ -21,41 +21,15 @@ extend g.H { ; repeated int32 i = 1 [(j) = {}]; .K l = 2; }
 message M { extend N {} option o = { < p ( }; int32 q = 1 [(r).s = -inf, t = {}]; oneof u { extend v = 2 [w = {}]; } }
 enum E { option (x) = {}; extend = 0 [(y) = 'z']; } service S { rpc F(A) returns (B) { option (c) = { {} {} }; } }";
 
-/// The offset of a fault, or 0.
-fn offset_of(fault: SyntaxFault) -> usize {
-    match fault {
-        SyntaxFault::NotProto3(offset)
-        | SyntaxFault::CustomOption(offset)
-        | SyntaxFault::Aggregate(offset)
-        | SyntaxFault::Extend(offset)
-        | SyntaxFault::TwoPackages(offset)
-        | SyntaxFault::ImportEscape(offset)
-        | SyntaxFault::TooDeep(offset)
-        | SyntaxFault::Grammar(offset) => offset,
-        SyntaxFault::Memory => 0,
-    }
-}
-
-/// Where a source fails, or None.
-fn place_of(refusal: Option<NoTree>) -> Option<usize> {
-    match refusal {
-        Some(NoTree::Syntax(fault)) => Some(offset_of(fault)),
-        Some(NoTree::Lex(_)) => Some(0),
-        None => None,
-    }
-}
-
-/// Where a source fails with a part replaced, or None.
+/// Where these three texts, joined, fail, or None.
 fn failed_at(
     alloc: Global,
-    source: &str,
-    span: Span,
-    with: &str,
+    front: &str,
+    middle: &str,
+    end: &str,
     custom: CustomOptions,
-) -> Result<Option<usize>, AllocError> {
-    let front = source.get(..span.start).unwrap_or("");
-    let behind = source.get(span.end..).unwrap_or("");
-    Ok(place_of(refusal_of(alloc, front, with, behind, custom)?))
+) -> Option<usize> {
+    fault_of(alloc, front, middle, end, custom).map(offset_of)
 }
 
 /// Whether a text fails before an offset. Where the syntax statement's literals are not `proto3`,
@@ -71,61 +45,31 @@ fn is_before(failed: Option<usize>, offset: usize) -> bool {
 const OTHERS: [&str; 5] = [" ", " ; ", " } ", " x ", " 1 "];
 
 /// Whether the source without this token, or with another in its place, fails before that place.
-fn fails_early(
-    alloc: Global,
-    source: &str,
-    span: Span,
-    custom: CustomOptions,
-) -> Result<bool, AllocError> {
+fn fails_early(alloc: Global, source: &str, span: Span, custom: CustomOptions) -> bool {
+    let front = source.get(..span.start).unwrap_or("");
+    let behind = source.get(span.end..).unwrap_or("");
     for other in OTHERS {
-        if is_before(failed_at(alloc, source, span, other, custom)?, span.start) {
-            return Ok(true);
+        if is_before(failed_at(alloc, front, other, behind, custom), span.start) {
+            return true;
         }
     }
-    Ok(false)
+    false
 }
 
 /// Whether the source up to the end of this token fails before that end.
 fn fails_late(alloc: Global, source: &str, span: Span, custom: CustomOptions) -> bool {
     let cut = source.get(..span.end).unwrap_or("");
-    is_before(place_of(refusal(alloc, cut, custom)), cut.len())
+    is_before(failed_at(alloc, cut, "", "", custom), cut.len())
 }
 
 /// Whether the source with a colon in place of this token fails elsewhere. Without the second
-/// literal of the syntax statement, the first one isn't `proto3`.
-fn fails_elsewhere(
-    alloc: Global,
-    source: &str,
-    span: Span,
-    custom: CustomOptions,
-) -> Result<bool, AllocError> {
+/// literal of the syntax statement, the first one isn't `proto3`. Where custom options are read past,
+/// a colon can stand in the value of one.
+fn fails_elsewhere(alloc: Global, source: &str, span: Span, custom: CustomOptions) -> bool {
+    let front = source.get(..span.start).unwrap_or("");
+    let behind = source.get(span.end..).unwrap_or("");
     let want = if span.start == 15 { 9 } else { span.start };
-    Ok(failed_at(alloc, source, span, ":", custom)? != Some(want))
-}
-
-/// What is done with each token of a source.
-#[derive(Clone, Copy)]
-enum Change {
-    /// A colon stands in its place.
-    Colon,
-    /// It is left out, or another stands in its place.
-    Other,
-    /// The source ends behind it.
-    Cut,
-}
-
-fn is_wrong(
-    alloc: Global,
-    source: &str,
-    span: Span,
-    custom: CustomOptions,
-    change: Change,
-) -> Result<bool, AllocError> {
-    match change {
-        Change::Colon => fails_elsewhere(alloc, source, span, custom),
-        Change::Other => fails_early(alloc, source, span, custom),
-        Change::Cut => Ok(fails_late(alloc, source, span, custom)),
-    }
+    custom == CustomOptions::Refuse && failed_at(alloc, front, ":", behind, custom) != Some(want)
 }
 
 /// The first token of the source with which a change goes wrong.
@@ -133,53 +77,28 @@ fn first_wrong(
     alloc: Global,
     source: &str,
     custom: CustomOptions,
-    change: Change,
 ) -> Result<Option<usize>, AllocError> {
     let spans = spans_of(alloc, source)?;
     for span in spans.as_slice() {
-        if is_wrong(alloc, source, *span, custom, change)? {
+        if fails_early(alloc, source, *span, custom)
+            || fails_late(alloc, source, *span, custom)
+            || fails_elsewhere(alloc, source, *span, custom)
+        {
             return Ok(Some(span.start));
         }
     }
-    Ok(None)
+    Ok(failed_at(alloc, source, "", "", custom))
 }
 
-/// Sees what a change does to both sources.
-fn see_changes(rt: &impl Abort, alloc: Global, change: Change) -> Result<(), AllocError> {
-    let wrong = first_wrong(alloc, RICH, CustomOptions::Refuse, change)?;
-    see_all(rt, wrong);
-    let wrong = first_wrong(alloc, RICH_WITH_CUSTOM_OPTIONS, CustomOptions::Skip, change)?;
-    see_all(rt, wrong);
+#[test]
+fn each_token_of_the_whole_source(rt: HostRuntime) -> Result<(), Fail> {
+    see(&rt, first_wrong(rt.alloc(), RICH, CustomOptions::Refuse)?);
     Ok(())
 }
 
 #[test]
-fn the_whole_source(rt: HostRuntime) {
-    for (source, custom, want) in [
-        (RICH, CustomOptions::Refuse, None),
-        (RICH_WITH_CUSTOM_OPTIONS, CustomOptions::Skip, None),
-        (RICH_WITH_CUSTOM_OPTIONS, CustomOptions::Refuse, Some(26)),
-    ] {
-        let failed = place_of(refusal(rt.alloc(), source, custom));
-        see(&rt, failed == want, "the whole source");
-    }
-}
-
-#[test]
-fn each_token_replaced_by_a_colon(rt: HostRuntime) -> Result<(), Fail> {
-    let wrong = first_wrong(rt.alloc(), RICH, CustomOptions::Refuse, Change::Colon)?;
-    see_all(&rt, wrong);
-    Ok(())
-}
-
-#[test]
-fn each_token_left_out_or_replaced(rt: HostRuntime) -> Result<(), Fail> {
-    see_changes(&rt, rt.alloc(), Change::Other)?;
-    Ok(())
-}
-
-#[test]
-fn each_prefix(rt: HostRuntime) -> Result<(), Fail> {
-    see_changes(&rt, rt.alloc(), Change::Cut)?;
+fn each_token_where_custom_options_are_read_past(rt: HostRuntime) -> Result<(), Fail> {
+    let wrong = first_wrong(rt.alloc(), RICH_WITH_CUSTOM_OPTIONS, CustomOptions::Skip)?;
+    see(&rt, wrong);
     Ok(())
 }

@@ -1,7 +1,7 @@
 //! Trees of sources below a root and of files below included roots.
 
 use crate::roots::see_text;
-use crate::table::Table;
+use crate::table::{Root, Table, UNREADABLE};
 use source_files::{LoadFault, load_tree};
 use source_tree::Tree;
 use std::alloc::{AllocError, Global};
@@ -9,41 +9,35 @@ use std::test::Fail;
 
 const TABLE: Table = Table {
     roots: &[
-        (
-            "src",
-            Some(&[("a.proto", Some("1")), ("b/c.proto", Some("2"))]),
-        ),
-        ("", Some(&[("e.proto", Some("3"))])),
-        ("none", Some(&[])),
-        (
-            "vendor",
-            Some(&[("a.proto", Some("4")), ("t.proto", Some("5"))]),
-        ),
-        (
-            "more",
-            Some(&[("s.proto", Some("6")), ("t.proto", Some("7"))]),
-        ),
-        ("locked", None),
-        (
-            "holes",
-            Some(&[("a.proto", Some("8")), ("h.proto", None), ("i.proto", None)]),
-        ),
-        (
-            "bad",
-            Some(&[("x\n.proto", Some("9")), ("y\n.proto", Some("9"))]),
-        ),
-        ("worse", Some(&[("\u{1}.proto", None)])),
-        (
-            "twice",
-            Some(&[
-                ("c.proto", Some("1")),
-                ("a.proto", Some("2")),
-                ("c.proto", Some("3")),
-                ("a.proto", Some("4")),
-            ]),
-        ),
+        Root {
+            path: "src",
+            files: Some(&[("a.proto", "1"), ("b/c.proto", "2")]),
+        },
+        Root {
+            path: "vendor",
+            files: Some(&[("a.proto", "4"), ("t.proto", "5")]),
+        },
+        Root {
+            path: "more",
+            files: Some(&[("s.proto", "6"), ("t.proto", "7")]),
+        },
+        Root {
+            path: "locked",
+            files: None,
+        },
+        Root {
+            path: "holes",
+            files: Some(&[("a.proto", "8"), ("h.proto", UNREADABLE)]),
+        },
+        Root {
+            path: "bad",
+            files: Some(&[("x\n.proto", "9")]),
+        },
+        Root {
+            path: "twice",
+            files: Some(&[("c.proto", "1"), ("c.proto", "3")]),
+        },
     ],
-    many: 65_536,
 };
 
 /// The files of a tree in order of their numbers, each as `path=text`, an included one with a `+`
@@ -88,67 +82,47 @@ fn loaded(alloc: Global, root: &str, included: &[&str]) -> Result<String, AllocE
 }
 
 /// A root, included roots, and what is due.
-type Case = (&'static str, &'static [&'static str], &'static str);
-
-const TREES: [Case; 7] = [
-    ("none", &[], ""),
-    ("src", &[], "a.proto=1 b/c.proto=2 "),
-    ("", &[], "e.proto=3 "),
-    (
-        "src",
-        &["vendor", "more"],
-        "a.proto=1 b/c.proto=2 +s.proto=6 +t.proto=5 ",
-    ),
-    // Of two files with one path the first listed counts, root by root.
-    (
-        "src",
-        &["more", "vendor"],
-        "a.proto=1 b/c.proto=2 +s.proto=6 +t.proto=7 ",
-    ),
-    (
-        "none",
-        &["vendor", "vendor", "src"],
-        "+a.proto=4 +b/c.proto=2 +t.proto=5 ",
-    ),
-    // A root may be included too.
-    ("src", &["src"], "a.proto=1 b/c.proto=2 "),
-];
-
-#[test]
-fn trees(rt: HostRuntime) -> Result<(), Fail> {
-    for (root, included, due) in TREES {
-        let found = loaded(rt.alloc(), root, included)?;
-        see_text(&rt, found.as_str(), due);
-    }
-    Ok(())
+struct Case {
+    root: &'static str,
+    included: &'static [&'static str],
+    due: &'static str,
 }
 
-/// Each fault before each that may come behind it.
-const REFUSALS: [Case; 17] = [
-    ("locked", &["locked"], "Unreadable(\"locked\")"),
-    ("nowhere", &["holes"], "Unreadable(\"nowhere\")"),
-    ("holes", &["locked"], "Unreadable(\"h.proto\")"),
-    ("src", &["locked", "holes"], "Unreadable(\"locked\")"),
-    ("src", &["holes", "locked"], "Unreadable(\"h.proto\")"),
-    ("src", &["vendor", "nowhere"], "Unreadable(\"nowhere\")"),
-    ("many", &["none", "src", "holes"], "Unreadable(\"h.proto\")"),
-    ("bad", &["locked"], "Unreadable(\"locked\")"),
-    ("twice", &["worse"], "Unreadable(\"\\u{1}.proto\")"),
-    ("many", &["src"], "TooMany"),
-    ("src", &["many"], "TooMany"),
-    ("bad", &["many"], "TooMany"),
-    ("twice", &["many"], "TooMany"),
-    ("bad", &["twice"], "BadPath(\"x\\n.proto\")"),
-    ("twice", &["vendor", "bad"], "BadPath(\"x\\n.proto\")"),
-    ("twice", &["vendor"], "SamePath(\"a.proto\")"),
-    ("twice", &[], "SamePath(\"a.proto\")"),
+// The first case: the two files of `src` are sources; of the included roots `vendor` and `more` the files
+// `s.proto` and `t.proto` count, the latter as `vendor` has it, and `a.proto` doesn't, which is a source.
+static CASES: [Case; 5] = [
+    Case {
+        root: "src",
+        included: &["vendor", "more"],
+        due: "a.proto=1 b/c.proto=2 +s.proto=6 +t.proto=5 ",
+    },
+    Case {
+        root: "src",
+        included: &["vendor", "locked", "holes"],
+        due: "Unreadable(\"locked\")",
+    },
+    Case {
+        root: "holes",
+        included: &["locked"],
+        due: "Unreadable(\"h.proto\")",
+    },
+    Case {
+        root: "src",
+        included: &["bad"],
+        due: "BadPath(\"x\\n.proto\")",
+    },
+    Case {
+        root: "twice",
+        included: &[],
+        due: "SamePath(\"c.proto\")",
+    },
 ];
 
 #[test]
-fn refusals(rt: HostRuntime) -> Result<(), Fail> {
-    for (root, included, due) in REFUSALS {
-        let found = loaded(rt.alloc(), root, included)?;
-        see_text(&rt, found.as_str(), due);
+fn trees_and_refusals(rt: HostRuntime) -> Result<(), Fail> {
+    for case in &CASES {
+        let found = loaded(rt.alloc(), case.root, case.included)?;
+        see_text(&rt, found.as_str(), case.due);
     }
     Ok(())
 }

@@ -1,15 +1,10 @@
-//! The calls that may want for memory, and how a test tells what it saw.
+//! The calls that may want for memory, which are made again after it: the second answer counts.
 
-use proto_decl::{Declaration, FileFacts, declare};
+use crate::listed::is_listed;
+use proto_decl::{FileFacts, declare};
 use proto_lex::{LexFault, Text, Tokens, lex};
 use proto_parse::{SyntaxFault, parse};
 use std::alloc::Global;
-use std::process::Abort;
-
-/// Ends the test where this isn't so.
-pub(crate) fn see(rt: &impl Abort, so: bool, what: &str) {
-    assert!(rt; so, "{what}");
-}
 
 fn text_of<'a>(alloc: Global, source: &'a [u8]) -> Result<Text<'a>, LexFault> {
     match Text::new(alloc, source) {
@@ -25,7 +20,7 @@ fn tokens_of<'a>(alloc: Global, text: &'a Text<'a>) -> Result<Tokens<'a>, LexFau
     }
 }
 
-fn facts_of_tokens(alloc: Global, number: usize, tokens: &Tokens<'_>) -> Option<FileFacts> {
+fn facts_of(alloc: Global, tokens: &Tokens<'_>) -> Option<FileFacts> {
     let file = match parse(alloc, tokens) {
         Ok(file) => file,
         Err(SyntaxFault::Memory) => match parse(alloc, tokens) {
@@ -34,34 +29,30 @@ fn facts_of_tokens(alloc: Global, number: usize, tokens: &Tokens<'_>) -> Option<
         },
         Err(_) => return None,
     };
-    match declare(alloc, number, tokens, &file) {
+    match declare(alloc, 7, tokens, &file) {
         Ok(facts) => Some(facts),
-        Err(_) => declare(alloc, number, tokens, &file).ok(),
+        Err(_) => declare(alloc, 7, tokens, &file).ok(),
     }
 }
 
-fn facts_of_text(alloc: Global, number: usize, text: &Text<'_>) -> Option<FileFacts> {
+fn are_tokens_listed(alloc: Global, tokens: &Tokens<'_>, want: &str) -> bool {
+    match facts_of(alloc, tokens) {
+        Some(facts) => is_listed(alloc, tokens.text().as_str(), &facts, want),
+        None => false,
+    }
+}
+
+fn is_text_listed(alloc: Global, text: &Text<'_>, want: &str) -> bool {
     match tokens_of(alloc, text) {
-        Ok(tokens) => facts_of_tokens(alloc, number, &tokens),
-        Err(_) => None,
+        Ok(tokens) => are_tokens_listed(alloc, &tokens, want),
+        Err(_) => false,
     }
 }
 
-/// The facts of a whole source that has a tree. After want of memory each call is made again, and
-/// the second answer counts.
-pub(crate) fn facts_of(alloc: Global, number: usize, source: &str) -> Option<FileFacts> {
+/// Whether the facts of a whole source, with the number 7, are what a listing says.
+pub(crate) fn is_source_listed(alloc: Global, source: &str, want: &str) -> bool {
     match text_of(alloc, source.as_bytes()) {
-        Ok(text) => facts_of_text(alloc, number, &text),
-        Err(_) => None,
+        Ok(text) => is_text_listed(alloc, &text, want),
+        Err(_) => false,
     }
-}
-
-/// The declaration with this full name, if there is one.
-pub(crate) fn declared<'a>(facts: &'a FileFacts, full_name: &str) -> Option<&'a Declaration> {
-    for declaration in facts.declarations() {
-        if declaration.full_name.as_str() == full_name {
-            return Some(declaration);
-        }
-    }
-    None
 }

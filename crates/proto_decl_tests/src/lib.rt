@@ -4,8 +4,6 @@
 #[cfg(test)]
 mod calls;
 #[cfg(test)]
-mod comments;
+mod laws;
 #[cfg(test)]
-mod declared;
-#[cfg(test)]
-mod used;
+mod listed;

@@ -4,14 +4,9 @@ use proto_lex::{LexFault, Text, Tokens, lex};
 use std::alloc::Global;
 use std::process::Abort;
 
-/// Ends the test where this isn't so.
-pub(crate) fn see(rt: &impl Abort, so: bool, what: &str) {
-    assert!(rt; so, "{what}");
-}
-
-/// Ends the test where a case of its table went wrong, with the first such case, from 0.
-pub(crate) fn see_all(rt: &impl Abort, wrong: Option<usize>) {
-    assert!(rt; wrong.is_none(), "case {wrong:?}");
+/// Ends the test where something went wrong: a row of its table, from 0.
+pub(crate) fn see(rt: &impl Abort, wrong: Option<usize>) {
+    assert!(rt; wrong.is_none(), "wrong at {wrong:?}");
 }
 
 /// A text. After `Memory` it is made again, and the second answer counts.

@@ -2,7 +2,7 @@
 //! tree of a source, and all others borrow it.
 
 use crate::trees::Look;
-use proto_lex::{LexFault, Span, Text, Tokens, lex};
+use proto_lex::{LexFault, Text, Tokens, lex};
 use proto_parse::{CustomOptions, File, SyntaxFault, parse, parse_with};
 use std::alloc::{AllocError, Global};
 use std::process::Abort;
@@ -15,14 +15,16 @@ pub fn see(rt: &impl Abort, wrong: Option<usize>) {
     assert!(rt; wrong.is_none(), "wrong at {wrong:?}");
 }
 
-fn text_of<'a>(alloc: Global, source: &'a [u8]) -> Result<Text<'a>, LexFault> {
+/// A text.
+pub fn text_of<'a>(alloc: Global, source: &'a [u8]) -> Result<Text<'a>, LexFault> {
     match Text::new(alloc, source) {
         Err(LexFault::Memory) => Text::new(alloc, source),
         answer => answer,
     }
 }
 
-fn tokens_of<'a>(alloc: Global, text: &'a Text<'a>) -> Result<Tokens<'a>, LexFault> {
+/// The tokens of a text.
+pub fn tokens_of<'a>(alloc: Global, text: &'a Text<'a>) -> Result<Tokens<'a>, LexFault> {
     match lex(alloc, text) {
         Err(LexFault::Memory) => lex(alloc, text),
         answer => answer,
@@ -168,22 +170,4 @@ pub fn first_other(
         }
     }
     None
-}
-
-fn spans_of_text(alloc: Global, text: &Text<'_>) -> Result<Vec<Span>, AllocError> {
-    let mut spans = Vec::new(alloc);
-    if let Ok(tokens) = tokens_of(alloc, text) {
-        for token in tokens.tokens() {
-            spans.push(token.span)?;
-        }
-    }
-    Ok(spans)
-}
-
-/// The spans of a source's tokens, none where it has no tokens.
-pub fn spans_of(alloc: Global, source: &str) -> Result<Vec<Span>, AllocError> {
-    match text_of(alloc, source.as_bytes()) {
-        Ok(text) => spans_of_text(alloc, &text),
-        Err(_) => Ok(Vec::new(alloc)),
-    }
 }

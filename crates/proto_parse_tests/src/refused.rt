@@ -231,21 +231,28 @@ const READ_PAST: [&str; 30] = [
     "extend B { /* c */ extend D ^{} }",
 ];
 
+/// The only row reads: the literal of a path has a `\\`, at 26.
+const ESCAPES_READ_PAST: [&str; 1] = ["import ^'a\\n';"];
+
+/// The only row reads: the word of the second package statement, at 30.
+const PACKAGES_READ_PAST: [&str; 1] = ["package a;\n^package b;"];
+
+/// The first source behind `SYNTAX` that isn't refused so where custom options are read past.
+fn first_not_past(alloc: Global, fault: SyntaxFault, sources: &[&str]) -> Option<usize> {
+    first_other(alloc, SYNTAX, sources, fault, CustomOptions::Skip)
+}
+
 #[test]
 fn faults_where_custom_options_are_read_past(rt: HostRuntime) {
-    let (alloc, skip) = (rt.alloc(), CustomOptions::Skip);
-    let grammar = SyntaxFault::Grammar(0);
-    see(&rt, first_other(alloc, SYNTAX, &READ_PAST, grammar, skip));
+    let alloc = rt.alloc();
+    see(
+        &rt,
+        first_not_past(alloc, SyntaxFault::Grammar(0), &READ_PAST),
+    );
     let escape = SyntaxFault::ImportEscape(0);
-    see(
-        &rt,
-        first_other(alloc, SYNTAX, &["import ^'a\\n';"], escape, skip),
-    );
+    see(&rt, first_not_past(alloc, escape, &ESCAPES_READ_PAST));
     let two = SyntaxFault::TwoPackages(0);
-    see(
-        &rt,
-        first_other(alloc, SYNTAX, &["package a;\n^package b;"], two, skip),
-    );
+    see(&rt, first_not_past(alloc, two, &PACKAGES_READ_PAST));
 }
 
 /// What stands inside 64 messages. The first row reads: the word of the 65th message, at 659.

@@ -1,11 +1,10 @@
 //! A source with every production, cut, and with each of its tokens left out or replaced. No contract
 //! says that the fault is the one that reading from left to right meets first.
 
-use crate::calls::{fault_of, offset_of, see, spans_of};
-use proto_lex::Span;
+use crate::calls::{fault_of, offset_of, see, text_of, tokens_of};
+use proto_lex::{Span, Text, Tokens};
 use proto_parse::CustomOptions;
-use std::alloc::{AllocError, Global};
-use std::test::Fail;
+use std::alloc::Global;
 
 const RICH: &str = "syntax = 'pro' \"to3\"; import public 'a' \"b\"; import weak 'c'; package p.q;
 option o.p = q.r; option a = -inf; option b = +1.5; option c = 'x' 'y'; ;
@@ -48,7 +47,7 @@ const OTHERS: [&str; 5] = [" ", " ; ", " } ", " x ", " 1 "];
 fn fails_early(alloc: Global, source: &str, span: Span, custom: CustomOptions) -> bool {
     let front = source.get(..span.start).unwrap_or("");
     let behind = source.get(span.end..).unwrap_or("");
-    for other in OTHERS {
+    for other in &OTHERS {
         if is_before(failed_at(alloc, front, other, behind, custom), span.start) {
             return true;
         }
@@ -72,33 +71,42 @@ fn fails_elsewhere(alloc: Global, source: &str, span: Span, custom: CustomOption
     custom == CustomOptions::Refuse && failed_at(alloc, front, ":", behind, custom) != Some(want)
 }
 
-/// The first token of the source with which a change goes wrong.
-fn first_wrong(
-    alloc: Global,
-    source: &str,
-    custom: CustomOptions,
-) -> Result<Option<usize>, AllocError> {
-    let spans = spans_of(alloc, source)?;
-    for span in spans.as_slice() {
-        if fails_early(alloc, source, *span, custom)
-            || fails_late(alloc, source, *span, custom)
-            || fails_elsewhere(alloc, source, *span, custom)
+/// The first token of a source with which a change goes wrong, or where the source itself fails.
+fn first_wrong_token(alloc: Global, tokens: &Tokens<'_>, custom: CustomOptions) -> Option<usize> {
+    let source = tokens.text().as_str();
+    for token in tokens.tokens() {
+        if fails_early(alloc, source, token.span, custom)
+            || fails_late(alloc, source, token.span, custom)
+            || fails_elsewhere(alloc, source, token.span, custom)
         {
-            return Ok(Some(span.start));
+            return Some(token.span.start);
         }
     }
-    Ok(failed_at(alloc, source, "", "", custom))
+    failed_at(alloc, source, "", "", custom)
+}
+
+fn first_wrong_of(alloc: Global, text: &Text<'_>, custom: CustomOptions) -> Option<usize> {
+    match tokens_of(alloc, text) {
+        Ok(tokens) => first_wrong_token(alloc, &tokens, custom),
+        Err(_) => Some(0),
+    }
+}
+
+fn first_wrong(alloc: Global, source: &str, custom: CustomOptions) -> Option<usize> {
+    match text_of(alloc, source.as_bytes()) {
+        Ok(text) => first_wrong_of(alloc, &text, custom),
+        Err(_) => Some(0),
+    }
 }
 
 #[test]
-fn each_token_of_the_whole_source(rt: HostRuntime) -> Result<(), Fail> {
-    see(&rt, first_wrong(rt.alloc(), RICH, CustomOptions::Refuse)?);
-    Ok(())
-}
-
-#[test]
-fn each_token_where_custom_options_are_read_past(rt: HostRuntime) -> Result<(), Fail> {
-    let wrong = first_wrong(rt.alloc(), RICH_WITH_CUSTOM_OPTIONS, CustomOptions::Skip)?;
+fn each_token_of_the_whole_source(rt: HostRuntime) {
+    let wrong = first_wrong(rt.alloc(), RICH, CustomOptions::Refuse);
     see(&rt, wrong);
-    Ok(())
+}
+
+#[test]
+fn each_token_where_custom_options_are_read_past(rt: HostRuntime) {
+    let wrong = first_wrong(rt.alloc(), RICH_WITH_CUSTOM_OPTIONS, CustomOptions::Skip);
+    see(&rt, wrong);
 }

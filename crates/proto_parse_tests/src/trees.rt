@@ -6,6 +6,7 @@ use proto_parse::{
     CustomOptions, Field, File, FileItem, Heading, Label, Leaf, MessageItem, SyntaxFault,
     names_have_components, one_tree, spans_in_order, spans_of_tokens,
 };
+use std::alloc::Global;
 
 /// What is looked for in a tree.
 #[derive(Clone, Copy)]
@@ -54,12 +55,15 @@ fn is_message(file: &File) -> bool {
     is_heading(message.heading, [16, 23], [24, 25], [25, 26]) && is_field(field)
 }
 
+/// Where `MESSAGE` has no such tree, if so.
+fn place_of_other(alloc: Global, custom: CustomOptions) -> Option<usize> {
+    fault_of_source(alloc, MESSAGE, custom, Look::Message).map(offset_of)
+}
+
 #[test]
 fn a_message_with_a_field(rt: HostRuntime) {
-    for custom in [CustomOptions::Refuse, CustomOptions::Skip] {
-        let fault = fault_of_source(rt.alloc(), MESSAGE, custom, Look::Message);
-        see(&rt, fault.map(offset_of));
-    }
+    see(&rt, place_of_other(rt.alloc(), CustomOptions::Refuse));
+    see(&rt, place_of_other(rt.alloc(), CustomOptions::Skip));
 }
 
 #[test]

@@ -3,31 +3,26 @@
 ghost use Rattle.std.specs.Prelude.{◌≡◌, IfOk, string_bytes};
 ghost use Rattle.programs.specs.QueryFaults.{line_of, placed_line, status_of, wire_name, wire_offset};
 
-use crate::statuses::{INDEX_STATUS, MEMORY_STATUS, STREAM_STATUS};
+use crate::statuses::INDEX_STATUS;
+use protoscip::{MEMORY_STATUS, STREAM_STATUS};
 use scip_query::AnswerFault;
 use scip_wire::WireFault;
 use source_files::FileFault;
 use std::alloc::{AllocError, AllocFailed, Global};
-use thiserror::Error;
 
 /// Why commands about the index that a file holds aren't answered. The first of those that hold, but
 /// `Memory`, which may come at any step.
-#[derive(Clone, Copy, Debug, Drop, PartialEq, Eq, Error)]
+#[derive(Clone, Copy, Debug, Drop, PartialEq, Eq)]
 pub enum QueryFault {
     /// The file can't be read.
-    #[error("Unreadable")]
     Unreadable,
     /// Its bytes decode to no index.
-    #[error("{0}")]
     Wire(WireFault),
     /// A read of commands failed, or `MAX_READS` reads gave no end.
-    #[error("Read")]
     Read,
     /// A write of answers failed after this many bytes of them.
-    #[error("Write({0})")]
     Write(u64),
     /// Memory ran out.
-    #[error("Memory")]
     Memory,
 }
 
@@ -97,8 +92,7 @@ impl QueryFault {
         }
     }
 
-    /// The exit status: 3 where a stream or the file fails, 5 where the file holds no index, 4 for
-    /// want of memory.
+    /// The exit status.
     pub fn status(&self) -> u8
         ensures { result ≡ status_of self.now }
     {

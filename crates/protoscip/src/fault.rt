@@ -3,6 +3,7 @@
 ghost use Rattle.std.specs.Prelude.{◌≡◌};
 ghost use Rattle.protoscip.specs.Statuses.{status_of};
 
+use crate::statuses::{MEMORY_STATUS, SOURCES_STATUS, STREAM_STATUS};
 use proto_lex::LexFault;
 use proto_link::FilePlace;
 use proto_parse::SyntaxFault;
@@ -11,48 +12,36 @@ use scip_query::AnswerFault;
 use scip_wire::{SpellFault, WriteFault};
 use source_tree::SourceFault;
 use std::alloc::{AllocError, AllocFailed};
-use thiserror::Error;
 
 /// Why a run stops short of its answer. The first of those that hold is answered, in this order; but
 /// `Spawn` and `Memory` also come again, before what the same step would answer.
 ///
 /// A file is told by its number in the tree.
-#[derive(Clone, Copy, Debug, Drop, PartialEq, Eq, Error)]
+#[derive(Clone, Copy, Debug, Drop, PartialEq, Eq)]
 pub enum Fault {
     /// A thread could not be started.
-    #[error("Spawn")]
     Spawn,
     /// Memory ran out.
-    #[error("Memory")]
     Memory,
     /// The number of a file, and why its bytes are no text, or a text without a lexing: of the first
     /// source that can't be read; or, where all can be, of the first included file that some source
     /// sees and that can't be.
-    #[error("{1}")]
     Lex(usize, LexFault),
     /// The number of a file, and why the tokens of its text derive no tree: of the same file.
-    #[error("{1}")]
     Syntax(usize, SyntaxFault),
     /// Two places that give one full name.
-    #[error("Duplicate")]
     Duplicate(FilePlace, FilePlace),
     /// The first import of a path that no file has.
-    #[error("MissingImport")]
     MissingImport(FilePlace),
     /// The first use of the first source in which a use names no type.
-    #[error("Unresolved")]
     Unresolved(FilePlace),
     /// The index would have more than `MAX_INDEX_LEN` bytes.
-    #[error("TooLarge")]
     TooLarge,
     /// A write failed after this many bytes.
-    #[error("Write({0})")]
     Write(u64),
     /// A read failed, or `MAX_READS` reads gave no end.
-    #[error("Read")]
     Read,
     /// A write of answers failed after this many bytes of them, in a session.
-    #[error("Answer({0})")]
     Answer(u64),
 }
 
@@ -149,8 +138,7 @@ impl From<AnswerFault> for Fault {
 }
 
 impl Fault {
-    /// The exit status of a program that stops for it: 1 where the sources are refused, 3 where
-    /// reading, writing or the index's size fails, 4 for want of memory or of a thread.
+    /// The exit status of a program that stops for it.
     pub fn status(&self) -> u8
         ensures { result ≡ status_of self.now }
     {
@@ -158,13 +146,13 @@ impl Fault {
             Fault::Spawn
             | Fault::Memory
             | Fault::Lex(_, LexFault::Memory)
-            | Fault::Syntax(_, SyntaxFault::Memory) => 4,
+            | Fault::Syntax(_, SyntaxFault::Memory) => MEMORY_STATUS,
             Fault::Lex(..)
             | Fault::Syntax(..)
             | Fault::Duplicate(..)
             | Fault::MissingImport(_)
-            | Fault::Unresolved(_) => 1,
-            Fault::TooLarge | Fault::Write(_) | Fault::Read | Fault::Answer(_) => 3,
+            | Fault::Unresolved(_) => SOURCES_STATUS,
+            Fault::TooLarge | Fault::Write(_) | Fault::Read | Fault::Answer(_) => STREAM_STATUS,
         }
     }
 }

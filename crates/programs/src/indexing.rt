@@ -1,6 +1,7 @@
 //! The program `index`.
 
 ghost use Rattle.programs.specs.Indexing.{Indexed};
+ghost use Rattle.programs.specs.Streams.{writer};
 
 use crate::ending::end;
 use crate::messages::report;
@@ -28,7 +29,7 @@ pub(crate) fn index<R: Threads + Wait, F: ReadFiles, W: Sink, M: Sink>(
     out: &mut W,
     messages: &mut M,
 ) -> u8
-    ensures { Indexed (F.lists files.now) (F.gives files.now) W.contents W.failures M.contents M.failures options.now out.old out.new messages.old messages.new result }
+    ensures { Indexed (F.lists files.now) (F.gives files.now) options.now (writer W.contents W.failures out.old out.new) (writer M.contents M.failures messages.old messages.new) result }
 {
     let run = match start(alloc, options, files) {
         Ok(start) => start,

@@ -1,6 +1,7 @@
 //! The program `shell`.
 
 ghost use Rattle.programs.specs.Serving.{Served};
+ghost use Rattle.programs.specs.Streams.{reader, writer};
 
 use crate::ending::end;
 use crate::messages::report;
@@ -29,7 +30,7 @@ pub(crate) fn shell<R: Threads + Wait, F: ReadFiles, I: Feed, W: Sink, M: Sink>(
     answers: &mut W,
     messages: &mut M,
 ) -> u8
-    ensures { Served (F.lists files.now) (F.gives files.now) I.remaining I.failures I.reads I.ends W.contents W.failures M.contents M.failures options.now commands.old commands.new answers.old answers.new messages.old messages.new result }
+    ensures { Served (F.lists files.now) (F.gives files.now) options.now (reader I.remaining I.failures I.reads I.ends commands.old commands.new) (writer W.contents W.failures answers.old answers.new) (writer M.contents M.failures messages.old messages.new) result }
 {
     let run = match start(alloc, options, files) {
         Ok(start) => start,

@@ -1,3 +1,5 @@
+-- what a call does with a reader and with a writer
+pub mod Streams
 -- what is printed and said, and the exit status
 pub mod Messages
 pub mod Printing

@@ -1,7 +1,7 @@
 -- What a program says on standard error, and the status that it ends with.
 use Rattle.std.specs.Prelude.{◌≡◌, ◌<◌, ◌-◌, ◌^◌, ◌++◌, ◌⊎◌, ℕ, List, Option, codes}
 use Rattle.std.specs.Io.KnownBytes.{Appends}
-use Rattle.programs.specs.declared.statuses.TheConstants.{MEMORY_STATUS}
+use Rattle.protoscip.specs.declared.statuses.TheConstants.{MEMORY_STATUS}
 
 -- P holds where no write failed, which the writer's counts of failures tell below their limit
 abbrev pub Heard : ℕ → ℕ → Type 0 → Type 0

@@ -4,7 +4,7 @@
 use Rattle.std.specs.Prelude.{ℕ, ◌⊎◌, List, Option, codes}
 use Rattle.scip_model.specs.WholeWrites.{IsWritten, IsCutOff}
 use Rattle.programs.specs.Messages.{IsSilent, Tells}
-use Rattle.programs.specs.declared.statuses.TheConstants.{STREAM_STATUS}
+use Rattle.protoscip.specs.declared.statuses.TheConstants.{STREAM_STATUS}
 
 -- all of it is written, and nothing is said; or a write fails after a first part of it, and that is said
 abbrev pub Prints : {W M : Type 0} → (contents : W → Option (List ℕ)) → (failures : W → ℕ) → (said : M → Option (List ℕ)) → (unsaid : M → ℕ)

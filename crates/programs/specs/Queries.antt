@@ -1,6 +1,5 @@
 -- What the program `query` answers of an index that a file holds.
--- `gives` is what reading the file may give; `remaining`, `reads` and `ends` are the feed's, `contents` the sink's, and both
--- count their failures. `before` and `after` are the feed around the call, `first` and `now` the sink.
+-- `gives` is what reading the file may give.
 use Rattle.std.specs.Prelude.{◌≡◌, ◌≢◌, ◌⊎◌, ℕ, List, Option, Some, Result, Ok, Err}
 use Rattle.scip_model.specs.WholeReads.{IsReadBriefly}
 use Rattle.scip_model.specs.declared.records.Index.{Index}
@@ -13,6 +12,7 @@ use Rattle.source_files.specs.declared.file_fault.FileFault.TheVariants as file
 use Rattle.programs.specs.declared.query_fault.QueryFault.{QueryFault}
 use Rattle.programs.specs.declared.query_fault.QueryFault.TheVariants.{Memory, Unreadable, Wire}
 use Rattle.programs.specs.QueryFaults.{fault_of_answering}
+use Rattle.programs.specs.Streams.{Reader, Writer}
 
 -- the index that the file's bytes decode to; or that it can't be read, or that they decode to none; or memory ran out
 abbrev pub IsReadFrom : (Result (List ℕ) FileFault → Type 0) → Result Index QueryFault → Type 0
@@ -36,18 +36,17 @@ pub record IsUnanswered {R W : Type 0} (gives : Result (List ℕ) FileFault → 
   pub unwritten : now ≡ first
 
 -- the index is read, and answers go out to commands about it
-pub record IsAnswered {R W : Type 0} (gives : Result (List ℕ) FileFault → Type 0) (remaining : R → Option (List ℕ)) (read_failures reads ends : R → ℕ) (contents : W → Option (List ℕ)) (write_failures : W → ℕ) (before after : R) (first now : W) (done : Result (Unit {0}) QueryFault) : Type 0 where
+pub record IsAnswered {R W : Type 0} (gives : Result (List ℕ) FileFault → Type 0) (commands : Reader R) (answers : Writer W) (done : Result (Unit {0}) QueryFault) : Type 0 where
   pub index : Index
   pub is : IsReadFrom gives (Ok index)
   pub answered : Result (Unit {0}) AnswerFault
   pub stops : done ≡ outcome_of answered
   pub due : List ℕ
-  pub replies : Replies contents write_failures first now due answered
-  pub commands : (all : List ℕ) → remaining before ≡ Some all → IsDue index all (remaining after) due answered
-  pub feed : LeavesFeed read_failures reads ends before after answered
-  pub briefly : IsReadBriefly reads before after
+  pub replies : Replies answers.contents answers.failures answers.before answers.after due answered
+  pub asked : (all : List ℕ) → commands.remaining commands.before ≡ Some all → IsDue index all (commands.remaining commands.after) due answered
+  pub feed : LeavesFeed commands.failures commands.reads commands.ends commands.before commands.after answered
+  pub briefly : IsReadBriefly commands.reads commands.before commands.after
 
-abbrev pub Queried : {R W : Type 0} → (Result (List ℕ) FileFault → Type 0) → (R → Option (List ℕ)) → (read_failures reads ends : R → ℕ) → (W → Option (List ℕ)) → (W → ℕ) → R → R → W → W → Result (Unit {0}) QueryFault → Type 0
-Queried gives remaining read_failures reads ends contents write_failures before after first now done =
-    IsUnanswered gives before after first now done
-    ⊎ IsAnswered gives remaining read_failures reads ends contents write_failures before after first now done
+abbrev pub Queried : {R W : Type 0} → (Result (List ℕ) FileFault → Type 0) → Reader R → Writer W → Result (Unit {0}) QueryFault → Type 0
+Queried gives commands answers done =
+    IsUnanswered gives commands.before commands.after answers.before answers.after done ⊎ IsAnswered gives commands answers done

@@ -9,7 +9,8 @@ use Rattle.scip_wire.specs.declared.wire_fault.WireFault.TheVariants as wire
 use Rattle.source_files.specs.declared.file_fault.FileFault.{FileFault}
 use Rattle.source_files.specs.declared.file_fault.FileFault.TheVariants as file
 use Rattle.programs.specs.declared.query_fault.QueryFault.{QueryFault}
-use Rattle.programs.specs.declared.statuses.TheConstants.{INDEX_STATUS, MEMORY_STATUS, STREAM_STATUS}
+use Rattle.programs.specs.declared.statuses.TheConstants.{INDEX_STATUS}
+use Rattle.protoscip.specs.declared.statuses.TheConstants.{MEMORY_STATUS, STREAM_STATUS}
 use Rattle.programs.specs.declared.query_fault.QueryFault.TheVariants.{Unreadable, Wire, Read, Write, Memory}
 
 -- the name of a fault of an index's bytes

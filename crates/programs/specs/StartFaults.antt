@@ -3,12 +3,8 @@ use Rattle.std.specs.Prelude.{ℕ, List, ◌++◌, codes, string_bytes}
 use Rattle.source_files.specs.declared.load_fault.LoadFault.TheVariants.{Unreadable, TooMany, BadPath, SamePath, Memory}
 use Rattle.programs.specs.declared.start_fault.StartFault.{StartFault}
 use Rattle.programs.specs.declared.start_fault.StartFault.TheVariants.{BadPart, Load}
-use Rattle.programs.specs.declared.statuses.TheConstants.{
-  COMMAND_LINE_STATUS,
-  MEMORY_STATUS,
-  SOURCES_STATUS,
-  STREAM_STATUS,
-}
+use Rattle.programs.specs.declared.statuses.TheConstants.{COMMAND_LINE_STATUS}
+use Rattle.protoscip.specs.declared.statuses.TheConstants.{MEMORY_STATUS, SOURCES_STATUS, STREAM_STATUS}
 
 -- `protoscip: PATH: NAME`, or without the path
 abbrev pub line_of : StartFault → List ℕ

@@ -13,6 +13,7 @@ mod querying;
 
 // The programs about a tree: what their options say of the run, and why there is no package or no tree.
 mod choices;
+mod ending;
 mod package;
 mod settings;
 mod start_fault;

@@ -4,7 +4,7 @@ ghost use Rattle.std.specs.Prelude.{◌≡◌, ◌++◌, ℕ, List, IfOk, codes,
 ghost use Rattle.std.specs.Io.KnownBytes.{Appends};
 ghost use Rattle.programs.specs.Messages.{Heard, Tells};
 
-use crate::statuses::MEMORY_STATUS;
+use protoscip::MEMORY_STATUS;
 use scip_model::{Sink, write_all};
 use std::alloc::AllocError;
 

@@ -3,7 +3,7 @@
 ghost use Rattle.programs.specs.Printing.{Prints};
 
 use crate::messages::report;
-use crate::statuses::STREAM_STATUS;
+use protoscip::STREAM_STATUS;
 use scip_model::{Sink, write_all};
 use std::alloc::Global;
 

@@ -3,7 +3,8 @@
 ghost use Rattle.std.specs.Prelude.{◌≡◌, IfOk, string_bytes};
 ghost use Rattle.programs.specs.QueryFaults.{line_of, placed_line, status_of, wire_name, wire_offset};
 
-use crate::statuses::{INDEX_STATUS, MEMORY_STATUS, STREAM_STATUS};
+use crate::statuses::INDEX_STATUS;
+use protoscip::{MEMORY_STATUS, STREAM_STATUS};
 use scip_query::AnswerFault;
 use scip_wire::WireFault;
 use source_files::FileFault;
@@ -97,8 +98,7 @@ impl QueryFault {
         }
     }
 
-    /// The exit status: 3 where a stream or the file fails, 5 where the file holds no index, 4 for
-    /// want of memory.
+    /// The exit status.
     pub fn status(&self) -> u8
         ensures { result ≡ status_of self.now }
     {

@@ -2,6 +2,7 @@
 
 ghost use Rattle.std.specs.Prelude.{◌≡◌};
 ghost use Rattle.programs.specs.Queries.{IsReadFrom, Queried, outcome_of};
+ghost use Rattle.programs.specs.Streams.{reader, writer};
 
 use crate::query_fault::QueryFault;
 use scip_model::{Feed, Index, Sink};
@@ -40,7 +41,7 @@ pub fn query<F: ReadFiles, R: Feed, W: Sink>(
     commands: &mut R,
     answers: &mut W,
 ) -> Result<(), QueryFault>
-    ensures { Queried (F.gives files.now path.now) R.remaining R.failures R.reads R.ends W.contents W.failures commands.old commands.new answers.old answers.new result }
+    ensures { Queried (F.gives files.now path.now) (reader R.remaining R.failures R.reads R.ends commands.old commands.new) (writer W.contents W.failures answers.old answers.new) result }
 {
     let index = index_of_file(alloc, files, path)?;
     let queries = Queries::new(alloc, index)?;

@@ -23,6 +23,7 @@ ghost use Rattle.programs.specs.Printing.{Prints};
 ghost use Rattle.programs.specs.Queries.{Queried};
 ghost use Rattle.programs.specs.Serving.{Served};
 ghost use Rattle.programs.specs.Settings.{custom_options_of};
+ghost use Rattle.programs.specs.Streams.{reader, writer};
 ghost use Rattle.programs.specs.TreeRuns.{Ends};
 
 use crate::dumping::dump_source;
@@ -31,8 +32,9 @@ use crate::messages::report;
 use crate::output::print;
 use crate::querying::query;
 use crate::serving::shell;
-use crate::statuses::{COMMAND_LINE_STATUS, MEMORY_STATUS};
+use crate::statuses::COMMAND_LINE_STATUS;
 use command_line::Request;
+use protoscip::MEMORY_STATUS;
 use scip_model::{Feed, Sink, write_all};
 use source_files::ReadFiles;
 use std::alloc::{AllocError, Global};
@@ -59,7 +61,7 @@ fn answer<F: ReadFiles, I: Feed, W: Sink, M: Sink>(
     messages: &mut M,
 ) -> u8
     ensures { (done : Result (Unit {0}) QueryFault)
-        × Queried (F.gives files.now path.now) I.remaining I.failures I.reads I.ends W.contents W.failures input.old input.new out.old out.new done
+        × Queried (F.gives files.now path.now) (reader I.remaining I.failures I.reads I.ends input.old input.new) (writer W.contents W.failures out.old out.new) done
         × Answers M.contents M.failures path.now done messages.old messages.new result }
 {
     match query(alloc, files, path, input, out) {
@@ -109,16 +111,16 @@ pub fn run<R: Threads + Wait, F: ReadFiles, I: Feed, W: Sink, O: Sink, M: Sink>(
         × (file.new ≡ file.old))) }
     // What `query` promises of its answers, and what becomes of that.
     ensures queried { IfOk asked.now (λ request. IfSome (index_path request) (λ path. ((done : Result (Unit {0}) QueryFault)
-        × Queried (F.gives files.now path) I.remaining I.failures I.reads I.ends W.contents W.failures input.old input.new out.old out.new done
+        × Queried (F.gives files.now path) (reader I.remaining I.failures I.reads I.ends input.old input.new) (writer W.contents W.failures out.old out.new) done
         × Answers M.contents M.failures path done messages.old messages.new result)
         × (file.new ≡ file.old))) }
     // What `index` does.
     ensures indexed { IfOk asked.now (λ request. IfSome (index_options request) (λ options.
-        Indexed (F.lists files.now) (F.gives files.now) O.contents O.failures M.contents M.failures options file.old file.new messages.old messages.new result
+        Indexed (F.lists files.now) (F.gives files.now) options (writer O.contents O.failures file.old file.new) (writer M.contents M.failures messages.old messages.new) result
         × (input.new ≡ input.old) × (out.new ≡ out.old))) }
     // What `shell` does.
     ensures served { IfOk asked.now (λ request. IfSome (shell_options request) (λ options.
-        Served (F.lists files.now) (F.gives files.now) I.remaining I.failures I.reads I.ends W.contents W.failures M.contents M.failures options input.old input.new out.old out.new messages.old messages.new result
+        Served (F.lists files.now) (F.gives files.now) options (reader I.remaining I.failures I.reads I.ends input.old input.new) (writer W.contents W.failures out.old out.new) (writer M.contents M.failures messages.old messages.new) result
         × (file.new ≡ file.old))) }
     // Nothing was asked for, since memory ran out, and that is said.
     ensures unknown { IfErr asked.now (λ _. Tells M.contents M.failures memory_line memory_status messages.old messages.new result

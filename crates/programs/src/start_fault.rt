@@ -3,7 +3,8 @@
 ghost use Rattle.std.specs.Prelude.{◌≡◌, IfOk, string_bytes};
 ghost use Rattle.programs.specs.StartFaults.{line_of, status_of};
 
-use crate::statuses::{COMMAND_LINE_STATUS, MEMORY_STATUS, SOURCES_STATUS, STREAM_STATUS};
+use crate::statuses::COMMAND_LINE_STATUS;
+use protoscip::{MEMORY_STATUS, SOURCES_STATUS, STREAM_STATUS};
 use source_files::LoadFault;
 use std::alloc::{AllocError, Global};
 

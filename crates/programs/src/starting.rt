@@ -1,31 +1,62 @@
 //! How a program about a tree starts.
 
-ghost use Rattle.std.specs.Prelude.{◌≡◌, IfOk, IfErr, map, string_bytes};
+ghost use Rattle.std.specs.Prelude.{◌≡◌, IfOk, IfErr, map};
+ghost use Rattle.std.specs.Option.{option_map};
+ghost use Rattle.std.specs.String.{string_bytes};
 ghost use Rattle.scip_symbol.specs.Package.{IsPackage};
 ghost use Rattle.source_files.specs.Loads.{IsTreeBelow};
-ghost use Rattle.programs.specs.Settings.{package_in};
+ghost use Rattle.programs.specs.Choices.{choice_of_word};
+ghost use Rattle.programs.specs.Settings.{package_in, settings_in};
 ghost use Rattle.programs.specs.Starting.{MayNotStart};
 
+use crate::choices::OptionChoices;
 use crate::package::package_of;
+use crate::settings::{only_of, settings_of, workers_of};
 use crate::start_fault::StartFault;
 use command_line::IndexOptions;
-use scip_symbol::PackageId;
+use index_pool::Workers;
+use scip_build::Settings;
 use source_files::{ReadFiles, load_tree};
 use source_tree::Tree;
 use std::alloc::Global;
 
-/// The package that options name, and the tree of the sources below their root and of the files below
-/// their included roots.
+/// What a run over a tree is given.
+#[derive(Drop)]
+pub(crate) struct TreeRun {
+    /// The sources below the root, and the files below the included roots.
+    pub(crate) tree: Tree,
+    /// What is chosen for each declaration.
+    pub(crate) choices: OptionChoices,
+    /// Who works.
+    pub(crate) workers: Workers,
+    /// What the index says of the package and of columns.
+    pub(crate) settings: Settings,
+}
+
+/// The tree of the sources below the root of the options and of the files below their included roots, and
+/// what they say of the run over it.
 pub(crate) fn start<F: ReadFiles>(
     alloc: Global,
     options: &IndexOptions,
     files: &F,
-) -> Result<(PackageId, Tree), StartFault>
-    ensures named { IfOk result (λ start. (start.0 ≡ package_in options.now) × IsPackage (package_in options.now)) }
-    ensures tree { IfOk result (λ start. IsTreeBelow (F.lists files.now) (F.gives files.now) (string_bytes options.now.root) (map string_bytes options.now.include.items) start.1) }
+) -> Result<TreeRun, StartFault>
+    ensures named { IfOk result (λ _. IsPackage (package_in options.now)) }
+    ensures tree { IfOk result (λ start. IsTreeBelow (F.lists files.now) (F.gives files.now) (string_bytes options.now.root) (map string_bytes options.now.include.items) start.tree) }
+    ensures only { IfOk result (λ start. option_map (λ f. string_bytes f.0) start.choices.filter ≡ option_map string_bytes options.now.only) }
+    ensures doc { IfOk result (λ start. option_map (λ r. r.0) start.choices.rule ≡ option_map choice_of_word options.now.doc) }
+    ensures workers { IfOk result (λ start. start.workers ≡ options.now.workers) }
+    ensures settings { IfOk result (λ start. start.settings ≡ settings_in options.now) }
     ensures stops { IfErr result (MayNotStart (F.lists files.now) (F.gives files.now) options.now) }
 {
     let id = package_of(alloc, options)?;
     let tree = load_tree(alloc, files, options.root.as_str(), &options.include)?;
-    Ok((id, tree))
+    let settings = settings_of(alloc, options, id)?;
+    let choices = OptionChoices::new(alloc, only_of(options), options.doc)?;
+    let workers = workers_of(options);
+    Ok(TreeRun {
+        tree,
+        choices,
+        workers,
+        settings,
+    })
 }

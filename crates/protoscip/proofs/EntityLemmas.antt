@@ -24,7 +24,6 @@ use Rattle.proto_visibility.specs.Files.{File, HasFacts, HaveOrigins, HasPath, I
 use Rattle.proto_visibility.specs.Knows.{NameKind, Knows}
 use Rattle.proto_visibility.specs.Knows.NameKind.{OfPackage as IsPackageKind}
 use Rattle.proto_visibility.specs.Knows.Knows.{declared as known_declared, packaged as known_packaged}
-use Rattle.proto_link.specs.Laws.{OneDeclarationAName}
 use Rattle.proto_visibility.specs.Linked.{CanBeLinked}
 use Rattle.proto_visibility.specs.Sees.{Counts}
 use Rattle.proto_visibility.specs.Sees.LeadsTo.{at_once}
@@ -41,25 +40,20 @@ use Rattle.scip_document.specs.Conditions.{HaveGoodPaths}
 use Rattle.scip_document.specs.Named.{HasDeclaration, NamesIn, text_of, declaration_at}
 use Rattle.scip_document.specs.Occurs.{Occurs}
 use Rattle.scip_document.specs.Occurs as rule
-use Rattle.scip_document.proofs.ApartLemmas.{SymbolsNameOne, WithoutClash, AreIdentifiers, AreCounted, one-text}
+use Rattle.scip_document.proofs.ApartLemmas.{AreIdentifiers, AreCounted, one-text}
 use Rattle.scip_document.proofs.EntityLemmas.{package-is, declaration-is}
 use Rattle.scip_document.proofs.EntryLemmas.{nothing-in, alone-in, first-in, behind-in}
 use Rattle.scip_document.proofs.LinkedLemmas.{source-counts}
 use Rattle.scip_model.specs.declared.records.Occurrence.{Occurrence}
-use Rattle.protoscip.specs.UseLaws.{EachUseHasATarget}
+use Rattle.protoscip.specs.NameLaws.{LawsOfNames}
 use Rattle.protoscip.specs.Headline.{IsEntityOf, of_file, of_package, of_declaration, entity_of}
 use Rattle.protoscip.proofs.DottedLemmas.{same_front}
 use Rattle.protoscip.proofs.LinkedLemmas.{mapped_at}
 use Rattle.protoscip.proofs.ListLemmas.{place_of, contained}
 
--- what the laws say of names and symbols
-pub record Laws : Type 0 where
-  pub symbols : SymbolsNameOne
-  pub unclashed : WithoutClash
-  pub one_name : OneDeclarationAName
-  pub targets : EachUseHasATarget
-  pub spelled : AreIdentifiers
-  pub simple : (facts : Facts) → AreOfSomeFile facts → All (λ (component : Component). names.IsSimple component.name) facts.package_name
+-- what they say of identifiers
+spelled : LawsOfNames → AreIdentifiers
+spelled laws = record { named = laws.named; ways = laws.ways; held = laws.held }
 
 -- ---- texts in a list
 
@@ -82,7 +76,7 @@ has_text (first ∷ texts) text = elim (cases_Bool (bytes_eq first text)) [
 
 -- ---- what occurs
 
-module _ (files : List File) (linked : CanBeLinked files) (origins : HaveOrigins files) (laws : Laws) where
+module _ (files : List File) (linked : CanBeLinked files) (origins : HaveOrigins files) (laws : LawsOfNames) where
   -- the file that an import of a source names
   imported_is : (source : ℕ) → IsSource files source → (facts : Facts) (imported : Imported) → HasFacts files source facts → Contains facts.imports imported
       → IsEntityOf files (OfFile imported.path)
@@ -159,13 +153,13 @@ module _ (files : List File) (linked : CanBeLinked files) (origins : HaveOrigins
 
 -- ---- entities and symbols
 
-module _ (files : List File) (origins : HaveOrigins files) (good : HaveGoodPaths files) (clear : NoClash files) (laws : Laws) where
+module _ (files : List File) (origins : HaveOrigins files) (good : HaveGoodPaths files) (clear : NoClash files) (laws : LawsOfNames) where
   is_entity : (entity : Entity) → IsEntityOf files entity → IsEntity entity
   is_entity _ (of_file {number = number} {file = file} counts at) = good number file at
-  is_entity _ (of_package {number = number} {count = count} {facts = facts} counts has some few) = package-is facts count (laws.spelled.named facts (origins number facts has)) some few
+  is_entity _ (of_package {number = number} {count = count} {facts = facts} counts has some few) = package-is facts count (laws.named facts (origins number facts has)) some few
   is_entity _ (of_declaration {number = number} {index = index} {facts = facts} {declared = declared} counts has) =
       let origin = origins number facts has.has_facts in
-      declaration-is facts declared (laws.spelled.named facts origin) (laws.spelled.ways facts origin) (contained facts.declarations index declared has.numbered)
+      declaration-is facts declared (laws.named facts origin) (laws.ways facts origin) (contained facts.declarations index declared has.numbered)
 
   -- a declaration is one of the facts of a file that counts
   record IsDeclared (entity : Entity) : Type 0 where
@@ -207,7 +201,7 @@ module _ (files : List File) (origins : HaveOrigins files) (good : HaveGoodPaths
     one_of : (m n : ℕ) (f g : Facts) → AreCounted files m f → AreCounted files n g → (entity other : Entity) → IsEntity entity → IsEntity other
         → IsAmong (declarations_of (f ∷ (g ∷ []))) entity → IsAmong (declarations_of (f ∷ (g ∷ []))) other → text_of id entity ≡ text_of id other → entity ≡ other
     one_of m n f g a b entity other its also here there same =
-        one-text files origins clear laws.one_name laws.spelled laws.symbols laws.unclashed id is_package m n f g a b entity other its also here there same
+        one-text files origins clear laws.one_name (spelled laws) laws.symbols laws.unclashed id is_package m n f g a b entity other its also here there same
 
     one_else : (entity other : Entity) → IsEntity entity → IsEntity other → IsElse entity → IsElse other → text_of id entity ≡ text_of id other → entity ≡ other
     unfolding text_of IsElse
@@ -243,7 +237,7 @@ module _ (files : List File) (origins : HaveOrigins files) (good : HaveGoodPaths
   full_name_is : (number index : ℕ) (facts : Facts) (declared : Declaration) → HasDeclaration files number index facts declared → declared.full_name ≡ full_name_in (declaration_at facts declared)
   full_name_is number index facts declared has =
       let Is : Declaration → Type 0 = λ d. d.full_name ≡ dotted (component_names facts.package_name ++ names_of d.path) in
-      All-contains Is facts.declarations declared (laws.spelled.held facts (origins number facts has.has_facts)).full_names (contained facts.declarations index declared has.numbered)
+      All-contains Is facts.declarations declared (laws.held facts (origins number facts has.has_facts)).full_names (contained facts.declarations index declared has.numbered)
 
   pub own_entity : (number index other its : ℕ) (facts more : Facts) (a b : Declaration) → Counts files number → Counts files other
       → HasDeclaration files number index facts a → HasDeclaration files other its more b → declaration_at facts a ≡ declaration_at more b → (number ≡ other) × (index ≡ its)

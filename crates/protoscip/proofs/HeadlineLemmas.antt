@@ -27,7 +27,8 @@ use Rattle.scip_build.specs.Linking.{linked_files}
 use Rattle.scip_build.specs.declared.built.Built.{Built}
 use Rattle.scip_build.specs.declared.settings.Settings.{Settings}
 use Rattle.protoscip.specs.Headline.{IsEntityOf, entity_of, defines, IsSite, site_cmp, IsOf, IsSiteOf, IsDefinitionOf, IsAt, Answers, AnswersNames, Headline}
-use Rattle.protoscip.proofs.EntityLemmas.{Laws, entity_is, symbol_is, one_entity, own_entity}
+use Rattle.protoscip.specs.NameLaws.{LawsOfNames}
+use Rattle.protoscip.proofs.EntityLemmas.{entity_is, symbol_is, one_entity, own_entity}
 use Rattle.protoscip.proofs.LinkedLemmas.{have_origins, good_paths}
 use Rattle.protoscip.proofs.ListLemmas.{contained}
 use Rattle.protoscip.proofs.UseLemmas.{component_names}
@@ -55,7 +56,7 @@ alike same of = record {
 }
 
 module _ {allows : Seen → Choice → Type 0} {settings : Settings} {tree : List TreeFile} {result : Built} (built : IsBuilt allows settings tree result)
-    (origins : HaveOrigins (linked_files built.readings)) (good : HaveGoodPaths (linked_files built.readings)) (is_package : IsPackage settings.package) (laws : Laws) where
+    (origins : HaveOrigins (linked_files built.readings)) (good : HaveGoodPaths (linked_files built.readings)) (is_package : IsPackage settings.package) (laws : LawsOfNames) where
   Files : List File
   Files = linked_files built.readings
 
@@ -194,7 +195,7 @@ module _ {allows : Seen → Choice → Type 0} {settings : Settings} {tree : Lis
     definitions = definitions;
   }
 
-pub headline : (allows : Seen → Choice → Type 0) → Laws → Headline allows
+pub headline : (allows : Seen → Choice → Type 0) → LawsOfNames → Headline allows
 headline allows laws settings tree is_tree is_package choices bytes indexed =
     let built = indexed.built in
     let origins = have_origins settings.custom_options allows tree built.readings built.read in

@@ -9,6 +9,7 @@ pub mod Indexes
 pub mod Writing
 pub mod IndexLaws
 pub mod UseLaws
+pub mod NameLaws
 -- the listing of one source
 pub mod DumpText
 pub mod Dump

@@ -3,6 +3,7 @@
 ghost use Rattle.std.specs.Prelude.{◌≡◌};
 ghost use Rattle.protoscip.specs.Statuses.{status_of};
 
+use crate::statuses::{MEMORY_STATUS, SOURCES_STATUS, STREAM_STATUS};
 use proto_lex::LexFault;
 use proto_link::FilePlace;
 use proto_parse::SyntaxFault;
@@ -149,8 +150,7 @@ impl From<AnswerFault> for Fault {
 }
 
 impl Fault {
-    /// The exit status of a program that stops for it: 1 where the sources are refused, 3 where
-    /// reading, writing or the index's size fails, 4 for want of memory or of a thread.
+    /// The exit status of a program that stops for it.
     pub fn status(&self) -> u8
         ensures { result ≡ status_of self.now }
     {
@@ -158,13 +158,13 @@ impl Fault {
             Fault::Spawn
             | Fault::Memory
             | Fault::Lex(_, LexFault::Memory)
-            | Fault::Syntax(_, SyntaxFault::Memory) => 4,
+            | Fault::Syntax(_, SyntaxFault::Memory) => MEMORY_STATUS,
             Fault::Lex(..)
             | Fault::Syntax(..)
             | Fault::Duplicate(..)
             | Fault::MissingImport(_)
-            | Fault::Unresolved(_) => 1,
-            Fault::TooLarge | Fault::Write(_) | Fault::Read | Fault::Answer(_) => 3,
+            | Fault::Unresolved(_) => SOURCES_STATUS,
+            Fault::TooLarge | Fault::Write(_) | Fault::Read | Fault::Answer(_) => STREAM_STATUS,
         }
     }
 }

@@ -4,6 +4,7 @@
 ghost use Rattle.protoscip.specs.DumpLaws.{OneListing, ListedUnlessMemory};
 ghost use Rattle.protoscip.specs.Headline.{Headline};
 ghost use Rattle.protoscip.specs.IndexLaws.{OneReason, OneFileFault, IndexedHasNoFault, OneIndexing, OneIndexingHasNoFault};
+ghost use Rattle.protoscip.specs.NameLaws.{LawsOfNames};
 ghost use Rattle.protoscip.specs.UseLaws.{EachUseHasATarget};
 
 use crate::dumping::DefaultChoices;
@@ -56,6 +57,19 @@ pub fn each_use_has_a_target()
     fronts_are_entities();
 }
 
+/// What the headline rests on, whatever was chosen: a full name is that of one declaration, a symbol that
+/// of one entity, and a use that names a type has a target.
+pub fn laws_of_names()
+    ensures { LawsOfNames }
+{
+    names_are_identifiers();
+    scopes_are_known();
+    one_declaration_a_name();
+    each_use_has_a_target();
+    symbols_name_one_entity();
+    files_are_without_clash();
+}
+
 /// The headline, for every tree and all settings. The bytes of a tree's index, which `index_tree` writes
 /// and a session answers from, decode to one index only: the one that the grammar, the scoping rules and
 /// allowed choices give the tree. Each component of a use in a source names an entity, so that it occurs
@@ -66,12 +80,7 @@ pub fn each_use_has_a_target()
 pub fn headline<C: Chooses>(chooser: &C)
     ensures { Headline (C.allows chooser.now) }
 {
-    names_are_identifiers();
-    scopes_are_known();
-    one_declaration_a_name();
-    each_use_has_a_target();
-    symbols_name_one_entity();
-    files_are_without_clash();
+    laws_of_names();
 }
 
 /// A source has one listing at most.

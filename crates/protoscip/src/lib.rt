@@ -18,14 +18,16 @@ mod sessions;
 // Why a run stops.
 mod fault;
 mod fault_lines;
+mod statuses;
 
 pub use dumping::{SOURCE_PATH, dump, dump_tree};
 pub use fault::Fault;
 pub use fault_lines::fault_line;
 pub use indexing::index_tree;
 pub use laws::{
-    each_use_has_a_target, headline, indexed_has_no_fault, listed_unless_memory, one_file_fault,
-    one_indexing, one_listing, one_reason,
+    each_use_has_a_target, headline, indexed_has_no_fault, laws_of_names, listed_unless_memory,
+    one_file_fault, one_indexing, one_listing, one_reason,
 };
 pub use output::write_text;
 pub use sessions::session;
+pub use statuses::{MEMORY_STATUS, SOURCES_STATUS, STREAM_STATUS};

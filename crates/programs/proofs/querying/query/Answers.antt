@@ -13,7 +13,7 @@ returns g c =
       stops = c.outcome_of.ensures;
       due = answered.replies.0;
       replies = answered.replies.1;
-      commands = answered.replies.2;
+      asked = answered.replies.2;
       feed = answered.feed;
       briefly = answered.briefly;
     })

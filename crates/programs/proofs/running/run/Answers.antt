@@ -6,21 +6,23 @@ use Rattle.command_line.specs.declared.request.Request.{Request}
 use Rattle.programs.specs.Indexing.{Indexed}
 use Rattle.programs.specs.Messages.{memory_line}
 use Rattle.programs.specs.Serving.{Served}
+use Rattle.programs.specs.Streams.{reader, writer}
 use Rattle.programs.proofs.running.run.Goals as goal
 
 pub returns-in-Index-clause-indexed : goal.returns-in-Index-clause-indexed
 returns-in-Index-clause-indexed g c =
     let Here : Request → Type 0 = λ request. IfSome (index_options request) (λ options.
-    Indexed (g.F.ReadFiles.lists c.args.files.now) (g.F.ReadFiles.gives c.args.files.now) g.O.Sink.contents g.O.Sink.failures g.M.Sink.contents g.M.Sink.failures options
-    c.args.file.now c.index.new.out c.args.messages.now c.index.new.messages c.index.result
+    Indexed (g.F.ReadFiles.lists c.args.files.now) (g.F.ReadFiles.gives c.args.files.now) options
+    (writer g.O.Sink.contents g.O.Sink.failures c.args.file.now c.index.new.out) (writer g.M.Sink.contents g.M.Sink.failures c.args.messages.now c.index.new.messages) c.index.result
     × (c.args.input.now ≡ c.args.input.now) × (c.args.out.now ≡ c.args.out.now)) in
     subst (λ (asked : Result Request AllocError). IfOk asked Here) (sym c.in-Ok.is) (subst Here (sym c.in-Index.is) (c.index.ensures, refl, refl))
 
 pub returns-in-Shell-clause-served : goal.returns-in-Shell-clause-served
 returns-in-Shell-clause-served g c =
     let Here : Request → Type 0 = λ request. IfSome (shell_options request) (λ options.
-    Served (g.F.ReadFiles.lists c.args.files.now) (g.F.ReadFiles.gives c.args.files.now) g.I.Feed.remaining g.I.Feed.failures g.I.Feed.reads g.I.Feed.ends g.W.Sink.contents g.W.Sink.failures g.M.Sink.contents g.M.Sink.failures options
-    c.args.input.now c.shell.new.commands c.args.out.now c.shell.new.answers c.args.messages.now c.shell.new.messages c.shell.result
+    Served (g.F.ReadFiles.lists c.args.files.now) (g.F.ReadFiles.gives c.args.files.now) options
+    (reader g.I.Feed.remaining g.I.Feed.failures g.I.Feed.reads g.I.Feed.ends c.args.input.now c.shell.new.commands)
+    (writer g.W.Sink.contents g.W.Sink.failures c.args.out.now c.shell.new.answers) (writer g.M.Sink.contents g.M.Sink.failures c.args.messages.now c.shell.new.messages) c.shell.result
     × (c.args.file.now ≡ c.args.file.now)) in
     subst (λ (asked : Result Request AllocError). IfOk asked Here) (sym c.in-Ok.is) (subst Here (sym c.in-Shell.is) (c.shell.ensures, refl))
 

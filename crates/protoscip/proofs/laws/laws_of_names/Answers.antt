@@ -1,0 +1,15 @@
+use Rattle.protoscip.proofs.laws.laws_of_names.Goals as goal
+
+pub returns : goal.returns
+returns c =
+    let identifiers = c.names_are_identifiers.ensures in
+    record {
+      named = identifiers.named;
+      ways = identifiers.ways;
+      held = identifiers.held;
+      simple = c.scopes_are_known.ensures.package_name;
+      one_name = c.one_declaration_a_name.ensures.declarations;
+      unclashed = c.files_are_without_clash.ensures;
+      symbols = c.symbols_name_one_entity.ensures;
+      targets = c.each_use_has_a_target.ensures;
+    }

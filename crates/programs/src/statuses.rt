@@ -1,6 +1,6 @@
 //! The exit statuses that a program stops with. Of a success it is 0.
 
-/// The files make no tree.
+/// The sources are refused.
 pub(crate) const SOURCES_STATUS: u8 = 1;
 
 /// The command line is refused.

@@ -23,7 +23,7 @@ MayRefuse files (MissingImport place) = absences.NoneBroken files × NoClash fil
 MayRefuse files (Unresolved place) = ⊥
 MayRefuse files Memory = ⊤
 
--- what a linker keeps of its files
+-- what a namespace keeps of its files
 pub record IsLinked (files : List File) (rows : List (List ℕ)) (names : Names) : Type 0 where
   pub can_be : CanBeLinked files
   pub origins : HaveOrigins files

@@ -1,3 +1,4 @@
+-- the tables by which the code finds names, and the steps of its searches
 pub mod FileItems
 pub mod NameTables
 pub mod StepTables

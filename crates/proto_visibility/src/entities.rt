@@ -9,7 +9,7 @@ use crate::knowing::{index_in, stands_among};
 use crate::names::Names;
 use proto_decl::{Declaration, FileFacts};
 
-/// What a component of a use names.
+/// What a full name names in a file: a package or a declaration.
 #[derive(Clone, Copy, Debug, PartialEq, Eq)]
 pub enum Entity {
     /// The package of the full name's first components, so many.

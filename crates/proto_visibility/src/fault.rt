@@ -18,7 +18,7 @@ pub enum LinkFault {
     /// counts, and the public ones of an included file that some source sees.
     MissingImport(FilePlace),
     /// A use that names no type, by the place of the whole use: from its leading dot, or its first
-    /// component where it has none, to its last one. `Linker::resolve` alone answers it.
+    /// component where it has none, to its last one. Only `Linker::resolve` of `proto_link` answers it.
     Unresolved(FilePlace),
     /// Memory was refused.
     Memory,

@@ -112,8 +112,9 @@ impl<'a> Namespace<'a> {
         let _files = self.files;
     }
 
-    /// What a full name of so many components names in a file with these facts, where it is that of
-    /// a declaration or a package of the file. Takes no memory.
+    /// What a full name names in a file with these facts, where it is that of a declaration or a package
+    /// of the file. How many components the name has is the caller's word, given back with a package.
+    /// Takes no memory.
     pub fn entity_of(&self, number: usize, facts: &FileFacts, name: &str, count: usize) -> Entity
         requires has { HasFacts self.now number facts.now }
         requires entity { IsEntity facts.now name.now }

@@ -42,11 +42,13 @@ impl<'a, 'c, C: Chooses + Sync> Job for PhaseOne<'a, 'c, C> {
 /// each declaration, on so many workers, with the gate's calls round each file.
 ///
 /// A source that isn't text, or has no lexing or no tree, is refused: `File` names the first of
-/// them. An included file that has none of these is no refusal: its reading has the fault. The
-/// chooser is asked once about each declaration of a file that can be read, included or not.
+/// them, and memory sufficed for every file before it. An included file that has none of these is no
+/// refusal: its reading has the fault. The chooser is asked once about each declaration of a file that
+/// can be read, included or not.
 ///
-/// Of the refusals `Spawn` comes before `Memory`, and `Memory` before `File`; but where the least
-/// file that stops the run lacks memory, it is `Memory`.
+/// `Spawn` comes before `Memory`, and `Memory` before `File`. `Memory` is for what all files share, or
+/// for the least file that stops the run, be it an included one. `Duplicate`, `MissingImport`,
+/// `Unresolved` and the `File` of an included file never come: linking answers those.
 pub fn read_files<'a, R: Threads + Wait, C: Chooses + Sync, G: Gate>(
     run: &Run<'_, R, G>,
     tree: &'a Tree,

@@ -7,8 +7,12 @@ use std::alloc::Global;
 /// come round each file.
 #[derive(Drop)]
 pub struct Run<'a, R, G> {
+    /// The runtime whose threads work.
     pub rt: &'a R,
+    /// Where memory is taken.
     pub alloc: Global,
+    /// How many threads work, at most.
     pub workers: Workers,
+    /// What is called before and after each file.
     pub gate: &'a G,
 }

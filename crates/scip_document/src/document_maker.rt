@@ -9,6 +9,7 @@ use std::alloc::Global;
 /// What the document of a source is made from.
 #[derive(Drop)]
 pub struct DocumentMaker<'a, 'l, 't> {
+    /// Where memory is taken.
     pub alloc: Global,
     /// The files, which are linked.
     pub linker: &'a Linker<'l>,

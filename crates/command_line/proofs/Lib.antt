@@ -1,4 +1,4 @@
 pub mod AnswerLemmas
-pub mod GivenLemmas
+pub mod ValueLemmas
 pub mod WorkersLemmas
 pub mod RuleLemmas

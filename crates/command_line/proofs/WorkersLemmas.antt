@@ -8,7 +8,7 @@ use Rattle.clap.specs.ValueTests.{is_unsigned_in}
 use Rattle.clap.specs.declared.builder.value_parser.ValueParser.TheVariants as values
 use Rattle.clap.proofs.ValueTestLemmas.{Accepts-accepts, accepts-Accepts}
 use Rattle.clap.proofs.WalkLemmas.{both}
-use Rattle.command_line.specs.Given.{fitting, workers_in}
+use Rattle.command_line.specs.Values.{fitting, workers_in}
 
 -- a number that the text spells
 fits_so : (t : Text) (n : ℕ) → ParsesUnsigned {E = ℕ} 64 10 t (Ok n) → fitting (Some n) ≡ workers_in t

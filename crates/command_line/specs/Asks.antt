@@ -4,7 +4,7 @@ use Rattle.std.specs.Prelude.{◌≡◌, ◌≢◌, List, [], ◌∷◌, Option,
 use Rattle.std.specs.Option.{option_map}
 use Rattle.clap.specs.Words.{Kinds, IsAmong, Row, Text, fault_of, subcommand_of}
 use Rattle.clap.specs.declared.error.kind.ErrorKind.{ErrorKind}
-use Rattle.command_line.specs.Given.{Carries, custom_options_of, rows_in, text_of}
+use Rattle.command_line.specs.Values.{Carries, custom_options_of, rows_in, text_of}
 use Rattle.command_line.specs.Program.{command_line}
 use Rattle.command_line.specs.Requests.{Prints}
 use Rattle.command_line.specs.Words.{AreListed}

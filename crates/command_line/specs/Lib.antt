@@ -1,5 +1,5 @@
 pub mod Words
-pub mod Given
+pub mod Values
 pub mod Program
 pub mod Requests
 pub mod Asks

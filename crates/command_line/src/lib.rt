@@ -1,13 +1,13 @@
 //! The command line of the program `protoscip`: what it asks for, by the rules of `clap`.
 #![tactic(auto)]
 
-mod given;
 mod names;
 mod options;
 mod program;
 mod reading;
 mod request;
 mod tree;
+mod values;
 mod words;
 
 pub use options::{CustomOptionsWord, DocWord, IndexOptions, PositionsWord};

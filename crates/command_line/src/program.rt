@@ -16,6 +16,7 @@ use crate::tree::{custom_options, required, with_tree_options};
 use crate::words::WordLists;
 use clap::Command;
 use std::alloc::{AllocError, Global};
+use tool::{NAME, VERSION};
 
 const INDEX_EXAMPLE: &str =
     "Example, the sources below api with those below vendor for their imports:
@@ -96,8 +97,8 @@ fn dump_program<'a>(alloc: Global, lists: WordLists<'a>) -> Result<Command<'a>, 
 pub(crate) fn program<'a>(alloc: Global, lists: WordLists<'a>) -> Result<Command<'a>, AllocError>
     ensures { IfOk result (λ c. app_of c ≡ command_line lists.entry) }
 {
-    Command::new(alloc, "protoscip")
-        .version("1")
+    Command::new(alloc, NAME)
+        .version(VERSION)
         .about("Indexes proto3 sources and writes SCIP")
         .subcommand_required(true)
         .subcommand(index_program(alloc, lists)?)?

@@ -5,14 +5,14 @@ ghost use Rattle.std.specs.IoError.{error_kind};
 ghost use Rattle.std.specs.declared.io.ErrorKind.TheVariants.{OutOfMemory as Memory};
 ghost use Rattle.clap.specs.Words.{kind_of, subcommand_rows_of};
 ghost use Rattle.command_line.specs.Asks.{Asks, Names};
-ghost use Rattle.command_line.specs.Given.{custom_options_of, rows_in};
+ghost use Rattle.command_line.specs.Values.{custom_options_of, rows_in};
 ghost use Rattle.command_line.specs.Requests.{IsRefused, Prints};
 
-use crate::given::{custom_options_of, options_of, text_of};
 use crate::names::{INDEX, INDEX_FILE, OUT, QUERY, SHELL};
 use crate::options::CustomOptionsWord;
 use crate::program::program;
 use crate::request::Request;
+use crate::values::{custom_options_of, options_of, text_of};
 use crate::words::WordLists;
 use clap::error::ErrorKind;
 use clap::{ArgMatches, Error};

@@ -1,11 +1,36 @@
-//! Help and the version, in the form of `clap` of Rust.
+//! Help and the version, in the form of `clap` of Rust: no contract says the texts.
 
-use crate::see::see;
-use crate::words::asked_by;
-use command_line::Request;
+use crate::asked::{By, asked, see};
 use std::test::Fail;
 
-const HELP: &str = "Indexes proto3 sources and writes SCIP
+/// A command line that asks for help or the version, and the parts of the text that is printed.
+struct Printed {
+    words: &'static str,
+    parts: [&'static str; 3],
+}
+
+/// The options of `index` and of `shell`.
+const OPTIONS: &str = "
+Options:
+      --workers <N>            How many threads work, 1 to 16; the index is the same for any number [default: 4]
+      --project-root <URI>     Where the sources' folder lies, as the index says it [default: file:///]
+      --manager <NAME>         The manager of the package that the symbols name, empty if not given
+      --package <NAME>         The name of that package, empty if not given
+      --release <TEXT>         The release of that package, empty if not given
+      --only <PREFIX>          Keeps the declaration of this full name and those below it alone
+      --doc <WORD>             Which comments document a declaration; those before it if not given [possible values: leading, trailing, both, nothing]
+      --include <DIR>          A folder with sources that may be imported and aren't indexed; may be given again
+      --positions <WORD>       The unit of columns: bytes, or UTF-16 code units [default: utf8] [possible values: utf8, utf16]
+      --custom-options <WORD>  Whether a source with custom options is refused, or they are read past [default: refuse] [possible values: refuse, skip]
+  -h, --help                   Print help
+";
+
+// The last row reads: `protoscip --version` prints one line.
+static PRINTED: [Printed; 6] = [
+    Printed {
+        words: "--help",
+        parts: [
+            "Indexes proto3 sources and writes SCIP
 
 Usage: protoscip <COMMAND>
 
@@ -19,55 +44,42 @@ Commands:
 Options:
   -h, --help     Print help
   -V, --version  Print version
-";
-
-const HELP_OF_INDEX: &str = "Indexes the sources below a folder and writes the index to a file
+",
+            "",
+            "",
+        ],
+    },
+    Printed {
+        words: "index --help",
+        parts: [
+            "Indexes the sources below a folder and writes the index to a file
 
 Usage: protoscip index [OPTIONS] <ROOT> <OUT>
 
 Arguments:
   <ROOT>  The folder whose sources are indexed
   <OUT>   The file that the index goes to
-
-Options:
-      --workers <N>            How many threads work, 1 to 16; the index is the same for any number [default: 4]
-      --project-root <URI>     Where the sources' folder lies, as the index says it [default: file:///]
-      --manager <NAME>         The manager of the package that the symbols name, empty if not given
-      --package <NAME>         The name of that package, empty if not given
-      --release <TEXT>         The release of that package, empty if not given
-      --only <PREFIX>          Keeps the declaration of this full name and those below it alone
-      --doc <WORD>             Which comments document a declaration; those before it if not given [possible values: leading, trailing, both, nothing]
-      --include <DIR>          A folder with sources that may be imported and aren't indexed; may be given again
-      --positions <WORD>       The unit of columns: bytes, or UTF-16 code units [default: utf8] [possible values: utf8, utf16]
-      --custom-options <WORD>  Whether a source with custom options is refused, or they are read past [default: refuse] [possible values: refuse, skip]
-  -h, --help                   Print help
-
+",
+            OPTIONS,
+            "
 Example, the sources below api with those below vendor for their imports:
 
   protoscip index --include vendor --package api --release 1.2 api api.scip
-";
-
-const HELP_OF_SHELL: &str =
-    "Indexes the sources below a folder and answers commands, from standard input
+",
+        ],
+    },
+    Printed {
+        words: "shell --help",
+        parts: [
+            "Indexes the sources below a folder and answers commands, from standard input
 
 Usage: protoscip shell [OPTIONS] <ROOT>
 
 Arguments:
   <ROOT>  The folder whose sources are indexed
-
-Options:
-      --workers <N>            How many threads work, 1 to 16; the index is the same for any number [default: 4]
-      --project-root <URI>     Where the sources' folder lies, as the index says it [default: file:///]
-      --manager <NAME>         The manager of the package that the symbols name, empty if not given
-      --package <NAME>         The name of that package, empty if not given
-      --release <TEXT>         The release of that package, empty if not given
-      --only <PREFIX>          Keeps the declaration of this full name and those below it alone
-      --doc <WORD>             Which comments document a declaration; those before it if not given [possible values: leading, trailing, both, nothing]
-      --include <DIR>          A folder with sources that may be imported and aren't indexed; may be given again
-      --positions <WORD>       The unit of columns: bytes, or UTF-16 code units [default: utf8] [possible values: utf8, utf16]
-      --custom-options <WORD>  Whether a source with custom options is refused, or they are read past [default: refuse] [possible values: refuse, skip]
-  -h, --help                   Print help
-
+",
+            OPTIONS,
+            "
 Example session, in which the lines that begin with a word are typed, and Ctrl-D ends it:
 
   $ protoscip shell examples/library
@@ -77,9 +89,13 @@ Example session, in which the lines that begin with a word are typed, and Ctrl-D
   doc 24 10 library/lending/loan.proto
   | The days from the first to the last, both included.
   = 1
-";
-
-const HELP_OF_QUERY: &str = "Answers commands about an index, from standard input
+",
+        ],
+    },
+    Printed {
+        words: "query --help",
+        parts: [
+            "Answers commands about an index, from standard input
 
 Usage: protoscip query <INDEX>
 
@@ -92,9 +108,15 @@ Options:
 Example, the symbols of a document:
 
   echo 'sym shop/order.proto' | protoscip query api.scip
-";
-
-const HELP_OF_DUMP: &str = "Indexes one source from standard input and prints its occurrences
+",
+            "",
+            "",
+        ],
+    },
+    Printed {
+        words: "dump --help",
+        parts: [
+            "Indexes one source from standard input and prints its occurrences
 
 Usage: protoscip dump [OPTIONS]
 
@@ -105,40 +127,31 @@ Options:
 Example:
 
   protoscip dump --custom-options skip < order.proto
-";
+",
+            "",
+            "",
+        ],
+    },
+    Printed {
+        words: "--version",
+        parts: ["protoscip 1\n", "", ""],
+    },
+];
 
-/// Whether a request is to print this text.
-fn prints(request: &Request, text: &str) -> bool {
-    match request {
-        Request::Print(printed) => printed.as_str() == text,
-        _ => false,
-    }
+/// Whether a text is these parts, one behind the other.
+fn has_parts(text: &str, parts: &[&str; 3]) -> bool {
+    let [first, second, third] = *parts;
+    let rest = text
+        .strip_prefix(first)
+        .and_then(|rest| rest.strip_prefix(second));
+    rest == Some(third)
 }
 
 #[test]
 fn help_and_version_are_printed(rt: HostRuntime) -> Result<(), Fail> {
-    for (arguments, text) in [
-        ("--help", HELP),
-        ("-h", HELP),
-        ("help", HELP),
-        ("index --help", HELP_OF_INDEX),
-        ("index -h", HELP_OF_INDEX),
-        ("index api out --workers 2 --help", HELP_OF_INDEX),
-        ("help index", HELP_OF_INDEX),
-        ("shell --help", HELP_OF_SHELL),
-        ("shell api -h", HELP_OF_SHELL),
-        ("help shell", HELP_OF_SHELL),
-        ("dump --help", HELP_OF_DUMP),
-        ("dump -h", HELP_OF_DUMP),
-        ("help dump", HELP_OF_DUMP),
-        ("query --help", HELP_OF_QUERY),
-        ("query a.scip -h", HELP_OF_QUERY),
-        ("help query", HELP_OF_QUERY),
-        ("--version", "protoscip 1\n"),
-        ("-V", "protoscip 1\n"),
-    ] {
-        let request = asked_by(rt.alloc(), arguments)?;
-        see(&rt, prints(&request, text), arguments);
+    for row in &PRINTED {
+        let text = asked(rt.alloc(), row.words, By::List)?;
+        see(&rt, has_parts(text.as_str(), &row.parts), row.words);
     }
     Ok(())
 }

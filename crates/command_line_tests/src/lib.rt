@@ -2,14 +2,10 @@
 #![tactic(auto)]
 
 #[cfg(test)]
+mod asked;
+#[cfg(test)]
 mod help;
 #[cfg(test)]
 mod options;
 #[cfg(test)]
-mod process;
-#[cfg(test)]
 mod refusals;
-#[cfg(test)]
-mod see;
-#[cfg(test)]
-mod words;

@@ -1,22 +1,10 @@
 //! Filters and rules that are added: the room of a registry, and what comes back.
 
-use crate::shared::{chooses, message, see, see_added};
+use crate::shared::{chooses, counting_filter, message, no_calls, see, see_added};
 use index_hooks::{
-    AnyAnswer, BoxedFilter, BoxedRule, DocAlways, DocChoice, DocHook, Filter, FilterCallback,
-    FilterHook, HookFault, MAX_HOOKS, Registry, one_choice,
+    BoxedFilter, DocAlways, DocChoice, FilterHook, HookFault, MAX_HOOKS, Registry, one_choice,
 };
-use proto_decl::DeclView;
 use std::test::Fail;
-
-/// Keeps everything, or nothing.
-#[derive(Drop)]
-struct Fixed(bool);
-
-impl FilterCallback for Fixed {
-    fn call(&self, _view: &DeclView<'_>) -> bool {
-        self.0
-    }
-}
 
 #[test]
 fn a_new_registry_keeps_all_with_the_leading_text(rt: HostRuntime) {
@@ -36,63 +24,22 @@ fn is_dropping_filter(answer: Result<(), (BoxedFilter, HookFault)>) -> bool {
 #[test]
 fn seventeenth_filter_comes_back(rt: HostRuntime) -> Result<(), Fail> {
     let alloc = rt.alloc();
+    let calls = no_calls(alloc)?;
     let rule = Box::new(alloc, DocAlways(DocChoice::Both).rule())?;
-    let dropping = Box::new(alloc, Filter::new(AnyAnswer, Fixed(false)))?;
+    let dropping = counting_filter(alloc, false, 0, &calls)?;
     let mut registry = Registry::new(alloc);
-    for _ in 0..16 {
-        let filter = Box::new(alloc, Filter::new(AnyAnswer, Fixed(true)))?;
+    for _ in 0..MAX_HOOKS {
+        let filter = counting_filter(alloc, true, 0, &calls)?;
         if let Err((filter, _)) = registry.add_filter(filter) {
             see_added(&rt, registry.add_filter(filter));
         }
     }
-    see(
-        &rt,
-        is_dropping_filter(registry.add_filter(dropping)),
-        "the filter that came back",
-    );
+    let is_back = is_dropping_filter(registry.add_filter(dropping));
+    see(&rt, is_back && MAX_HOOKS == 16, "the filter that came back");
     if let Err((rule, _)) = registry.add_doc(rule) {
         see_added(&rt, registry.add_doc(rule));
     }
-    see(
-        &rt,
-        chooses(&registry, true, DocChoice::Both, 1),
-        "the 16 filters and the rule",
-    );
-    Ok(())
-}
-
-/// Whether a rule came back that always answers `Both`, since the registry is full.
-fn is_rule_of_both(answer: Result<(), (BoxedRule, HookFault)>) -> bool {
-    match answer {
-        Err((rule, HookFault::Full)) => rule.ask(&message()) == DocChoice::Both,
-        _ => false,
-    }
-}
-
-#[test]
-fn seventeenth_rule_comes_back(rt: HostRuntime) -> Result<(), Fail> {
-    let alloc = rt.alloc();
-    let both = Box::new(alloc, DocAlways(DocChoice::Both).rule())?;
-    let filter = Box::new(alloc, Filter::new(AnyAnswer, Fixed(false)))?;
-    let mut registry = Registry::new(alloc);
-    for _ in 0..MAX_HOOKS {
-        let rule = Box::new(alloc, DocAlways(DocChoice::Pass).rule())?;
-        if let Err((rule, _)) = registry.add_doc(rule) {
-            see_added(&rt, registry.add_doc(rule));
-        }
-    }
-    see(
-        &rt,
-        is_rule_of_both(registry.add_doc(both)),
-        "the rule that came back",
-    );
-    if let Err((filter, _)) = registry.add_filter(filter) {
-        see_added(&rt, registry.add_filter(filter));
-    }
-    see(
-        &rt,
-        chooses(&registry, false, DocChoice::Leading, 1),
-        "the 16 rules and the filter",
-    );
+    let so = chooses(&registry, true, DocChoice::Both, 1);
+    see(&rt, so, "the 16 filters and the rule");
     Ok(())
 }

@@ -1,9 +1,8 @@
 //! What a registry asks, in which order and how often.
 
 use crate::shared::{chooses, counting_filter, counting_rule, message, no_calls, see, see_added};
-use index_hooks::{AnyAnswer, Chooses, DocChoice, Filter, FilterCallback, Registry};
-use proto_decl::DeclView;
-use std::sync::atomic::{AtomicU64, Ordering};
+use index_hooks::{Chooses, DocChoice, Registry};
+use std::sync::atomic::Ordering;
 use std::test::Fail;
 use std::thread::join;
 
@@ -60,37 +59,6 @@ fn the_first_answer_of_a_rule_counts_also_for_what_is_dropped(rt: HostRuntime) -
         calls.load(Ordering::SeqCst) == 0x4044,
         "once for each choice that comes to it",
     );
-    Ok(())
-}
-
-/// Answers true and false in turn.
-#[derive(Drop)]
-struct Alternating {
-    calls: AtomicU64,
-}
-
-impl FilterCallback for Alternating {
-    fn call(&self, _view: &DeclView<'_>) -> bool {
-        self.calls.fetch_add(1, Ordering::SeqCst) % 2 == 0
-    }
-}
-
-const TURNS: [bool; 4] = [true, false, true, false];
-
-#[test]
-fn a_filter_may_alternate(rt: HostRuntime) -> Result<(), Fail> {
-    let alloc = rt.alloc();
-    let callback = Alternating {
-        calls: AtomicU64::new(0),
-    };
-    let filter = Box::new(alloc, Filter::new(AnyAnswer, callback))?;
-    let mut registry = Registry::new(alloc);
-    if let Err((filter, _)) = registry.add_filter(filter) {
-        see_added(&rt, registry.add_filter(filter));
-    }
-    for keep in &TURNS {
-        see(&rt, registry.choose(&message()).keep == *keep, "in turn");
-    }
     Ok(())
 }
 

@@ -3,7 +3,7 @@ use Rattle.std.proofs.Common.{◌≡◌, ℕ, ◌<◌, ◌≤◌, true, false, L
 use Rattle.index_pool.specs.declared.lanes.ends.LaneOwner.{LaneOwner}
 use Rattle.index_pool.specs.declared.lanes.ends.LaneThief.{LaneThief}
 use Rattle.index_pool.specs.Lane.{lane_view, lane_numbers, more_popped, more_stolen}
-use Rattle.index_pool.specs.LaneEnds.{owner_view, owner_deque, thief_view, thief_deque}
+use Rattle.index_pool.specs.LaneEnds.{owner_view, owner_deque, thief_view, thief_deque, tries_left}
 use Rattle.index_pool.specs.PhaseSteps.{AllBelow, FreshOwner, FreshThief, FreshLane, PoppedMore, StoleMore}
 use Rattle.std.proofs.lemmas.List.Elements.{All-weaker}
 use Rattle.index_pool.proofs.LaneNumbersLemmas.{lane_below}
@@ -52,12 +52,12 @@ stole_below n t u a below = subst (AllBelow n) (sym (stole_given t u a)) below
 pub fresh_owner : (n lanes w : ℕ) (o : LaneOwner) → owner_view o ≡ lane_view true false (lane_numbers n lanes w) [] [] → FreshOwner n o
 fresh_owner n lanes w o e = let given = ap (λ v. v.given) e in (e ∙ ap (λ g. lane_view true false g [] []) (sym given), subst (AllBelow n) (sym given) (lane_below n lanes w))
 
-pub fresh_thief : (n lanes w : ℕ) (t : LaneThief) → thief_view t ≡ lane_view false true (lane_numbers n lanes w) [] [] → FreshThief n t
-fresh_thief n lanes w t e = let given = ap (λ v. v.given) e in (e ∙ ap (λ g. lane_view false true g [] []) (sym given), subst (AllBelow n) (sym given) (lane_below n lanes w))
+pub fresh_thief : (n lanes w : ℕ) (t : LaneThief) → thief_view t ≡ lane_view false true (lane_numbers n lanes w) [] [] → tries_left t ≡ 64 → FreshThief n t
+fresh_thief n lanes w t e tries = let given = ap (λ v. v.given) e in (e ∙ ap (λ g. lane_view false true g [] []) (sym given), subst (AllBelow n) (sym given) (lane_below n lanes w), tries)
 
 -- an end that is fresh for fewer numbers is so for more
 pub below_more_inputs : (n m : ℕ) (xs : List ℕ) → n ≤ m → AllBelow n xs → AllBelow m xs
 below_more_inputs n m xs le = All-weaker (λ k. k < n) (λ k. k < m) (λ k below. omega arith) xs
 
 pub fresh_for_more : (n m : ℕ) (l : LaneOwner × LaneThief) → n ≤ m → FreshLane n l → FreshLane m l
-fresh_for_more n m l le f = ((f.0.0, below_more_inputs n m _ le f.0.1), (f.1.0, below_more_inputs n m _ le f.1.1), f.2)
+fresh_for_more n m l le f = ((f.0.0, below_more_inputs n m _ le f.0.1), (f.1.0, below_more_inputs n m _ le f.1.1, f.1.2), f.2)

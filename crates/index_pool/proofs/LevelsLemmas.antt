@@ -16,7 +16,7 @@ use Rattle.std.proofs.lemmas.List.{length_push}
 use Rattle.std.specs.List.{range_with_len}
 use Rattle.index_pool.specs.Lane.{lane_numbers, lane_view}
 use Rattle.index_pool.specs.LaneEnds.{owner_view, owner_deque, thief_view, thief_deque}
-use Rattle.index_pool.specs.PhaseSteps.{AllBelow, FreshPost, FreshLane, AllGiven, weight, Worked, Gathers, Settles, RanEach, MayStop}
+use Rattle.index_pool.specs.PhaseSteps.{AllBelow, FreshPost, FreshLane, AllGiven, weight, Worked, Gathers, Settles, RanEach, MayStop, MayEnd}
 use Rattle.index_pool.proofs.ResultsLemmas.{weight_append, each_once}
 use Rattle.index_pool.proofs.LaneEndsLemmas.{popped_given, popped_below}
 
@@ -58,10 +58,19 @@ run_ends gives n lanes post further all final view g whole answers closed = (
 pub alone_gathers : {A : Type 0} (gives : ℕ → A → Type 0) (post : Post) (done : Done A) → Worked gives post done → done.starved ≡ false → Gathers gives post [] (record { post = done.post; results = done.results })
 alone_gathers gives post done w fed = record { owner = w.owner; thief = w.thief; answers = w.answers; weighed = λ h. (let a = w.weighed fed h in omega arith) }
 
--- what stops some workers may stop more
-pub may_stop_more : (n m : ℕ) → n ≤ m → (stop : Stop) → MayStop n stop → MayStop m stop
-may_stop_more n m le Spawn a = omega arith
-may_stop_more n m le Memory a = tt
+-- what stops the rest may stop all
+pub may_stop_more : (post post' : Post) (lanes lanes' starts starts' : ℕ) → owner_deque post.owner ≡ owner_deque post'.owner → lanes ≤ lanes' → (lanes ≤ starts → lanes' ≤ starts') → (stop : Stop) → MayStop post lanes starts stop → MayStop post' lanes' starts' stop
+may_stop_more post post' lanes lanes' starts starts' same le enough (Spawn owner) a = (omega (arith, le, a.0), a.1 ∙ same, a.2)
+may_stop_more post post' lanes lanes' starts starts' same le enough Memory a = enough a
+
+-- memory, once all were started
+pub memory_stops : (post : Post) (lanes starts : ℕ) → lanes ≤ starts → (stop : Stop) → stop ≡ Memory → MayStop post lanes starts stop
+memory_stops post lanes starts enough stop is = subst (MayStop post lanes starts) (sym is) enough
+
+-- what stops the lanes ends the phase
+pub may_end : (post : Post) (lanes starts workers : ℕ) → lanes + 1 ≡ workers → (stop : Stop) → MayStop post lanes starts stop → MayEnd workers stop
+may_end post lanes starts workers is (Spawn owner) a = omega (arith, is, a.0)
+may_end post lanes starts workers is Memory a = tt
 
 pub one_lane_more : (lanes rest : List (LaneOwner × LaneThief)) (last : LaneOwner × LaneThief) → lanes ≡ rest ++ option_to_list (Some last) → length lanes ≡ length rest + 1
 one_lane_more lanes rest last is = ap length is ∙ length_push rest last

@@ -1,5 +1,5 @@
 -- What the parts of a phase do: what a worker ran, what a level of the recursion gathers, and how the results are put in order.
-use Rattle.std.specs.Prelude.{⊤, ◌≡◌, ℕ, ◌+◌, ◌<◌, true, false, List, [], length, map, All, Contains, sum_by, Option, Some, slice_get}
+use Rattle.std.specs.Prelude.{⊤, ◌≡◌, ℕ, ◌+◌, ◌<◌, ◌≤◌, true, false, List, [], length, map, All, Contains, sum_by, Option, Some, slice_get}
 use Rattle.index_pool.specs.declared.lanes.ends.LaneOwner.{LaneOwner}
 use Rattle.index_pool.specs.declared.lanes.ends.LaneThief.{LaneThief}
 use Rattle.index_pool.specs.declared.phase.worker.Ran.{Ran}
@@ -10,17 +10,17 @@ use Rattle.index_pool.specs.declared.phase.fault.Stop.{Stop}
 use Rattle.index_pool.specs.declared.phase.fault.Stop.TheVariants.{Spawn, Memory}
 use Rattle.index_pool.specs.Once.{HasEachOnceBelow}
 use Rattle.index_pool.specs.Lane.{lane_view}
-use Rattle.index_pool.specs.LaneEnds.{owner_view, owner_deque, thief_view, thief_deque}
+use Rattle.index_pool.specs.LaneEnds.{owner_view, owner_deque, found_empty, thief_view, thief_deque, tries_left}
 
 abbrev pub AllBelow : ℕ → List ℕ → Type 0
 AllBelow n numbers = All (λ k. k < n) numbers
 
--- an end of a lane from which nothing was taken yet, whose numbers are below n
+-- an end of a lane from which nothing was taken yet, whose numbers are below n; the thief has all its tries
 abbrev pub FreshOwner : ℕ → LaneOwner → Type 0
 FreshOwner n o = (owner_view o ≡ lane_view true false (owner_view o).given [] []) × AllBelow n (owner_view o).given
 
 abbrev pub FreshThief : ℕ → LaneThief → Type 0
-FreshThief n t = (thief_view t ≡ lane_view false true (thief_view t).given [] []) × AllBelow n (thief_view t).given
+FreshThief n t = (thief_view t ≡ lane_view false true (thief_view t).given [] []) × AllBelow n (thief_view t).given × (tries_left t ≡ 64)
 
 abbrev pub FreshLane : ℕ → LaneOwner × LaneThief → Type 0
 FreshLane n l = FreshOwner n l.0 × FreshThief n l.1 × (thief_deque l.1 ≡ owner_deque l.0)
@@ -43,10 +43,12 @@ AllGiven gives rs = All (λ r. gives r.number r.answer) rs
 abbrev pub weight : {A : Type 0} → (ℕ → ℕ) → List (Ran A) → ℕ
 weight h rs = sum_by (λ r. h r.number) rs
 
--- what a worker brings back: the ends of its post, and a result for each number that it took, unless it lacked memory
+-- what a worker brings back: the ends of its post, its own lane found empty, and, unless it lacked memory, no try left at its neighbour's and a result for each number that it took
 pub record Worked {A : Type 0} (gives : ℕ → A → Type 0) (post : Post) (done : Done A) : Type 0 where
   pub owner : PoppedMore post.owner done.post.owner
   pub thief : StoleMore post.thief done.post.thief
+  pub emptied : found_empty done.post.owner ≡ true
+  pub tried : done.starved ≡ false → tries_left done.post.thief ≡ 0
   pub answers : AllGiven gives done.results.items
   pub weighed : done.starved ≡ false → (h : ℕ → ℕ) → weight h done.results.items ≡ sum_by h (owner_view done.post.owner).popped + sum_by h (thief_view done.post.thief).stolen
 
@@ -65,10 +67,15 @@ pub record Settles {A : Type 0} (gives : ℕ → A → Type 0) (done : Done A) (
   pub answers : AllGiven gives done.results.items → AllGiven gives rest.results.items → AllGiven gives all.results.items
   pub weighed : (h : ℕ → ℕ) → weight h all.results.items + (sum_by h (owner_view done.post.owner).popped + sum_by h (thief_view rest.post.thief).stolen) ≡ (weight h done.results.items + weight h rest.results.items) + sum_by h (owner_view done.post.owner).given
 
--- why nothing is gathered: a thread is refused only where one is to be started, that is, for two workers or more
-abbrev pub MayStop : ℕ → Stop → Type 0
-MayStop workers Spawn = 1 < workers
-MayStop workers Memory = ⊤
+-- why nothing is gathered from these further lanes, where so many threads may be started: a thread is refused only where one is to be started, and then the calling thread's own lane was found empty; memory is told only where all were started
+abbrev pub MayStop : Post → ℕ → ℕ → Stop → Type 0
+MayStop post lanes starts (Spawn owner) = (0 < lanes) × (owner_deque owner ≡ owner_deque post.owner) × (found_empty owner ≡ true)
+MayStop post lanes starts Memory = lanes ≤ starts
+
+-- why there are no results: a thread is refused only for two workers or more
+abbrev pub MayEnd : ℕ → Stop → Type 0
+MayEnd workers (Spawn owner) = 1 < workers
+MayEnd workers Memory = ⊤
 
 -- the inputs' numbers of the results
 abbrev pub numbers_of : {A : Type 0} → List (Ran A) → List ℕ

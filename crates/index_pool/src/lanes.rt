@@ -5,7 +5,7 @@ ghost use Rattle.std.specs.List.Sorted.{IsPermutation};
 ghost use Rattle.index_pool.specs.Lane.{lane_numbers, lane_view, more_given, more_popped, more_stolen};
 ghost use Rattle.crossbeam_deque.specs.Handles.{worker_capacity, worker_flavor, worker_index, worker_view, SameWorker};
 ghost use Rattle.index_pool.specs.StolenCases.{IfGot, IfNotGot};
-ghost use Rattle.index_pool.specs.LaneEnds.{owner_view, owner_deque, thief_view, thief_deque};
+ghost use Rattle.index_pool.specs.LaneEnds.{owner_view, owner_deque, found_empty, thief_view, thief_deque, tries_left, tries_after};
 
 mod ends;
 mod rule;
@@ -13,7 +13,7 @@ mod stolen;
 
 use crate::workers::{MAX_INPUTS, Workers};
 use crossbeam_deque::Steal;
-use ends::LaneWorker;
+use ends::{LaneWorker, MAX_TRIES};
 pub use ends::{LaneOwner, LaneThief};
 use rule::{Ends, Gives, Pops, Steals};
 use std::alloc::{AllocError, Global};
@@ -33,11 +33,21 @@ pub fn lane(
     ensures owner { IfOk result (λ ends. owner_view ends.0 ≡ lane_view true false (lane_numbers inputs workers worker) [] []) }
     ensures thief { IfOk result (λ ends. thief_view ends.1 ≡ lane_view false true (lane_numbers inputs workers worker) [] []) }
     ensures deque { IfOk result (λ ends. thief_deque ends.1 ≡ owner_deque ends.0) }
+    ensures tries { IfOk result (λ ends. tries_left ends.1 ≡ 64) }
 {
     let mut deque = filled(alloc, inputs, workers, worker)?;
     let stealer = deque.stealer()?;
     let pass = deque.another::<Ends>();
-    Ok((LaneOwner { worker: deque }, LaneThief { stealer, pass }))
+    let owner = LaneOwner {
+        worker: deque,
+        found_empty: false,
+    };
+    let thief = LaneThief {
+        stealer,
+        pass,
+        tries: MAX_TRIES,
+    };
+    Ok((owner, thief))
 }
 
 // A deque with the lane's numbers, and room for them all from the start.
@@ -84,9 +94,19 @@ impl LaneOwner {
         ensures one_given { IfSome result (λ k. Contains (owner_view self.old).given k × (length (owner_view self.old).popped < length (owner_view self.old).given)) }
         ensures none { IfNone result (owner_view self.new ≡ owner_view self.old) }
         ensures whole { IfNone result ((owner_view self.old).steals ≡ true → IsPermutation (owner_view self.old).given ((owner_view self.old).popped ++ (owner_view self.old).stolen)) }
+        ensures found { IfNone result (found_empty self.new ≡ true) }
         ensures same { owner_deque self.new ≡ owner_deque self.old }
     {
-        self.worker.pop_as::<Pops>()
+        match self.worker.pop_as::<Pops>() {
+            Some(number) => {
+                self.found_empty = false;
+                Some(number)
+            }
+            None => {
+                self.found_empty = true;
+                None
+            }
+        }
     }
 
     /// Takes in the thief of the same lane, with what it stole.
@@ -95,7 +115,7 @@ impl LaneOwner {
         ensures view { owner_view self.new ≡ lane_view true true (owner_view self.old).given (owner_view self.old).popped (thief_view thief).stolen }
         ensures same { owner_deque self.new ≡ owner_deque self.old }
     {
-        let LaneThief { stealer, pass } = thief;
+        let LaneThief { stealer, pass, .. } = thief;
         drop(stealer);
         self.worker.absorb::<Ends>(pass);
     }
@@ -107,12 +127,29 @@ impl LaneThief {
         ensures got { IfGot result (λ k. thief_view self.new ≡ more_stolen (thief_view self.old) (k ∷ [])) }
         ensures one_given { IfGot result (λ k. Contains (thief_view self.old).given k × (length (thief_view self.old).stolen < length (thief_view self.old).given)) }
         ensures none { IfNotGot result (thief_view self.new ≡ thief_view self.old) }
+        ensures tries { tries_left self.new ≡ tries_after result (tries_left self.old) }
         ensures same { thief_deque self.new ≡ thief_deque self.old }
     {
         match self.stealer.steal_as::<Steals>(&mut self.pass) {
-            Steal::Success(number) => Stolen::Got(number),
-            Steal::Empty => Stolen::Empty,
-            Steal::Retry => Stolen::Retry,
+            Steal::Success(number) => {
+                self.tries = MAX_TRIES;
+                Stolen::Got(number)
+            }
+            Steal::Empty => {
+                self.tries = 0;
+                Stolen::Empty
+            }
+            Steal::Retry => {
+                self.tries = self.tries.saturating_sub(1);
+                Stolen::Retry
+            }
         }
+    }
+
+    // How many tries are left.
+    pub(crate) fn tries(&self) -> usize
+        ensures { result ≡ tries_left self.now }
+    {
+        self.tries
     }
 }

@@ -14,5 +14,5 @@ pub use gate::{Gate, NoGate};
 pub use job::Job;
 pub use lanes::{LaneOwner, LaneThief, Stolen, lane};
 pub use laws::{core_loses_no_number, core_shows_lanes, core_takes_each_number};
-pub use phase::{PoolFault, run_phase, run_phase_with_starts};
+pub use phase::{PoolFault, Task, run_phase, run_phase_with_starts};
 pub use workers::{MAX_INPUTS, MAX_WORKERS, Workers};

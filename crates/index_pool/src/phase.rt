@@ -5,11 +5,12 @@ ghost use Rattle.std.specs.List.{range_with_len};
 ghost use Rattle.index_pool.specs.Lane.{lane_numbers};
 ghost use Rattle.index_pool.specs.LaneEnds.{owner_view};
 ghost use Rattle.index_pool.specs.Phase.{AnswersEach, MayRefuse, IfEachRan};
-ghost use Rattle.index_pool.specs.PhaseSteps.{FreshPost, FreshLane, Gathers, RanEach, MayStop};
+ghost use Rattle.index_pool.specs.PhaseSteps.{FreshPost, FreshLane, Gathers, RanEach, MayStop, MayEnd};
 
 mod fault;
 mod in_order;
 mod levels;
+mod task;
 mod worker;
 
 use crate::gate::Gate;
@@ -24,6 +25,7 @@ use std::alloc::{AllocError, Global};
 use std::sync::Wait;
 use std::thread;
 use std::thread::Threads;
+pub use task::Task;
 use worker::{Post, Ran};
 
 /// Runs the job's inputs below `inputs`, each once, on so many workers, with the gate's calls round
@@ -50,7 +52,8 @@ pub fn run_phase<R: Threads + Wait, J: Job, G: Gate>(
     ensures answers { IfOk result (λ outs. AnswersEach (J.gives job.now) inputs outs.items) }
     ensures refused { IfErr result (MayRefuse (J.gives job.now) inputs workers) }
 {
-    run_phase_with_starts(rt, alloc, job, inputs, workers, gate, MAX_WORKERS)
+    let task = Task { alloc, job, gate };
+    run_phase_with_starts(rt, &task, inputs, workers, MAX_WORKERS)
 }
 
 /// As `run_phase`, where at most `starts` threads can be started: a further start is refused, and the
@@ -58,22 +61,20 @@ pub fn run_phase<R: Threads + Wait, J: Job, G: Gate>(
 /// a refusal.
 pub fn run_phase_with_starts<R: Threads + Wait, J: Job, G: Gate>(
     rt: &R,
-    alloc: Global,
-    job: &J,
+    task: &Task<'_, J, G>,
     inputs: usize,
     workers: Workers,
-    gate: &G,
     starts: usize,
 ) -> Result<Vec<J::Out>, PoolFault<J::Fault>>
     requires few { inputs ≤ MAX_INPUTS }
-    requires known { inputs ≤ J.inputs job.now }
-    ensures answers { IfOk result (λ outs. AnswersEach (J.gives job.now) inputs outs.items) }
-    ensures refused { IfErr result (MayRefuse (J.gives job.now) inputs workers) }
+    requires known { inputs ≤ J.inputs task.now.job.now }
+    ensures answers { IfOk result (λ outs. AnswersEach (J.gives task.now.job.now) inputs outs.items) }
+    ensures refused { IfErr result (MayRefuse (J.gives task.now.job.now) inputs workers) }
     ensures started { IfEachRan result (workers ≤ starts + 1) }
 {
-    match run_lanes(rt, alloc, job, inputs, workers, gate, starts) {
-        Ok(results) => in_order(alloc, inputs, results),
-        Err(Stop::Spawn) => Err(PoolFault::Spawn),
+    match run_lanes(rt, task, inputs, workers, starts) {
+        Ok(results) => in_order(task.alloc, inputs, results),
+        Err(Stop::Spawn(_)) => Err(PoolFault::Spawn),
         Err(Stop::Memory) => Err(PoolFault::Memory),
     }
 }
@@ -81,26 +82,24 @@ pub fn run_phase_with_starts<R: Threads + Wait, J: Job, G: Gate>(
 // A result for each input, in the order in which they were gathered.
 fn run_lanes<R: Threads + Wait, J: Job, G: Gate>(
     rt: &R,
-    alloc: Global,
-    job: &J,
+    task: &Task<'_, J, G>,
     inputs: usize,
     workers: Workers,
-    gate: &G,
     starts: usize,
 ) -> Result<Vec<Ran<Result<J::Out, J::Fault>>>, Stop>
     requires few { inputs ≤ MAX_INPUTS }
-    requires known { inputs ≤ J.inputs job.now }
-    ensures ran { IfOk result (λ v. RanEach (J.gives job.now) inputs v.items) }
+    requires known { inputs ≤ J.inputs task.now.job.now }
+    ensures ran { IfOk result (λ v. RanEach (J.gives task.now.job.now) inputs v.items) }
     ensures started { IfOk result (λ _. workers ≤ starts + 1) }
-    ensures stopped { IfErr result (MayStop workers) }
+    ensures stopped { IfErr result (MayEnd workers) }
 {
-    let (owner, thief) = lane(alloc, inputs, workers, 0)?;
-    let lanes = further_lanes(alloc, inputs, workers)?;
+    let (owner, thief) = lane(task.alloc, inputs, workers, 0)?;
+    let lanes = further_lanes(task.alloc, inputs, workers)?;
     let post = Post { owner, thief };
-    let gathered = start_all(rt, alloc, job, gate, post, lanes, starts)?;
+    let gathered = start_all(rt, task, post, lanes, starts)?;
     let Gathered { post, mut results } = gathered;
     let Post { owner, thief } = post;
-    close(job, gate, owner, thief, &mut results)?;
+    close(task, owner, thief, &mut results)?;
     Ok(results)
 }
 
@@ -125,28 +124,26 @@ fn further_lanes(
 // The scope of the workers' threads.
 fn start_all<R: Threads + Wait, J: Job, G: Gate>(
     rt: &R,
-    alloc: Global,
-    job: &J,
-    gate: &G,
+    task: &Task<'_, J, G>,
     post: Post,
     lanes: Vec<(LaneOwner, LaneThief)>,
     starts: usize,
 ) -> Result<Gathered<Result<J::Out, J::Fault>>, Stop>
-    requires post { FreshPost (J.inputs job.now) post }
-    requires lanes { All (FreshLane (J.inputs job.now)) lanes.items }
-    ensures gathers { IfOk result (Gathers (J.gives job.now) post lanes.items) }
+    requires post { FreshPost (J.inputs task.now.job.now) post }
+    requires lanes { All (FreshLane (J.inputs task.now.job.now)) lanes.items }
+    ensures gathers { IfOk result (Gathers (J.gives task.now.job.now) post lanes.items) }
     ensures started { IfOk result (λ _. length lanes.items ≤ starts) }
-    ensures stopped { IfErr result (MayStop (length lanes.items + 1)) }
+    ensures stopped { IfErr result (MayStop post (length lanes.items) starts) }
 {
     thread::scope(
         thread::scope_env(),
         rt,
         |scope| -> Result<Gathered<Result<J::Out, J::Fault>>, Stop>
-            requires post { FreshPost (J.inputs job.now) post }
-            requires lanes { All (FreshLane (J.inputs job.now)) lanes.items }
-            ensures gathers { IfOk result (Gathers (J.gives job.entry.now) post lanes.items) }
+            requires post { FreshPost (J.inputs task.now.job.now) post }
+            requires lanes { All (FreshLane (J.inputs task.now.job.now)) lanes.items }
+            ensures gathers { IfOk result (Gathers (J.gives task.entry.now.job.now) post lanes.items) }
             ensures started { IfOk result (λ _. length lanes.items ≤ starts) }
-            ensures stopped { IfErr result (MayStop (length lanes.items + 1)) }
-        { level(scope, rt, alloc, job, gate, post, lanes, starts) },
+            ensures stopped { IfErr result (MayStop post (length lanes.items) starts) }
+        { level(scope, rt, task, post, lanes, starts) },
     )
 }

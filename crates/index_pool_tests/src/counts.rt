@@ -4,8 +4,7 @@ ghost use Rattle.std.specs.Prelude.{◌≡◌, ◌*◌, Ok};
 
 use crate::calls::{see, workers};
 use index_pool::{
-    Gate, Job, MAX_INPUTS, MAX_WORKERS, NoGate, PoolFault, Workers, run_phase,
-    run_phase_with_starts,
+    Gate, Job, MAX_INPUTS, NoGate, PoolFault, Task, Workers, run_phase, run_phase_with_starts,
 };
 use std::alloc::{AllocError, Global};
 use std::sync::Wait;
@@ -100,26 +99,34 @@ fn are_doubled(outs: &Vec<usize>) -> bool {
     true
 }
 
+/// Whether the answers are twice each number; nothing where memory or a thread was refused, after
+/// which alone a test calls again.
+fn told(answer: Result<Vec<usize>, PoolFault<()>>, inputs: usize) -> Option<bool> {
+    match answer {
+        Ok(outs) => Some(outs.len() == inputs && are_doubled(&outs)),
+        Err(PoolFault::Memory | PoolFault::Spawn) => None,
+        Err(PoolFault::Job(_, _)) => Some(false),
+    }
+}
+
 /// Whether a phase of so many inputs (`INPUTS` at most) gives twice each number, and calls the job
-/// and the gate once for each. False also where memory or a thread is refused.
+/// and the gate once for each. Nothing where memory or a thread is refused.
 fn runs_each_once<R: Threads + Wait>(
     rt: &R,
     alloc: Global,
     inputs: usize,
     workers: Workers,
-) -> Result<bool, AllocError> {
+) -> Result<Option<bool>, AllocError> {
     let inputs = inputs.min(INPUTS);
     let counts = no_counts(alloc)?;
-    let Ok(outs) = run_phase(rt, alloc, &counts, inputs, workers, &counts) else {
-        return Ok(false);
-    };
-    Ok(
-        outs.len() == inputs
-            && are_doubled(&outs)
-            && once_below(&counts.runs, inputs)
-            && once_below(&counts.before, inputs)
-            && once_below(&counts.after, inputs),
-    )
+    let answer = run_phase(rt, alloc, &counts, inputs, workers, &counts);
+    let once = once_below(&counts.runs, inputs)
+        && once_below(&counts.before, inputs)
+        && once_below(&counts.after, inputs);
+    match told(answer, inputs) {
+        Some(right) => Ok(Some(right && once)),
+        None => Ok(None),
+    }
 }
 
 /// Whether the counts below this number are 1, and the others 0.
@@ -134,61 +141,49 @@ fn once_below(counts: &Vec<AtomicU64>, inputs: usize) -> bool {
 
 #[test]
 fn each_input_is_run_once(rt: HostRuntime) -> Result<(), Fail> {
-    for (inputs, count) in [(100, 1), (100, 2), (100, 3), (100, 16), (1, 2), (3, 16)] {
+    // 3 inputs on 16 workers: the lanes of thirteen workers are empty.
+    for (inputs, count) in [
+        (100, 1),
+        (100, 2),
+        (100, 3),
+        (100, 16),
+        (1, 2),
+        (3, 16),
+        (0, 16),
+    ] {
         let workers = workers(&rt, count);
-        let once = runs_each_once(&rt, rt.alloc(), inputs, workers)?
-            || runs_each_once(&rt, rt.alloc(), inputs, workers)?;
-        see(&rt, once, "each once");
+        let once = match runs_each_once(&rt, rt.alloc(), inputs, workers)? {
+            None => runs_each_once(&rt, rt.alloc(), inputs, workers)?,
+            told => told,
+        };
+        see(&rt, once == Some(true), "each once");
     }
     Ok(())
 }
 
-/// Whether a phase of the most inputs gives twice each number. False also where memory or a thread
-/// is refused.
+/// Whether a phase of the most inputs gives twice each number. Nothing where memory or a thread is
+/// refused.
 fn answers_the_most<R: Threads + Wait>(
     rt: &R,
     alloc: Global,
     counts: &Counts,
     workers: Workers,
-) -> bool {
-    match run_phase(rt, alloc, counts, MAX_INPUTS, workers, &NoGate) {
-        Ok(outs) => outs.len() == MAX_INPUTS && are_doubled(&outs),
-        Err(_) => false,
-    }
+) -> Option<bool> {
+    told(
+        run_phase(rt, alloc, counts, MAX_INPUTS, workers, &NoGate),
+        MAX_INPUTS,
+    )
 }
 
 #[test]
 fn the_most_inputs_are_answered(rt: HostRuntime) -> Result<(), Fail> {
     let counts = no_counts(rt.alloc())?;
     let three = workers(&rt, 3);
-    let answered = answers_the_most(&rt, rt.alloc(), &counts, three)
-        || answers_the_most(&rt, rt.alloc(), &counts, three);
-    see(&rt, answered, "the most inputs");
-    Ok(())
-}
-
-/// Whether a phase on 16 workers without inputs gives no answers. False also where memory or a thread
-/// is refused.
-fn gives_no_answers<R: Threads + Wait>(
-    rt: &R,
-    alloc: Global,
-    counts: &Counts,
-    all: Workers,
-) -> bool {
-    match run_phase(rt, alloc, counts, 0, all, counts) {
-        Ok(outs) => outs.is_empty(),
-        Err(_) => false,
-    }
-}
-
-#[test]
-fn no_input_gives_no_answers(rt: HostRuntime) -> Result<(), Fail> {
-    let counts = no_counts(rt.alloc())?;
-    let all = workers(&rt, MAX_WORKERS);
-    let none = gives_no_answers(&rt, rt.alloc(), &counts, all)
-        || gives_no_answers(&rt, rt.alloc(), &counts, all);
-    see(&rt, none, "no answers");
-    see(&rt, how_many(&counts.before, 0) == INPUTS, "no runs");
+    let answered = match answers_the_most(&rt, rt.alloc(), &counts, three) {
+        None => answers_the_most(&rt, rt.alloc(), &counts, three),
+        told => told,
+    };
+    see(&rt, answered == Some(true), "the most inputs");
     Ok(())
 }
 
@@ -199,30 +194,34 @@ fn are_ended(counts: &Counts) -> bool {
         && how_many(&counts.before, 0).wrapping_add(how_many(&counts.before, 1)) == INPUTS
 }
 
-/// Whether a phase answers twice each number, or else that a thread is refused.
-fn is_told(answer: Result<Vec<usize>, PoolFault<()>>, spawned: bool) -> bool {
-    match answer {
-        Ok(outs) => spawned && outs.len() == INPUTS && are_doubled(&outs),
-        Err(PoolFault::Spawn) => !spawned,
-        Err(_) => false,
-    }
-}
-
-/// Whether a phase of whose threads so many can be started gives this, leaves no run half done, and
-/// answers where no start is refused after it.
+/// Whether a phase of whose threads so many can be started answers, or else says that a thread is
+/// refused; leaves no run half done; and answers where no start is refused after it. Nothing where
+/// memory or another thread is refused.
 fn ends_with<R: Threads + Wait>(
     rt: &R,
     alloc: Global,
     workers: Workers,
     starts: usize,
     spawned: bool,
-) -> Result<bool, AllocError> {
+) -> Result<Option<bool>, AllocError> {
     let counts = no_counts(alloc)?;
-    let answer = run_phase_with_starts(rt, alloc, &counts, INPUTS, workers, &counts, starts);
-    let ended = are_ended(&counts);
-    let as_told = is_told(answer, spawned);
+    let task = Task {
+        alloc,
+        job: &counts,
+        gate: &counts,
+    };
+    let answer = run_phase_with_starts(rt, &task, INPUTS, workers, starts);
+    if !are_ended(&counts) {
+        return Ok(Some(false));
+    }
+    let is_refused = matches!(&answer, Err(PoolFault::Spawn));
+    match told(answer, INPUTS) {
+        None if spawned || !is_refused => return Ok(None),
+        Some(right) if !spawned || !right => return Ok(Some(false)),
+        _ => {}
+    }
     let again = run_phase(rt, alloc, &counts, INPUTS, workers, &NoGate);
-    Ok(ended && as_told && matches!(again, Ok(outs) if outs.len() == INPUTS))
+    Ok(told(again, INPUTS))
 }
 
 /// Whether there are as many calls of both kinds for each input.
@@ -239,6 +238,7 @@ fn are_same(some: &Vec<AtomicU64>, others: &Vec<AtomicU64>) -> bool {
 
 #[test]
 fn a_refused_start_is_spawn(rt: HostRuntime) -> Result<(), Fail> {
+    // With 4 workers, three threads are to be started: where two can be, the third start is refused.
     for (count, starts, spawned) in [
         (1, 0, true),
         (2, 0, false),
@@ -251,9 +251,11 @@ fn a_refused_start_is_spawn(rt: HostRuntime) -> Result<(), Fail> {
         (16, 15, true),
     ] {
         let workers = workers(&rt, count);
-        let ended = ends_with(&rt, rt.alloc(), workers, starts, spawned)?
-            || ends_with(&rt, rt.alloc(), workers, starts, spawned)?;
-        see(&rt, ended, "refused start");
+        let ended = match ends_with(&rt, rt.alloc(), workers, starts, spawned)? {
+            None => ends_with(&rt, rt.alloc(), workers, starts, spawned)?,
+            told => told,
+        };
+        see(&rt, ended == Some(true), "refused start");
     }
     Ok(())
 }

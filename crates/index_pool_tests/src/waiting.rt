@@ -3,7 +3,7 @@
 ghost use Rattle.std.specs.Prelude.{◌≡◌, ◌≤◌, Ok, length};
 
 use crate::calls::{see, workers};
-use index_pool::{Gate, Job, Workers, run_phase};
+use index_pool::{Gate, Job, PoolFault, Workers, run_phase};
 use std::alloc::{AllocError, Global};
 use std::sync::Wait;
 use std::sync::atomic::{AtomicU64, Ordering};
@@ -132,9 +132,9 @@ fn is_each_once<C>(gate: &Waiting<'_, C>, inputs: usize) -> bool {
         && gate.run_outs.load(Ordering::SeqCst) == 0
 }
 
-/// When the first six inputs were entered; `u64::MAX` of those that there aren't.
-fn tickets_of(order: &Vec<AtomicU64>) -> [u64; 6] {
-    let mut found = [u64::MAX; 6];
+/// When the first nine inputs were entered; `u64::MAX` of those that there aren't.
+fn tickets_of(order: &Vec<AtomicU64>) -> [u64; 9] {
+    let mut found = [u64::MAX; 9];
     for (number, ticket) in found.iter_mut().enumerate() {
         if number < order.len() {
             *ticket = order[number].load(Ordering::SeqCst);
@@ -143,63 +143,100 @@ fn tickets_of(order: &Vec<AtomicU64>) -> [u64; 6] {
     found
 }
 
-/// When the first six inputs were entered, where the phase answers, no wait ran out, and the job and
-/// the gate were called once for each input.
-fn entry_order<R: Threads + Wait + Clock + Sync>(
+/// What a gate saw of a phase: whether the phase answered, no wait ran out, and the job and the gate
+/// were called once for each input; and when the first nine inputs were entered.
+#[derive(Drop)]
+struct Seen {
+    met: bool,
+    order: [u64; 9],
+}
+
+/// What a gate sees of a phase of these inputs. Nothing where memory or a thread is refused.
+fn watched_once<R: Threads + Wait + Clock + Sync>(
     rt: &R,
     alloc: Global,
     workers: Workers,
     awaited: &[u64],
-) -> Result<Option<[u64; 6]>, AllocError>
+) -> Result<Option<Seen>, AllocError>
     requires { length awaited.now ≤ 64 }
 {
     let gate = waiting_gate(alloc, rt, awaited)?;
     let inputs = awaited.len();
-    let answered = run_phase(rt, alloc, &gate, inputs, workers, &gate).is_ok();
-    if answered && is_each_once(&gate, inputs) {
-        Ok(Some(tickets_of(&gate.order)))
-    } else {
-        Ok(None)
+    let answer = run_phase(rt, alloc, &gate, inputs, workers, &gate);
+    if matches!(&answer, Err(PoolFault::Memory | PoolFault::Spawn)) {
+        return Ok(None);
+    }
+    Ok(Some(Seen {
+        met: answer.is_ok() && is_each_once(&gate, inputs),
+        order: tickets_of(&gate.order),
+    }))
+}
+
+/// The same, once more after want of memory or of a thread.
+fn watched<R: Threads + Wait + Clock + Sync>(
+    rt: &R,
+    alloc: Global,
+    workers: Workers,
+    awaited: &[u64],
+) -> Result<Option<Seen>, AllocError>
+    requires { length awaited.now ≤ 64 }
+{
+    match watched_once(rt, alloc, workers, awaited)? {
+        None => watched_once(rt, alloc, workers, awaited),
+        seen => Ok(seen),
     }
 }
 
-#[test]
-fn two_workers_wait_for_each_other(rt: HostRuntime) -> Result<(), Fail> {
-    let two = workers(&rt, 2);
-    let awaited = [0b10, 0b01];
-    let met = entry_order(&rt, rt.alloc(), two, &awaited)?.is_some()
-        || entry_order(&rt, rt.alloc(), two, &awaited)?.is_some();
-    see(&rt, met, "two met");
-    Ok(())
+/// Whether the phase met what it was to meet, and entered these inputs in this order.
+fn has_met(seen: &Option<Seen>, numbers: &[usize]) -> bool {
+    let Some(seen) = seen else {
+        return false;
+    };
+    let mut least = 0u64;
+    for number in numbers {
+        let ticket = seen.order.get(*number).copied().unwrap_or(0);
+        if ticket < least {
+            return false;
+        }
+        least = ticket.saturating_add(1);
+    }
+    seen.met
 }
 
 #[test]
 fn sixteen_workers_wait_for_all(rt: HostRuntime) -> Result<(), Fail> {
     let all = workers(&rt, 16);
-    let awaited = [0xffff; 16];
-    let met = entry_order(&rt, rt.alloc(), all, &awaited)?.is_some()
-        || entry_order(&rt, rt.alloc(), all, &awaited)?.is_some();
-    see(&rt, met, "sixteen met");
+    let met = watched(&rt, rt.alloc(), all, &[0xffff; 16])?;
+    see(&rt, has_met(&met, &[]), "sixteen met");
     Ok(())
-}
-
-/// Whether the inputs but 0 were entered in the order 1, 3, 5, 2, 4.
-fn own_lane_then_stolen(order: [u64; 6]) -> bool {
-    order[1] < order[3] && order[3] < order[5] && order[5] < order[2] && order[2] < order[4]
 }
 
 #[test]
 fn a_worker_empties_its_lane_and_then_steals(rt: HostRuntime) -> Result<(), Fail> {
+    // Input 0 holds the first worker until 4 is entered: the second runs its own 1, 3 and 5, and then
+    // steals 2 and 4.
     let two = workers(&rt, 2);
-    let awaited = [0b1_0000, 0, 0, 0, 0, 0];
-    let order = match entry_order(&rt, rt.alloc(), two, &awaited)? {
-        None => entry_order(&rt, rt.alloc(), two, &awaited)?,
-        order => order,
-    };
-    let kept = match order {
-        Some(order) => own_lane_then_stolen(order),
-        None => false,
-    };
-    see(&rt, kept, "own lane, then stolen");
+    let order = watched(&rt, rt.alloc(), two, &[0b1_0000, 0, 0, 0, 0, 0])?;
+    see(
+        &rt,
+        has_met(&order, &[1, 3, 5, 2, 4]),
+        "own lane, then stolen",
+    );
+    Ok(())
+}
+
+#[test]
+fn each_of_three_steals_from_the_next(rt: HostRuntime) -> Result<(), Fail> {
+    // Inputs 0 and 1 hold the first two workers until 6 and 7 are entered. The third, once both are
+    // held, runs its own 2, 5 and 8 and steals 3 and 6 from the first; and that one, which finds its
+    // own lane empty, steals 4 and 7 from the second.
+    let three = workers(&rt, 3);
+    let awaited = [0b100_0000, 0b1000_0000, 0b11, 0, 0, 0, 0, 0, 0];
+    let order = watched(&rt, rt.alloc(), three, &awaited)?;
+    see(
+        &rt,
+        has_met(&order, &[2, 5, 8, 3, 6, 4, 7]),
+        "from the next",
+    );
     Ok(())
 }

@@ -1,3 +1,4 @@
 mod MoveLemmas
+mod MessageLemmas
 mod QueryLemmas
 mod LawLemmas

@@ -1,5 +1,5 @@
 -- What the program `query` answers of an index's bytes.
-use Rattle.std.proofs.Common.{◌≡◌, ℕ, List, Ok, Err}
+use Rattle.std.proofs.Common.{◌≡◌, ℕ, List, Ok, Err, inl, inr}
 use Rattle.std.specs.Prelude.{Result}
 use Rattle.scip_model.specs.declared.records.Index.{Index}
 use Rattle.scip_wire.specs.Decodes.{Decodes}
@@ -7,7 +7,18 @@ use Rattle.scip_wire.specs.declared.wire_fault.WireFault.{WireFault}
 use Rattle.scip_wire.specs.declared.wire_fault.WireFault.TheVariants as wire
 use Rattle.source_files.specs.declared.file_fault.FileFault.{FileFault}
 use Rattle.programs.specs.QueryFaults.{fault_of_wire}
-use Rattle.programs.specs.Queries.{IsReadFrom}
+use Rattle.scip_query.specs.declared.answer_fault.AnswerFault.{AnswerFault}
+use Rattle.scip_query.specs.declared.answer_fault.AnswerFault.TheVariants as answer
+use Rattle.protoscip.specs.Sessions.{MayAnswer, AreAnswered}
+use Rattle.programs.specs.declared.query_fault.QueryFault.{QueryFault}
+use Rattle.programs.specs.declared.query_fault.QueryFault.TheVariants as query
+use Rattle.programs.specs.Queries.{IsReadFrom, IsAnswered, AreUnused, Queried}
+use Rattle.programs.specs.Streams.{Reader, Writer}
+
+-- why commands aren't answered is why the program stops
+abbrev pub outcome_of : Result (Unit {0}) AnswerFault → Result (Unit {0}) QueryFault
+outcome_of (Ok done) = Ok done
+outcome_of (Err fault) = Err (query.Answers fault)
 
 -- bytes that are refused, and not for want of memory, decode to no index
 pub refused_bytes : (gives : Result (List ℕ) FileFault → Type 0) (bytes : List ℕ) (fault : WireFault) → gives (Ok bytes)
@@ -21,3 +32,28 @@ refused_bytes gives bytes (wire.Repeated at) given only = (bytes, given, λ inde
 refused_bytes gives bytes (wire.Utf8 at) given only = (bytes, given, λ index d. let same = only index d in cc, λ same. cc)
 refused_bytes gives bytes (wire.BadRange at) given only = (bytes, given, λ index d. let same = only index d in cc, λ same. cc)
 refused_bytes gives bytes wire.Memory given only = tt
+
+module _ {R W : Type 0} (gives : Result (List ℕ) FileFault → Type 0) (commands : Reader R) (answers : Writer W) where
+  -- there is no index
+  pub unread : (fault : QueryFault) → IsReadFrom gives (Err fault) → AreUnused commands answers → Queried gives commands answers (Err fault)
+  unread query.Unreadable why unused = (why, unused)
+  unread (query.Wire fault) why unused = (why, unused)
+  unread (query.Answers answer.Read) why unused = absurd why
+  unread (query.Answers (answer.Write count)) why unused = absurd why
+  unread (query.Answers answer.Memory) why unused = inl unused
+
+  module _ (index : Index) (is : IsReadFrom gives (Ok index)) where
+    answered : (done : Result (Unit {0}) AnswerFault)
+        → AreAnswered commands.remaining commands.failures commands.reads commands.ends answers.contents answers.failures index commands.before commands.after answers.before answers.after done
+        → IsAnswered gives commands answers done
+    answered done are = record { index = index; is = is; are = are }
+
+    -- commands about it are answered, or that stops
+    pub told : (done : Result (Unit {0}) AnswerFault)
+        → MayAnswer commands.remaining commands.failures commands.reads commands.ends answers.contents answers.failures index commands.before commands.after answers.before answers.after done
+        → Queried gives commands answers (outcome_of done)
+    told (Ok done) are = answered (Ok done) are
+    told (Err answer.Read) are = answered (Err answer.Read) are
+    told (Err (answer.Write count)) are = answered (Err (answer.Write count)) are
+    told (Err answer.Memory) (inl untouched) = inl untouched
+    told (Err answer.Memory) (inr are) = inr (answered (Err answer.Memory) are)

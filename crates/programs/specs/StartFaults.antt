@@ -1,19 +1,19 @@
 -- Why a program about a tree doesn't start: what is said of it, and the exit status.
-use Rattle.std.specs.Prelude.{ℕ, List, ◌++◌, codes, string_bytes}
+use Rattle.std.specs.Prelude.{ℕ, List, codes, string_bytes}
 use Rattle.source_files.specs.declared.load_fault.LoadFault.TheVariants.{Unreadable, TooMany, BadPath, SamePath, Memory}
 use Rattle.programs.specs.declared.start_fault.StartFault.{StartFault}
 use Rattle.programs.specs.declared.start_fault.StartFault.TheVariants.{BadPart, Load}
 use Rattle.programs.specs.declared.statuses.TheConstants.{COMMAND_LINE_STATUS}
+use Rattle.protoscip.specs.Lines.{path_line, plain_line}
 use Rattle.protoscip.specs.declared.statuses.TheConstants.{MEMORY_STATUS, SOURCES_STATUS, STREAM_STATUS}
 
--- `protoscip: PATH: NAME`, or without the path
 abbrev pub line_of : StartFault → List ℕ
-line_of BadPart = codes "protoscip: BadPart"
-line_of (Load (Unreadable name)) = codes "protoscip: " ++ string_bytes name ++ codes ": Unreadable"
-line_of (Load TooMany) = codes "protoscip: TooMany"
-line_of (Load (BadPath path)) = codes "protoscip: " ++ string_bytes path ++ codes ": BadPath"
-line_of (Load (SamePath path)) = codes "protoscip: " ++ string_bytes path ++ codes ": SamePath"
-line_of (Load Memory) = codes "protoscip: Memory"
+line_of BadPart = plain_line (codes "BadPart")
+line_of (Load (Unreadable name)) = path_line (string_bytes name) (codes "Unreadable")
+line_of (Load TooMany) = plain_line (codes "TooMany")
+line_of (Load (BadPath path)) = path_line (string_bytes path) (codes "BadPath")
+line_of (Load (SamePath path)) = path_line (string_bytes path) (codes "SamePath")
+line_of (Load Memory) = plain_line (codes "Memory")
 
 abbrev pub status_of : StartFault → ℕ
 status_of BadPart = COMMAND_LINE_STATUS

@@ -1,9 +1,9 @@
 //! The program `dump`.
 
-ghost use Rattle.std.specs.Prelude.{◌≡◌, ℕ, List, [], Some, Result, IfOk, string_bytes};
-ghost use Rattle.scip_model.specs.WholeReads.{IsReadBriefly};
+ghost use Rattle.std.specs.Prelude.{◌≡◌, [], Result, IfOk, string_bytes};
+ghost use Rattle.streams.specs.WholeReads.{IsReadBriefly};
 ghost use Rattle.protoscip.specs.declared.fault.Fault.{Fault};
-ghost use Rattle.protoscip.specs.Dump.{Dumps, LeavesReader, LeavesWriter, dump_tree};
+ghost use Rattle.protoscip.specs.Dump.{IsDumped, LeavesReader, dump_tree};
 ghost use Rattle.protoscip.specs.FaultLines.{HasFilesOf, line_of};
 ghost use Rattle.programs.specs.Settings.{custom_options_of};
 ghost use Rattle.programs.specs.TreeRuns.{Ends};
@@ -12,10 +12,10 @@ use crate::messages::report;
 use crate::settings::custom_options_of;
 use command_line::CustomOptionsWord;
 use protoscip::{Fault, dump, dump_tree, fault_line};
-use scip_model::{Feed, Sink};
 use std::alloc::{AllocError, Global};
 use std::sync::Wait;
 use std::thread::Threads;
+use streams::{Feed, Sink};
 
 /// The line of a dump's fault.
 fn dump_line(alloc: Global, fault: &Fault) -> Result<String, AllocError>
@@ -37,8 +37,7 @@ pub(crate) fn dump_source<R: Threads + Wait, I: Feed, W: Sink, M: Sink>(
     messages: &mut M,
 ) -> u8
     ensures { (done : Result (Unit {0}) Fault)
-        × ((due : List ℕ) × LeavesWriter W.contents W.failures out.old out.new due done
-        × ((bytes : List ℕ) → I.remaining input.old ≡ Some bytes → Dumps (custom_options_of word) bytes due done))
+        × IsDumped I.remaining W.contents W.failures (custom_options_of word) input.old out.old out.new done
         × LeavesReader I.failures I.reads I.ends input.old input.new done
         × IsReadBriefly I.reads input.old input.new
         × Ends M.contents M.failures (dump_tree []) done messages.old messages.new result }

@@ -7,9 +7,9 @@ ghost use Rattle.programs.specs.TreeRuns.{Ends};
 use crate::messages::report;
 use protoscip::{Fault, fault_line};
 use scip_document::Choices;
-use scip_model::Sink;
 use source_tree::Tree;
 use std::alloc::Global;
+use streams::Sink;
 
 /// Gives the exit status of a run over a tree. Why it stopped, if it did, is said.
 pub(crate) fn end<M: Sink>(

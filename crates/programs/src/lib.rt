@@ -1,7 +1,8 @@
 //! What each program of the command line does with its files, its streams and its exit status.
 #![tactic(auto)]
 
-// The programs.
+// The programs, and what they run over.
+mod host;
 mod running;
 
 // `dump`: a source is read, indexed and listed.
@@ -34,6 +35,7 @@ mod output;
 mod statuses;
 
 pub use choices::OptionChoices;
+pub use host::Host;
 pub use laws::headline_of_options;
 pub use messages::report;
 pub use query_fault::QueryFault;

@@ -1,19 +1,20 @@
 //! What is said on the stream of messages.
 
-ghost use Rattle.std.specs.Prelude.{◌≡◌, ◌++◌, ℕ, List, IfOk, codes, string_bytes};
+ghost use Rattle.std.specs.Prelude.{◌++◌, MatchResult, codes, string_bytes};
 ghost use Rattle.std.specs.Io.KnownBytes.{Appends};
-ghost use Rattle.programs.specs.Messages.{Heard, Tells};
+ghost use Rattle.programs.specs.Messages.{Heard, Says, memory_line, memory_status};
 
 use protoscip::MEMORY_STATUS;
-use scip_model::{Sink, write_all};
 use std::alloc::AllocError;
+use streams::{Sink, write_all};
 
 /// Says in one line why a program stops, and gives the exit status: this one; or, where memory didn't
 /// suffice for the line, that of want of memory, of which it is said instead. What the stream doesn't
 /// take is lost; where the line is cut off, no line end follows it, which tests show.
 pub fn report<M: Sink>(line: Result<String, AllocError>, status: u8, messages: &mut M) -> u8
-    ensures { (due : List ℕ) → IfOk line (λ text. string_bytes text ≡ due)
-        → Tells M.contents M.failures due status messages.old messages.new result }
+    ensures { MatchResult line
+        (λ text. Says M.contents M.failures (string_bytes text) status messages.old messages.new result)
+        (λ _. Says M.contents M.failures memory_line memory_status messages.old messages.new result) }
 {
     match line {
         Ok(line) => {

@@ -3,9 +3,9 @@
 ghost use Rattle.programs.specs.Printing.{Prints};
 
 use crate::messages::report;
-use protoscip::STREAM_STATUS;
-use scip_model::{Sink, write_all};
+use protoscip::{STREAM_STATUS, plain_line};
 use std::alloc::Global;
+use streams::{Sink, write_all};
 
 /// Prints a text, and gives the exit status. Where a write fails, that is said.
 pub(crate) fn print<W: Sink, M: Sink>(
@@ -19,7 +19,7 @@ pub(crate) fn print<W: Sink, M: Sink>(
     match write_all(out, text.as_bytes()) {
         Ok(()) => 0,
         Err(_) => {
-            let line = String::from_str(alloc, "protoscip: Write");
+            let line = plain_line(alloc, "Write");
             report(line, STREAM_STATUS, messages)
         }
     }

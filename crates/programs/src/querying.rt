@@ -1,15 +1,15 @@
 //! Answers to commands about the index that a file holds.
 
-ghost use Rattle.std.specs.Prelude.{◌≡◌};
-ghost use Rattle.programs.specs.Queries.{IsReadFrom, Queried, outcome_of};
+ghost use Rattle.programs.specs.Queries.{IsReadFrom, Queried};
 ghost use Rattle.programs.specs.Streams.{reader, writer};
 
 use crate::query_fault::QueryFault;
-use scip_model::{Feed, Index, Sink};
-use scip_query::{AnswerFault, Queries};
+use protoscip::answer_commands;
+use scip_model::Index;
 use scip_wire::read_index;
 use source_files::ReadFiles;
 use std::alloc::Global;
+use streams::{Feed, Sink};
 
 /// The index that a file holds. Nothing of the file's bytes is kept beside it.
 fn index_of_file<F: ReadFiles>(alloc: Global, files: &F, path: &str) -> Result<Index, QueryFault>
@@ -20,20 +20,12 @@ fn index_of_file<F: ReadFiles>(alloc: Global, files: &F, path: &str) -> Result<I
     Ok(index)
 }
 
-/// What becomes of the program when commands were answered so.
-fn outcome_of(answered: Result<(), AnswerFault>) -> Result<(), QueryFault>
-    ensures { result ≡ outcome_of answered }
-{
-    answered?;
-    Ok(())
-}
-
 /// Reads the index that a file holds, and answers commands about it, one a line, as
 /// `Queries::answer_all` does.
 ///
 /// - `Unreadable`: the file can't be read.
 /// - `Wire`: its bytes decode to no index.
-/// - `Read`, `Write`: reading commands or writing answers failed, as `Queries::answer_all` says.
+/// - `Answers`: reading commands or writing answers failed, as `Queries::answer_all` says.
 pub fn query<F: ReadFiles, R: Feed, W: Sink>(
     alloc: Global,
     files: &F,
@@ -44,6 +36,6 @@ pub fn query<F: ReadFiles, R: Feed, W: Sink>(
     ensures { Queried (F.gives files.now path.now) (reader R.remaining R.failures R.reads R.ends commands.old commands.new) (writer W.contents W.failures answers.old answers.new) result }
 {
     let index = index_of_file(alloc, files, path)?;
-    let queries = Queries::new(alloc, index)?;
-    outcome_of(queries.answer_all(alloc, commands, answers))
+    answer_commands(alloc, index, commands, answers)?;
+    Ok(())
 }

@@ -1,6 +1,6 @@
 //! What the program does with its files and streams, and the exit status that it ends with.
 
-ghost use Rattle.std.specs.Prelude.{◌≡◌, ℕ, List, [], Some, Result, IfSome, IfOk, IfErr};
+ghost use Rattle.std.specs.Prelude.{◌≡◌, [], Result, IfSome, IfOk, IfErr};
 ghost use Rattle.std.specs.Io.KnownBytes.{Appends};
 ghost use Rattle.command_line.specs.Requests.{
   dump_options,
@@ -11,9 +11,9 @@ ghost use Rattle.command_line.specs.Requests.{
   refused_text,
   shell_options,
 };
-ghost use Rattle.scip_model.specs.WholeReads.{IsReadBriefly};
+ghost use Rattle.streams.specs.WholeReads.{IsReadBriefly};
 ghost use Rattle.protoscip.specs.declared.fault.Fault.{Fault};
-ghost use Rattle.protoscip.specs.Dump.{Dumps, LeavesReader, LeavesWriter, dump_tree};
+ghost use Rattle.protoscip.specs.Dump.{IsDumped, LeavesReader, dump_tree};
 ghost use Rattle.programs.specs.declared.query_fault.QueryFault.{QueryFault};
 ghost use Rattle.programs.specs.declared.statuses.TheConstants.{COMMAND_LINE_STATUS};
 ghost use Rattle.programs.specs.Answering.{Answers};
@@ -27,6 +27,7 @@ ghost use Rattle.programs.specs.Streams.{reader, writer};
 ghost use Rattle.programs.specs.TreeRuns.{Ends};
 
 use crate::dumping::dump_source;
+use crate::host::Host;
 use crate::indexing::index;
 use crate::messages::report;
 use crate::output::print;
@@ -34,12 +35,12 @@ use crate::querying::query;
 use crate::serving::shell;
 use crate::statuses::COMMAND_LINE_STATUS;
 use command_line::Request;
-use protoscip::MEMORY_STATUS;
-use scip_model::{Feed, Sink, write_all};
+use protoscip::{MEMORY_STATUS, plain_line};
 use source_files::ReadFiles;
-use std::alloc::{AllocError, Global};
+use std::alloc::AllocError;
 use std::sync::Wait;
 use std::thread::Threads;
+use streams::{Feed, Sink, write_all};
 
 /// Says why a command line is refused. What the stream of messages doesn't take is lost.
 fn refuse<M: Sink>(text: &str, messages: &mut M) -> u8
@@ -52,21 +53,20 @@ fn refuse<M: Sink>(text: &str, messages: &mut M) -> u8
 }
 
 /// Answers commands about the index that a file holds, and gives the exit status.
-fn answer<F: ReadFiles, I: Feed, W: Sink, M: Sink>(
-    alloc: Global,
-    files: &F,
+fn answer<R, F: ReadFiles, I: Feed, W: Sink, M: Sink>(
+    host: &Host<'_, R, F>,
     path: &str,
     input: &mut I,
     out: &mut W,
     messages: &mut M,
 ) -> u8
     ensures { (done : Result (Unit {0}) QueryFault)
-        × Queried (F.gives files.now path.now) (reader I.remaining I.failures I.reads I.ends input.old input.new) (writer W.contents W.failures out.old out.new) done
+        × Queried (F.gives host.now.files.now path.now) (reader I.remaining I.failures I.reads I.ends input.old input.new) (writer W.contents W.failures out.old out.new) done
         × Answers M.contents M.failures path.now done messages.old messages.new result }
 {
-    match query(alloc, files, path, input, out) {
+    match query(host.alloc, host.files, path, input, out) {
         Ok(()) => 0,
-        Err(fault) => report(fault.line(alloc, path), fault.status(), messages),
+        Err(fault) => report(fault.line(host.alloc, path), fault.status(), messages),
     }
 }
 
@@ -83,10 +83,8 @@ pub fn out_path(asked: &Result<Request, AllocError>) -> &str
 /// Does what was asked for, and gives the exit status. An index goes to `file`, everything else to
 /// `out`. Where memory ran out while the command line was read, it says so.
 pub fn run<R: Threads + Wait, F: ReadFiles, I: Feed, W: Sink, O: Sink, M: Sink>(
-    rt: &R,
-    alloc: Global,
+    host: &Host<'_, R, F>,
     asked: &Result<Request, AllocError>,
-    files: &F,
     input: &mut I,
     out: &mut W,
     file: &mut O,
@@ -103,24 +101,23 @@ pub fn run<R: Threads + Wait, F: ReadFiles, I: Feed, W: Sink, O: Sink, M: Sink>(
         × (input.new ≡ input.old) × (out.new ≡ out.old) × (file.new ≡ file.old))) }
     // What `dump` promises of its answer, and what becomes of that.
     ensures dumped { IfOk asked.now (λ request. IfSome (dump_options request) (λ word. ((done : Result (Unit {0}) Fault)
-        × ((due : List ℕ) × LeavesWriter W.contents W.failures out.old out.new due done
-        × ((bytes : List ℕ) → I.remaining input.old ≡ Some bytes → Dumps (custom_options_of word) bytes due done))
+        × IsDumped I.remaining W.contents W.failures (custom_options_of word) input.old out.old out.new done
         × LeavesReader I.failures I.reads I.ends input.old input.new done
         × IsReadBriefly I.reads input.old input.new
         × Ends M.contents M.failures (dump_tree []) done messages.old messages.new result)
         × (file.new ≡ file.old))) }
     // What `query` promises of its answers, and what becomes of that.
     ensures queried { IfOk asked.now (λ request. IfSome (index_path request) (λ path. ((done : Result (Unit {0}) QueryFault)
-        × Queried (F.gives files.now path) (reader I.remaining I.failures I.reads I.ends input.old input.new) (writer W.contents W.failures out.old out.new) done
+        × Queried (F.gives host.now.files.now path) (reader I.remaining I.failures I.reads I.ends input.old input.new) (writer W.contents W.failures out.old out.new) done
         × Answers M.contents M.failures path done messages.old messages.new result)
         × (file.new ≡ file.old))) }
     // What `index` does.
     ensures indexed { IfOk asked.now (λ request. IfSome (index_options request) (λ options.
-        Indexed (F.lists files.now) (F.gives files.now) options (writer O.contents O.failures file.old file.new) (writer M.contents M.failures messages.old messages.new) result
+        Indexed (F.lists host.now.files.now) (F.gives host.now.files.now) options (writer O.contents O.failures file.old file.new) (writer M.contents M.failures messages.old messages.new) result
         × (input.new ≡ input.old) × (out.new ≡ out.old))) }
     // What `shell` does.
     ensures served { IfOk asked.now (λ request. IfSome (shell_options request) (λ options.
-        Served (F.lists files.now) (F.gives files.now) options (reader I.remaining I.failures I.reads I.ends input.old input.new) (writer W.contents W.failures out.old out.new) (writer M.contents M.failures messages.old messages.new) result
+        Served (F.lists host.now.files.now) (F.gives host.now.files.now) options (reader I.remaining I.failures I.reads I.ends input.old input.new) (writer W.contents W.failures out.old out.new) (writer M.contents M.failures messages.old messages.new) result
         × (file.new ≡ file.old))) }
     // Nothing was asked for, since memory ran out, and that is said.
     ensures unknown { IfErr asked.now (λ _. Tells M.contents M.failures memory_line memory_status messages.old messages.new result
@@ -128,15 +125,15 @@ pub fn run<R: Threads + Wait, F: ReadFiles, I: Feed, W: Sink, O: Sink, M: Sink>(
 {
     match asked {
         Ok(request) => match request {
-            Request::Dump(word) => dump_source(rt, alloc, *word, input, out, messages),
-            Request::Query(path) => answer(alloc, files, path.as_str(), input, out, messages),
-            Request::Index(options, _) => index(rt, alloc, options, files, file, messages),
-            Request::Shell(options) => shell(rt, alloc, options, files, input, out, messages),
-            Request::Print(text) => print(alloc, text.as_str(), out, messages),
+            Request::Dump(word) => dump_source(host.rt, host.alloc, *word, input, out, messages),
+            Request::Query(path) => answer(host, path.as_str(), input, out, messages),
+            Request::Index(options, _) => index(host, options, file, messages),
+            Request::Shell(options) => shell(host, options, input, out, messages),
+            Request::Print(text) => print(host.alloc, text.as_str(), out, messages),
             Request::Refuse(text) => refuse(text.as_str(), messages),
         },
         Err(AllocError) => {
-            let line = String::from_str(alloc, "protoscip: Memory");
+            let line = plain_line(host.alloc, "Memory");
             report(line, MEMORY_STATUS, messages)
         }
     }

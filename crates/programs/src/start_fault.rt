@@ -4,7 +4,7 @@ ghost use Rattle.std.specs.Prelude.{◌≡◌, IfOk, string_bytes};
 ghost use Rattle.programs.specs.StartFaults.{line_of, status_of};
 
 use crate::statuses::COMMAND_LINE_STATUS;
-use protoscip::{MEMORY_STATUS, SOURCES_STATUS, STREAM_STATUS};
+use protoscip::{MEMORY_STATUS, SOURCES_STATUS, STREAM_STATUS, path_line, plain_line};
 use source_files::LoadFault;
 use std::alloc::{AllocError, Global};
 
@@ -45,13 +45,13 @@ impl StartFault {
         ensures { IfOk result (λ line. string_bytes line ≡ line_of self.now) }
     {
         match self {
-            StartFault::BadPart => format!(in alloc; "protoscip: BadPart"),
+            StartFault::BadPart => plain_line(alloc, "BadPart"),
             StartFault::Load(fault) => match fault {
-                LoadFault::Unreadable(name) => format!(in alloc; "protoscip: {name}: Unreadable"),
-                LoadFault::TooMany => format!(in alloc; "protoscip: TooMany"),
-                LoadFault::BadPath(path) => format!(in alloc; "protoscip: {path}: BadPath"),
-                LoadFault::SamePath(path) => format!(in alloc; "protoscip: {path}: SamePath"),
-                LoadFault::Memory => format!(in alloc; "protoscip: Memory"),
+                LoadFault::Unreadable(name) => path_line(alloc, name.as_str(), "Unreadable"),
+                LoadFault::TooMany => plain_line(alloc, "TooMany"),
+                LoadFault::BadPath(path) => path_line(alloc, path.as_str(), "BadPath"),
+                LoadFault::SamePath(path) => path_line(alloc, path.as_str(), "SamePath"),
+                LoadFault::Memory => plain_line(alloc, "Memory"),
             },
         }
     }

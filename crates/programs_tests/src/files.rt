@@ -1,40 +1,99 @@
 //! Files in memory.
 
-use scip_model::Std;
 use source_files::{FileFault, ReadFiles};
 use source_tree::read_source;
 use std::alloc::{AllocError, Global};
+use streams::Std;
 
-/// A file: its path below its root, and what it holds, where it can be read.
-pub(crate) type Entry = (&'static str, Option<&'static str>);
+/// A file: the root that it is below, its path there, and what it holds, where it can be read.
+struct Entry {
+    root: &'static str,
+    path: &'static str,
+    text: Option<&'static str>,
+}
 
-/// Roots with the files below them, and beside them the index `a.scip` of one document `a` with one
-/// occurrence, and `cut.scip`, which is cut off.
+// The first row reads: below `api` is one source, `a.proto`, with a message `A`.
+static ENTRIES: [Entry; 10] = [
+    Entry {
+        root: "api",
+        path: "a.proto",
+        text: Some("syntax = \"proto3\";\nmessage A {}\n"),
+    },
+    Entry {
+        root: "one",
+        path: "a.proto",
+        text: Some(
+            "syntax = \"proto3\";\npackage p;\nmessage Foo {}\nmessage M { string Foo = 1; Foo x = 2; }\n",
+        ),
+    },
+    Entry {
+        root: "said",
+        path: "a.proto",
+        text: Some(
+            "syntax = \"proto3\";\noption (x) = 1;\n// One.\nmessage A { // Two.\n}\n/* é */ message B {}\n",
+        ),
+    },
+    Entry {
+        root: "holes",
+        path: "a.proto",
+        text: Some("@"),
+    },
+    Entry {
+        root: "holes",
+        path: "b.proto",
+        text: None,
+    },
+    Entry {
+        root: "bad",
+        path: "a\n.proto",
+        text: Some("@"),
+    },
+    Entry {
+        root: "twice",
+        path: "c.proto",
+        text: Some("@"),
+    },
+    Entry {
+        root: "twice",
+        path: "c.proto",
+        text: Some("@"),
+    },
+    Entry {
+        root: "clash",
+        path: "a.proto",
+        text: Some("syntax = \"proto3\";\nimport \"no.proto\";\nmessage A {}\n"),
+    },
+    Entry {
+        root: "clash",
+        path: "b.proto",
+        text: Some("syntax = \"proto3\";\nmessage A {}\n"),
+    },
+];
+
+/// The sources of `ENTRIES`, and beside them the index `a.scip` of one document `a` with one occurrence, and
+/// `cut.scip`, which is cut off.
 #[derive(Clone, Copy)]
-pub(crate) struct Files {
-    pub(crate) roots: &'static [(&'static str, &'static [Entry])],
-}
+pub(crate) struct Files;
 
-impl Files {
-    /// What the source with a path holds.
-    fn text(&self, path: &str) -> Option<&'static str> {
-        for (root, entries) in self.roots {
-            let below = path
-                .strip_prefix(root)
-                .and_then(|rest| rest.strip_prefix("/"));
-            if let Some(below) = below {
-                let (_, text) = entries.iter().find(|(name, _)| *name == below)?;
-                return *text;
-            }
+/// What the source with a path holds.
+fn text_at(path: &str) -> Option<&'static str> {
+    for entry in &ENTRIES {
+        let below = path
+            .strip_prefix(entry.root)
+            .and_then(|rest| rest.strip_prefix("/"));
+        if below == Some(entry.path) {
+            return entry.text;
         }
-        None
     }
+    None
 }
 
-fn listed(alloc: Global, entries: &[Entry]) -> Result<Vec<String>, AllocError> {
+fn listed(alloc: Global, root: &str) -> Result<Vec<String>, AllocError> {
     let mut paths = Vec::new(alloc);
-    for (path, _) in entries {
-        paths.push(String::from_str(alloc, path)?)?;
+    for entry in &ENTRIES {
+        if entry.root == root {
+            paths.push(String::from_str(alloc, entry.path)?)?;
+        }
     }
     Ok(paths)
 }
@@ -47,12 +106,11 @@ impl ReadFiles for Files {
     ghost gives = { λ _ _ _. ⊤ };
 
     fn list_sources(&self, alloc: Global, root: &str) -> Result<Vec<String>, FileFault> {
-        let (_, entries) = self
-            .roots
-            .iter()
-            .find(|(name, _)| *name == root)
-            .ok_or(FileFault::Unreadable)?;
-        Ok(listed(alloc, entries)?)
+        let paths = listed(alloc, root)?;
+        if paths.is_empty() {
+            return Err(FileFault::Unreadable);
+        }
+        Ok(paths)
     }
 
     fn read_file(&self, alloc: Global, path: &str) -> Result<Vec<u8>, FileFault> {
@@ -66,7 +124,7 @@ impl ReadFiles for Files {
     }
 
     fn read_source(&self, alloc: Global, path: &str) -> Result<Vec<u8>, FileFault> {
-        let text = self.text(path).ok_or(FileFault::Unreadable)?;
+        let text = text_at(path).ok_or(FileFault::Unreadable)?;
         Ok(read_source(alloc, &mut Std::new(text.as_bytes()))?)
     }
 }

@@ -1,20 +1,29 @@
-//! Laws, called at files in memory and at the options of a command line.
+//! Laws, called at files in memory and at the options of a command line, and what the command line names.
 
 use crate::files::Files;
+use crate::shared::{see, words_of};
 use command_line::{Request, request_of};
-use programs::headline_of_options;
+use programs::{headline_of_options, out_path};
+use std::alloc::{AllocError, Global};
 use std::test::Fail;
 
-const NONE: Files = Files { roots: &[] };
+/// Whether an index is asked for that goes to `out`.
+fn is_named(asked: &Result<Request, AllocError>) -> bool {
+    if let Ok(Request::Index(options, _)) = asked {
+        headline_of_options(&Files, options);
+    }
+    out_path(asked) == "out"
+}
+
+fn is_asked(alloc: Global) -> Result<bool, AllocError> {
+    let words = words_of(alloc, "index api out")?;
+    let asked = request_of(alloc, &words);
+    Ok(is_named(&asked))
+}
 
 #[test]
 fn laws_of_options(rt: HostRuntime) -> Result<(), Fail> {
-    let mut words = Vec::new(rt.alloc());
-    for word in ["protoscip", "index", "api", "out"] {
-        words.push(String::from_str(rt.alloc(), word)?)?;
-    }
-    if let Request::Index(options, _) = &request_of(rt.alloc(), &words)? {
-        headline_of_options(&NONE, options);
-    }
+    let is = is_asked(rt.alloc())? || is_asked(rt.alloc())?;
+    see(&rt, is, "an index");
     Ok(())
 }

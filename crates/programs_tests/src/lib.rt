@@ -2,20 +2,14 @@
 #![tactic(auto)]
 
 #[cfg(test)]
-mod fault;
+mod faults;
 #[cfg(test)]
 mod files;
-#[cfg(test)]
-mod index;
 #[cfg(test)]
 mod laws;
 #[cfg(test)]
 mod report;
 #[cfg(test)]
-mod run;
+mod runs;
 #[cfg(test)]
-mod running;
-#[cfg(test)]
-mod see;
-#[cfg(test)]
-mod sessions;
+mod shared;

@@ -1,39 +1,34 @@
 //! What standard error is told.
 
-use crate::see::see;
+use crate::shared::see;
 use programs::report;
-use scip_model::Std;
 use std::alloc::{AllocError, Global};
 use std::io;
 use std::io::{ErrorKind, Write};
+use std::process::Abort;
 use std::test::Fail;
+use streams::Std;
 
-/// Room for each line of these tests. It is taken first, so that writing takes none.
-const ROOM: usize = 128;
-
-/// A writer that takes so many bytes, and then fails: at each call, or once, after which it takes
-/// all.
+/// A writer into room that it doesn't own, which fails once behind so many bytes, and then takes all.
 #[derive(Drop)]
-struct Failing {
-    bytes: Vec<u8>,
+struct Failing<'a> {
+    room: &'a mut [u8],
     before: usize,
-    failures_left: usize,
+    has_failed: bool,
 }
 
-impl Write for Failing {
+impl Write for Failing<'_> {
     fn write(&mut self, bytes: &[u8]) -> io::Result<usize> {
-        if self.failures_left == 0 {
-            self.bytes.extend_from_slice(bytes)?;
-            return Ok(bytes.len());
+        if self.has_failed {
+            return self.room.write(bytes);
         }
         let count = bytes.len().min(self.before);
         if count == 0 {
-            self.failures_left -= 1;
+            self.has_failed = true;
             return Err(io::Error::from(ErrorKind::Other));
         }
-        self.bytes.extend_from_slice(bytes.split_at(count).0)?;
         self.before -= count;
-        Ok(count)
+        self.room.write(bytes.split_at(count).0)
     }
 
     fn flush(&mut self) -> io::Result<()> {
@@ -41,61 +36,43 @@ impl Write for Failing {
     }
 }
 
-/// Reports a line to a stream that takes so many bytes and fails so often, and gives the exit status
-/// and what the stream then has.
-fn reported(
-    alloc: Global,
-    line: Result<&str, AllocError>,
+/// Sees that a line is reported with this status, and that the stream, which fails once behind so many
+/// bytes, then has these bytes.
+fn see_reported(
+    rt: &impl Abort,
+    line: Result<String, AllocError>,
     before: usize,
-    failures_left: usize,
-) -> Result<(u8, Vec<u8>), AllocError> {
+    status: u8,
+    due: &[u8],
+) {
+    let mut told = [0u8; 32];
     let mut messages = Std::new(Failing {
-        bytes: Vec::with_capacity(alloc, ROOM)?,
+        room: told.as_mut_slice(),
         before,
-        failures_left,
+        has_failed: false,
     });
-    let line = match line {
-        Ok(line) => Ok(String::from_str(alloc, line)?),
-        Err(refused) => Err(refused),
-    };
-    let status = report(line, 3, &mut messages);
-    Ok((status, messages.into_inner().bytes))
+    let ended = report(line, 3, &mut messages);
+    let count = 32 - messages.into_inner().room.len().min(32);
+    see(rt, ended == status, "the status");
+    see(rt, told.split_at(count.min(32)).0 == due, "what is told");
+}
+
+fn line_of(alloc: Global) -> Result<String, AllocError> {
+    String::from_str(alloc, "protoscip: Read")
 }
 
 #[test]
 fn a_line_and_its_end(rt: HostRuntime) -> Result<(), Fail> {
-    let (status, told) = reported(rt.alloc(), Ok("protoscip: Read"), ROOM, 0)?;
-    see(&rt, status == 3, "the status");
-    see(
-        &rt,
-        told.as_slice() == b"protoscip: Read\n".as_slice(),
-        "the line",
-    );
-    let (status, told) = reported(rt.alloc(), Err(AllocError), ROOM, 0)?;
-    see(&rt, status == 4, "the status of Memory");
-    see(
-        &rt,
-        told.as_slice() == b"protoscip: Memory\n".as_slice(),
-        "Memory",
-    );
-    Ok(())
-}
-
-#[test]
-fn a_message_that_nobody_takes_changes_no_status(rt: HostRuntime) -> Result<(), Fail> {
-    let (status, told) = reported(rt.alloc(), Ok("protoscip: Read"), 0, usize::MAX)?;
-    see(&rt, status == 3, "the status");
-    see(&rt, told.is_empty(), "nothing");
+    see_reported(&rt, Ok(line_of(rt.alloc())?), 32, 3, b"protoscip: Read\n");
+    see_reported(&rt, Err(AllocError), 32, 4, b"protoscip: Memory\n");
     Ok(())
 }
 
 #[test]
 fn no_line_end_follows_a_line_that_was_cut_off(rt: HostRuntime) -> Result<(), Fail> {
-    let line = "protoscip: Read";
-    for before in 0..line.len() {
-        let (status, told) = reported(rt.alloc(), Ok(line), before, 1)?;
-        see(&rt, status == 3, "the status");
-        see(&rt, told.as_slice() == &line.as_bytes()[..before], "a part");
+    for before in 0..15 {
+        let due = &b"protoscip: Read"[..before];
+        see_reported(&rt, Ok(line_of(rt.alloc())?), before, 3, due);
     }
     Ok(())
 }

@@ -1,4 +1,4 @@
--- The names of a file's package and those on the ways to its declarations are identifiers.
+-- The names of a file's package and those on the paths to its declarations are identifiers.
 use Rattle.std.proofs.Common.{sym, subst, ℕ, Option, Some, None, List, [], ◌∷◌, ◌++◌, map, option_to_list}
 use Rattle.std.specs.List.{All, AllZip, flat_map, slice_index_or}
 use Rattle.std.proofs.lemmas.List.Elements.{All-nil, All-cons, All-head, All-tail, All-append, All-push}
@@ -25,7 +25,7 @@ use Rattle.proto_decl.specs.Names.{components_at}
 use Rattle.proto_decl.specs.Outlines.{step_to, outline_at, inside, beside, in_enum, in_leaf, in_body, in_item, file_surrounding, package_spans, outlines_of}
 use Rattle.proto_decl.specs.Declares.{IsDeclaration}
 use Rattle.proto_decl.specs.Facts.{Facts, AreFactsOf}
-use Rattle.proto_decl.specs.Ways.{component_names, AreNamed}
+use Rattle.proto_decl.specs.Ancestors.{component_names, AreNamed}
 use Rattle.proto_decl.specs.declared.kind.DeclarationKind.{DeclarationKind}
 use Rattle.proto_decl.specs.declared.kind.DeclarationKind.TheVariants as kind
 use Rattle.proto_decl.specs.declared.declaration.DeclarationStep.{DeclarationStep}
@@ -35,36 +35,36 @@ use Rattle.proto_decl.specs.declared.type_use.Component.{Component}
 use Rattle.proto_decl.specs.declared.surrounding.Surrounding.{Surrounding}
 use Rattle.proto_decl.proofs.MarkLemmas.{OfNames, of_lexemes, of_names, past_type_name, past_type}
 
--- the names on a way are identifiers
+-- the names on a path are identifiers
 abbrev IsSpelled : DeclarationStep → Type 0
 IsSpelled step = Spells Identifier step.name
 
-abbrev OnWay : List DeclarationStep → Type 0
-OnWay path = All IsSpelled path
+abbrev OnPath : List DeclarationStep → Type 0
+OnPath path = All IsSpelled path
 
-abbrev IsOnWay : Outline → Type 0
-IsOnWay outline = OnWay outline.path
+abbrev IsOnPath : Outline → Type 0
+IsOnPath outline = OnPath outline.path
 
--- Where the names of a part of the tree are identifiers, and those on the way to it: so are those on the ways to all that it declares,
+-- Where the names of a part of the tree are identifiers, and those on the path to it: so are those on the ways to all that it declares,
 -- and the names behind it.
 module _ (text : List ℕ) where
   abbrev Ident : Span → Type 0
   Ident span = Spells Identifier (part_of text span)
 
-  abbrev AreOnWays : List Outline → Type 0
-  AreOnWays outlines = All IsOnWay outlines
+  abbrev AreOnPaths : List Outline → Type 0
+  AreOnPaths outlines = All IsOnPath outlines
 
-  farther : (path : List DeclarationStep) (kind : DeclarationKind) (heading : Heading) → OnWay path → Ident heading.name → OnWay (path ++ step_to text kind heading ∷ [])
-  farther path kind heading way name = All-push IsSpelled path (step_to text kind heading) way name
+  farther : (path : List DeclarationStep) (kind : DeclarationKind) (heading : Heading) → OnPath path → Ident heading.name → OnPath (path ++ step_to text kind heading ∷ [])
+  farther path kind heading on_path name = All-push IsSpelled path (step_to text kind heading) on_path name
 
-  each_on : {A : Type 0} (marks_then : A → List Mark → List Mark) (heading : A → Heading) (kind : DeclarationKind) (surrounding : Surrounding) → OnWay surrounding.path
+  each_on : {A : Type 0} (marks_then : A → List Mark → List Mark) (heading : A → Heading) (kind : DeclarationKind) (surrounding : Surrounding) → OnPath surrounding.path
       → ((x : A) (marks : List Mark) → OfNames Ident (marks_then x marks) → Ident (heading x).name × OfNames Ident marks)
-      → (xs : List A) (marks : List Mark) → OfNames Ident (each_then marks_then xs marks) → AreOnWays (map (λ x. outline_at text surrounding kind (heading x)) xs) × OfNames Ident marks
-  each_on marks_then heading kind surrounding way has [] marks h = (All-nil IsOnWay, h)
-  each_on marks_then heading kind surrounding way has (x ∷ xs) marks h =
+      → (xs : List A) (marks : List Mark) → OfNames Ident (each_then marks_then xs marks) → AreOnPaths (map (λ x. outline_at text surrounding kind (heading x)) xs) × OfNames Ident marks
+  each_on marks_then heading kind surrounding on_path has [] marks h = (All-nil IsOnPath, h)
+  each_on marks_then heading kind surrounding on_path has (x ∷ xs) marks h =
       let first = has x (each_then marks_then xs marks) h in
-      let others = each_on marks_then heading kind surrounding way has xs marks first.1 in
-      (All-cons IsOnWay (outline_at text surrounding kind (heading x)) (map (λ y. outline_at text surrounding kind (heading y)) xs) (farther surrounding.path kind (heading x) way first.0) others.0, others.1)
+      let others = each_on marks_then heading kind surrounding on_path has xs marks first.1 in
+      (All-cons IsOnPath (outline_at text surrounding kind (heading x)) (map (λ y. outline_at text surrounding kind (heading y)) xs) (farther surrounding.path kind (heading x) on_path first.0) others.0, others.1)
 
   field_on : (field : Field) (marks : List Mark) → OfNames Ident (field_then field marks) → Ident field.heading.name × OfNames Ident marks
   field_on field marks h = let behind = past_type Ident field.field_type (Name field.heading.name ∷ (Other field.heading.closing ∷ marks)) h in (behind.0, behind.1)
@@ -73,55 +73,55 @@ module _ (text : List ℕ) where
   method_on method marks h =
       (h.0, past_type_name Ident method.output (Other method.heading.closing ∷ marks) (past_type_name Ident method.input (type_name_then method.output (Other method.heading.closing ∷ marks)) h.1))
 
-  enum_on : (surrounding : Surrounding) (enum : Enum) (marks : List Mark) → OnWay surrounding.path → OfNames Ident (enum_then enum marks) → AreOnWays (in_enum text surrounding enum) × OfNames Ident marks
-  enum_on surrounding enum marks way h =
-      let self = farther surrounding.path kind.Enum enum.heading way h.0 in
+  enum_on : (surrounding : Surrounding) (enum : Enum) (marks : List Mark) → OnPath surrounding.path → OfNames Ident (enum_then enum marks) → AreOnPaths (in_enum text surrounding enum) × OfNames Ident marks
+  enum_on surrounding enum marks on_path h =
+      let self = farther surrounding.path kind.Enum enum.heading on_path h.0 in
       let values = each_on heading_then (λ (value : Heading). value) kind.Value (beside text surrounding kind.Enum enum.heading) self (λ value rest all. (all.0, all.1)) enum.values marks h.1 in
-      (All-cons IsOnWay _ _ self values.0, values.1)
+      (All-cons IsOnPath _ _ self values.0, values.1)
 
-  leaf_on : (surrounding : Surrounding) (leaf : Leaf) (marks : List Mark) → OnWay surrounding.path → OfNames Ident (leaf_then leaf marks) → AreOnWays (in_leaf text surrounding leaf) × OfNames Ident marks
-  leaf_on surrounding (leaf.Enum enum) marks way h = enum_on surrounding enum marks way h
-  leaf_on surrounding (leaf.Oneof oneof) marks way h =
-      let fields = each_on field_then (λ (field : Field). field.heading) kind.Field surrounding way field_on oneof.fields marks h.1 in
-      (All-cons IsOnWay _ _ (farther surrounding.path kind.Oneof oneof.heading way h.0) fields.0, fields.1)
-  leaf_on surrounding (leaf.Field field) marks way h =
+  leaf_on : (surrounding : Surrounding) (leaf : Leaf) (marks : List Mark) → OnPath surrounding.path → OfNames Ident (leaf_then leaf marks) → AreOnPaths (in_leaf text surrounding leaf) × OfNames Ident marks
+  leaf_on surrounding (leaf.Enum enum) marks on_path h = enum_on surrounding enum marks on_path h
+  leaf_on surrounding (leaf.Oneof oneof) marks on_path h =
+      let fields = each_on field_then (λ (field : Field). field.heading) kind.Field surrounding on_path field_on oneof.fields marks h.1 in
+      (All-cons IsOnPath _ _ (farther surrounding.path kind.Oneof oneof.heading on_path h.0) fields.0, fields.1)
+  leaf_on surrounding (leaf.Field field) marks on_path h =
       let name = field_on field marks h in
-      (All-cons IsOnWay (outline_at text surrounding kind.Field field.heading) [] (farther surrounding.path kind.Field field.heading way name.0) (All-nil IsOnWay), name.1)
-  leaf_on surrounding (leaf.MapField field) marks way h =
+      (All-cons IsOnPath (outline_at text surrounding kind.Field field.heading) [] (farther surrounding.path kind.Field field.heading on_path name.0) (All-nil IsOnPath), name.1)
+  leaf_on surrounding (leaf.MapField field) marks on_path h =
       let behind = past_type Ident field.value (Name field.heading.name ∷ (Other field.heading.closing ∷ marks)) h.1 in
-      (All-cons IsOnWay (outline_at text surrounding kind.Field field.heading) [] (farther surrounding.path kind.Field field.heading way behind.0) (All-nil IsOnWay), behind.1)
+      (All-cons IsOnPath (outline_at text surrounding kind.Field field.heading) [] (farther surrounding.path kind.Field field.heading on_path behind.0) (All-nil IsOnPath), behind.1)
 
-  body_on : (surrounding : Surrounding) (body : Body) (marks : List Mark) → OnWay surrounding.path → OfNames Ident (body_then body marks) → AreOnWays (in_body text surrounding body) × OfNames Ident marks
-  body_on surrounding NoMore marks way h = (All-nil IsOnWay, h)
-  body_on surrounding (LeafThen leaf others) marks way h =
-      let first = leaf_on surrounding leaf (body_then others marks) way h in
-      let rest = body_on surrounding others marks way first.1 in
-      (All-append IsOnWay (in_leaf text surrounding leaf) (in_body text surrounding others) first.0 rest.0, rest.1)
-  body_on surrounding (MessageThen heading inner others) marks way h =
+  body_on : (surrounding : Surrounding) (body : Body) (marks : List Mark) → OnPath surrounding.path → OfNames Ident (body_then body marks) → AreOnPaths (in_body text surrounding body) × OfNames Ident marks
+  body_on surrounding NoMore marks on_path h = (All-nil IsOnPath, h)
+  body_on surrounding (LeafThen leaf others) marks on_path h =
+      let first = leaf_on surrounding leaf (body_then others marks) on_path h in
+      let rest = body_on surrounding others marks on_path first.1 in
+      (All-append IsOnPath (in_leaf text surrounding leaf) (in_body text surrounding others) first.0 rest.0, rest.1)
+  body_on surrounding (MessageThen heading inner others) marks on_path h =
       let around = inside text surrounding kind.Message heading in
-      let self = farther surrounding.path kind.Message heading way h.0 in
+      let self = farther surrounding.path kind.Message heading on_path h.0 in
       let within = body_on around inner (body_then others marks) self h.1 in
-      let rest = body_on surrounding others marks way within.1 in
-      (All-cons IsOnWay _ _ self (All-append IsOnWay (in_body text around inner) (in_body text surrounding others) within.0 rest.0), rest.1)
+      let rest = body_on surrounding others marks on_path within.1 in
+      (All-cons IsOnPath _ _ self (All-append IsOnPath (in_body text around inner) (in_body text surrounding others) within.0 rest.0), rest.1)
 
-  item_on : (surrounding : Surrounding) (item : FileItem) (marks : List Mark) → OnWay surrounding.path → OfNames Ident (item_then item marks) → AreOnWays (in_item text surrounding item) × OfNames Ident marks
-  item_on surrounding (item.Message message) marks way h =
-      let self = farther surrounding.path kind.Message message.heading way h.0 in
+  item_on : (surrounding : Surrounding) (item : FileItem) (marks : List Mark) → OnPath surrounding.path → OfNames Ident (item_then item marks) → AreOnPaths (in_item text surrounding item) × OfNames Ident marks
+  item_on surrounding (item.Message message) marks on_path h =
+      let self = farther surrounding.path kind.Message message.heading on_path h.0 in
       let body = body_on (inside text surrounding kind.Message message.heading) message.body marks self h.1 in
-      (All-cons IsOnWay _ _ self body.0, body.1)
-  item_on surrounding (item.Enum enum) marks way h = enum_on surrounding enum marks way h
-  item_on surrounding (item.Service service) marks way h =
-      let self = farther surrounding.path kind.Service service.heading way h.0 in
+      (All-cons IsOnPath _ _ self body.0, body.1)
+  item_on surrounding (item.Enum enum) marks on_path h = enum_on surrounding enum marks on_path h
+  item_on surrounding (item.Service service) marks on_path h =
+      let self = farther surrounding.path kind.Service service.heading on_path h.0 in
       let methods = each_on method_then (λ (method : Method). method.heading) kind.Method (inside text surrounding kind.Service service.heading) self method_on service.methods marks h.1 in
-      (All-cons IsOnWay _ _ self methods.0, methods.1)
+      (All-cons IsOnPath _ _ self methods.0, methods.1)
 
-  items_on : (surrounding : Surrounding) (items : List FileItem) (marks : List Mark) → OnWay surrounding.path → OfNames Ident (each_then item_then items marks)
-      → AreOnWays (flat_map (in_item text surrounding) items) × OfNames Ident marks
-  items_on surrounding [] marks way h = (All-nil IsOnWay, h)
-  items_on surrounding (item ∷ items) marks way h =
-      let first = item_on surrounding item (each_then item_then items marks) way h in
-      let rest = items_on surrounding items marks way first.1 in
-      (All-append IsOnWay (in_item text surrounding item) (flat_map (in_item text surrounding) items) first.0 rest.0, rest.1)
+  items_on : (surrounding : Surrounding) (items : List FileItem) (marks : List Mark) → OnPath surrounding.path → OfNames Ident (each_then item_then items marks)
+      → AreOnPaths (flat_map (in_item text surrounding) items) × OfNames Ident marks
+  items_on surrounding [] marks on_path h = (All-nil IsOnPath, h)
+  items_on surrounding (item ∷ items) marks on_path h =
+      let first = item_on surrounding item (each_then item_then items marks) on_path h in
+      let rest = items_on surrounding items marks on_path first.1 in
+      (All-append IsOnPath (in_item text surrounding item) (flat_map (in_item text surrounding) items) first.0 rest.0, rest.1)
 
   components_on : (names : List Span) (marks : List Mark) → OfNames Ident (names_then names marks) → All (Spells Identifier) (component_names (components_at text names))
   components_on [] marks h = All-nil (Spells Identifier)
@@ -138,12 +138,12 @@ identifiers lexed is among =
     (of_lexemes (Ident lexed.text) lexed.text lexed.tokens
     (λ k d h kind. subst (λ (k' : TokenKind). Spells k' (part_of lexed.text (slice_index_or lexed.tokens k d).span)) kind (is.spelled k d h)))
 
-declared_on : (lexed : Lexed) (os : List Outline) (ds : List Declaration) → AllZip (IsDeclaration lexed) os ds → All IsOnWay os → All (λ (d : Declaration). OnWay d.path) ds
-declared_on lexed [] [] all ways = All-nil (λ (d : Declaration). OnWay d.path)
-declared_on lexed [] (d ∷ ds) all ways = absurd all
-declared_on lexed (o ∷ os) [] all ways = absurd all
-declared_on lexed (o ∷ os) (d ∷ ds) all ways =
-    All-cons (λ (x : Declaration). OnWay x.path) d ds (subst OnWay (sym all.0.path) (All-head IsOnWay o os ways)) (declared_on lexed os ds all.1 (All-tail IsOnWay o os ways))
+declared_on : (lexed : Lexed) (os : List Outline) (ds : List Declaration) → AllZip (IsDeclaration lexed) os ds → All IsOnPath os → All (λ (d : Declaration). OnPath d.path) ds
+declared_on lexed [] [] all on_paths = All-nil (λ (d : Declaration). OnPath d.path)
+declared_on lexed [] (d ∷ ds) all on_paths = absurd all
+declared_on lexed (o ∷ os) [] all on_paths = absurd all
+declared_on lexed (o ∷ os) (d ∷ ds) all on_paths =
+    All-cons (λ (x : Declaration). OnPath x.path) d ds (subst OnPath (sym all.0.path) (All-head IsOnPath o os on_paths)) (declared_on lexed os ds all.1 (All-tail IsOnPath o os on_paths))
 
 pub facts_named : (number : ℕ) (lexed : Lexed) (file : File) (facts : Facts) → IsLexed lexed.text lexed.tokens lexed.comments → AreFactsOf number lexed file facts
     → Among (marks_of_items file) (lexemes_of lexed.text lexed.tokens) → Among (marks_of_package file) (lexemes_of lexed.text lexed.tokens)

@@ -1,9 +1,9 @@
-pub mod WayLemmas
+pub mod AncestorLemmas
 -- Walks over a tree
 pub mod OutlineLemmas
 -- Lines, and what stands on them
 pub mod LineLemmas
-pub mod StandingLemmas
+pub mod LayoutLemmas
 pub mod LeadingLemmas
 pub mod TrailingLemmas
 pub mod CommentTextLemmas
@@ -22,5 +22,5 @@ pub mod ScopeLemmas
 pub mod MarkLemmas
 pub mod ScopedLemmas
 pub mod IdentifierLemmas
-pub mod FrontLemmas
+pub mod PrefixLemmas
 pub mod LawLemmas

@@ -17,13 +17,13 @@ record EndsInQuote (quote : ℕ) (others : List ℕ) : Type 0 where
   some : 1 ≤ length others
   quoted : get_or others (length others - 1) 0 ≡ quote
 
-behind : (quote : ℕ) (front others : List ℕ) → EndsInQuote quote others → EndsInQuote quote (front ++ others)
-behind quote front others ends =
-    let count = length-append front others in
-    let at : length (front ++ others) - 1 - length front ≡ length others - 1 = omega (arith, ends.some) in
+behind : (quote : ℕ) (prefix others : List ℕ) → EndsInQuote quote others → EndsInQuote quote (prefix ++ others)
+behind quote prefix others ends =
+    let count = length-append prefix others in
+    let at : length (prefix ++ others) - 1 - length prefix ≡ length others - 1 = omega (arith, ends.some) in
     record {
       some = omega (arith, ends.some);
-      quoted = get_or-append_right front others (length front) (length (front ++ others) - 1) 0 refl (omega (arith, ends.some)) ∙ (ap (λ i. get_or others i 0) at ∙ ends.quoted);
+      quoted = get_or-append_right prefix others (length prefix) (length (prefix ++ others) - 1) 0 refl (omega (arith, ends.some)) ∙ (ap (λ i. get_or others i 0) at ∙ ends.quoted);
     }
 
 ends_in_quote : {quote : ℕ} {others : List ℕ} → EndsLiteral quote others → EndsInQuote quote others

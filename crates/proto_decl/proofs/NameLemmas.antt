@@ -122,9 +122,9 @@ named_some text declaration is =
     let count = part-length text declaration.name place in
     omega (arith, place.some, ap length is.full, count, qualified-length is.scope (part_of text declaration.name))
 
--- so the way to it has a step
-pub way_some : (text : List ℕ) (declaration : Declaration) → IsNamedAt text declaration → declaration.path ≢ []
-way_some text declaration is none =
+-- so the path to it has a step
+pub path_some : (text : List ℕ) (declaration : Declaration) → IsNamedAt text declaration → declaration.path ≢ []
+path_some text declaration is none =
     let place = is.place in
     let count = part-length text declaration.name place in
     let nothing : part_of text declaration.name ≡ [] = sym is.simple ∙ ap simple_name none in

@@ -1,6 +1,7 @@
 -- Which comments document a declaration (proto3 language guide, "Adding Comments"; the rules are the profile's).
 use Rattle.std.specs.Prelude.{ℕ, ◌≡◌, ◌+◌, ◌<◌, ◌≤◌, List, [], ◌∷◌, ◌++◌, length, drop, map, All, Contains}
 use Rattle.std.specs.List.{join_with_byte}
+use Rattle.proto_lex.specs.Ascii as ascii
 use Rattle.proto_lex.specs.Position.{line_of}
 use Rattle.proto_lex.specs.Comments.{IsComment}
 use Rattle.proto_lex.specs.Lexed.{Lexed, IsPart, part_of}
@@ -63,7 +64,7 @@ pub record AreLongestLeading (lexed : Lexed) (line : ℕ) (comments : List Comme
 pub data IsLeadingText (lexed : Lexed) (first : Span) : List ℕ → Type 0 where
   leading : {comments : List Comment} → IsFirstOnLine lexed first
       → AreLongestLeading lexed (first_line lexed first) comments
-      → IsLeadingText lexed first (join_with_byte 10 (map (text_of lexed) comments))
+      → IsLeadingText lexed first (join_with_byte ascii.line_feed (map (text_of lexed) comments))
   not_first : (IsFirstOnLine lexed first → ⊥) → IsLeadingText lexed first []
 
 -- The first comment behind a declaration's closing token, where it begins on that token's line and no token stands

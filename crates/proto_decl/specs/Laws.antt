@@ -5,7 +5,7 @@ use Rattle.proto_lex.specs.Lexed.{Lexed, IsLexed, IsPart, part_of}
 use Rattle.proto_grammar.specs.declared.tree.CustomOptions.{CustomOptions}
 use Rattle.proto_grammar.specs.declared.tree.File.{File}
 use Rattle.proto_parse.specs.Derives.{Derives}
-use Rattle.proto_decl.specs.Names.{qualified, IsSimple, dotted, components_of, front_of, scopes_of}
+use Rattle.proto_decl.specs.Names.{qualified, IsSimple, dotted, components_of, package_of, prefix_of, scopes_of}
 use Rattle.proto_decl.specs.Comments.{IsLeadingText, IsTrailingText}
 use Rattle.proto_decl.specs.Declares.{simple_name}
 use Rattle.proto_decl.specs.Facts.{Facts, AreFactsOf, AreOfSomeFile, component_spans, name_spans, use_spans}
@@ -58,16 +58,16 @@ pub record StandsInScope (facts : Facts) (declaration : Declaration) : Type 0 wh
 -- What a file names: a package, by the first components of its own, or a declaration.
 pub data IsEntity (facts : Facts) : List ℕ → Type 0 where
   packaged : {count : ℕ} → 0 < count → count ≤ length facts.package_name
-      → IsEntity facts (dotted (map (λ component. component.name) (take count facts.package_name)))
+      → IsEntity facts (package_of facts.package_name count)
   declared : {declaration : Declaration} → Contains facts.declarations declaration
       → IsEntity facts declaration.full_name
 
 -- The first components of a declaration's full name, any number of them, make the full name of a package or a
 -- declaration of its file.
-abbrev pub FrontsAreEntities : Facts → Type 0
-FrontsAreEntities facts =
+abbrev pub PrefixesAreEntities : Facts → Type 0
+PrefixesAreEntities facts =
     All (λ declaration. (count : ℕ) → 0 < count → count ≤ length (components_of declaration.full_name)
-    → IsEntity facts (front_of declaration.full_name count)) facts.declarations
+    → IsEntity facts (prefix_of declaration.full_name count)) facts.declarations
 
 -- The scopes of a full name are that name and the scopes of the scope around it.
 abbrev pub ScopesNest : Type 0

@@ -17,5 +17,5 @@ pub mod Laws
 pub mod Places
 -- what a callback sees of a declaration
 pub mod Seen
--- the ways to declarations
-pub mod Ways
+-- what holds declarations
+pub mod Ancestors

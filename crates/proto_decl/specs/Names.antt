@@ -3,29 +3,34 @@ use Rattle.std.specs.Prelude.{ℕ, ◌≡◌, ◌<◌, ◌==◌, not, true, if�
 use Rattle.std.specs.Prelude.{reverse}
 use Rattle.std.specs.List.{join_with_byte, list_all, slice_split}
 use Rattle.proto_lex.specs.declared.span.Span.{Span}
+use Rattle.proto_lex.specs.Ascii as ascii
 use Rattle.proto_lex.specs.Lexed.{part_of}
 use Rattle.proto_decl.specs.declared.type_use.Component.{Component}
 
 -- The full name of a name in the scope with this full name. The root's is empty.
 abbrev pub qualified : (scope name : List ℕ) → List ℕ
 qualified [] name = name
-qualified (byte ∷ scope) name = (byte ∷ scope) ++ 46 ∷ name
+qualified (byte ∷ scope) name = (byte ∷ scope) ++ ascii.dot ∷ name
 
 -- A simple name has bytes, of which none is a dot.
 pub record IsSimple (name : List ℕ) : Type 0 where
   pub some : 0 < length name
-  pub no_dot : list_all (λ byte. not (byte == 46)) name ≡ true
+  pub no_dot : list_all (λ byte. not (byte == ascii.dot)) name ≡ true
 
 -- Components that are joined by dots.
 abbrev pub dotted : List (List ℕ) → List ℕ
-dotted components = join_with_byte 46 components
+dotted components = join_with_byte ascii.dot components
 
 -- The components of a full name, and the full name that its first ones make.
 abbrev pub components_of : List ℕ → List (List ℕ)
-components_of name = slice_split (λ byte. byte == 46) name
+components_of name = slice_split (λ byte. byte == ascii.dot) name
 
-abbrev pub front_of : List ℕ → (count : ℕ) → List ℕ
-front_of name count = dotted (take count (components_of name))
+abbrev pub prefix_of : List ℕ → (count : ℕ) → List ℕ
+prefix_of name count = dotted (take count (components_of name))
+
+-- The package that the first components of a package's name make.
+abbrev pub package_of : List Component → (count : ℕ) → List ℕ
+package_of components count = dotted (map (λ component. component.name) (take count components))
 
 -- A component of a name: what stands at the span.
 abbrev pub component_at : (text : List ℕ) → Span → Component
@@ -34,16 +39,16 @@ component_at text span = record { name = part_of text span; span = span }
 abbrev pub components_at : (text : List ℕ) → List Span → List Component
 components_at text spans = map (component_at text) spans
 
--- The fronts of a name that end before a dot, the shortest first.
-abbrev pub fronts_before_dots : List ℕ → List (List ℕ)
-fronts_before_dots [] = []
-fronts_before_dots (byte ∷ others) =
-    let longer = map (λ front. byte ∷ front) (fronts_before_dots others) in if byte == 46 then [] ∷ longer else longer
+-- The prefixes of a name that end before a dot, the shortest first.
+abbrev pub prefixes_before_dots : List ℕ → List (List ℕ)
+prefixes_before_dots [] = []
+prefixes_before_dots (byte ∷ others) =
+    let longer = map (λ prefix. byte ∷ prefix) (prefixes_before_dots others) in if byte == ascii.dot then [] ∷ longer else longer
 
 -- The scope with this full name and those around it, innermost first: the enclosing messages or the service, the
--- package, each parent package, and the root. Those between it and the root are the fronts of its name, but the empty
+-- package, each parent package, and the root. Those between it and the root are the prefixes of its name, but the empty
 -- one.
 abbrev pub scopes_of : List ℕ → List (List ℕ)
 scopes_of [] = [] ∷ []
 scopes_of (byte ∷ scope) = (byte ∷ scope)
-    ∷ (reverse (map (λ front. byte ∷ front) (fronts_before_dots scope)) ++ [] ∷ [])
+    ∷ (reverse (map (λ prefix. byte ∷ prefix) (prefixes_before_dots scope)) ++ [] ∷ [])

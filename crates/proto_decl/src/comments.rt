@@ -3,6 +3,7 @@
 ghost use Rattle.std.specs.Prelude.{◌≡◌, ◌+◌, ◌≤◌, ◌↔◌, ◌∷◌, ◌++◌, map, string_bytes, All, IsTrue, IfOk, OnOk, IfSome};
 ghost use Rattle.std.specs.Prelude.{MatchOption};
 ghost use Rattle.std.specs.List.{join_with_byte};
+ghost use Rattle.proto_lex.specs.Ascii as ascii;
 ghost use Rattle.proto_lex.specs.Position.{line_of};
 ghost use Rattle.proto_lex.specs.Lexed.{AreApart};
 ghost use Rattle.proto_lex.specs.CommentTexts.{StandsAlone, NoneBetween};
@@ -10,7 +11,7 @@ ghost use Rattle.proto_lex.specs.declared.token.Comment.{Comment};
 ghost use Rattle.proto_decl.specs.Comments as spec;
 
 use crate::comment_text::text_of;
-use crate::standing::{
+use crate::layout::{
     comments_above, comments_begun, is_first_on_line, is_none_between, stands_alone,
 };
 use proto_lex::{Comment, Span, Tokens};
@@ -53,7 +54,7 @@ fn leading_comments<'a>(lexed: &'a Tokens<'_>, line: usize) -> &'a [Comment]
 
 /// Appends a text on a line of its own.
 fn push_line(joined: &mut String, text: &str) -> Result<(), AllocError>
-    ensures { OnOk result (string_bytes joined.new ≡ string_bytes joined.old ++ 10 ∷ text.now) }
+    ensures { OnOk result (string_bytes joined.new ≡ string_bytes joined.old ++ ascii.line_feed ∷ text.now) }
 {
     joined.push_str("\n")?;
     joined.push_str(text)?;
@@ -69,7 +70,7 @@ fn joined_texts(
 ) -> Result<OwnedText, AllocError>
     requires first { spec.StandsIn lexed.now first }
     requires others { All (spec.StandsIn lexed.now) others.now }
-    ensures { IfOk result (λ text. text ≡ join_with_byte 10 (map (spec.text_of lexed.now) (first ∷ others.now))) }
+    ensures { IfOk result (λ text. text ≡ join_with_byte ascii.line_feed (map (spec.text_of lexed.now) (first ∷ others.now))) }
 {
     let mut joined = String::from_str(alloc, text_of(lexed, first))?;
     for comment in others {
@@ -85,7 +86,7 @@ fn texts_of(
     comments: &[Comment],
 ) -> Result<OwnedText, AllocError>
     requires { All (spec.StandsIn lexed.now) comments.now }
-    ensures { IfOk result (λ text. text ≡ join_with_byte 10 (map (spec.text_of lexed.now) comments.now)) }
+    ensures { IfOk result (λ text. text ≡ join_with_byte ascii.line_feed (map (spec.text_of lexed.now) comments.now)) }
 {
     match comments {
         [] => Ok(OwnedText::new(alloc)),

@@ -9,7 +9,7 @@ use proto_lex::Span;
 use proto_parse::Heading;
 use sequences::{OwnedText, Sequence};
 
-/// A step of the way to a declaration: a declaration's kind and its simple name.
+/// A step of the path to a declaration: a declaration's kind and its simple name.
 #[derive(Debug, Drop)]
 pub struct DeclarationStep {
     pub kind: DeclarationKind,
@@ -23,8 +23,8 @@ pub struct Declaration {
     /// The full name of its scope, a dot and its simple name. An enum's value has its enum's scope,
     /// and a oneof's field that of the message around the oneof.
     pub full_name: OwnedText,
-    /// The way from the package to the declaration, outermost first: the messages or the service
-    /// around it, for a value its enum, and last the declaration itself. A oneof stands in no way
+    /// The path from the package to the declaration, outermost first: the messages or the service
+    /// around it, for a value its enum, and last the declaration itself. A oneof stands in no path
     /// but its own.
     pub path: Sequence<DeclarationStep>,
     /// Where its simple name stands.

@@ -6,7 +6,7 @@ ghost use Rattle.proto_decl.specs.Facts.{PackageInOrder, NamesAreFilled, UsesAre
 ghost use Rattle.proto_decl.specs.Names.{IsSimple};
 ghost use Rattle.proto_decl.specs.Places.{StandApart};
 ghost use Rattle.proto_decl.specs.Laws.{OneLeadingText, OneTrailingText, OneFacts, NamesAreSpelled, StandsInScope};
-ghost use Rattle.proto_decl.specs.Laws.{FrontsAreEntities, FactsStandInText, ScopesNest};
+ghost use Rattle.proto_decl.specs.Laws.{PrefixesAreEntities, FactsStandInText, ScopesNest};
 
 use proto_parse::{names_have_components, spans_in_order, spans_of_tokens};
 
@@ -82,8 +82,8 @@ pub fn scopes_are_known()
 
 /// What the first components of a declaration's full name make, any number of them, is the full name
 /// of a package or of a declaration of its file.
-pub fn fronts_are_entities()
-    ensures { (facts : Facts) → AreOfSomeFile facts → FrontsAreEntities facts }
+pub fn prefixes_are_entities()
+    ensures { (facts : Facts) → AreOfSomeFile facts → PrefixesAreEntities facts }
 {
     scopes_are_known();
     facts_are_filled();

@@ -1,6 +1,7 @@
 //! What the syntax tree of a proto3 source declares and uses, and the comments that document it.
 #![tactic(auto)]
 
+mod ancestors;
 mod comment_text;
 mod comments;
 mod declaration;
@@ -10,27 +11,26 @@ mod imported;
 mod imports;
 mod kind;
 mod laws;
+mod layout;
 mod names;
 mod outlines;
 mod package;
 mod scopes;
-mod standing;
 mod surrounding;
 mod type_use;
 mod type_uses;
 mod view;
-mod ways;
 
+pub use ancestors::{declarations_stand_in_declarations, names_are_identifiers};
 pub use declaration::{Declaration, DeclarationStep};
 pub use declaring::declare;
 pub use facts::FileFacts;
 pub use imported::Imported;
 pub use kind::DeclarationKind;
 pub use laws::{
-    facts_are_filled, facts_in_order, facts_stand_apart, facts_stand_in_text, fronts_are_entities,
-    names_are_spelled, one_comment_text, one_list_of_facts, scopes_are_known, scopes_nest,
+    facts_are_filled, facts_in_order, facts_stand_apart, facts_stand_in_text, names_are_spelled,
+    one_comment_text, one_list_of_facts, prefixes_are_entities, scopes_are_known, scopes_nest,
 };
 pub use scopes::scope_around;
 pub use type_use::{Component, Use};
 pub use view::DeclView;
-pub use ways::{declarations_stand_in_declarations, names_are_identifiers};

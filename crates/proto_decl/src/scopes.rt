@@ -1,14 +1,15 @@
 //! Scopes, by their full names.
 
 ghost use Rattle.std.specs.Prelude.{◌≡◌, ◌≢◌, ◌<◌, ◌∷◌, [], ℕ, length, get_or, IfSome, MatchOption, IsCharBoundary};
+ghost use Rattle.proto_lex.specs.Ascii as ascii;
 ghost use Rattle.proto_decl.specs.Names.{scopes_of};
 
 /// Where the last dot of a name stands.
 #[tactic(auto, using(crate::proofs::ScopeLemmas::found_dot))]
 fn last_dot(name: &str) -> Option<usize>
-    ensures last { MatchOption result ((i : ℕ) → i < length name.now → get_or name.now i 0 ≢ 46)
-        (λ dot. (dot < length name.now) × (get_or name.now dot 0 ≡ 46)
-        × ((i : ℕ) → dot < i → i < length name.now → get_or name.now i 0 ≢ 46)) }
+    ensures last { MatchOption result ((i : ℕ) → i < length name.now → get_or name.now i 0 ≢ ascii.dot)
+        (λ dot. (dot < length name.now) × (get_or name.now dot 0 ≡ ascii.dot)
+        × ((i : ℕ) → dot < i → i < length name.now → get_or name.now i 0 ≢ ascii.dot)) }
     ensures whole { IfSome result (IsCharBoundary name.now) }
 {
     name.rfind('.')

@@ -16,7 +16,7 @@ use std::alloc::{AllocError, Global};
 pub(crate) struct Surrounding {
     /// The full name of the scope; the root's is empty.
     pub(crate) scope: OwnedText,
-    /// The way to what the declaration stands in.
+    /// The path to what the declaration stands in.
     pub(crate) path: Sequence<DeclarationStep>,
 }
 

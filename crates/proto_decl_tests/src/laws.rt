@@ -2,8 +2,8 @@
 
 use proto_decl::{
     declarations_stand_in_declarations, facts_are_filled, facts_in_order, facts_stand_apart,
-    facts_stand_in_text, fronts_are_entities, names_are_identifiers, names_are_spelled,
-    one_comment_text, one_list_of_facts, scope_around, scopes_are_known, scopes_nest,
+    facts_stand_in_text, names_are_identifiers, names_are_spelled, one_comment_text,
+    one_list_of_facts, prefixes_are_entities, scope_around, scopes_are_known, scopes_nest,
 };
 
 #[test]
@@ -16,7 +16,7 @@ fn laws_are_called() {
     facts_are_filled();
     names_are_spelled();
     scopes_are_known();
-    fronts_are_entities();
+    prefixes_are_entities();
     scopes_nest();
     declarations_stand_in_declarations();
     names_are_identifiers();

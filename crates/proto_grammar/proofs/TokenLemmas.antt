@@ -7,9 +7,9 @@ use Rattle.proto_lex.specs.declared.token.TokenKind.{TokenKind}
 use Rattle.proto_lex.specs.declared.token.TokenKind.TheVariants.{Identifier}
 use Rattle.proto_grammar.specs.Lexeme.{Lexeme}
 use Rattle.proto_grammar.specs.Terminal.{number_of, is_kind, of_kind, is_word, others, first_is, not_next}
-use Rattle.proto_grammar.specs.Grammar.Steps.{One}
-use Rattle.proto_grammar.specs.Grammar.Steps.One.{one}
-use Rattle.proto_grammar.specs.Reading.Steps.{token_that}
+use Rattle.proto_grammar.specs.Grammar.Repetition.{One}
+use Rattle.proto_grammar.specs.Grammar.Repetition.One.{one}
+use Rattle.proto_grammar.specs.Reading.Repetition.{token_that}
 use Rattle.std.proofs.lemmas.Option.{same_Some}
 use Rattle.proto_grammar.proofs.OptionSteps.{guard_some, both_true}
 

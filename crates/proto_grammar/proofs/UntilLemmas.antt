@@ -5,11 +5,11 @@ use Rattle.proto_grammar.specs.declared.fault.SyntaxFault.{SyntaxFault}
 use Rattle.proto_grammar.specs.declared.fault.SyntaxFault.TheVariants.{NotProto3, CustomOption, Aggregate, Extend, TwoPackages, ImportEscape, TooDeep, Grammar, Memory}
 use Rattle.proto_grammar.specs.Lexeme.{Lexeme}
 use Rattle.proto_grammar.specs.Gives.{Fails}
-use Rattle.proto_grammar.specs.Grammar.Steps.{Until, Adds, Passes}
-use Rattle.proto_grammar.specs.Grammar.Steps.Until.{done, more}
-use Rattle.proto_grammar.specs.Grammar.Steps.Adds.{adds}
-use Rattle.proto_grammar.specs.Grammar.Steps.Passes.{passes}
-use Rattle.proto_grammar.specs.Reading.Steps.{◌>>=◌, Read, until_by, until_at, adding, passing, passed}
+use Rattle.proto_grammar.specs.Grammar.Repetition.{Until, Adds, Passes}
+use Rattle.proto_grammar.specs.Grammar.Repetition.Until.{done, more}
+use Rattle.proto_grammar.specs.Grammar.Repetition.Adds.{adds}
+use Rattle.proto_grammar.specs.Grammar.Repetition.Passes.{passes}
+use Rattle.proto_grammar.specs.Reading.Repetition.{◌>>=◌, Read, until_by, until_at, adding, passing, passed}
 use Rattle.std.proofs.lemmas.Option.{same_Some}
 use Rattle.proto_grammar.proofs.OptionSteps.{bind_some, guard_some, chosen}
 

@@ -12,3 +12,5 @@ pub mod Grammar
 pub mod Gives
 pub mod Reading
 pub mod View
+-- What faults are called
+pub mod FaultNames

@@ -1,4 +1,4 @@
-pub mod Steps
+pub mod Repetition
 pub mod Names
 pub mod Options
 pub mod Fields

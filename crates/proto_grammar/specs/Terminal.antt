@@ -3,6 +3,7 @@ use Rattle.std.specs.Prelude.{ℕ, ◌-◌, Bool, true, false, ◌==◌, ◌&&�
 use Rattle.std.specs.Prelude.{length, take, drop, bytes_eq, codes}
 use Rattle.std.specs.Option.{option_map_or}
 use Rattle.std.specs.List.{list_any}
+use Rattle.proto_lex.specs.Ascii as ascii
 use Rattle.proto_lex.specs.declared.token.TokenKind.{TokenKind}
 use Rattle.proto_lex.specs.declared.token.TokenKind.TheVariants.{Identifier, Integer, Float, StringLiteral, Semicolon}
 use Rattle.proto_lex.specs.declared.token.TokenKind.TheVariants.{Equals, OpenBrace, CloseBrace, OpenBracket}
@@ -76,7 +77,7 @@ between_quotes spelling = take (length spelling - 2) (drop 1 spelling)
 
 -- a string literal in which no `\` stands
 abbrev pub is_plain_literal : Lexeme → Bool
-is_plain_literal t = is_kind StringLiteral t.kind && not (list_any (λ byte. byte == 92) t.spelling)
+is_plain_literal t = is_kind StringLiteral t.kind && not (list_any (λ byte. byte == ascii.backslash) t.spelling)
 
 abbrev pub first : List Lexeme → Option Lexeme
 first [] = None

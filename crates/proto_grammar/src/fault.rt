@@ -1,5 +1,8 @@
 //! Why a token list has no syntax tree.
 
+ghost use Rattle.std.specs.Prelude.{◌≡◌};
+ghost use Rattle.proto_grammar.specs.FaultNames.{syntax_name, syntax_offset};
+
 use std::alloc::{AllocError, AllocFailed};
 use std::error::Error;
 use std::fmt;
@@ -33,6 +36,42 @@ pub enum SyntaxFault {
     Grammar(usize),
     /// Memory ran out.
     Memory,
+}
+
+impl SyntaxFault {
+    /// The variant's name.
+    pub fn name(&self) -> &'static str
+        ensures { result.now ≡ syntax_name self.now }
+    {
+        match self {
+            SyntaxFault::NotProto3(_) => "NotProto3",
+            SyntaxFault::CustomOption(_) => "CustomOption",
+            SyntaxFault::Aggregate(_) => "Aggregate",
+            SyntaxFault::Extend(_) => "Extend",
+            SyntaxFault::TwoPackages(_) => "TwoPackages",
+            SyntaxFault::ImportEscape(_) => "ImportEscape",
+            SyntaxFault::TooDeep(_) => "TooDeep",
+            SyntaxFault::Grammar(_) => "Grammar",
+            SyntaxFault::Memory => "Memory",
+        }
+    }
+
+    /// Where it is in the text.
+    pub fn offset(&self) -> Option<usize>
+        ensures { result ≡ syntax_offset self.now }
+    {
+        match *self {
+            SyntaxFault::NotProto3(offset)
+            | SyntaxFault::CustomOption(offset)
+            | SyntaxFault::Aggregate(offset)
+            | SyntaxFault::Extend(offset)
+            | SyntaxFault::TwoPackages(offset)
+            | SyntaxFault::ImportEscape(offset)
+            | SyntaxFault::TooDeep(offset)
+            | SyntaxFault::Grammar(offset) => Some(offset),
+            SyntaxFault::Memory => None,
+        }
+    }
 }
 
 /// The variant's name, and its number in parentheses where it has one.

@@ -3,12 +3,13 @@
 ghost use Rattle.std.specs.Prelude.{◌≡◌, ◌==◌, length, option_map, slice_get, IfSome, bytes_eq};
 ghost use Rattle.std.specs.List.{list_any};
 ghost use Rattle.std.specs.Option.{option_map_or};
+ghost use Rattle.proto_lex.specs.Ascii as ascii;
 ghost use Rattle.proto_grammar.specs.Gives.{Gives};
 ghost use Rattle.proto_grammar.specs.declared.tree.CustomOptions.TheVariants.{Skip};
 ghost use Rattle.proto_grammar.specs.Terminal.{first, others, first_is, of_kind, is_word, key_words, scalar_words};
 ghost use Rattle.proto_grammar.specs.Terminal.{is_scalar, is_key, is_sign, is_numeral, is_number, is_plain_literal};
 ghost use Rattle.proto_grammar.specs.Terminal.{between_quotes, begins_scalar, is_end};
-ghost use Rattle.proto_grammar.specs.Reading.Steps.{token_that, span_at};
+ghost use Rattle.proto_grammar.specs.Reading.Repetition.{token_that, span_at};
 ghost use Rattle.proto_grammar.specs.Lexeme.{lexemes_of};
 ghost use Rattle.proto_grammar.specs.View.{lexeme_view};
 
@@ -119,7 +120,7 @@ fn is_key_word(word: &str) -> bool
 
 /// Whether a `\` stands among the bytes.
 fn has_backslash(text: &[u8]) -> bool
-    ensures { result ≡ list_any (λ byte. byte == 92) text.now }
+    ensures { result ≡ list_any (λ byte. byte == ascii.backslash) text.now }
 {
     text.contains(&b'\\')
 }
@@ -273,7 +274,7 @@ impl<'t> Parser<'t> {
     }
 
     /// Where the next token stands, which is left.
-    #[tactic(auto, unfolding(crate::specs::Reading::Steps::span_at))]
+    #[tactic(auto, unfolding(crate::specs::Reading::Repetition::span_at))]
     pub(crate) fn span(&self) -> Result<Span, SyntaxFault>
         ensures { Gives Skip (λ x. x) self.now result (span_at self.now) }
     {
@@ -285,7 +286,7 @@ impl<'t> Parser<'t> {
 
     /// Takes a token of the kind, and gives where it stands. Grammar at another token, or at the
     /// text's length, as in all methods that take a part where nothing else is said.
-    #[tactic(auto, unfolding(crate::specs::Reading::Steps::token_that))]
+    #[tactic(auto, unfolding(crate::specs::Reading::Repetition::token_that))]
     pub fn token(&mut self, kind: TokenKind) -> Result<Span, SyntaxFault>
         ensures { Gives Skip (λ x. x) self.new result (token_that (of_kind kind) self.old) }
     {
@@ -297,7 +298,7 @@ impl<'t> Parser<'t> {
     }
 
     /// Takes the word.
-    #[tactic(auto, unfolding(crate::specs::Reading::Steps::token_that))]
+    #[tactic(auto, unfolding(crate::specs::Reading::Repetition::token_that))]
     pub fn word(&mut self, word: &str) -> Result<Span, SyntaxFault>
         ensures { Gives Skip (λ x. x) self.new result (token_that (is_word word.now) self.old) }
     {
@@ -309,7 +310,7 @@ impl<'t> Parser<'t> {
     }
 
     /// Takes the word of a scalar type.
-    #[tactic(auto, unfolding(crate::specs::Reading::Steps::token_that))]
+    #[tactic(auto, unfolding(crate::specs::Reading::Repetition::token_that))]
     pub(crate) fn scalar(&mut self) -> Result<Span, SyntaxFault>
         ensures { Gives Skip (λ x. x) self.new result (token_that is_scalar self.old) }
     {
@@ -321,7 +322,7 @@ impl<'t> Parser<'t> {
     }
 
     /// Takes the word of a scalar type that may be a map's key.
-    #[tactic(auto, unfolding(crate::specs::Reading::Steps::token_that))]
+    #[tactic(auto, unfolding(crate::specs::Reading::Repetition::token_that))]
     pub(crate) fn key(&mut self) -> Result<Span, SyntaxFault>
         ensures { Gives Skip (λ x. x) self.new result (token_that is_key self.old) }
     {
@@ -333,7 +334,7 @@ impl<'t> Parser<'t> {
     }
 
     /// Takes a number without a sign.
-    #[tactic(auto, unfolding(crate::specs::Reading::Steps::token_that))]
+    #[tactic(auto, unfolding(crate::specs::Reading::Repetition::token_that))]
     pub(crate) fn numeral(&mut self) -> Result<Span, SyntaxFault>
         ensures { Gives Skip (λ x. x) self.new result (token_that is_numeral self.old) }
     {
@@ -345,7 +346,7 @@ impl<'t> Parser<'t> {
     }
 
     /// Takes what may stand behind a sign.
-    #[tactic(auto, unfolding(crate::specs::Reading::Steps::token_that))]
+    #[tactic(auto, unfolding(crate::specs::Reading::Repetition::token_that))]
     pub(crate) fn number(&mut self) -> Result<Span, SyntaxFault>
         ensures { Gives Skip (λ x. x) self.new result (token_that is_number self.old) }
     {
@@ -357,7 +358,7 @@ impl<'t> Parser<'t> {
     }
 
     /// Takes a `-` or `+`.
-    #[tactic(auto, unfolding(crate::specs::Reading::Steps::token_that))]
+    #[tactic(auto, unfolding(crate::specs::Reading::Repetition::token_that))]
     pub(crate) fn sign(&mut self) -> Result<Span, SyntaxFault>
         ensures { Gives Skip (λ x. x) self.new result (token_that is_sign self.old) }
     {
@@ -369,7 +370,7 @@ impl<'t> Parser<'t> {
     }
 
     /// Takes a literal of an import's path: ImportEscape where a `\` stands in it.
-    #[tactic(auto, unfolding(crate::specs::Reading::Steps::token_that))]
+    #[tactic(auto, unfolding(crate::specs::Reading::Repetition::token_that))]
     pub fn plain_literal(&mut self) -> Result<Span, SyntaxFault>
         ensures { Gives Skip (λ x. x) self.new result (token_that is_plain_literal self.old) }
     {

@@ -12,6 +12,7 @@ pub mod Comments
 pub mod Lexes
 pub mod Lexed
 pub mod Faults
+pub mod FaultNames
 pub mod LexLaws
 pub mod CommentTexts
 -- what the lexer's private functions give

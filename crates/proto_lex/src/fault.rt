@@ -1,5 +1,9 @@
 //! Why a text is refused.
 
+ghost use Rattle.std.specs.Prelude.{◌≡◌};
+ghost use Rattle.proto_lex.specs.FaultNames.{lex_name, lex_offset};
+
+use crate::text::MAX_TEXT_LENGTH;
 use std::alloc::{AllocError, AllocFailed};
 use std::error::Error;
 use std::fmt;
@@ -25,6 +29,40 @@ pub enum LexFault {
     BadNumber(usize),
     /// Memory ran out.
     Memory,
+}
+
+impl LexFault {
+    /// The variant's name.
+    pub fn name(&self) -> &'static str
+        ensures { result.now ≡ lex_name self.now }
+    {
+        match self {
+            LexFault::TooLong => "TooLong",
+            LexFault::NotUtf8(_) => "NotUtf8",
+            LexFault::BadByte(_) => "BadByte",
+            LexFault::OpenString(_) => "OpenString",
+            LexFault::OpenComment(_) => "OpenComment",
+            LexFault::BadEscape(_) => "BadEscape",
+            LexFault::BadNumber(_) => "BadNumber",
+            LexFault::Memory => "Memory",
+        }
+    }
+
+    /// Where it is in the bytes: of bytes that are too many the first one that may not be.
+    pub fn offset(&self) -> Option<usize>
+        ensures { result ≡ lex_offset self.now }
+    {
+        match *self {
+            LexFault::TooLong => Some(MAX_TEXT_LENGTH),
+            LexFault::NotUtf8(offset)
+            | LexFault::BadByte(offset)
+            | LexFault::OpenString(offset)
+            | LexFault::OpenComment(offset)
+            | LexFault::BadEscape(offset)
+            | LexFault::BadNumber(offset) => Some(offset),
+            LexFault::Memory => None,
+        }
+    }
 }
 
 /// The variant's name, and its number in parentheses where it has one.

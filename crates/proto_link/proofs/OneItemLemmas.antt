@@ -7,17 +7,18 @@ use Rattle.std.proofs.lemmas.Option.{slice_get_within, slice_get_cases, slice_ge
 use Rattle.std.proofs.lemmas.List.Elements.{Contains-push, Contains-append_left, Contains-append_right, Contains-append_cases}
 use Rattle.proto_lex.specs.declared.span.Span.{Span}
 use Rattle.proto_lex.specs.Lexed.{AreInOrder}
+use Rattle.proto_decl.specs.Names.{package_of}
 use Rattle.proto_decl.specs.Facts.{Facts, AreOfSomeFile, NamesInOrder, PackageInOrder, name_spans, component_spans}
 use Rattle.proto_decl.specs.declared.declaration.Declaration.{Declaration}
 use Rattle.proto_decl.specs.declared.type_use.Component.{Component}
 use Rattle.proto_visibility.specs.declared.place.FilePlace.{FilePlace}
 use Rattle.proto_visibility.specs.Files.{File, HasFacts, HaveOrigins}
-use Rattle.proto_visibility.specs.Items.{Before, Item, IsItem, package_of}
+use Rattle.proto_visibility.specs.Items.{Before, Item, IsItem}
 use Rattle.proto_visibility.specs.Items.IsItem.{declared, packaged}
 use Rattle.proto_visibility.specs.Clashes.{NoClash}
 use Rattle.proto_link.specs.Laws.{IsDeclaredAt, HasPackage}
-use Rattle.proto_visibility.proofs.GivenLemmas.{contained}
-use Rattle.proto_visibility.proofs.StepLemmas.{only}
+use Rattle.proto_visibility.proofs.FirstLemmas.{contained}
+use Rattle.proto_visibility.proofs.ImportTableLemmas.{only}
 use Rattle.proto_visibility.proofs.FactLemmas.{one_list_of_facts}
 
 -- ---- spans in order
@@ -188,9 +189,9 @@ module _ (files : List File) (origins : HaveOrigins files)
   package_not_declared clear number index d at its = elim (slice_get_cases its.facts.package_name (its.count - 1)).1 [
     | inl component ↦ (
         let last : its.count - 1 + 1 ≡ its.count = omega (arith, its.some) in
-        let item : IsItem files (record { place = record { file = its.number; span = component.0.span }; full_name = package_of its.facts (its.count - 1 + 1); is_declaration = false }) =
+        let item : IsItem files (record { place = record { file = its.number; span = component.0.span }; full_name = package_of its.facts.package_name (its.count - 1 + 1); is_declaration = false }) =
         packaged (its.count - 1) its.counts its.known component.2 in
-        let place = same_place clear _ _ (item_of number index d at) item (its.named ∙ ap (package_of its.facts) (sym last)) refl in
+        let place = same_place clear _ _ (item_of number index d at) item (its.named ∙ ap (package_of its.facts.package_name) (sym last)) refl in
         mixed_place at.known its.known (contained at.facts.declarations index d at.stands) (contained its.facts.package_name (its.count - 1) component.0 component.2) place.0 place.1)
     | inr past ↦ absurd (omega (arith, past.0, its.some, its.few))
   ]

@@ -80,9 +80,10 @@ module _ (files : List File) (origins : HaveOrigins files)
         one_Target a b name (same_lists a.parts b.parts (first.one_each ∙ sym second.one_each) (λ k d within.
         let its = slice_get-get_or a.parts k d within in
         let other = slice_get-get_or b.parts k d (omega (arith, within, first.one_each, second.one_each)) in
-        let index = λ (n : List ℕ). length (components_of n) - length type_use.components + k + 1 in
-        one_entity b.name (index b.name) (get_or a.parts k d) (get_or b.parts k d)
-        (subst (λ n. IsNamed files source n (index n) (get_or a.parts k d)) name (first.named k (get_or a.parts k d) its)) (second.named k (get_or b.parts k d) other)))
+        let skipped : first.skipped ≡ second.skipped = omega (arith, first.split, second.split, ap (λ (n : List ℕ). length (components_of n)) name) in
+        let moved = subst (λ s. IsNamed files source a.name (s + k + 1) (get_or a.parts k d)) skipped (first.named k (get_or a.parts k d) its) in
+        one_entity b.name (second.skipped + k + 1) (get_or a.parts k d) (get_or b.parts k d)
+        (subst (λ n. IsNamed files source n (second.skipped + k + 1) (get_or a.parts k d)) name moved) (second.named k (get_or b.parts k d) other)))
 
   -- ---- clashes
 

@@ -8,7 +8,7 @@ use Rattle.proto_visibility.specs.Knows.{KnowsAs, is_type, is_aggregate}
 use Rattle.proto_link.specs.Resolves.{Innermost, ResolvesIn, Resolves, words_of}
 use Rattle.proto_link.specs.Resolves.ResolvesIn.{absolute, single, compound}
 use Rattle.proto_link.specs.Targets.{IsUnresolved}
-use Rattle.proto_link.specs.Found.{IsSingle, IsCompound}
+use Rattle.proto_link.specs.Tables.Found.{IsSingle, IsCompound}
 use Rattle.proto_link.proofs.LawLemmas.{one_scope}
 
 module _ (files : List File) (file : ℕ) (first words : List ℕ) (scopes : List (List ℕ)) where

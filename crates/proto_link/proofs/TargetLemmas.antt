@@ -8,9 +8,10 @@ use Rattle.std.proofs.lemmas.List.Sums.{sum_by-append, sum_by-cons}
 use Rattle.std.proofs.lemmas.List.Elements.{All-contains}
 use Rattle.std.proofs.lemmas.List.Splits.{length-slice_split}
 use denote.Ref.{Bor}
-use Rattle.proto_decl.specs.Names.{qualified, dotted, components_of, front_of}
+use Rattle.proto_decl.specs.Names.{qualified, dotted, components_of, prefix_of}
 use Rattle.proto_decl.specs.Facts.{Facts}
-use Rattle.proto_decl.specs.Laws.{IsEntity, FrontsAreEntities}
+use Rattle.proto_decl.specs.Laws.{IsEntity, PrefixesAreEntities}
+use Rattle.proto_decl.specs.declared.type_use.Component.{Component}
 use Rattle.proto_decl.specs.declared.type_use.Use.{Use}
 use Rattle.proto_decl.specs.declared.declaration.Declaration.{Declaration}
 use Rattle.proto_visibility.specs.declared.entities.Entity.{Entity}
@@ -22,18 +23,19 @@ use Rattle.proto_visibility.specs.Knows.Knows.{packaged as known_packaged}
 use Rattle.proto_link.specs.Resolves.{Innermost, ResolvesIn, Resolves}
 use Rattle.proto_link.specs.Resolves.Innermost.{here, farther}
 use Rattle.proto_link.specs.Resolves.ResolvesIn.{absolute, single, compound}
-use Rattle.proto_link.specs.Targets.{IsNamed}
+use Rattle.proto_link.specs.declared.target.Target.{Target}
+use Rattle.proto_link.specs.Targets.{IsNamed, IsTarget}
 use Rattle.proto_link.specs.Targets.IsNamed.{packaged as named_packaged, declared as named_declared}
-use Rattle.proto_visibility.specs.Given.{Gives, GivesAs, SeesGiving}
-use Rattle.proto_visibility.specs.Given.Gives.{declared as gives_declared, packaged as gives_packaged}
+use Rattle.proto_visibility.specs.FileNames.{Gives, GivesAs, SeesGiving}
+use Rattle.proto_visibility.specs.FileNames.Gives.{declared as gives_declared, packaged as gives_packaged}
 use Rattle.proto_visibility.specs.Entities.{IsEntityOf}
-use Rattle.proto_link.specs.Parts.{AreEntitiesOf, AreNamed, longer}
+use Rattle.proto_link.specs.Tables.Parts.{AreEntitiesOf, AreNamed, longer}
 use Rattle.proto_visibility.specs.Entities.IsEntityOf.{packaged, declared}
 use Rattle.proto_visibility.proofs.ItemLemmas.{join_push}
-use Rattle.proto_visibility.proofs.SeeingLemmas.{slice_get_front}
+use Rattle.proto_visibility.proofs.SeeingLemmas.{slice_get_prefix}
 use Rattle.proto_visibility.proofs.FactLemmas.{one_list_of_facts}
 
--- ---- fronts
+-- ---- prefixes
 
 longer_of : (ts : List (List ℕ)) (i : ℕ) (x : List ℕ) → i < length ts → x ≡ get_or ts i x → longer (dotted (take i ts)) i x ≡ dotted (take (i + 1) ts)
 longer_of [] i x within is = absurd (omega (arith, within))
@@ -43,9 +45,9 @@ longer_of (t ∷ ts) (suc i) x within is =
     let more : take (i + 1) ts ≡ take i ts ++ x ∷ [] = take_more ts i x (omega (arith, within)) ∙ ap (λ y. take i ts ++ y ∷ []) (sym is) in
     sym (join_push 46 t x (take i ts)) ∙ (ap (λ ys. dotted (t ∷ ys)) (sym more) ∙ ap (λ n. dotted (take n (t ∷ ts))) (sym next))
 
-pub front_longer : (name : List ℕ) (components : List (Bor (List ℕ))) (i : ℕ) (d : Bor (List ℕ)) (old new : List ℕ) → map (λ c. c.now) components ≡ components_of name → i < length components
-    → old ≡ front_of name i → new ≡ longer old i (get_or components i d).now → new ≡ front_of name (i + 1)
-front_longer name components i d old new are within so_far pushed =
+pub prefix_longer : (name : List ℕ) (components : List (Bor (List ℕ))) (i : ℕ) (d : Bor (List ℕ)) (old new : List ℕ) → map (λ c. c.now) components ≡ components_of name → i < length components
+    → old ≡ prefix_of name i → new ≡ longer old i (get_or components i d).now → new ≡ prefix_of name (i + 1)
+prefix_longer name components i d old new are within so_far pushed =
     let x = (get_or components i d).now in
     let size = length-map components (λ (c : Bor (List ℕ)). c.now) in
     let is : x ≡ get_or (map (λ (c : Bor (List ℕ)). c.now) components) i x = sym (get_or-map (λ (c : Bor (List ℕ)). c.now) components i d x within) in
@@ -97,18 +99,18 @@ is_of_type (compound innermost known) = known
 pub resolved_type : (files : List File) (file : ℕ) (type_use : Use) (name : List ℕ) → Resolves files file type_use name → KnowsAs files file is_type name
 resolved_type files file type_use name r = is_of_type r
 
--- ---- its fronts are entities of the file that declares it
+-- ---- its prefixes are entities of the file that declares it
 
-front_entity : {facts : Facts} {name : List ℕ} {kind : NameKind} → FrontsAreEntities facts → Gives facts name kind → is_type kind ≡ true → (count : ℕ) → 0 < count → count ≤ length (components_of name) → IsEntity facts (front_of name count)
-front_entity {facts = facts} fronts (gives_declared {declaration = d} listed) admitted count some few =
-    All-contains (λ (declaration : Declaration). (n : ℕ) → 0 < n → n ≤ length (components_of declaration.full_name) → IsEntity facts (front_of declaration.full_name n)) facts.declarations d fronts listed count some few
-front_entity fronts (gives_packaged front) admitted count some few = absurd (false≢true admitted)
+prefix_entity : {facts : Facts} {name : List ℕ} {kind : NameKind} → PrefixesAreEntities facts → Gives facts name kind → is_type kind ≡ true → (count : ℕ) → 0 < count → count ≤ length (components_of name) → IsEntity facts (prefix_of name count)
+prefix_entity {facts = facts} prefixes (gives_declared {declaration = d} listed) admitted count some few =
+    All-contains (λ (declaration : Declaration). (n : ℕ) → 0 < n → n ≤ length (components_of declaration.full_name) → IsEntity facts (prefix_of declaration.full_name n)) facts.declarations d prefixes listed count some few
+prefix_entity prefixes (gives_packaged prefix) admitted count some few = absurd (false≢true admitted)
 
-pub front_is_entity : (facts : Facts) (name front : List ℕ) (components : List (Bor (List ℕ))) (i : ℕ) → FrontsAreEntities facts → GivesAs is_type name facts → map (λ c. c.now) components ≡ components_of name → i < length components
-    → front ≡ front_of name (i + 1) → IsEntity facts front
-front_is_entity facts name front components i fronts gives are within is =
+pub prefix_is_entity : (facts : Facts) (name prefix : List ℕ) (components : List (Bor (List ℕ))) (i : ℕ) → PrefixesAreEntities facts → GivesAs is_type name facts → map (λ c. c.now) components ≡ components_of name → i < length components
+    → prefix ≡ prefix_of name (i + 1) → IsEntity facts prefix
+prefix_is_entity facts name prefix components i prefixes gives are within is =
     let size = length-map components (λ (c : Bor (List ℕ)). c.now) in
-    subst (IsEntity facts) (sym is) (front_entity fronts gives.gives gives.admitted (i + 1) (omega arith) (omega (arith, within, size, ap length are)))
+    subst (IsEntity facts) (sym is) (prefix_entity prefixes gives.gives gives.admitted (i + 1) (omega arith) (omega (arith, within, size, ap length are)))
 
 -- ---- the parts so far
 
@@ -119,7 +121,7 @@ module _ (number : ℕ) (facts : Facts) (name : List ℕ) (skipped : ℕ) where
   -- what the components from there on name, of the first so many
   pub record AreParts (count : ℕ) (parts : List Entity) : Type 0 where
     pub size : length parts ≡ count - skipped
-    pub each : (j : ℕ) (part : Entity) → slice_get parts j ≡ Some part → IsEntityOf number facts (front_of name (skipped + j + 1)) (skipped + j + 1) part
+    pub each : (j : ℕ) (part : Entity) → slice_get parts j ≡ Some part → IsEntityOf number facts (prefix_of name (skipped + j + 1)) (skipped + j + 1) part
 
   pub parts_none : AreParts 0 []
   parts_none = record { size = omega arith; each = λ j part at. absurd (omega (arith, slice_get_within {A = Entity} [] j part at)) }
@@ -127,18 +129,18 @@ module _ (number : ℕ) (facts : Facts) (name : List ℕ) (skipped : ℕ) where
   pub parts_skip : (count : ℕ) (parts : List Entity) → count < skipped → AreParts count parts → AreParts (count + 1) parts
   parts_skip count parts before so_far = record { size = omega (arith, so_far.size); each = so_far.each }
 
-  pub parts_more : (count : ℕ) (parts : List Entity) (front : List ℕ) (part : Entity) → skipped ≤ count → front ≡ front_of name (count + 1) → IsEntityOf number facts front (count + 1) part → AreParts count parts → AreParts (count + 1) (parts ++ part ∷ [])
-  parts_more count parts front part behind is entity so_far = record {
+  pub parts_more : (count : ℕ) (parts : List Entity) (prefix : List ℕ) (part : Entity) → skipped ≤ count → prefix ≡ prefix_of name (count + 1) → IsEntityOf number facts prefix (count + 1) part → AreParts count parts → AreParts (count + 1) (parts ++ part ∷ [])
+  parts_more count parts prefix part behind is entity so_far = record {
     size = omega (arith, length_push parts part, so_far.size);
     each = λ j one at. elim (cases_lt j (length parts)) [
-      | inl before ↦ so_far.each j one (sym (slice_get_front parts (part ∷ []) j before) ∙ at)
+      | inl before ↦ so_far.each j one (sym (slice_get_prefix parts (part ∷ []) j before) ∙ at)
       | inr last ↦ (
           let within = slice_get_within (parts ++ part ∷ []) j one at in
           let here_it : j ≡ length parts = omega (arith, length_push parts part) in
           let stands : slice_get (parts ++ part ∷ []) j ≡ Some part = slice_get-get_or (parts ++ part ∷ []) j part within ∙ ap Some (get_or_push parts part part j (sym here_it)) in
           let same : one ≡ part = one_Entity one part (sym at ∙ stands) in
           let index : count + 1 ≡ skipped + j + 1 = omega (arith, so_far.size) in
-          subst (λ n. IsEntityOf number facts (front_of name n) n one) index (subst (λ f. IsEntityOf number facts f (count + 1) one) is (subst (IsEntityOf number facts front (count + 1)) (sym same) entity)))
+          subst (λ n. IsEntityOf number facts (prefix_of name n) n one) index (subst (λ f. IsEntityOf number facts f (count + 1) one) is (subst (IsEntityOf number facts prefix (count + 1)) (sym same) entity)))
     ];
   }
 
@@ -149,18 +151,36 @@ parts_all number facts name components used skipped count parts are few skip all
     let skip_is : skipped ≡ length (components_of name) - used = skip ∙ ap (λ n. n - used) size in
     record {
       one_each = omega (arith, so_far.size, size, few, skip_is, all);
-      each = λ j part at. subst (λ n. IsEntityOf number facts (front_of name (n + j + 1)) (n + j + 1) part) skip_is (so_far.each j part at);
+      each = λ j part at. subst (λ n. IsEntityOf number facts (prefix_of name (n + j + 1)) (n + j + 1) part) skip_is (so_far.each j part at);
     }
 
 -- ---- and what a file knows by them
 
 module _ (files : List File) (file seen : ℕ) (facts : Facts) (sees : Sees files file seen) (has : HasFacts files seen facts) where
-  named : (name : List ℕ) (count : ℕ) (part : Entity) → IsEntityOf seen facts (front_of name count) count part → IsNamed files file name count part
-  named name count part (packaged front) = named_packaged (subst (λ n. Knows files file n OfPackage) (sym front.3) (known_packaged sees has front.1 front.2))
+  named : (name : List ℕ) (count : ℕ) (part : Entity) → IsEntityOf seen facts (prefix_of name count) count part → IsNamed files file name count part
+  named name count part (packaged prefix) = named_packaged (subst (λ n. Knows files file n OfPackage) (sym prefix.3) (known_packaged sees has prefix.1 prefix.2))
   named name count part (declared stands is) = named_declared sees has stands is
 
   pub all_named : (name : List ℕ) (count : ℕ) (parts : List Entity) → AreEntitiesOf seen facts name count parts → AreNamed files file name count parts
   all_named name count parts are = record { one_each = are.one_each; named = λ j part at. named name (length (components_of name) - count + j + 1) part (are.each j part at) }
+
+-- ---- so they are a target
+
+module _ (files : List File) (file : ℕ) (type_use : Use) where
+  target_made : (name : List ℕ) (parts : List Entity) → Resolves files file type_use name → AreNamed files file name (length type_use.components) parts
+      → IsTarget files file type_use (record { name = name; parts = parts })
+  target_made name parts resolves are =
+      let few = used_fit files file type_use name resolves in
+      record { resolves = resolves; skipped = length (components_of name) - length type_use.components; split = omega (arith, few); one_each = are.one_each; named = are.named }
+
+  pub target_is : (name spelled whole : List ℕ) (used : List Component) (parts all : List Entity) → Resolves files file type_use name → spelled ≡ name → used ≡ type_use.components
+      → AreNamed files file spelled (length used) parts → whole ≡ name → all ≡ parts → IsTarget files file type_use (record { name = whole; parts = all })
+  target_is name spelled whole used parts all resolves spelled_is used_is are whole_is all_is =
+      let its_use : AreNamed files file spelled (length type_use.components) parts = subst (λ (cs : List Component). AreNamed files file spelled (length cs) parts) used_is are in
+      let its_name : AreNamed files file name (length type_use.components) parts = subst (λ (n : List ℕ). AreNamed files file n (length type_use.components) parts) spelled_is its_use in
+      let made = target_made name parts resolves its_name in
+      subst (λ (n : List ℕ). IsTarget files file type_use (record { name = n; parts = all })) (sym whole_is)
+      (subst (λ (ps : List Entity). IsTarget files file type_use (record { name = name; parts = ps })) (sym all_is) made)
 
 -- ---- the file that declares it
 

@@ -1,6 +1,7 @@
 -- Laws about linking.
 use Rattle.std.specs.Prelude.{◌≡◌, ◌≢◌, ◌<◌, ◌≤◌, ℕ, Some, List, length}
 use Rattle.std.specs.List.{slice_get}
+use Rattle.proto_decl.specs.Names.{package_of}
 use Rattle.proto_decl.specs.Facts.{Facts}
 use Rattle.proto_decl.specs.declared.declaration.Declaration.{Declaration}
 use Rattle.proto_decl.specs.declared.type_use.Use.{Use}
@@ -11,7 +12,6 @@ use Rattle.proto_visibility.specs.declared.entities.Entity.{Entity}
 use Rattle.proto_link.specs.declared.target.Target.{Target}
 use Rattle.proto_visibility.specs.Files.{File, HasFacts, HaveOrigins, IsSource}
 use Rattle.proto_visibility.specs.Sees.{Counts}
-use Rattle.proto_visibility.specs.Items.{package_of}
 use Rattle.proto_visibility.specs.Clashes.{Clash, NoClash}
 use Rattle.proto_visibility.specs.Absences.{Absent, Broken}
 use Rattle.proto_link.specs.Resolves.{Resolves}
@@ -42,7 +42,7 @@ pub record HasPackage (files : List File) (name : List ℕ) : Type 0 where
   pub known : HasFacts files number facts
   pub some : 0 < count
   pub few : count ≤ length facts.package_name
-  pub named : name ≡ package_of facts count
+  pub named : name ≡ package_of facts.package_name count
 
 -- without a clash a full name is that of one declaration at most, or names packages alone
 abbrev pub OneDeclarationAName : Type 0

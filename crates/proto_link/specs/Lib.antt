@@ -3,6 +3,5 @@ pub mod Resolves
 pub mod Targets
 -- the laws
 pub mod Laws
--- what a lookup finds
-pub mod Found
-pub mod Parts
+-- what no public contract names
+pub mod Tables

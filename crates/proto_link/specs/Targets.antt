@@ -1,7 +1,7 @@
 -- What each component of a use names.
-use Rattle.std.specs.Prelude.{◌≡◌, ⊤, ℕ, ◌+◌, ◌-◌, Some, List, length}
+use Rattle.std.specs.Prelude.{◌≡◌, ⊤, ℕ, ◌+◌, Some, List, length}
 use Rattle.std.specs.List.{slice_get}
-use Rattle.proto_decl.specs.Names.{components_of, front_of}
+use Rattle.proto_decl.specs.Names.{components_of, prefix_of}
 use Rattle.proto_decl.specs.Facts.{Facts}
 use Rattle.proto_decl.specs.declared.type_use.Use.{Use}
 use Rattle.proto_decl.specs.declared.declaration.Declaration.{Declaration}
@@ -18,18 +18,20 @@ use Rattle.proto_link.specs.Resolves.{Resolves}
 
 -- The entity that the file knows by a full name's first components.
 pub data IsNamed (files : List File) (file : ℕ) (name : List ℕ) (count : ℕ) : Entity → Type 0 where
-  packaged : Knows files file (front_of name count) OfPackage → IsNamed files file name count (Package count)
+  packaged : Knows files file (prefix_of name count) OfPackage → IsNamed files file name count (Package count)
   declared : {seen index : ℕ} {facts : Facts} {declaration : Declaration}
-      → Sees files file seen → HasFacts files seen facts → slice_get facts.declarations index ≡ Some declaration → declaration.full_name ≡ front_of name count
+      → Sees files file seen → HasFacts files seen facts → slice_get facts.declarations index ≡ Some declaration → declaration.full_name ≡ prefix_of name count
       → IsNamed files file name count (Declared seen index)
 
--- Of a use with k components that resolves to a full name of m, component number j (from 0) names the entity of the name's first
--- m - k + j + 1 components.
+-- Of a use with k components that resolves to a full name of m, the name's first ones, m less k, are skipped: component
+-- number j (from 0) of the use names the entity of the name's components up to number j behind these.
 pub record IsTarget (files : List File) (file : ℕ) (type_use : Use) (target : Target) : Type 0 where
   pub resolves : Resolves files file type_use target.name
+  pub skipped : ℕ
+  pub split : skipped + length type_use.components ≡ length (components_of target.name)
   pub one_each : length target.parts ≡ length type_use.components
   pub named : (j : ℕ) (part : Entity) → slice_get target.parts j ≡ Some part
-      → IsNamed files file target.name (length (components_of target.name) - length type_use.components + j + 1) part
+      → IsNamed files file target.name (skipped + j + 1) part
 
 -- no name is that of the use
 abbrev pub IsUnresolved : List File → ℕ → Use → Type 0

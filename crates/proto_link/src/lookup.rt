@@ -6,8 +6,8 @@ ghost use Rattle.proto_decl.specs.Names.{qualified, dotted, scopes_of};
 ghost use Rattle.proto_visibility.specs.Knows.{KnowsAs, is_type};
 ghost use Rattle.proto_link.specs.Resolves.{Innermost, Resolves};
 ghost use Rattle.proto_link.specs.Targets.{IsUnresolved};
-ghost use Rattle.proto_visibility.specs.Given.{admits};
-ghost use Rattle.proto_link.specs.Found.{IsSingle, IsCompound};
+ghost use Rattle.proto_visibility.specs.FileNames.{admits};
+ghost use Rattle.proto_link.specs.Tables.Found.{IsSingle, IsCompound};
 
 use proto_decl::{Component, Use, scope_around};
 use proto_visibility::{Namespace, Role};

@@ -5,11 +5,11 @@ ghost use Rattle.proto_decl.specs.Names.{components_of};
 ghost use denote.Ref.{Bor};
 ghost use Rattle.std.specs.String.{string_bytes};
 ghost use Rattle.proto_visibility.specs.Knows.{is_type};
-ghost use Rattle.proto_visibility.specs.Given.{GivesAs};
+ghost use Rattle.proto_visibility.specs.FileNames.{GivesAs};
 ghost use Rattle.proto_visibility.specs.Files.{HasFacts};
-ghost use Rattle.proto_link.specs.Parts.{AreEntitiesOf, longer};
+ghost use Rattle.proto_link.specs.Tables.Parts.{AreEntitiesOf, longer};
 
-use proto_decl::{FileFacts, fronts_are_entities};
+use proto_decl::{FileFacts, prefixes_are_entities};
 use proto_visibility::{Entity, Namespace};
 use std::alloc::{AllocError, Global};
 
@@ -20,14 +20,14 @@ fn components_in(alloc: Global, name: &str) -> Result<Vec<&str>, AllocError>
     name.split('.').collect(alloc)
 }
 
-// Adds a component to a front of so many.
-fn lengthen(front: &mut String, count: usize, component: &str) -> Result<(), AllocError>
-    ensures { OnOk result (string_bytes front.new ≡ longer (string_bytes front.old) count component.now) }
+// Adds a component to a prefix of so many.
+fn lengthen(prefix: &mut String, count: usize, component: &str) -> Result<(), AllocError>
+    ensures { OnOk result (string_bytes prefix.new ≡ longer (string_bytes prefix.old) count component.now) }
 {
     if count > 0 {
-        front.push_str(".")?;
+        prefix.push_str(".")?;
     }
-    front.push_str(component)
+    prefix.push_str(component)
 }
 
 // What the last so many components of a type's full name name in the file with this number, which
@@ -45,16 +45,16 @@ pub(crate) fn parts_in(
     requires count { count ≤ length (components_of name.now) }
     ensures { IfOk result (λ parts. AreEntitiesOf number facts.now name.now count parts.items) }
 {
-    fronts_are_entities();
+    prefixes_are_entities();
     facts.origin();
     let components = components_in(alloc, name)?;
     let skipped = components.len() - count;
-    let mut front = String::new(alloc);
+    let mut prefix = String::new(alloc);
     let mut parts = Vec::new(alloc);
     for (index, component) in components.iter().enumerate() {
-        lengthen(&mut front, index, component)?;
+        lengthen(&mut prefix, index, component)?;
         if index >= skipped {
-            parts.push(namespace.entity_of(number, facts, front.as_str(), index + 1))?;
+            parts.push(namespace.entity_of(number, facts, prefix.as_str(), index + 1))?;
         }
     }
     Ok(parts)

@@ -3,7 +3,7 @@
 ghost use Rattle.std.specs.Prelude.{ℕ, ◌<◌, ◌≤◌, IfOk, IfErr, length};
 ghost use Rattle.proto_decl.specs.Names.{components_of};
 ghost use Rattle.proto_visibility.specs.Knows.{KnowsAs, is_type};
-ghost use Rattle.proto_link.specs.Parts.{AreNamed};
+ghost use Rattle.proto_link.specs.Tables.Parts.{AreNamed};
 ghost use Rattle.proto_link.specs.Targets.{IsTarget, MayRefuseUse};
 
 use crate::lookup::name_of;

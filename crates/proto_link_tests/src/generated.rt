@@ -1,142 +1,133 @@
 //! Trees of up to 12 files that look like chance, compared with scans.
 
-use crate::dice::{Dice, word_at};
-use crate::drafts::{Draft, add_enum, add_message, add_service};
-use crate::trees::{Due, see_tree};
+use crate::drafts::Draft;
+use crate::trees::see_tree;
 use std::alloc::{AllocError, Global};
-use std::process::Abort;
 use std::test::Fail;
 
-const PATHS: [&str; 12] = [
-    "a.proto", "b.proto", "c.proto", "d.proto", "e.proto", "f.proto", "g.proto", "h.proto",
-    "i.proto", "j.proto", "k.proto", "l.proto",
+const WORDS: [&str; 12] = ["a", "b", "c", "d", "e", "f", "g", "h", "i", "j", "k", "l"];
+
+/// Parts of a file. `#` stands for one of six words, `^` and `~` for two that the whole part has, `@` for a
+/// type, and `%` for the word of a file's path.
+const PARTS: [&str; 12] = [
+    "message ^ { message ~ { @ x = 1; ^.~ # = 2; } ~ x = 1; @ y = 2; }\n",
+    "message ^ { @ x = 1; message ~ { enum # { # = 0; } @ y = 1; } .^.~ # = 2; }\n",
+    "enum # { # = 0; }\n",
+    "service # { rpc #(@) returns (@); }\n",
+    "import \"%.proto\";\n",
+    "import \"%.proto\";\n",
+    "import weak \"%.proto\";\n",
+    "import weak \"%.proto\";\n",
+    "import public \"%.proto\";\n",
+    "import public \"%.proto\";\n",
+    "import public \"%.proto\";\n",
+    "import public \"%.proto\";\n",
 ];
 
-const IMPORTS: [&str; 4] = [
-    "import public \"",
-    "import \"",
-    "import weak \"",
-    "import public \"",
-];
+const PACKAGES: [&str; 4] = ["", "package #;\n", "package #.#;\n", "package #.#.#;\n"];
 
-/// The name of a package of up to three words; none is empty.
-fn package_of(alloc: Global, dice: &mut Dice) -> Result<String, AllocError> {
-    let mut draft = Draft::new(alloc);
-    for _ in 0..dice.below(4) {
-        draft.add_word(dice.word());
-    }
-    draft.finish()
+const TYPES: [&str; 6] = ["#", "#", "#.#", "#.#.#", ".#.#", ".#"];
+
+/// A fixed sequence of numbers that looks like chance.
+#[derive(Clone, Copy)]
+struct Dice {
+    state: u32,
+    files: usize,
 }
 
-/// Adds an import of one of so many files, or at times of none.
-fn add_import(draft: &mut Draft, dice: &mut Dice, files: u8) {
-    draft.add(word_at(&IMPORTS, dice.below(4) as usize));
-    if dice.below(40) == 0 {
-        draft.add("./");
+impl Dice {
+    /// A number below this one; 0 where there is none.
+    fn below(&mut self, limit: usize) -> usize {
+        self.state = self
+            .state
+            .wrapping_mul(1_664_525)
+            .wrapping_add(1_013_904_223);
+        (self.state / 65_536) as usize % limit.max(1)
     }
-    draft.add(word_at(&PATHS, dice.below(files) as usize));
-    draft.add("\";\n");
-}
 
-fn add_part(
-    alloc: Global,
-    draft: &mut Draft,
-    dice: &mut Dice,
-    files: u8,
-    package: &str,
-    types: &mut Vec<String>,
-) -> Result<(), AllocError> {
-    match dice.below(12) {
-        0 | 1 => add_message(alloc, draft, dice, package, types),
-        2 => add_enum(alloc, draft, dice, package, types),
-        3 => {
-            add_service(draft, dice, types.as_slice());
-            Ok(())
+    /// One of the first so many items.
+    fn one_of(&mut self, items: &[&'static str], limit: usize) -> &'static str {
+        match items.get(self.below(limit)) {
+            Some(item) => *item,
+            None => "",
         }
-        _ => {
-            add_import(draft, dice, files);
-            Ok(())
+    }
+
+    /// One of six words.
+    fn word(&mut self) -> &'static str {
+        self.one_of(&WORDS, 6)
+    }
+}
+
+/// Adds a text, with a word in place of each `#`.
+fn add_words(draft: &mut Draft, dice: &mut Dice, text: &str) {
+    for mark in text.chars() {
+        match mark {
+            '#' => draft.add(dice.word()),
+            _ => draft.add_char(mark),
         }
     }
 }
 
-/// Adds the text of one of so many files, of a package, where it has one. It may use all these types;
-/// its own are added to them.
-fn add_text(
-    alloc: Global,
-    draft: &mut Draft,
-    dice: &mut Dice,
-    files: u8,
-    package: &str,
-    types: &mut Vec<String>,
-) -> Result<(), AllocError> {
-    draft.add("syntax = \"proto3\";\n");
-    if !package.is_empty() {
-        draft.add("package ");
-        draft.add(package);
-        draft.add(";\n");
-    }
-    for _ in 0..dice.below(5) {
-        add_part(alloc, draft, dice, files, package, types)?;
-    }
-    if dice.below(16) == 0 {
-        draft.add("@");
-    }
-    draft.add("|");
-    Ok(())
+fn add_type(draft: &mut Draft, dice: &mut Dice) {
+    let text = dice.one_of(&TYPES, 6);
+    add_words(draft, dice, text);
 }
 
-/// Adds one of so many files.
-fn add_file(
-    alloc: Global,
-    draft: &mut Draft,
-    dice: &mut Dice,
-    files: u8,
-    path: &str,
-    types: &mut Vec<String>,
-) -> Result<(), AllocError> {
-    draft.add(path);
-    draft.add("\n");
-    let package = package_of(alloc, dice)?;
-    add_text(alloc, draft, dice, files, package.as_str(), types)
+/// Adds the word of a file's path, or at times of none.
+fn add_path(draft: &mut Draft, dice: &mut Dice) {
+    draft.add(if dice.below(40) == 0 { "./" } else { "" });
+    let files = dice.files;
+    draft.add(dice.one_of(&WORDS, files));
 }
 
-/// Adds so many files; those from a number on are included.
-fn add_files(
-    alloc: Global,
-    draft: &mut Draft,
-    dice: &mut Dice,
-    files: u8,
-    included: u8,
-) -> Result<(), AllocError> {
-    let mut types = Vec::new(alloc);
-    for number in 0..files {
-        draft.add(if number < included { "" } else { "+" });
-        let path = word_at(&PATHS, number as usize);
-        add_file(alloc, draft, dice, files, path, &mut types)?;
+fn add_part(draft: &mut Draft, dice: &mut Dice) {
+    let (outer, inner) = (dice.word(), dice.word());
+    for mark in dice.one_of(&PARTS, 12).chars() {
+        match mark {
+            '^' => draft.add(outer),
+            '~' => draft.add(inner),
+            '#' => draft.add(dice.word()),
+            '@' => add_type(draft, dice),
+            '%' => add_path(draft, dice),
+            _ => draft.add_char(mark),
+        }
     }
-    Ok(())
 }
 
-fn tree_of(alloc: Global, dice: &mut Dice, files: u8, included: u8) -> Result<String, AllocError> {
-    let mut draft = Draft::new(alloc);
-    add_files(alloc, &mut draft, dice, files, included)?;
-    draft.finish()
+fn add_file(draft: &mut Draft, dice: &mut Dice, word: &str) {
+    draft.add(word);
+    draft.add(".proto\nsyntax = \"proto3\";\n");
+    let package = dice.one_of(&PACKAGES, 4);
+    add_words(draft, dice, package);
+    for _ in 0..dice.below(6) {
+        add_part(draft, dice);
+    }
+    draft.add(if dice.below(16) == 0 { "@|" } else { "|" });
 }
 
-/// Sees that a generated tree is linked as scans tell.
-fn see_generated(rt: &impl Abort, alloc: Global, seed: u32) -> Result<(), AllocError> {
-    let mut dice = Dice::new(seed);
-    let files = dice.below(13).max(1);
+/// A tree; of each second one the files from a number on are included.
+fn tree_of(alloc: Global, seed: u32) -> Result<String, AllocError> {
+    let mut dice = Dice {
+        state: seed,
+        files: 12,
+    };
+    dice.files = dice.below(13).max(1);
+    let files = dice.files;
     let included = if seed % 2 == 0 { 12 } else { dice.below(files) };
-    let tree = tree_of(alloc, &mut dice, files, included)?;
-    see_tree(rt, alloc, tree.as_str(), Due::Scanned, "a generated tree")
+    let mut draft = Draft::new(alloc);
+    for (number, word) in WORDS.iter().take(files).enumerate() {
+        draft.add(if number < included { "" } else { "+" });
+        add_file(&mut draft, &mut dice, *word);
+    }
+    draft.finish()
 }
 
 #[test]
 fn generated_trees(rt: HostRuntime) -> Result<(), Fail> {
-    for seed in 0..400 {
-        see_generated(&rt, rt.alloc(), seed)?;
+    for seed in 0..500 {
+        let tree = tree_of(rt.alloc(), seed)?;
+        see_tree(&rt, rt.alloc(), seed as usize, tree.as_str(), None)?;
     }
     Ok(())
 }

@@ -1,17 +1,16 @@
-//! Clashes, found by looking at each pair of items.
+//! What files declare, and the components of their packages.
 
-use crate::scans::{counts, is_before};
-use crate::trees::Sight;
-use proto_decl::Component;
-use proto_link::{FilePlace, LinkFile};
+use proto_decl::{Component, Declaration, DeclarationKind};
+use proto_link::{Entity, FilePlace, LinkFile};
 use std::alloc::{AllocError, Global};
 
-/// A declaration, or a component of a package statement.
+/// A declaration, or a component of a package statement, which has no kind.
 #[derive(Drop)]
 pub(crate) struct Item {
-    place: FilePlace,
-    full_name: String,
-    is_declaration: bool,
+    pub(crate) place: FilePlace,
+    pub(crate) full_name: String,
+    pub(crate) kind: Option<DeclarationKind>,
+    pub(crate) entity: Entity,
 }
 
 fn add_item(
@@ -19,13 +18,15 @@ fn add_item(
     items: &mut Vec<Item>,
     place: FilePlace,
     full_name: &str,
-    is_declaration: bool,
+    kind: Option<DeclarationKind>,
+    entity: Entity,
 ) -> Result<(), AllocError> {
     let full_name = String::from_str(alloc, full_name)?;
     items.push(Item {
         place,
         full_name,
-        is_declaration,
+        kind,
+        entity,
     })?;
     Ok(())
 }
@@ -37,11 +38,29 @@ fn add_package(
     components: &[Component],
 ) -> Result<(), AllocError> {
     let mut name = String::new(alloc);
-    for component in components {
+    for (index, component) in components.iter().enumerate() {
         name.push_str(component.name.as_str())?;
         let span = component.span;
-        add_item(alloc, items, FilePlace { file, span }, name.as_str(), false)?;
+        let entity = Entity::Package(index + 1);
+        let place = FilePlace { file, span };
+        add_item(alloc, items, place, name.as_str(), None, entity)?;
         name.push_str(".")?;
+    }
+    Ok(())
+}
+
+fn add_declarations(
+    alloc: Global,
+    items: &mut Vec<Item>,
+    file: usize,
+    declarations: &[Declaration],
+) -> Result<(), AllocError> {
+    for (index, declaration) in declarations.iter().enumerate() {
+        let name = declaration.full_name.as_str();
+        let span = declaration.name;
+        let entity = Entity::Declared(file, index);
+        let place = FilePlace { file, span };
+        add_item(alloc, items, place, name, Some(declaration.kind), entity)?;
     }
     Ok(())
 }
@@ -52,38 +71,39 @@ fn add_items(
     number: usize,
     file: &LinkFile,
 ) -> Result<(), AllocError> {
-    let Some(facts) = file.facts else {
-        return Ok(());
-    };
-    for declaration in facts.declarations() {
-        let place = FilePlace {
-            file: number,
-            span: declaration.name,
-        };
-        add_item(alloc, items, place, declaration.full_name.as_str(), true)?;
+    match file.facts {
+        Some(facts) => {
+            add_package(alloc, items, number, facts.package_name())?;
+            add_declarations(alloc, items, number, facts.declarations())
+        }
+        None => Ok(()),
     }
-    add_package(alloc, items, number, facts.package_name())
 }
 
-/// The items of all files that count.
+/// The items of the files with these numbers.
 pub(crate) fn items_of(
     alloc: Global,
     files: &[LinkFile],
-    sights: &[Sight],
+    numbers: &[usize],
 ) -> Result<Vec<Item>, AllocError> {
     let mut items = Vec::new(alloc);
     for (number, file) in files.iter().enumerate() {
-        if counts(files, sights, number) {
+        if numbers.contains(&number) {
             add_items(alloc, &mut items, number, file)?;
         }
     }
     Ok(items)
 }
 
+/// Whether the one place is before the other.
+pub(crate) fn is_before(place: FilePlace, other: FilePlace) -> bool {
+    place.file < other.file || (place.file == other.file && place.span.start < other.span.start)
+}
+
 fn exclude_each_other(first: &Item, second: &Item) -> bool {
     is_before(first.place, second.place)
         && first.full_name.as_str() == second.full_name.as_str()
-        && (first.is_declaration || second.is_declaration)
+        && (first.kind.is_some() || second.kind.is_some())
 }
 
 /// The lesser of two pairs, by the second places, and then by the first ones.
@@ -91,13 +111,12 @@ fn lesser(
     least: Option<(FilePlace, FilePlace)>,
     pair: (FilePlace, FilePlace),
 ) -> Option<(FilePlace, FilePlace)> {
-    let Some((first, second)) = least else {
-        return Some(pair);
-    };
-    if is_before(pair.1, second) || (pair.1 == second && is_before(pair.0, first)) {
-        Some(pair)
-    } else {
-        least
+    match least {
+        Some((first, second))
+            if is_before(second, pair.1) || (second == pair.1 && is_before(first, pair.0)) => {
+            least
+        }
+        _ => Some(pair),
     }
 }
 

@@ -1,149 +1,46 @@
 //! What uses name, found by looking at each name that a file knows.
 
+ghost use Rattle.std.specs.Prelude.{◌≡◌, ◌<◌, length};
+
 use crate::drafts::Draft;
-use crate::trees::Sight;
-use proto_decl::{Component, Declaration, DeclarationKind, FileFacts, Use};
-use proto_link::{Entity, FilePlace, LinkFault, LinkFile, Target};
+use crate::items::{Item, items_of};
+use crate::scans::seen_by;
+use proto_decl::{Component, DeclarationKind, Use};
+use proto_link::{Entity, FilePlace, LinkFault, LinkFile, Linker, Target};
 use std::alloc::{AllocError, Global};
 
-/// What a name is looked for as.
-#[derive(Clone, Copy)]
-enum Role {
-    Type,
-    Aggregate,
-}
-
-/// A full name that a file knows, and what it names; a package has no kind.
-#[derive(Drop)]
-pub(crate) struct Known {
-    name: String,
-    kind: Option<DeclarationKind>,
-    entity: Entity,
-}
-
-fn add_known(
-    alloc: Global,
-    known: &mut Vec<Known>,
-    name: &str,
-    kind: Option<DeclarationKind>,
-    entity: Entity,
-) -> Result<(), AllocError> {
-    let name = String::from_str(alloc, name)?;
-    known.push(Known { name, kind, entity })?;
-    Ok(())
-}
-
-fn add_packages(
-    alloc: Global,
-    known: &mut Vec<Known>,
-    components: &[Component],
-) -> Result<(), AllocError> {
-    let mut name = String::new(alloc);
-    for (index, component) in components.iter().enumerate() {
-        name.push_str(component.name.as_str())?;
-        add_known(
-            alloc,
-            known,
-            name.as_str(),
-            None,
-            Entity::Package(index + 1),
-        )?;
-        name.push_str(".")?;
-    }
-    Ok(())
-}
-
-fn add_declarations(
-    alloc: Global,
-    known: &mut Vec<Known>,
-    number: usize,
-    declarations: &[Declaration],
-) -> Result<(), AllocError> {
-    for (index, declaration) in declarations.iter().enumerate() {
-        let name = declaration.full_name.as_str();
-        let entity = Entity::Declared(number, index);
-        add_known(alloc, known, name, Some(declaration.kind), entity)?;
-    }
-    Ok(())
-}
-
-fn add_names(
-    alloc: Global,
-    known: &mut Vec<Known>,
-    number: usize,
-    facts: &FileFacts,
-) -> Result<(), AllocError> {
-    add_packages(alloc, known, facts.package_name())?;
-    add_declarations(alloc, known, number, facts.declarations())
-}
-
-/// What the files that a file sees declare, and their packages with those above them.
-pub(crate) fn known_to(
-    alloc: Global,
-    files: &[LinkFile],
-    sights: &[Sight],
-    file: usize,
-) -> Result<Vec<Known>, AllocError> {
-    let mut known = Vec::new(alloc);
-    for (number, other) in files.iter().enumerate() {
-        if let Some(facts) = other.facts {
-            if sights.contains(&(file, number, true)) {
-                add_names(alloc, &mut known, number, facts)?;
-            }
-        }
-    }
-    Ok(known)
-}
-
-fn is_sought(kind: Option<DeclarationKind>, role: Role) -> bool {
+/// Whether a name of this kind is one of a type, or, where those are asked for, of another aggregate.
+fn is_sought(kind: Option<DeclarationKind>, aggregates: bool) -> bool {
     match kind {
         Some(DeclarationKind::Message | DeclarationKind::Enum) => true,
-        Some(DeclarationKind::Service) | None => match role {
-            Role::Type => false,
-            Role::Aggregate => true,
-        },
+        Some(DeclarationKind::Service) | None => aggregates,
         Some(_) => false,
     }
 }
 
-fn is_known(known: &[Known], name: &str, role: Role) -> bool {
-    for candidate in known {
-        if candidate.name.as_str() == name && is_sought(candidate.kind, role) {
+fn is_known(known: &[Item], name: &str, aggregates: bool) -> bool {
+    for item in known {
+        if item.full_name.as_str() == name && is_sought(item.kind, aggregates) {
             return true;
         }
     }
     false
 }
 
-fn is_known_as(known: &[Known], name: &str, entity: Entity) -> bool {
-    for candidate in known {
-        if candidate.name.as_str() == name && candidate.entity == entity {
+fn is_known_as(known: &[Item], name: &str, entity: Entity) -> bool {
+    for item in known {
+        if item.full_name.as_str() == name && item.entity == entity {
             return true;
         }
     }
     false
 }
 
-/// How many words a name has.
 fn words_of(name: &str) -> usize {
     name.split_terminator('.').count()
 }
 
-/// Adds so many of the words of a name.
-fn add_front(draft: &mut Draft, name: &str, count: usize) {
-    for word in name.split_terminator('.').take(count) {
-        draft.add_word(word);
-    }
-}
-
-/// So many of the words of a name.
-fn front_of(alloc: Global, name: &str, count: usize) -> Result<String, AllocError> {
-    let mut draft = Draft::new(alloc);
-    add_front(&mut draft, name, count);
-    draft.finish()
-}
-
-/// The name that components are in a scope, of which so many words count.
+/// So many of the words of a scope, and components behind them.
 fn name_in(
     alloc: Global,
     scope: &str,
@@ -151,7 +48,9 @@ fn name_in(
     components: &[Component],
 ) -> Result<String, AllocError> {
     let mut draft = Draft::new(alloc);
-    add_front(&mut draft, scope, count);
+    for word in scope.split_terminator('.').take(count) {
+        draft.add_word(word);
+    }
     for component in components {
         draft.add_word(component.name.as_str());
     }
@@ -161,28 +60,28 @@ fn name_in(
 /// Whether components are known in a scope, of which so many words count.
 fn is_known_in(
     alloc: Global,
-    known: &[Known],
+    known: &[Item],
     scope: &str,
     count: usize,
     components: &[Component],
-    role: Role,
+    aggregates: bool,
 ) -> Result<bool, AllocError> {
     let name = name_in(alloc, scope, count, components)?;
-    Ok(is_known(known, name.as_str(), role))
+    Ok(is_known(known, name.as_str(), aggregates))
 }
 
-/// With how many words the scope is the innermost one in which components are known: all scopes are
+/// With how many words a scope is the innermost one in which components are known: all scopes are
 /// tried, from the root on, and the last one counts.
 fn innermost(
     alloc: Global,
-    known: &[Known],
+    known: &[Item],
     scope: &str,
     components: &[Component],
-    role: Role,
+    aggregates: bool,
 ) -> Result<Option<usize>, AllocError> {
     let mut found = None;
     for count in 0..=words_of(scope) {
-        if is_known_in(alloc, known, scope, count, components, role)? {
+        if is_known_in(alloc, known, scope, count, components, aggregates)? {
             found = Some(count);
         }
     }
@@ -190,32 +89,28 @@ fn innermost(
 }
 
 /// In which scope a use is looked for, by its number of words.
-fn start_of(
-    alloc: Global,
-    known: &[Known],
-    scope: &str,
-    type_use: &Use,
-) -> Result<Option<usize>, AllocError> {
-    if type_use.has_leading_dot {
-        return Ok(Some(0));
-    }
+fn start_of(alloc: Global, known: &[Item], type_use: &Use) -> Result<Option<usize>, AllocError> {
     let components = type_use.components.as_slice();
-    match components {
-        [] => Ok(None),
-        [_] => innermost(alloc, known, scope, components, Role::Type),
-        [_, others @ ..] => {
-            let first = components.len() - others.len();
-            innermost(alloc, known, scope, &components[..first], Role::Aggregate)
-        }
+    let first = components.split_at(components.len().min(1)).0;
+    if type_use.has_leading_dot {
+        Ok(Some(0))
+    } else {
+        innermost(
+            alloc,
+            known,
+            type_use.scope.as_str(),
+            first,
+            components.len() > 1,
+        )
     }
 }
 
 /// The full name of the type that a use names.
-fn name_of(alloc: Global, known: &[Known], type_use: &Use) -> Result<Option<String>, AllocError> {
+fn name_of(alloc: Global, known: &[Item], type_use: &Use) -> Result<Option<String>, AllocError> {
     let scope = type_use.scope.as_str();
     let components = type_use.components.as_slice();
-    match start_of(alloc, known, scope, type_use)? {
-        Some(count) if is_known_in(alloc, known, scope, count, components, Role::Type)? => {
+    match start_of(alloc, known, type_use)? {
+        Some(count) if is_known_in(alloc, known, scope, count, components, false)? => {
             Ok(Some(name_in(alloc, scope, count, components)?))
         }
         _ => Ok(None),
@@ -224,36 +119,19 @@ fn name_of(alloc: Global, known: &[Known], type_use: &Use) -> Result<Option<Stri
 
 fn is_part(
     alloc: Global,
-    known: &[Known],
+    known: &[Item],
     name: &str,
     count: usize,
     part: Entity,
 ) -> Result<bool, AllocError> {
-    let front = front_of(alloc, name, count)?;
+    let front = name_in(alloc, name, count, &[])?;
     Ok(is_known_as(known, front.as_str(), part))
 }
 
-/// Whether each part is known by the words of a name up to it.
-fn are_parts(
-    alloc: Global,
-    known: &[Known],
-    name: &str,
-    parts: &[Entity],
-) -> Result<bool, AllocError> {
-    let before = words_of(name).saturating_sub(parts.len());
-    for (index, part) in parts.iter().enumerate() {
-        let count = before.saturating_add(index + 1);
-        if !is_part(alloc, known, name, count, *part)? {
-            return Ok(false);
-        }
-    }
-    Ok(true)
-}
-
-/// Whether a target has this name and so many parts, each known by the name up to it.
+/// Whether a target has this name and so many parts, each known by the words of the name up to it.
 fn is_target(
     alloc: Global,
-    known: &[Known],
+    known: &[Item],
     target: &Target,
     name: &str,
     count: usize,
@@ -262,13 +140,19 @@ fn is_target(
     if parts.len() != count || target.name.as_str() != name {
         return Ok(false);
     }
-    are_parts(alloc, known, name, parts)
+    let before = words_of(name).saturating_sub(count);
+    for (index, part) in parts.iter().enumerate() {
+        if !is_part(alloc, known, name, before.saturating_add(index + 1), *part)? {
+            return Ok(false);
+        }
+    }
+    Ok(true)
 }
 
 /// Whether a use of a file that names a type with this name, or none, has this answer.
 fn is_due_of(
     alloc: Global,
-    known: &[Known],
+    known: &[Item],
     file: usize,
     type_use: &Use,
     answer: &Result<Target, LinkFault>,
@@ -279,6 +163,7 @@ fn is_due_of(
             let count = type_use.components.as_slice().len();
             is_target(alloc, known, target, name.as_str(), count)
         }
+        (Err(LinkFault::Memory), _) => Err(AllocError),
         (Err(fault), None) => {
             let span = type_use.span;
             Ok(*fault == LinkFault::Unresolved(FilePlace { file, span }))
@@ -287,14 +172,105 @@ fn is_due_of(
     }
 }
 
-/// Whether a use of a file, which knows these names, has this answer.
-pub(crate) fn is_due(
+fn is_due(
     alloc: Global,
-    known: &[Known],
+    known: &[Item],
     file: usize,
     type_use: &Use,
     answer: &Result<Target, LinkFault>,
 ) -> Result<bool, AllocError> {
     let name = name_of(alloc, known, type_use)?;
     is_due_of(alloc, known, file, type_use, answer, name.as_ref())
+}
+
+fn is_resolved_as_due(
+    alloc: Global,
+    linker: &Linker,
+    known: &[Item],
+    file: usize,
+    type_use: &Use,
+) -> Result<bool, AllocError>
+    requires { file < length linker.now }
+{
+    let answer = linker.resolve(alloc, file, type_use);
+    is_due(alloc, known, file, type_use, &answer)
+}
+
+fn are_resolved_as_due(
+    alloc: Global,
+    linker: &Linker,
+    known: &[Item],
+    file: usize,
+    uses: &[Use],
+) -> Result<bool, AllocError>
+    requires { file < length linker.now }
+{
+    for type_use in uses {
+        if !is_resolved_as_due(alloc, linker, known, file, type_use)? {
+            return Ok(false);
+        }
+    }
+    Ok(true)
+}
+
+/// Whether a file sees the files with these numbers, and no others.
+fn sees(linker: &Linker, file: usize, seen: &[usize]) -> bool
+    requires { file < length linker.now }
+{
+    for other in 0..linker.count() {
+        if linker.visible(file, other) != seen.contains(&other) {
+            return false;
+        }
+    }
+    true
+}
+
+fn uses_are_due(
+    alloc: Global,
+    linker: &Linker,
+    files: &[LinkFile],
+    file: usize,
+    seen: &[usize],
+    uses: &[Use],
+) -> Result<bool, AllocError>
+    requires { file < length linker.now }
+{
+    let known = items_of(alloc, files, seen)?;
+    are_resolved_as_due(alloc, linker, known.as_slice(), file, uses)
+}
+
+fn is_file_due(
+    alloc: Global,
+    linker: &Linker,
+    files: &[LinkFile],
+    file: usize,
+    uses: &[Use],
+) -> Result<bool, AllocError>
+    requires { file < length linker.now }
+{
+    let seen = seen_by(alloc, files, file)?;
+    if !sees(linker, file, seen.as_slice()) {
+        return Ok(false);
+    }
+    uses_are_due(alloc, linker, files, file, seen.as_slice(), uses)
+}
+
+/// Whether each file sees the files, and the uses of each name the types, that scans tell.
+pub(crate) fn mean_as_scanned(
+    alloc: Global,
+    linker: &Linker,
+    files: &[LinkFile],
+) -> Result<bool, AllocError>
+    requires { length linker.now ≡ length files.now }
+{
+    for (number, file) in files.iter().enumerate() {
+        let uses = match file.facts {
+            Some(facts) => facts.uses(),
+            None => &[],
+        };
+        if !is_file_due(alloc, linker, files, number, uses)? {
+            return Ok(false);
+        }
+    }
+    Ok(true)
 }

@@ -1,7 +1,6 @@
-//! What linking answers, found by scans of all files.
+//! Which files see which, and why files can't be linked, found by scans of all files.
 
-use crate::items::{Item, first_clash, items_of};
-use crate::trees::Sight;
+use crate::items::{first_clash, is_before, items_of};
 use proto_link::{FilePlace, LinkFault, LinkFile};
 use proto_parse::ImportKind;
 use std::alloc::{AllocError, Global};
@@ -31,92 +30,75 @@ fn is_publicly_imported(files: &[LinkFile], by: &[usize], path: &str) -> bool {
     false
 }
 
-fn add_imported(files: &[LinkFile], file: usize, seen: &mut Vec<usize>) -> Result<(), AllocError> {
-    for (other, imported) in files.iter().enumerate() {
-        if imports(files, file, imported.path, false) {
-            seen.push(other)?;
-        }
-    }
-    Ok(())
-}
-
-fn add_public(files: &[LinkFile], seen: &mut Vec<usize>) -> Result<(), AllocError> {
-    for (other, imported) in files.iter().enumerate() {
-        if !seen.contains(&other) && is_publicly_imported(files, seen.as_slice(), imported.path) {
-            seen.push(other)?;
-        }
-    }
-    Ok(())
-}
-
-/// Adds what a file sees: itself, what it imports, and, as often as there are files, what those
+/// Adds the files that this one imports, or, of one that isn't asked for, those that the files seen
 /// publicly import.
-fn add_seen(files: &[LinkFile], file: usize, seen: &mut Vec<usize>) -> Result<(), AllocError> {
-    seen.push(file)?;
-    add_imported(files, file, seen)?;
-    for _ in files {
-        add_public(files, seen)?;
-    }
-    Ok(())
-}
-
-fn seen_by(alloc: Global, files: &[LinkFile], file: usize) -> Result<Vec<usize>, AllocError> {
-    let mut seen = Vec::new(alloc);
-    add_seen(files, file, &mut seen)?;
-    Ok(seen)
-}
-
-fn add_sights_of(
+fn add_imported(
     files: &[LinkFile],
-    file: usize,
-    seen: &[usize],
-    sights: &mut Vec<Sight>,
+    of: Option<usize>,
+    seen: &mut Vec<usize>,
 ) -> Result<(), AllocError> {
-    for other in 0..files.len() {
-        sights.push((file, other, seen.contains(&other)))?;
+    for (other, imported) in files.iter().enumerate() {
+        let is_imported = match of {
+            Some(file) => imports(files, file, imported.path, false),
+            None => is_publicly_imported(files, seen.as_slice(), imported.path),
+        };
+        if is_imported && !seen.contains(&other) {
+            seen.push(other)?;
+        }
     }
     Ok(())
 }
 
-fn add_sights(
+/// What a file sees: itself, what it imports, and, until there is no more, what those publicly import.
+pub(crate) fn seen_by(
     alloc: Global,
     files: &[LinkFile],
     file: usize,
-    sights: &mut Vec<Sight>,
-) -> Result<(), AllocError> {
-    let seen = seen_by(alloc, files, file)?;
-    add_sights_of(files, file, seen.as_slice(), sights)
-}
-
-/// Whether each file sees each other one.
-pub(crate) fn sights(alloc: Global, files: &[LinkFile]) -> Result<Vec<Sight>, AllocError> {
-    let mut sights = Vec::new(alloc);
-    for file in 0..files.len() {
-        add_sights(alloc, files, file, &mut sights)?;
-    }
-    Ok(sights)
-}
-
-fn is_source(files: &[LinkFile], file: usize) -> bool {
-    match files.get(file) {
-        Some(file) => !file.included,
-        None => false,
-    }
-}
-
-/// Whether some source sees a file.
-pub(crate) fn counts(files: &[LinkFile], sights: &[Sight], file: usize) -> bool {
-    for (source, other, seen) in sights {
-        if *other == file && *seen && is_source(files, *source) {
-            return true;
+) -> Result<Vec<usize>, AllocError> {
+    let mut seen = Vec::new(alloc);
+    add_imported(files, Some(file), &mut seen)?;
+    for _ in files {
+        let count = seen.len();
+        add_imported(files, None, &mut seen)?;
+        if seen.len() == count {
+            break;
         }
     }
-    false
+    seen.push(file)?;
+    Ok(seen)
 }
 
-fn first_unread(files: &[LinkFile], sights: &[Sight]) -> Option<usize> {
+fn add_all(counted: &mut Vec<usize>, seen: &[usize]) -> Result<(), AllocError> {
+    for file in seen {
+        counted.push(*file)?;
+    }
+    Ok(())
+}
+
+fn add_seen(
+    alloc: Global,
+    files: &[LinkFile],
+    source: usize,
+    counted: &mut Vec<usize>,
+) -> Result<(), AllocError> {
+    let seen = seen_by(alloc, files, source)?;
+    add_all(counted, seen.as_slice())
+}
+
+/// The files that some source sees.
+fn counted_of(alloc: Global, files: &[LinkFile]) -> Result<Vec<usize>, AllocError> {
+    let mut counted = Vec::new(alloc);
+    for (source, file) in files.iter().enumerate() {
+        if !file.included {
+            add_seen(alloc, files, source, &mut counted)?;
+        }
+    }
+    Ok(counted)
+}
+
+fn first_unread(files: &[LinkFile], counted: &[usize]) -> Option<usize> {
     for (number, file) in files.iter().enumerate() {
-        if file.facts.is_none() && counts(files, sights, number) {
+        if file.facts.is_none() && counted.contains(&number) {
             return Some(number);
         }
     }
@@ -132,14 +114,9 @@ fn has_path(files: &[LinkFile], path: &str) -> bool {
     false
 }
 
-/// Whether the one place is before the other.
-pub(crate) fn is_before(place: FilePlace, other: FilePlace) -> bool {
-    place.file < other.file || (place.file == other.file && place.span.start < other.span.start)
-}
-
 fn lesser(least: Option<FilePlace>, place: FilePlace) -> Option<FilePlace> {
     match least {
-        Some(so_far) if !is_before(place, so_far) => Some(so_far),
+        Some(so_far) if is_before(so_far, place) => least,
         _ => Some(place),
     }
 }
@@ -154,50 +131,44 @@ fn least_absent(
         return least;
     };
     for import in facts.imports() {
-        let needed = !file.included || import.kind == ImportKind::Public;
-        if needed && !has_path(files, import.path.as_str()) {
-            least = lesser(
-                least,
-                FilePlace {
-                    file: number,
-                    span: import.span,
-                },
-            );
+        let is_needed = !file.included || import.kind == ImportKind::Public;
+        if is_needed && !has_path(files, import.path.as_str()) {
+            let span = import.span;
+            least = lesser(least, FilePlace { file: number, span });
         }
     }
     least
 }
 
-fn first_absent(files: &[LinkFile], sights: &[Sight]) -> Option<FilePlace> {
+fn first_absent(files: &[LinkFile], counted: &[usize]) -> Option<FilePlace> {
     let mut least = None;
     for (number, file) in files.iter().enumerate() {
-        if counts(files, sights, number) {
+        if counted.contains(&number) {
             least = least_absent(files, number, file, least);
         }
     }
     least
 }
 
-/// Why files with these items, which are all read, can't be linked, if they can't.
-fn fault_of(files: &[LinkFile], sights: &[Sight], items: &[Item]) -> Option<LinkFault> {
-    match first_clash(items) {
-        Some((first, second)) => Some(LinkFault::Duplicate(first, second)),
-        None => match first_absent(files, sights) {
-            Some(place) => Some(LinkFault::MissingImport(place)),
-            None => None,
-        },
+fn fault_of_counted(
+    alloc: Global,
+    files: &[LinkFile],
+    counted: &[usize],
+) -> Result<Option<LinkFault>, AllocError> {
+    if let Some(file) = first_unread(files, counted) {
+        return Ok(Some(LinkFault::Broken(file)));
     }
+    let absent = first_absent(files, counted);
+    let items = items_of(alloc, files, counted)?;
+    Ok(match (first_clash(items.as_slice()), absent) {
+        (Some((first, second)), _) => Some(LinkFault::Duplicate(first, second)),
+        (None, Some(place)) => Some(LinkFault::MissingImport(place)),
+        (None, None) => None,
+    })
 }
 
 /// Why files can't be linked, if they can't.
-pub(crate) fn fault(
-    alloc: Global,
-    files: &[LinkFile],
-    sights: &[Sight],
-) -> Result<Option<LinkFault>, AllocError> {
-    if let Some(file) = first_unread(files, sights) {
-        return Ok(Some(LinkFault::Broken(file)));
-    }
-    let items = items_of(alloc, files, sights)?;
-    Ok(fault_of(files, sights, items.as_slice()))
+pub(crate) fn fault_of(alloc: Global, files: &[LinkFile]) -> Result<Option<LinkFault>, AllocError> {
+    let counted = counted_of(alloc, files)?;
+    fault_of_counted(alloc, files, counted.as_slice())
 }

@@ -24,9 +24,9 @@ use Rattle.proto_grammar.specs.Lexeme.{Lexeme}
 use Rattle.proto_parse.specs.Limits.{max_message_depth}
 use Rattle.proto_grammar.specs.Tree.{MessageTree}
 use Rattle.proto_grammar.specs.Items.{body_of}
-use Rattle.proto_grammar.specs.Grammar.Steps.{Until, Adds}
-use Rattle.proto_grammar.specs.Grammar.Steps.Until.{done, more}
-use Rattle.proto_grammar.specs.Grammar.Steps.Adds.{adds}
+use Rattle.proto_grammar.specs.Grammar.Repetition.{Until, Adds}
+use Rattle.proto_grammar.specs.Grammar.Repetition.Until.{done, more}
+use Rattle.proto_grammar.specs.Grammar.Repetition.Adds.{adds}
 use Rattle.proto_grammar.specs.Grammar.Names.{IsName, IsTypeName, IsType}
 use Rattle.proto_grammar.specs.Grammar.Names.IsName.{name}
 use Rattle.proto_grammar.specs.Grammar.Names.IsTypeName.{rooted, plain as plain_name}

@@ -4,7 +4,7 @@ use Rattle.std.specs.List.{starts_with}
 use Rattle.proto_grammar.specs.declared.tree.CustomOptions.{CustomOptions}
 use Rattle.proto_grammar.specs.Terminal.{between_quotes}
 use Rattle.proto_parse.specs.Grammar.Messages.{IsMessage}
-use Rattle.proto_grammar.specs.Reading.Steps.{adding, passing}
+use Rattle.proto_grammar.specs.Reading.Repetition.{adding, passing}
 use Rattle.proto_parse.specs.Reading.Messages.{enum_item_at, oneof_item_at, extend_item_at, message_item_at, message_at}
 use Rattle.proto_parse.specs.Reading.Services.{method_item_at, service_item_at}
 use Rattle.proto_parse.specs.Reading.Files.{stripped_at, path_literal_at, statement_at}

@@ -5,7 +5,7 @@ ghost use Rattle.proto_parse.specs.Choice.{message_statement_of};
 ghost use Rattle.proto_grammar.specs.Gives.{Gives};
 ghost use Rattle.proto_grammar.specs.declared.tree.CustomOptions.TheVariants.{Skip};
 ghost use Rattle.proto_grammar.specs.Terminal.{closes};
-ghost use Rattle.proto_grammar.specs.Reading.Steps.{until_at, adding};
+ghost use Rattle.proto_grammar.specs.Reading.Repetition.{until_at, adding};
 ghost use Rattle.proto_parse.specs.Reading.Messages.{oneof_item_at, oneof_items_at, oneof_at, extend_item_at};
 ghost use Rattle.proto_parse.specs.Reading.Messages.{extend_items_at, extend_at, message_item_at, message_of_at};
 ghost use Rattle.proto_parse.specs.Reading.Messages.{message_at};

@@ -19,7 +19,7 @@ use Rattle.proto_visibility.specs.Sees.SeesBy.{itself}
 use Rattle.proto_visibility.specs.Items.{Before}
 use Rattle.proto_visibility.specs.Absences.{IsNeeded, IsMissing, Absent, NoAbsent}
 use Rattle.proto_visibility.specs.Absences.IsNeeded.{of_source, of_included}
-use Rattle.proto_visibility.specs.Tables.StepTables.{imports_in, imports_of, is_absent, NoneIsAbsent, IsFirstAbsent}
+use Rattle.proto_visibility.specs.Tables.ImportTables.{imports_in, imports_of, is_absent, NoneIsAbsent, IsFirstAbsent}
 use Rattle.proto_visibility.proofs.FileRowLemmas.{not_falling}
 
 -- ---- imports in order
@@ -227,7 +227,7 @@ module _ (files : List File) (number : List ℕ → Option ℕ) (numbered : (pat
             let stands_at : slice_get (imports_of file) at.3.0 ≡ Some m.import = subst (λ f. slice_get (imports_of f) at.3.0 ≡ Some m.import) equal at.3.1 in
             let absent_at : is_absent number file.is_included m.import ≡ true = subst (λ f. is_absent number f.is_included m.import ≡ true) equal at.3.2 in
             elim (cases_lt at.3.0 first.index) [
-              | inl front ↦ false≢true (sym (first.first at.3.0 m.import front stands_at) ∙ absent_at)
+              | inl prefix ↦ false≢true (sym (first.first at.3.0 m.import prefix stands_at) ∙ absent_at)
               | inr behind ↦ (
                   let rise = starts_rise (imports_of file) 0 first.index at.3.0 first.import m.import order first.stands stands_at behind in
                   let a = ap (λ (s : Span). s.start) first.place in
@@ -240,7 +240,7 @@ module _ (files : List File) (number : List ℕ → Option ℕ) (numbered : (pat
             let at = index_of other m in
             let i = place_in_row other.file at.2 in
             elim (cases_lt i.0 count) [
-              | inl front ↦ not_in_front count other none m i.0 front i.2
+              | inl prefix ↦ not_in_front count other none m i.0 prefix i.2
               | inr behind ↦ (let rise = not_falling row rises count i.0 behind i.1 in omega (arith, i.2))
             ]
         least other m (inr same) = same_file other m same.0 same.1

@@ -14,16 +14,16 @@ use Rattle.proto_visibility.specs.Sees.{Counts}
 use Rattle.proto_visibility.specs.Items.{Item, IsItem, Before}
 use Rattle.proto_visibility.specs.Items.IsItem.{declared, packaged}
 use Rattle.proto_visibility.specs.Tables.NameTables.{AreInPlace}
-use Rattle.proto_visibility.specs.Tables.FileItems.{AreFronts, declared_item, IsItemOf, IsItemIn, package_name_of}
-use Rattle.proto_visibility.proofs.SeeingLemmas.{slice_get_front}
-use Rattle.proto_visibility.proofs.StepLemmas.{only}
+use Rattle.proto_visibility.specs.Tables.FileItems.{ArePrefixes, declared_item, IsItemOf, IsItemIn, package_name_of}
+use Rattle.proto_visibility.proofs.SeeingLemmas.{slice_get_prefix}
+use Rattle.proto_visibility.proofs.ImportTableLemmas.{only}
 use Rattle.proto_visibility.proofs.ItemLemmas.{file_of_item}
 
--- ---- fronts
+-- ---- prefixes
 
 -- those of the first files
-abbrev pub AreFrontsUpTo : List File → List (List (List ℕ)) → Type 0
-AreFrontsUpTo files fronts = (number : ℕ) (file : File) (its : List (List ℕ)) → slice_get files number ≡ Some file → slice_get fronts number ≡ Some its → AreFronts (package_name_of file) its
+abbrev pub ArePrefixesUpTo : List File → List (List (List ℕ)) → Type 0
+ArePrefixesUpTo files prefixes = (number : ℕ) (file : File) (its : List (List ℕ)) → slice_get files number ≡ Some file → slice_get prefixes number ≡ Some its → ArePrefixes (package_name_of file) its
 
 one_File : (a b : File) → Some a ≡ Some b → a ≡ b
 one_File a b e = cc
@@ -34,16 +34,16 @@ one_List a b e = cc
 slice_get_last : {X : Type 0} (xs : List X) (x : X) (k : ℕ) → k ≡ length xs → slice_get (xs ++ x ∷ []) k ≡ Some x
 slice_get_last xs x k is = slice_get-get_or (xs ++ x ∷ []) k x (omega (arith, length_push xs x)) ∙ ap Some (get_or_push xs x x k (sym is))
 
-pub fronts_more : (files : List File) (fronts : List (List (List ℕ))) (count : ℕ) (file : File) (its : List (List ℕ)) → length fronts ≡ count → slice_get files count ≡ Some file → AreFronts (package_name_of file) its
-    → AreFrontsUpTo files fronts → AreFrontsUpTo files (fronts ++ its ∷ [])
-fronts_more files fronts count file its size stands here each number one ones at there = elim (cases_lt number count) [
-  | inl before ↦ each number one ones at (sym (slice_get_front fronts (its ∷ []) number (omega arith)) ∙ there)
+pub prefixes_more : (files : List File) (prefixes : List (List (List ℕ))) (count : ℕ) (file : File) (its : List (List ℕ)) → length prefixes ≡ count → slice_get files count ≡ Some file → ArePrefixes (package_name_of file) its
+    → ArePrefixesUpTo files prefixes → ArePrefixesUpTo files (prefixes ++ its ∷ [])
+prefixes_more files prefixes count file its size stands here each number one ones at there = elim (cases_lt number count) [
+  | inl before ↦ each number one ones at (sym (slice_get_prefix prefixes (its ∷ []) number (omega arith)) ∙ there)
   | inr last ↦ (
-      let within = slice_get_within (fronts ++ its ∷ []) number ones there in
-      let is : number ≡ count = omega (arith, length_push fronts its) in
+      let within = slice_get_within (prefixes ++ its ∷ []) number ones there in
+      let is : number ≡ count = omega (arith, length_push prefixes its) in
       let same : one ≡ file = one_File one file (sym at ∙ (ap (slice_get files) is ∙ stands)) in
-      let its_is : ones ≡ its = one_List ones its (sym there ∙ slice_get_last fronts its number (is ∙ sym size)) in
-      subst (λ f. AreFronts (package_name_of f) ones) (sym same) (subst (λ (v : List (List ℕ)). AreFronts (package_name_of file) v) (sym its_is) here))
+      let its_is : ones ≡ its = one_List ones its (sym there ∙ slice_get_last prefixes its number (is ∙ sym size)) in
+      subst (λ f. ArePrefixes (package_name_of f) ones) (sym same) (subst (λ (v : List (List ℕ)). ArePrefixes (package_name_of file) v) (sym its_is) here))
 ]
 
 -- ---- items
@@ -64,11 +64,11 @@ slice_get_behind xs ys k y h stands =
 -- two lists of which the second is of a later file
 pub in_place_both : (xs ys : List Item) → AreInPlace xs → AreInPlace ys → ((a b : Item) → Contains xs a → Contains ys b → Before a.place b.place) → AreInPlace (xs ++ ys)
 in_place_both xs ys first second across j k a b less at there = elim (cases_lt k (length xs)) [
-  | inl k_front ↦ first j k a b less (sym (slice_get_front xs ys j (omega arith)) ∙ at) (sym (slice_get_front xs ys k k_front) ∙ there)
+  | inl k_front ↦ first j k a b less (sym (slice_get_prefix xs ys j (omega arith)) ∙ at) (sym (slice_get_prefix xs ys k k_front) ∙ there)
   | inr k_behind ↦ (
       let b_at = slice_get_behind xs ys k b k_behind there in
       elim (cases_lt j (length xs)) [
-        | inl j_front ↦ across a b (contained xs j a (sym (slice_get_front xs ys j j_front) ∙ at)) (contained ys (k - length xs) b b_at)
+        | inl j_front ↦ across a b (contained xs j a (sym (slice_get_prefix xs ys j j_front) ∙ at)) (contained ys (k - length xs) b b_at)
         | inr j_behind ↦ second (j - length xs) (k - length xs) a b (omega arith) (slice_get_behind xs ys j a j_behind at) b_at
       ])
 ]

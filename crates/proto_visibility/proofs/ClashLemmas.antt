@@ -11,7 +11,7 @@ use Rattle.proto_visibility.specs.declared.place.FilePlace.{FilePlace}
 use Rattle.proto_visibility.specs.Items.{Before, Item}
 use Rattle.proto_visibility.specs.Clashes.{Excludes, ClashBy, NoClashBy}
 use Rattle.proto_visibility.specs.Tables.NameTables.{AreInPlace, HasNone, IsFirstNamed, AreFirst, place_if_declared, clash_with}
-use Rattle.proto_visibility.specs.Tables.StepTables.{number_in}
+use Rattle.proto_visibility.specs.Tables.ImportTables.{number_in}
 
 -- ---- places
 
@@ -143,16 +143,16 @@ is_clash items count item first place placed stands is found so_far =
           least_second = λ a b e before.
               let ja = contained_at items a e.first_is in
               let jb = contained_at items b e.second_is in
-              let front = in_order items placed jb.0 count b item jb.1 stands before in
+              let prefix = in_order items placed jb.0 count b item jb.1 stands before in
               let order = in_order items placed ja.0 jb.0 a b ja.1 jb.1 e.ordered in
-              false≢true (sym (so_far ja.0 jb.0 a b order front ja.1 jb.1 e.one_name) ∙ e.declares);
+              false≢true (sym (so_far ja.0 jb.0 a b order prefix ja.1 jb.1 e.one_name) ∙ e.declares);
           least_first = λ a b e here before.
               let ja = contained_at items a e.first_is in
               let jb = contained_at items b e.second_is in
               let is_last = one_index items placed jb.0 count b item jb.1 stands here in
               let equal : b ≡ item = one_Item b item (sym jb.1 ∙ (ap (slice_get items) is_last ∙ stands)) in
-              let front = in_order items placed ja.0 at.0 a at.1 ja.1 at.3 (subst (λ p. Before a.place p) (sym at.4) before) in
-              f.first ja.0 a front ja.1 (e.one_name ∙ ap (λ (x : Item). x.full_name) equal);
+              let prefix = in_order items placed ja.0 at.0 a at.1 ja.1 at.3 (subst (λ p. Before a.place p) (sym at.4) before) in
+              f.first ja.0 a prefix ja.1 (e.one_name ∙ ap (λ (x : Item). x.full_name) equal);
         }
 
 pub no_clash : (items : List Item) (count : ℕ) → AreInPlace items → length items ≤ count → NoneClash items count → NoClashBy (Contains items)

@@ -12,11 +12,11 @@ use Rattle.proto_visibility.specs.declared.entities.Entity.TheVariants.{Package,
 use Rattle.proto_visibility.specs.declared.names.DeclaredAt.{DeclaredAt}
 use Rattle.proto_visibility.specs.declared.names.Names.{Names}
 use Rattle.proto_visibility.specs.Files.{File, HasFacts}
-use Rattle.proto_visibility.specs.Given.{IsFront}
+use Rattle.proto_visibility.specs.FileNames.{IsPrefix}
 use Rattle.proto_visibility.specs.Tables.GivenNames.{listed_at, AreNames, AreNamesOf}
 use Rattle.proto_visibility.specs.Entities.{IsEntityOf}
 use Rattle.proto_visibility.specs.Entities.IsEntityOf.{packaged, declared}
-use Rattle.proto_visibility.proofs.GivenLemmas.{found_at, position-none}
+use Rattle.proto_visibility.proofs.FirstLemmas.{found_at, position-none}
 use Rattle.proto_visibility.proofs.FactLemmas.{one_list_of_facts}
 
 -- the declaration has the name
@@ -28,14 +28,14 @@ found_entity number facts name count index found =
     let at = found_at (has_name name) facts.declarations index found in
     declared at.1 ((bytes_eq-Decides at.0.full_name name).0 at.2)
 
-front_if : (facts : Facts) (name n : List ℕ) → n ≡ name → position (has_name name) facts.declarations ≡ None → IsEntity facts n → IsFront facts.package_name n
-front_if facts name n same none (entity_packaged {count = count} some few) = (count, some, few, refl)
-front_if facts name n same none (entity_declared {declaration = d} there) =
+prefix_if : (facts : Facts) (name n : List ℕ) → n ≡ name → position (has_name name) facts.declarations ≡ None → IsEntity facts n → IsPrefix facts.package_name n
+prefix_if facts name n same none (entity_packaged {count = count} some few) = (count, some, few, refl)
+prefix_if facts name n same none (entity_declared {declaration = d} there) =
     let fails = position-none (has_name name) facts.declarations none there.0 d there.1 in
     absurd (false≢true (sym fails ∙ (ap (has_name name) there.2 ∙ (bytes_eq-Decides d.full_name name).1 same)))
 
 pub package_entity : (number : ℕ) (facts : Facts) (name : List ℕ) (count : ℕ) → position (has_name name) facts.declarations ≡ None → IsEntity facts name → IsEntityOf number facts name count (Package count)
-package_entity number facts name count none is = packaged (front_if facts name name refl none is)
+package_entity number facts name count none is = packaged (prefix_if facts name name refl none is)
 
 pub listed_entity : (number : ℕ) (facts : Facts) (names : Names) (name : List ℕ) (count index : ℕ) → AreNamesOf number facts names
     → (one : DeclaredAt) × Contains (listed_at names.declared name) one × (one.file ≡ number) × (one.index ≡ index) → IsEntityOf number facts name count (Declared number index)
@@ -56,7 +56,7 @@ names_of_file files names number facts are has = record {
       let index : its.2 ≡ one.index = ap (λ (x : DeclaredAt). x.index) (sym d.is) in
       (d.declaration, subst (λ i. slice_get facts.declarations i ≡ Some d.declaration) index (subst (λ (f : Facts). slice_get f.declarations its.2 ≡ Some d.declaration) same d.stands), d.named);
   packaged = λ name there.
-      let front = (are.packaged name number).0 there in
-      subst (λ (f : Facts). IsFront f.package_name name) (one_list_of_facts files number front.1 facts (record { file = front.0; numbered = front.2; known = front.3 }) has) front.4;
+      let prefix = (are.packaged name number).0 there in
+      subst (λ (f : Facts). IsPrefix f.package_name name) (one_list_of_facts files number prefix.1 facts (record { file = prefix.0; numbered = prefix.2; known = prefix.3 }) has) prefix.4;
   in_order = are.in_order;
 }

@@ -11,18 +11,18 @@ use Rattle.std.proofs.lemmas.List.Sorted.{IsPermutation-append_right, IsPermutat
 use Rattle.std.proofs.lemmas.Map.Keys.{IsDistinct-cons, IsDistinct-IsPermutation, apart_from_distinct}
 use Rattle.proto_lex.specs.declared.span.Span.{Span}
 use Rattle.proto_lex.specs.Lexed.{AreInOrder}
-use Rattle.proto_decl.specs.Names.{dotted}
+use Rattle.proto_decl.specs.Names.{dotted, package_of}
 use Rattle.proto_decl.specs.Facts.{Facts, PackageInOrder, component_spans, name_spans}
 use Rattle.proto_decl.specs.declared.type_use.Component.{Component}
 use Rattle.proto_decl.specs.declared.declaration.Declaration.{Declaration}
 use Rattle.proto_visibility.specs.Items.{Item}
 use Rattle.proto_visibility.specs.Tables.NameTables.{AreInPlace}
-use Rattle.proto_visibility.specs.Tables.FileItems.{front_named, declared_item, packaged_item, IsPackaged, IsItemOf, starts_of, AreOfFile, AreWithPackage}
+use Rattle.proto_visibility.specs.Tables.FileItems.{declared_item, packaged_item, IsPackaged, IsItemOf, starts_of, AreOfFile, AreWithPackage}
 use Rattle.proto_visibility.proofs.FileRowLemmas.{flips}
-use Rattle.proto_visibility.proofs.StepLemmas.{only}
-use Rattle.proto_visibility.proofs.SeeingLemmas.{slice_get_front}
+use Rattle.proto_visibility.proofs.ImportTableLemmas.{only}
+use Rattle.proto_visibility.proofs.SeeingLemmas.{slice_get_prefix}
 
--- ---- fronts
+-- ---- prefixes
 
 pub join_push : (c : ℕ) (first x : List ℕ) (others : List (List ℕ)) → join_with_byte c (first ∷ (others ++ x ∷ [])) ≡ join_with_byte c (first ∷ others) ++ (c ∷ x)
 join_push c first x [] = refl
@@ -31,31 +31,31 @@ join_push c first x (next ∷ others) = ap (λ t. first ++ (c ∷ t)) (join_push
 one_List : (a b : List ℕ) → Some a ≡ Some b → a ≡ b
 one_List a b e = cc
 
--- the front of the first component, and of so many others
+-- the prefix of the first component, and of so many others
 pub joined_more : (first x : Component) (others : List Component) (i : ℕ) (old new : List ℕ) → i < length others → x ≡ get_or others i x
     → old ≡ dotted (map (λ c. c.name) (first ∷ take i others)) → new ≡ (old ++ 46 ∷ []) ++ x.name → new ≡ dotted (map (λ c. c.name) (first ∷ take (i + 1) others))
 joined_more first x others i old new h at so_far pushed =
     let more : map (λ c. c.name) (take (i + 1) others) ≡ map (λ c. c.name) (take i others) ++ x.name ∷ [] = ap (map (λ c. c.name)) (take_more others i x h ∙ ap (λ y. take i others ++ y ∷ []) (sym at)) ∙ map-append (λ c. c.name) (take i others) (x ∷ []) in
     pushed ∙ (append_assoc old (46 ∷ []) x.name ∙ (ap (λ t. t ++ (46 ∷ x.name)) so_far ∙ (sym (join_push 46 first.name x.name (map (λ c. c.name) (take i others))) ∙ ap (λ ts. join_with_byte 46 (first.name ∷ ts)) (sym more))))
 
-pub front_first : (first : Component) (others : List Component) (k : ℕ) → front_named (first ∷ others) (k + 1) ≡ dotted (map (λ c. c.name) (first ∷ take k others))
-front_first first others k = let e : k + 1 ≡ suc k = omega arith in ap (front_named (first ∷ others)) e
+pub prefix_first : (first : Component) (others : List Component) (k : ℕ) → package_of (first ∷ others) (k + 1) ≡ dotted (map (λ c. c.name) (first ∷ take k others))
+prefix_first first others k = let e : k + 1 ≡ suc k = omega arith in ap (package_of (first ∷ others)) e
 
--- the fronts of so many components
-abbrev pub AreFrontsOf : List Component → List (List ℕ) → (count : ℕ) → Type 0
-AreFrontsOf components fronts count = (length fronts ≡ count) × ((index : ℕ) (front : List ℕ) → slice_get fronts index ≡ Some front → front ≡ front_named components (index + 1))
+-- the prefixes of so many components
+abbrev pub ArePrefixesOf : List Component → List (List ℕ) → (count : ℕ) → Type 0
+ArePrefixesOf components prefixes count = (length prefixes ≡ count) × ((index : ℕ) (prefix : List ℕ) → slice_get prefixes index ≡ Some prefix → prefix ≡ package_of components (index + 1))
 
-pub front_more : (components : List Component) (fronts : List (List ℕ)) (count : ℕ) (front : List ℕ) → front ≡ front_named components (count + 1) → AreFrontsOf components fronts count → AreFrontsOf components (fronts ++ front ∷ []) (count + 1)
-front_more components fronts count front is so_far = (
-  length_push fronts front ∙ ap (λ n. n + 1) so_far.0,
+pub prefix_more : (components : List Component) (prefixes : List (List ℕ)) (count : ℕ) (prefix : List ℕ) → prefix ≡ package_of components (count + 1) → ArePrefixesOf components prefixes count → ArePrefixesOf components (prefixes ++ prefix ∷ []) (count + 1)
+prefix_more components prefixes count prefix is so_far = (
+  length_push prefixes prefix ∙ ap (λ n. n + 1) so_far.0,
   λ index one stands. elim (cases_lt index count) [
-    | inl before ↦ so_far.1 index one (sym (slice_get_front fronts (front ∷ []) index (omega (arith, so_far.0))) ∙ stands)
+    | inl before ↦ so_far.1 index one (sym (slice_get_prefix prefixes (prefix ∷ []) index (omega (arith, so_far.0))) ∙ stands)
     | inr last ↦ (
-        let within = slice_get_within (fronts ++ front ∷ []) index one stands in
-        let here : index ≡ count = omega (arith, length_push fronts front, so_far.0) in
-        let at : slice_get (fronts ++ front ∷ []) index ≡ Some front = slice_get-get_or (fronts ++ front ∷ []) index front within ∙ ap Some (get_or_push fronts front front index (so_far.0 ∙ sym here)) in
-        let same : one ≡ front = one_List one front (sym stands ∙ at) in
-        same ∙ (is ∙ ap (λ n. front_named components (n + 1)) (sym here)))
+        let within = slice_get_within (prefixes ++ prefix ∷ []) index one stands in
+        let here : index ≡ count = omega (arith, length_push prefixes prefix, so_far.0) in
+        let at : slice_get (prefixes ++ prefix ∷ []) index ≡ Some prefix = slice_get-get_or (prefixes ++ prefix ∷ []) index prefix within ∙ ap Some (get_or_push prefixes prefix prefix index (so_far.0 ∙ sym here)) in
+        let same : one ≡ prefix = one_List one prefix (sym stands ∙ at) in
+        same ∙ (is ∙ ap (λ n. package_of components (n + 1)) (sym here)))
   ],
 )
 
@@ -75,7 +75,7 @@ one_Component a b e = cc
 
 of_file_more : (number : ℕ) (items : List Item) (item : Item) → item.place.file ≡ number → AreOfFile number items → AreOfFile number (items ++ item ∷ [])
 of_file_more number items item is all index one stands = elim (cases_lt index (length items)) [
-  | inl before ↦ all index one (sym (slice_get_front items (item ∷ []) index before) ∙ stands)
+  | inl before ↦ all index one (sym (slice_get_prefix items (item ∷ []) index before) ∙ stands)
   | inr last ↦ (
       let within = slice_get_within (items ++ item ∷ []) index one stands in
       let here : index ≡ length items = omega (arith, length_push items item) in

@@ -11,16 +11,16 @@ use Rattle.std.proofs.lemmas.List.Sorted.{searched, IsNonDecreasingBy-from_defau
 use Rattle.proto_decl.specs.Facts.{Facts}
 use Rattle.proto_decl.specs.declared.kind.DeclarationKind.{DeclarationKind}
 use Rattle.proto_decl.specs.declared.kind.DeclarationKind.TheVariants.{Message, Enum, Service, Field, Oneof, Value, Method}
-use Rattle.proto_visibility.specs.declared.given.Role.{Role}
-use Rattle.proto_visibility.specs.declared.given.Role.TheVariants.{AsType, AsAggregate}
+use Rattle.proto_visibility.specs.declared.role.Role.{Role}
+use Rattle.proto_visibility.specs.declared.role.Role.TheVariants.{AsType, AsAggregate}
 use Rattle.proto_visibility.specs.declared.names.DeclaredAt.{DeclaredAt}
 use Rattle.proto_visibility.specs.declared.names.Names.{Names}
 use Rattle.proto_visibility.specs.Files.{File}
 use Rattle.proto_visibility.specs.Knows.{NameKind, is_aggregate}
 use Rattle.proto_visibility.specs.Knows.NameKind.{OfPackage, OfDeclaration}
-use Rattle.proto_visibility.specs.Given.{admits, Gives, IsGiving}
-use Rattle.proto_visibility.specs.Given.Gives.{declared as gives_declared, packaged as gives_packaged}
-use Rattle.proto_visibility.specs.Tables.GivenNames.{listed_at, owned_at, IsDeclaring, IsListed, HasFront, AreNames}
+use Rattle.proto_visibility.specs.FileNames.{admits, Gives, IsGiving}
+use Rattle.proto_visibility.specs.FileNames.Gives.{declared as gives_declared, packaged as gives_packaged}
+use Rattle.proto_visibility.specs.Tables.GivenNames.{listed_at, owned_at, IsDeclaring, IsListed, HasPrefix, AreNames}
 use Rattle.proto_visibility.proofs.FileRowLemmas.{not_falling, decides_found}
 
 -- ---- declarations in a row
@@ -151,7 +151,7 @@ module _ (files : List File) (names : Names) (are : AreNames files names) (role 
       let at = contained_at facts.declarations d listed in
       let one : DeclaredAt = record { file = number; index = at.0; kind = d.kind } in
       inl (one, (are.declared name one).1 (number, (file, stands, (facts, known, at.0, record { declaration = d; stands = at.1; named = same; aggregate = role_aggregate role d.kind admitted; is = refl }))), refl, admitted)
-  listed_as file facts stands known n kind same (gives_packaged of) admitted = inr (admitted, (are.packaged name number).1 (subst (HasFront files number) same (file, facts, stands, known, of)))
+  listed_as file facts stands known n kind same (gives_packaged of) admitted = inr (admitted, (are.packaged name number).1 (subst (HasPrefix files number) same (file, facts, stands, known, of)))
 
   listed_from : IsGiving files (admits role) name number → IsListed names (admits role) name number
   listed_from g = listed_as g.file g.gives.facts g.numbered g.gives.known name g.gives.gives.kind refl g.gives.gives.gives g.gives.gives.admitted

@@ -8,15 +8,16 @@ use Rattle.std.proofs.lemmas.Option.{slice_get_within, slice_get-get_or, get_or_
 use Rattle.std.proofs.lemmas.List.Elements.{Contains-get_or, Contains-push, Contains-push_cases, Contains-append_left}
 use Rattle.std.proofs.lemmas.List.Sorted.{IsNonDecreasingBy-push, IsNonDecreasingBy-short}
 use Rattle.std.proofs.lemmas.Slice.Eq.{bytes_eq-Decides}
+use Rattle.proto_decl.specs.Names.{package_of}
 use Rattle.proto_decl.specs.Facts.{Facts}
 use Rattle.proto_decl.specs.declared.declaration.Declaration.{Declaration}
 use Rattle.proto_visibility.specs.declared.names.DeclaredAt.{DeclaredAt}
 use Rattle.proto_visibility.specs.Files.{File}
 use Rattle.proto_visibility.specs.Knows.{is_aggregate}
 use Rattle.proto_visibility.specs.Knows.NameKind.{OfDeclaration}
-use Rattle.proto_visibility.specs.Tables.FileItems.{AreFronts, AreAllFronts, front_named, package_name_of, package_name_in}
-use Rattle.proto_visibility.specs.Given.{IsFront}
-use Rattle.proto_visibility.specs.Tables.GivenNames.{IsDeclaredOf, IsDeclaredIn, IsDeclaredBy, ArePackaged, HasFront, HasFrontAt}
+use Rattle.proto_visibility.specs.Tables.FileItems.{ArePrefixes, AreAllPrefixes, package_name_of, package_name_in}
+use Rattle.proto_visibility.specs.FileNames.{IsPrefix}
+use Rattle.proto_visibility.specs.Tables.GivenNames.{IsDeclaredOf, IsDeclaredIn, IsDeclaredBy, ArePackaged, HasPrefix, HasPrefixAt}
 
 -- ---- lists at names, with what comes to them in turn
 
@@ -144,20 +145,20 @@ from_nothing now R its name y = (
 -- ---- packages
 
 -- the text with this index is the name, and stands for the file with this number
-abbrev pub IsFrontAt : (number : ℕ) → (fronts : List (List ℕ)) → (index : ℕ) → (name : List ℕ) → (other : ℕ) → Type 0
-IsFrontAt number fronts index name other = (slice_get fronts index ≡ Some name) × (other ≡ number)
+abbrev pub IsPrefixAt : (number : ℕ) → (prefixes : List (List ℕ)) → (index : ℕ) → (name : List ℕ) → (other : ℕ) → Type 0
+IsPrefixAt number prefixes index name other = (slice_get prefixes index ≡ Some name) × (other ≡ number)
 
 -- the file with this number has it, and is the one
-abbrev pub HasFrontOf : (fronts : List (List (List ℕ))) → (number : ℕ) → (name : List ℕ) → (other : ℕ) → Type 0
-HasFrontOf fronts number name other = HasFrontAt fronts number name × (other ≡ number)
+abbrev pub HasPrefixOf : (prefixes : List (List (List ℕ))) → (number : ℕ) → (name : List ℕ) → (other : ℕ) → Type 0
+HasPrefixOf prefixes number name other = HasPrefixAt prefixes number name × (other ≡ number)
 
-pub front_here : (number : ℕ) (fronts : List (List ℕ)) (count : ℕ) (front : List ℕ) → slice_get fronts count ≡ Some front → (old new : List ℕ → List ℕ)
-    → ((name : List ℕ) → new name ≡ cond (bytes_eq front name) (old name ++ number ∷ []) (old name))
-    → (name : List ℕ) (other : ℕ) → Contains (new name) other ↔ (Contains (old name) other ⊎ IsFrontAt number fronts count name other)
-front_here number fronts count front stands old new after name other =
-    let iff = added old new front number after name other in (
+pub prefix_here : (number : ℕ) (prefixes : List (List ℕ)) (count : ℕ) (prefix : List ℕ) → slice_get prefixes count ≡ Some prefix → (old new : List ℕ → List ℕ)
+    → ((name : List ℕ) → new name ≡ cond (bytes_eq prefix name) (old name ++ number ∷ []) (old name))
+    → (name : List ℕ) (other : ℕ) → Contains (new name) other ↔ (Contains (old name) other ⊎ IsPrefixAt number prefixes count name other)
+prefix_here number prefixes count prefix stands old new after name other =
+    let iff = added old new prefix number after name other in (
       λ there. elim (iff.0 there) [ inl before ↦ inl before | inr here ↦ inr (stands ∙ ap Some here.0, here.1) ],
-      λ those. iff.1 (elim those [ inl before ↦ inl before | inr here ↦ inr (one_Some front name (sym stands ∙ here.0), here.1) ]),
+      λ those. iff.1 (elim those [ inl before ↦ inl before | inr here ↦ inr (one_Some prefix name (sym stands ∙ here.0), here.1) ]),
     )
 
 contained_at : {X : Type 0} (xs : List X) (x : X) → Contains xs x → (k : ℕ) × (slice_get xs k ≡ Some x)
@@ -166,21 +167,21 @@ contained_at xs x there = (there.0, slice_get-get_or xs there.0 x there.1 ∙ ap
 contains_at : {X : Type 0} (xs : List X) (k : ℕ) (x : X) → slice_get xs k ≡ Some x → Contains xs x
 contains_at xs k x stands = (k, slice_get_within xs k x stands, get_or_from_slice_get xs k x x stands)
 
-pub fronts_all : (number : ℕ) (fronts : List (List ℕ)) (old new : List ℕ → List ℕ)
-    → ((name : List ℕ) (other : ℕ) → Contains (new name) other ↔ (Contains (old name) other ⊎ ((k : ℕ) × IsFrontAt number fronts k name other)))
-    → (name : List ℕ) (other : ℕ) → Contains (new name) other ↔ (Contains (old name) other ⊎ ((other ≡ number) × Contains fronts name))
-fronts_all number fronts old new its name other = (
-  λ there. elim ((its name other).0 there) [ inl before ↦ inl before | inr here ↦ inr (here.1.1, contains_at fronts here.0 name here.1.0) ],
+pub prefixes_all : (number : ℕ) (prefixes : List (List ℕ)) (old new : List ℕ → List ℕ)
+    → ((name : List ℕ) (other : ℕ) → Contains (new name) other ↔ (Contains (old name) other ⊎ ((k : ℕ) × IsPrefixAt number prefixes k name other)))
+    → (name : List ℕ) (other : ℕ) → Contains (new name) other ↔ (Contains (old name) other ⊎ ((other ≡ number) × Contains prefixes name))
+prefixes_all number prefixes old new its name other = (
+  λ there. elim ((its name other).0 there) [ inl before ↦ inl before | inr here ↦ inr (here.1.1, contains_at prefixes here.0 name here.1.0) ],
   λ those. (its name other).1 (elim those [
     | inl before ↦ inl before
-    | inr here ↦ (let at = contained_at fronts name here.1 in inr (at.0, (at.1, here.0)))
+    | inr here ↦ (let at = contained_at prefixes name here.1 in inr (at.0, (at.1, here.0)))
   ]),
 )
 
-pub fronts_of_file : (fronts : List (List (List ℕ))) (count : ℕ) (its : List (List ℕ)) (old new : List ℕ → List ℕ) → slice_get fronts count ≡ Some its
+pub prefixes_of_file : (prefixes : List (List (List ℕ))) (count : ℕ) (its : List (List ℕ)) (old new : List ℕ → List ℕ) → slice_get prefixes count ≡ Some its
     → ((name : List ℕ) (other : ℕ) → Contains (new name) other ↔ (Contains (old name) other ⊎ ((other ≡ count) × Contains its name)))
-    → (name : List ℕ) (other : ℕ) → Contains (new name) other ↔ (Contains (old name) other ⊎ HasFrontOf fronts count name other)
-fronts_of_file fronts count its old new stands more name other = (
+    → (name : List ℕ) (other : ℕ) → Contains (new name) other ↔ (Contains (old name) other ⊎ HasPrefixOf prefixes count name other)
+prefixes_of_file prefixes count its old new stands more name other = (
   λ there. elim ((more name other).0 there) [ inl before ↦ inl before | inr here ↦ inr ((its, stands, here.1), here.0) ],
   λ those. (more name other).1 (elim those [
     | inl before ↦ inl before
@@ -188,34 +189,34 @@ fronts_of_file fronts count its old new stands more name other = (
   ]),
 )
 
-pub of_fronts : (fronts : List (List (List ℕ))) (now : List ℕ → List ℕ) → ((name : List ℕ) (other : ℕ) → Contains (now name) other ↔ ((k : ℕ) × HasFrontOf fronts k name other))
-    → (name : List ℕ) (number : ℕ) → Contains (now name) number ↔ HasFrontAt fronts number name
-of_fronts fronts now its name number = (
-  λ there. let at = (its name number).0 there in subst (λ k. HasFrontAt fronts k name) (sym at.1.1) at.1.0,
+pub of_prefixes : (prefixes : List (List (List ℕ))) (now : List ℕ → List ℕ) → ((name : List ℕ) (other : ℕ) → Contains (now name) other ↔ ((k : ℕ) × HasPrefixOf prefixes k name other))
+    → (name : List ℕ) (number : ℕ) → Contains (now name) number ↔ HasPrefixAt prefixes number name
+of_prefixes prefixes now its name number = (
+  λ there. let at = (its name number).0 there in subst (λ k. HasPrefixAt prefixes k name) (sym at.1.1) at.1.0,
   λ at. (its name number).1 (number, (at, refl)),
 )
 
-pub front_within : (fronts : List (List (List ℕ))) (k : ℕ) (name : List ℕ) (other : ℕ) → HasFrontOf fronts k name other → k < length fronts
-front_within fronts k name other at = slice_get_within fronts k at.0.0 at.0.1
+pub prefix_within : (prefixes : List (List (List ℕ))) (k : ℕ) (name : List ℕ) (other : ℕ) → HasPrefixOf prefixes k name other → k < length prefixes
+prefix_within prefixes k name other at = slice_get_within prefixes k at.0.0 at.0.1
 
 cases_facts : (o : Option Facts) → (o ≡ None) ⊎ ((f : Facts) × (o ≡ Some f))
 cases_facts None = inl refl
 cases_facts (Some f) = inr (f, refl)
 
--- the fronts of the files are those of their packages' names
-pub packaged_by_fronts : (files : List File) (fronts : List (List (List ℕ))) (now : List ℕ → List ℕ) → AreAllFronts files fronts
-    → ((name : List ℕ) (number : ℕ) → Contains (now name) number ↔ HasFrontAt fronts number name) → ArePackaged files now
-packaged_by_fronts files fronts now all its name number = (
+-- the prefixes of the files are those of their packages' names
+pub packaged_by_prefixes : (files : List File) (prefixes : List (List (List ℕ))) (now : List ℕ → List ℕ) → AreAllPrefixes files prefixes
+    → ((name : List ℕ) (number : ℕ) → Contains (now name) number ↔ HasPrefixAt prefixes number name) → ArePackaged files now
+packaged_by_prefixes files prefixes now all its name number = (
   λ there.
       let at = (its name number).0 there in
-      let within = slice_get_within fronts number at.0 at.1 in
+      let within = slice_get_within prefixes number at.0 at.1 in
       let file = item_at files number (omega (arith, all.one_each)) in
       to file.0 file.1 at.0 (all.each number file.0 at.0 file.1 at.1) at.2,
   λ has.
       let within = slice_get_within files number has.0 has.2 in
-      let fronts_at = item_at fronts number (omega (arith, all.one_each)) in
-      let are = subst (λ cs. AreFronts cs fronts_at.0) (ap package_name_in has.3) (all.each number has.0 fronts_at.0 has.2 fronts_at.1) in
-      (its name number).1 (fronts_at.0, fronts_at.1, from has.1 fronts_at.0 are has.4),
+      let prefixes_at = item_at prefixes number (omega (arith, all.one_each)) in
+      let are = subst (λ cs. ArePrefixes cs prefixes_at.0) (ap package_name_in has.3) (all.each number has.0 prefixes_at.0 has.2 prefixes_at.1) in
+      (its name number).1 (prefixes_at.0, prefixes_at.1, from has.1 prefixes_at.0 are has.4),
 )
   where
     item_at : {X : Type 0} (xs : List X) (k : ℕ) → k < length xs → (x : X) × (slice_get xs k ≡ Some x)
@@ -223,24 +224,24 @@ packaged_by_fronts files fronts now all its name number = (
     item_at (x ∷ xs) zero h = (x, refl)
     item_at (x ∷ xs) (suc k) h = item_at xs k (omega (arith, h))
 
-    to : (file : File) → slice_get files number ≡ Some file → (fronts_here : List (List ℕ)) → AreFronts (package_name_of file) fronts_here → Contains fronts_here name → HasFront files number name
-    to file stands fronts_here are there = elim (cases_facts file.facts) [
+    to : (file : File) → slice_get files number ≡ Some file → (prefixes_here : List (List ℕ)) → ArePrefixes (package_name_of file) prefixes_here → Contains prefixes_here name → HasPrefix files number name
+    to file stands prefixes_here are there = elim (cases_facts file.facts) [
       | inl none ↦ (
-          let empty = subst (λ o. AreFronts (package_name_in o) fronts_here) none are in
+          let empty = subst (λ o. ArePrefixes (package_name_in o) prefixes_here) none are in
           absurd (omega (arith, empty.one_each, there.1)))
       | inr some ↦ (
-          let named = subst (λ o. AreFronts (package_name_in o) fronts_here) some.1 are in
-          let at = contained_at fronts_here name there in
-          (file, some.0, stands, some.1, (at.0 + 1, omega arith, omega (arith, named.one_each, slice_get_within fronts_here at.0 name at.1), named.each at.0 name at.1)))
+          let named = subst (λ o. ArePrefixes (package_name_in o) prefixes_here) some.1 are in
+          let at = contained_at prefixes_here name there in
+          (file, some.0, stands, some.1, (at.0 + 1, omega arith, omega (arith, named.one_each, slice_get_within prefixes_here at.0 name at.1), named.each at.0 name at.1)))
     ]
 
-    from : (facts : Facts) (fronts_here : List (List ℕ)) → AreFronts facts.package_name fronts_here → IsFront facts.package_name name → Contains fronts_here name
-    from facts fronts_here are (zero, some, few, is) = absurd (omega (arith, some))
-    from facts fronts_here are (suc k, some, few, is) =
-        let at = item_at fronts_here k (omega (arith, few, are.one_each)) in
+    from : (facts : Facts) (prefixes_here : List (List ℕ)) → ArePrefixes facts.package_name prefixes_here → IsPrefix facts.package_name name → Contains prefixes_here name
+    from facts prefixes_here are (zero, some, few, is) = absurd (omega (arith, some))
+    from facts prefixes_here are (suc k, some, few, is) =
+        let at = item_at prefixes_here k (omega (arith, few, are.one_each)) in
         let next : k + 1 ≡ suc k = omega arith in
-        let same : at.0 ≡ name = are.each k at.0 at.1 ∙ (ap (front_named facts.package_name) next ∙ sym is) in
-        contains_at fronts_here k name (at.1 ∙ ap Some same)
+        let same : at.0 ≡ name = are.each k at.0 at.1 ∙ (ap (package_of facts.package_name) next ∙ sym is) in
+        contains_at prefixes_here k name (at.1 ∙ ap Some same)
 
 -- ---- answers
 
@@ -248,8 +249,8 @@ pub on_ok : {X E P Q : Type 0} (r : Result X E) → OnOk r P → (P → Q) → O
 on_ok (Ok x) p f = f p
 on_ok (Err e) p f = tt
 
-pub front_at_within : (number : ℕ) (fronts : List (List ℕ)) (k : ℕ) (name : List ℕ) (other : ℕ) → IsFrontAt number fronts k name other → k < length fronts
-front_at_within number fronts k name other at = slice_get_within fronts k name at.0
+pub prefix_at_within : (number : ℕ) (prefixes : List (List ℕ)) (k : ℕ) (name : List ℕ) (other : ℕ) → IsPrefixAt number prefixes k name other → k < length prefixes
+prefix_at_within number prefixes k name other at = slice_get_within prefixes k name at.0
 
 pub declared_by_within : (files : List File) (k : ℕ) (name : List ℕ) (one : DeclaredAt) → IsDeclaredBy files k name one → k < length files
 declared_by_within files k name one by = slice_get_within files k by.0 by.1
@@ -265,16 +266,16 @@ order_more now new key number after behind order name = elim (cases_Bool (bytes_
   | inr apart ↦ subst IsNonDecreasing (sym (after name ∙ cond-false (bytes_eq key name) (now name ++ number ∷ []) (now name) apart)) (order name)
 ]
 
-pub fronts_behind : (number : ℕ) (fronts : List (List ℕ)) (count : ℕ) (old now : List ℕ → List ℕ) → HasUpTo old now (IsFrontAt number fronts) count
+pub prefixes_behind : (number : ℕ) (prefixes : List (List ℕ)) (count : ℕ) (old now : List ℕ → List ℕ) → HasUpTo old now (IsPrefixAt number prefixes) count
     → ((name : List ℕ) (other : ℕ) → Contains (old name) other → other ≤ number) → (name : List ℕ) (other : ℕ) → Contains (now name) other → other ≤ number
-fronts_behind number fronts count old now its behind name other there = elim ((its name other).0 there) [
+prefixes_behind number prefixes count old now its behind name other there = elim ((its name other).0 there) [
   | inl before ↦ behind name other before
   | inr here ↦ omega (arith, here.2.1)
 ]
 
-pub files_behind : (fronts : List (List (List ℕ))) (count : ℕ) (now : List ℕ → List ℕ) → HasUpTo (λ name. []) now (HasFrontOf fronts) count
+pub files_behind : (prefixes : List (List (List ℕ))) (count : ℕ) (now : List ℕ → List ℕ) → HasUpTo (λ name. []) now (HasPrefixOf prefixes) count
     → (name : List ℕ) (other : ℕ) → Contains (now name) other → other ≤ count
-files_behind fronts count now its name other there = elim ((its name other).0 there) [
+files_behind prefixes count now its name other there = elim ((its name other).0 there) [
   | inl none ↦ absurd (omega (arith, none.1))
   | inr here ↦ omega (arith, here.1, here.2.1)
 ]

@@ -6,11 +6,11 @@ use Rattle.std.proofs.lemmas.Option.{slice_get-get_or, slice_get_within, get_or_
 use Rattle.std.proofs.lemmas.List.{length-append, append_assoc, append-nil, length_push, get_or_push}
 use Rattle.std.proofs.lemmas.List.Elements.{All-nil, All-cons, All-push, All-contains, All-head, All-tail, Contains-append_left, Contains-append_cases, Contains-push, Contains-get_or}
 use Rattle.std.proofs.lemmas.Map.Views.{Contains-from_any}
-use Rattle.proto_visibility.specs.declared.steps.Steps.{Steps}
+use Rattle.proto_visibility.specs.declared.import_table.Steps.{Steps}
 use Rattle.proto_visibility.specs.Sees.{LeadsTo, SeesBy}
 use Rattle.proto_visibility.specs.Sees.LeadsTo.{at_once, through}
 use Rattle.proto_visibility.specs.Sees.SeesBy.{itself, import}
-use Rattle.proto_visibility.specs.Tables.StepTables.{targets, HasStep, AreWithin, AreRowsBy}
+use Rattle.proto_visibility.specs.Tables.ImportTables.{targets, HasStep, AreWithin, AreRowsBy}
 use Rattle.proto_visibility.specs.Tables.Visits.{visit, visit_all}
 
 -- ---- what visits do
@@ -68,15 +68,15 @@ visits_find found (first ∷ numbers) number there = elim (Contains-append_cases
     only x y (zero, h, e) = e
     only x y (suc k, h, e) = absurd (omega arith)
 
-pub slice_get_front : {X : Type 0} (xs ys : List X) (k : ℕ) → k < length xs → slice_get (xs ++ ys) k ≡ slice_get xs k
-slice_get_front [] ys k h = absurd (omega arith)
-slice_get_front (x ∷ xs) ys zero h = refl
-slice_get_front (x ∷ xs) ys (suc k) h = slice_get_front xs ys k (omega arith)
+pub slice_get_prefix : {X : Type 0} (xs ys : List X) (k : ℕ) → k < length xs → slice_get (xs ++ ys) k ≡ slice_get xs k
+slice_get_prefix [] ys k h = absurd (omega arith)
+slice_get_prefix (x ∷ xs) ys zero h = refl
+slice_get_prefix (x ∷ xs) ys (suc k) h = slice_get_prefix xs ys k (omega arith)
 
 visits_stay : (found numbers : List ℕ) (k : ℕ) → k < length found → slice_get (visit_all found numbers) k ≡ slice_get found k
 visits_stay found numbers k h =
     let added = visits_add found numbers in
-    ap (λ xs. slice_get xs k) added.1 ∙ slice_get_front found added.0 k h
+    ap (λ xs. slice_get xs k) added.1 ∙ slice_get_prefix found added.0 k h
 
 visits_grow : (found numbers : List ℕ) → length found ≤ length (visit_all found numbers)
 visits_grow found numbers =
@@ -195,7 +195,7 @@ pub rows_more : (table : List Steps) (rows : List (List ℕ)) (row : List ℕ) �
     → ((file : ℕ) (one : List ℕ) → slice_get rows file ≡ Some one → IsRowOf table file one)
     → (file : ℕ) (one : List ℕ) → slice_get (rows ++ row ∷ []) file ≡ Some one → IsRowOf table file one
 rows_more table rows row last each file one stands = elim (cases_lt file (length rows)) [
-  | inl before ↦ each file one (sym (slice_get_front rows (row ∷ []) file before) ∙ stands)
+  | inl before ↦ each file one (sym (slice_get_prefix rows (row ∷ []) file before) ∙ stands)
   | inr behind ↦ (
       let within : file < length (rows ++ row ∷ []) = slice_get_within (rows ++ row ∷ []) file one stands in
       let at : file ≡ length rows = omega (arith, length_push rows row) in

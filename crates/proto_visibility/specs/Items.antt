@@ -1,7 +1,7 @@
 -- Places in the files, and the items that stand there: declarations and the components of package statements.
-use Rattle.std.specs.Prelude.{◌≡◌, ◌<◌, ◌⊎◌, ℕ, ◌+◌, Bool, true, false, Some, List, map, take, Contains}
+use Rattle.std.specs.Prelude.{◌≡◌, ◌<◌, ◌⊎◌, ℕ, ◌+◌, Bool, true, false, Some, List, Contains}
 use Rattle.std.specs.List.{slice_get}
-use Rattle.proto_decl.specs.Names.{dotted}
+use Rattle.proto_decl.specs.Names.{package_of}
 use Rattle.proto_decl.specs.Facts.{Facts}
 use Rattle.proto_decl.specs.declared.type_use.Component.{Component}
 use Rattle.proto_decl.specs.declared.declaration.Declaration.{Declaration}
@@ -18,10 +18,6 @@ pub record Item : Type 0 where
   pub full_name : List ℕ
   pub is_declaration : Bool
 
--- the package that the first `count` components of a file's package name
-abbrev pub package_of : Facts → (count : ℕ) → List ℕ
-package_of facts count = dotted (map (λ component. component.name) (take count facts.package_name))
-
 -- Each declaration of a file that counts, at its name; and each component of its package statement, which names the package of the
 -- components up to it.
 pub data IsItem (files : List File) : Item → Type 0 where
@@ -30,4 +26,4 @@ pub data IsItem (files : List File) : Item → Type 0 where
       → IsItem files (record { place = record { file = number; span = declaration.name }; full_name = declaration.full_name; is_declaration = true })
   packaged : {number : ℕ} {facts : Facts} {component : Component} (index : ℕ)
       → Counts files number → HasFacts files number facts → slice_get facts.package_name index ≡ Some component
-      → IsItem files (record { place = record { file = number; span = component.span }; full_name = package_of facts (index + 1); is_declaration = false })
+      → IsItem files (record { place = record { file = number; span = component.span }; full_name = package_of facts.package_name (index + 1); is_declaration = false })

@@ -4,10 +4,10 @@ use Rattle.std.specs.Prelude.{◌≡◌, ◌<◌, ◌≤◌, ℕ, Bool, true, fa
 use Rattle.proto_decl.specs.declared.kind.DeclarationKind.{DeclarationKind}
 use Rattle.proto_decl.specs.declared.kind.DeclarationKind.TheVariants.{Message, Enum, Service, Field, Oneof, Value, Method}
 use Rattle.proto_decl.specs.declared.declaration.Declaration.{Declaration}
+use Rattle.proto_decl.specs.Names.{package_of}
 use Rattle.proto_decl.specs.Facts.{Facts}
 use Rattle.proto_visibility.specs.Files.{File, HasFacts}
 use Rattle.proto_visibility.specs.Sees.{Sees}
-use Rattle.proto_visibility.specs.Items.{package_of}
 
 -- What a name names: a package, or what is declared.
 pub data NameKind : Type 0 where
@@ -21,7 +21,7 @@ pub data Knows (files : List File) (file : ℕ) : List ℕ → NameKind → Type
       → Knows files file declaration.full_name (OfDeclaration declaration.kind)
   packaged : {seen count : ℕ} {facts : Facts}
       → Sees files file seen → HasFacts files seen facts → 0 < count → count ≤ length facts.package_name
-      → Knows files file (package_of facts count) OfPackage
+      → Knows files file (package_of facts.package_name count) OfPackage
 
 -- Types are messages and enums.
 abbrev pub is_type : NameKind → Bool

@@ -10,7 +10,7 @@ pub mod Absences
 pub mod Linked
 -- which names a file knows, who gives them, and as what
 pub mod Knows
-pub mod Given
+pub mod FileNames
 pub mod Entities
 -- the tables by which the code finds them
 pub mod Tables

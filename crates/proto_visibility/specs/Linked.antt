@@ -5,7 +5,7 @@ use Rattle.proto_visibility.specs.declared.fault.LinkFault.TheVariants.{Broken, 
 use Rattle.proto_visibility.specs.Files.{File, Imports, HaveOrigins}
 use Rattle.proto_visibility.specs.Clashes.{Clash, NoClash}
 use Rattle.proto_visibility.specs.Absences as absences
-use Rattle.proto_visibility.specs.Tables.StepTables.{AreRowsBy}
+use Rattle.proto_visibility.specs.Tables.ImportTables.{AreRowsBy}
 use Rattle.proto_visibility.specs.declared.names.Names.{Names}
 use Rattle.proto_visibility.specs.Tables.GivenNames.{AreNames}
 

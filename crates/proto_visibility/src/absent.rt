@@ -4,7 +4,7 @@ ghost use Rattle.std.specs.Prelude.{ℕ, ◌≡◌, ◌↔◌, MatchOption, Cont
 ghost use Rattle.proto_decl.specs.Facts.{ImportsInOrder};
 ghost use Rattle.proto_visibility.specs.Sees.{Counts};
 ghost use Rattle.proto_visibility.specs.Absences.{Absent, NoAbsent};
-ghost use Rattle.proto_visibility.specs.Tables.StepTables.{AreNumbered, imports_of, number_in, is_absent, NoneIsAbsent, IsFirstAbsent};
+ghost use Rattle.proto_visibility.specs.Tables.ImportTables.{AreNumbered, imports_of, number_in, is_absent, NoneIsAbsent, IsFirstAbsent};
 
 use crate::file_row::FileRow;
 use crate::link_file::LinkFile;

@@ -3,37 +3,37 @@
 ghost use Rattle.std.specs.Prelude.{ℕ, ◌↔◌, IfOk, Contains};
 ghost use Rattle.proto_visibility.specs.Items.{Item, IsItem};
 ghost use Rattle.proto_visibility.specs.Sees.{Counts};
-ghost use Rattle.proto_visibility.specs.Tables.FileItems.{AreFronts, AreAllFronts, IsItemIn, package_name_of};
+ghost use Rattle.proto_visibility.specs.Tables.FileItems.{ArePrefixes, AreAllPrefixes, IsItemIn, package_name_of};
 ghost use Rattle.proto_visibility.specs.Tables.NameTables.{AreInPlace};
 
 use crate::clash::Item;
 use crate::file_row::FileRow;
-use crate::items::{file_items, package_fronts};
+use crate::items::{file_items, package_prefixes};
 use crate::link_file::LinkFile;
 use sequences::{OwnedText, Sequence};
 use std::alloc::{AllocError, Global};
 
 // For each file, and each component of its package's name, the name up to it.
-pub(crate) fn all_fronts(
+pub(crate) fn all_prefixes(
     alloc: Global,
     files: &[LinkFile],
 ) -> Result<Vec<Sequence<OwnedText>>, AllocError>
-    ensures { IfOk result (λ fronts. AreAllFronts files.now fronts.items) }
+    ensures { IfOk result (λ prefixes. AreAllPrefixes files.now prefixes.items) }
 {
-    let mut fronts = Vec::with_capacity(alloc, files.len())?;
+    let mut prefixes = Vec::with_capacity(alloc, files.len())?;
     for file in files {
-        fronts.push_reserved(fronts_of_file(alloc, file)?);
+        prefixes.push_reserved(prefixes_of_file(alloc, file)?);
     }
-    Ok(fronts)
+    Ok(prefixes)
 }
 
-fn fronts_of_file(alloc: Global, file: &LinkFile) -> Result<Sequence<OwnedText>, AllocError>
-    ensures { IfOk result (λ fronts. AreFronts (package_name_of file.now) fronts) }
+fn prefixes_of_file(alloc: Global, file: &LinkFile) -> Result<Sequence<OwnedText>, AllocError>
+    ensures { IfOk result (λ prefixes. ArePrefixes (package_name_of file.now) prefixes) }
 {
     match file.facts {
         Some(facts) => {
-            let fronts = package_fronts(alloc, facts.package_name())?;
-            Ok(Sequence::from_vec(fronts))
+            let prefixes = package_prefixes(alloc, facts.package_name())?;
+            Ok(Sequence::from_vec(prefixes))
         }
         None => Ok(Sequence::new(alloc)),
     }
@@ -43,10 +43,10 @@ fn fronts_of_file(alloc: Global, file: &LinkFile) -> Result<Sequence<OwnedText>,
 pub(crate) fn all_items<'a>(
     alloc: Global,
     files: &'a [LinkFile<'a>],
-    fronts: &'a [Sequence<OwnedText>],
+    prefixes: &'a [Sequence<OwnedText>],
     counted: &FileRow,
 ) -> Result<Vec<Item<'a>>, AllocError>
-    requires fronts { AreAllFronts files.now fronts.now }
+    requires prefixes { AreAllPrefixes files.now prefixes.now }
     requires counted { (number : ℕ) → Contains counted.now number ↔ Counts files.now number }
     ensures order { IfOk result (λ items. AreInPlace items.items) }
     ensures items { IfOk result (λ items. (item : Item) → Contains items.items item ↔ IsItem files.now item) }
@@ -54,7 +54,7 @@ pub(crate) fn all_items<'a>(
     let mut items = Vec::new(alloc);
     for number in counted.as_slice() {
         let file = &files[*number];
-        let mut more = items_of_file(alloc, *number, file, fronts[*number].as_slice())?;
+        let mut more = items_of_file(alloc, *number, file, prefixes[*number].as_slice())?;
         items.append(&mut more)?;
     }
     Ok(items)
@@ -64,15 +64,15 @@ fn items_of_file<'a>(
     alloc: Global,
     number: usize,
     file: &LinkFile<'a>,
-    fronts: &'a [OwnedText],
+    prefixes: &'a [OwnedText],
 ) -> Result<Vec<Item<'a>>, AllocError>
-    requires { AreFronts (package_name_of file.now) fronts.now }
+    requires { ArePrefixes (package_name_of file.now) prefixes.now }
     ensures order { IfOk result (λ items. AreInPlace items.items) }
     ensures items { IfOk result (λ items. (item : Item) → Contains items.items item ↔ IsItemIn number file.now item) }
 {
     match file.facts {
         Some(facts) => {
-            let items = file_items(alloc, number, facts, fronts)?;
+            let items = file_items(alloc, number, facts, prefixes)?;
             Ok(items)
         }
         None => Ok(Vec::new(alloc)),

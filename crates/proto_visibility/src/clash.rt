@@ -4,7 +4,7 @@ ghost use Rattle.std.specs.Prelude.{List, ℕ, ◌≡◌, ◌<◌, IfOk, OnOk, I
 ghost use Rattle.std.specs.Str.{bytes_eq};
 ghost use Rattle.proto_visibility.specs.Clashes.{ClashBy, NoClashBy};
 ghost use Rattle.proto_visibility.specs.Tables.NameTables.{AreInPlace, clash_with};
-ghost use Rattle.proto_visibility.specs.Tables.StepTables.{number_in};
+ghost use Rattle.proto_visibility.specs.Tables.ImportTables.{number_in};
 
 use crate::place::FilePlace;
 use std::alloc::{AllocError, Global};

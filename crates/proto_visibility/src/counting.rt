@@ -4,7 +4,7 @@ ghost use Rattle.std.specs.Prelude.{ℕ, ◌↔◌, IfOk, MatchOption, Contains,
 ghost use Rattle.proto_visibility.specs.Files.{Imports};
 ghost use Rattle.proto_visibility.specs.Sees.{Counts};
 ghost use Rattle.proto_visibility.specs.Absences.{Broken, NoneBroken};
-ghost use Rattle.proto_visibility.specs.Tables.StepTables.{AreRowsBy};
+ghost use Rattle.proto_visibility.specs.Tables.ImportTables.{AreRowsBy};
 
 use crate::file_row::FileRow;
 use crate::link_file::LinkFile;

@@ -5,7 +5,7 @@ ghost use Rattle.proto_decl.specs.Laws.{IsEntity};
 ghost use Rattle.proto_visibility.specs.Entities.{IsEntityOf};
 ghost use Rattle.proto_visibility.specs.Tables.GivenNames.{AreNamesOf};
 
-use crate::knowing::{index_in, stands_among};
+use crate::name_owners::{index_in, stands_among};
 use crate::names::Names;
 use proto_decl::{Declaration, FileFacts};
 

@@ -3,7 +3,7 @@
 ghost use Rattle.std.specs.Prelude.{List, ℕ, ◌≡◌, ◌+◌, ◌∷◌, ◌↔◌, IfOk, OnOk, Some, Contains, length, map};
 ghost use Rattle.std.specs.List.{slice_get};
 ghost use Rattle.proto_decl.specs.Names.{dotted};
-ghost use Rattle.proto_visibility.specs.Tables.FileItems.{AreFronts, IsItemOf, declared_item, AreWithPackage};
+ghost use Rattle.proto_visibility.specs.Tables.FileItems.{ArePrefixes, IsItemOf, declared_item, AreWithPackage};
 ghost use Rattle.proto_visibility.specs.Items.{Item};
 ghost use Rattle.proto_visibility.specs.Tables.NameTables.{AreInPlace};
 
@@ -14,34 +14,34 @@ use sequences::OwnedText;
 use std::alloc::{AllocError, Global};
 
 // For each component of a package's name the name up to it.
-pub(crate) fn package_fronts(
+pub(crate) fn package_prefixes(
     alloc: Global,
     components: &[Component],
 ) -> Result<Vec<OwnedText>, AllocError>
-    ensures { IfOk result (λ fronts. AreFronts components.now fronts.items) }
+    ensures { IfOk result (λ prefixes. ArePrefixes components.now prefixes.items) }
 {
     match components {
         [] => Ok(Vec::new(alloc)),
-        [first, others @ ..] => fronts_of(alloc, first, others),
+        [first, others @ ..] => prefixes_of(alloc, first, others),
     }
 }
 
-fn fronts_of(
+fn prefixes_of(
     alloc: Global,
     first: &Component,
     others: &[Component],
 ) -> Result<Vec<OwnedText>, AllocError>
-    ensures { IfOk result (λ fronts. AreFronts (first.now ∷ others.now) fronts.items) }
+    ensures { IfOk result (λ prefixes. ArePrefixes (first.now ∷ others.now) prefixes.items) }
 {
-    let mut front = String::from_str(alloc, first.name.as_str())?;
-    let mut fronts = Vec::new(alloc);
-    fronts.push(OwnedText::copy_of(alloc, front.as_str())?)?;
+    let mut prefix = String::from_str(alloc, first.name.as_str())?;
+    let mut prefixes = Vec::new(alloc);
+    prefixes.push(OwnedText::copy_of(alloc, prefix.as_str())?)?;
     for component in others {
-        front.push_str(".")?;
-        front.push_str(component.name.as_str())?;
-        fronts.push(OwnedText::copy_of(alloc, front.as_str())?)?;
+        prefix.push_str(".")?;
+        prefix.push_str(component.name.as_str())?;
+        prefixes.push(OwnedText::copy_of(alloc, prefix.as_str())?)?;
     }
-    Ok(fronts)
+    Ok(prefixes)
 }
 
 // The items of a file with this number, in order of place.
@@ -49,16 +49,16 @@ pub(crate) fn file_items<'a>(
     alloc: Global,
     number: usize,
     facts: &'a FileFacts,
-    fronts: &'a [OwnedText],
+    prefixes: &'a [OwnedText],
 ) -> Result<Vec<Item<'a>>, AllocError>
-    requires { AreFronts facts.now.package_name fronts.now }
+    requires { ArePrefixes facts.now.package_name prefixes.now }
     ensures order { IfOk result (λ items. AreInPlace items.items) }
     ensures items { IfOk result (λ items. (item : Item) → Contains items.items item ↔ IsItemOf number facts.now item) }
 {
     facts_in_order();
     facts.origin();
     let mut items = declared_items(alloc, number, facts.declarations())?;
-    add_package(&mut items, number, facts.package_name(), fronts)?;
+    add_package(&mut items, number, facts.package_name(), prefixes)?;
     items.sort_by_key(|item| item.place.span.start)?;
     Ok(items)
 }
@@ -89,9 +89,9 @@ fn add_package<'a>(
     items: &mut Vec<Item<'a>>,
     number: usize,
     components: &[Component],
-    fronts: &'a [OwnedText],
+    prefixes: &'a [OwnedText],
 ) -> Result<(), AllocError>
-    requires { AreFronts components.now fronts.now }
+    requires { ArePrefixes components.now prefixes.now }
     ensures { OnOk result (AreWithPackage number components.now items.old.items items.new.items) }
 {
     for (index, component) in components.iter().enumerate() {
@@ -100,7 +100,7 @@ fn add_package<'a>(
                 file: number,
                 span: component.span,
             },
-            full_name: fronts[index].as_str(),
+            full_name: prefixes[index].as_str(),
             is_declaration: false,
         })?;
     }

@@ -4,11 +4,11 @@ ghost use Rattle.std.specs.Prelude.{ℕ, List, ◌≡◌, ◌≤◌, ◌↔◌, 
 ghost use Rattle.std.specs.List.Sorted.{IsNonDecreasing};
 ghost use Rattle.std.specs.Str.{bytes_eq};
 ghost use Rattle.proto_visibility.specs.declared.names.DeclaredAt.{DeclaredAt};
-ghost use Rattle.proto_visibility.specs.Tables.FileItems.{AreAllFronts};
-ghost use Rattle.proto_visibility.specs.Tables.GivenNames.{listed_at, owned_at, IsDeclaredOf, IsDeclaredIn, AreDeclared, HasFrontAt, AreNames};
+ghost use Rattle.proto_visibility.specs.Tables.FileItems.{AreAllPrefixes};
+ghost use Rattle.proto_visibility.specs.Tables.GivenNames.{listed_at, owned_at, IsDeclaredOf, IsDeclaredIn, AreDeclared, HasPrefixAt, AreNames};
 
-use crate::given::Role;
 use crate::link_file::LinkFile;
+use crate::role::Role;
 use indexmap::IndexMap;
 use proto_decl::{Declaration, DeclarationKind};
 use sequences::{OwnedText, Sequence};
@@ -31,17 +31,17 @@ pub(crate) struct Names<'a> {
 }
 
 impl<'a> Names<'a> {
-    // The names that files give, by the names of their packages' fronts.
+    // The names that files give, by the names of their packages' prefixes.
     pub(crate) fn of(
         alloc: Global,
         files: &'a [LinkFile<'a>],
-        fronts: &[Sequence<OwnedText>],
+        prefixes: &[Sequence<OwnedText>],
     ) -> Result<Names<'a>, AllocError>
-        requires { AreAllFronts files.now fronts.now }
+        requires { AreAllPrefixes files.now prefixes.now }
         ensures { IfOk result (AreNames files.now) }
     {
         let declared = declared_names(alloc, files)?;
-        let packages = package_names(alloc, fronts)?;
+        let packages = package_names(alloc, prefixes)?;
         Ok(Names { declared, packages })
     }
 
@@ -130,49 +130,49 @@ fn add_declared<'a>(
 // For each of these texts the files that have it.
 fn package_names(
     alloc: Global,
-    fronts: &[Sequence<OwnedText>],
+    prefixes: &[Sequence<OwnedText>],
 ) -> Result<IndexMap<String, Vec<usize>>, AllocError>
-    ensures files { IfOk result (λ names. (name : List ℕ) (number : ℕ) → Contains (owned_at names name) number ↔ HasFrontAt fronts.now number name) }
+    ensures files { IfOk result (λ names. (name : List ℕ) (number : ℕ) → Contains (owned_at names name) number ↔ HasPrefixAt prefixes.now number name) }
     ensures order { IfOk result (λ names. (name : List ℕ) → IsNonDecreasing (owned_at names name)) }
 {
     let mut names = IndexMap::new(alloc);
-    for (number, its) in fronts.iter().enumerate() {
-        add_fronts(alloc, &mut names, number, its.as_slice())?;
+    for (number, its) in prefixes.iter().enumerate() {
+        add_prefixes(alloc, &mut names, number, its.as_slice())?;
     }
     Ok(names)
 }
 
 // Adds the file with this number, which is none before those that stand there.
-fn add_fronts(
+fn add_prefixes(
     alloc: Global,
     names: &mut IndexMap<String, Vec<usize>>,
     number: usize,
-    fronts: &[OwnedText],
+    prefixes: &[OwnedText],
 ) -> Result<(), AllocError>
     requires order { (name : List ℕ) → IsNonDecreasing (owned_at names.old name) }
     requires behind { (name : List ℕ) (other : ℕ) → Contains (owned_at names.old name) other → other ≤ number }
-    ensures files { OnOk result ((name : List ℕ) (other : ℕ) → Contains (owned_at names.new name) other ↔ (Contains (owned_at names.old name) other ⊎ ((other ≡ number) × Contains fronts.now name))) }
+    ensures files { OnOk result ((name : List ℕ) (other : ℕ) → Contains (owned_at names.new name) other ↔ (Contains (owned_at names.old name) other ⊎ ((other ≡ number) × Contains prefixes.now name))) }
     ensures order { OnOk result ((name : List ℕ) → IsNonDecreasing (owned_at names.new name)) }
 {
-    for front in fronts {
-        add_front(alloc, names, number, front.as_str())?;
+    for prefix in prefixes {
+        add_prefix(alloc, names, number, prefix.as_str())?;
     }
     Ok(())
 }
 
-fn add_front(
+fn add_prefix(
     alloc: Global,
     names: &mut IndexMap<String, Vec<usize>>,
     number: usize,
-    front: &str,
+    prefix: &str,
 ) -> Result<(), AllocError>
-    ensures { OnOk result ((other : List ℕ) → owned_at names.new other ≡ (if bytes_eq front.now other then owned_at names.old other ++ number ∷ [] else owned_at names.old other)) }
+    ensures { OnOk result ((other : List ℕ) → owned_at names.new other ≡ (if bytes_eq prefix.now other then owned_at names.old other ++ number ∷ [] else owned_at names.old other)) }
 {
-    if let Some(listed) = names.get_mut(front) {
+    if let Some(listed) = names.get_mut(prefix) {
         listed.push(number)?;
         return Ok(());
     }
-    add_copied(alloc, names, number, front)
+    add_copied(alloc, names, number, prefix)
 }
 
 // The same, by a copy of the text.
@@ -180,11 +180,11 @@ fn add_copied(
     alloc: Global,
     names: &mut IndexMap<String, Vec<usize>>,
     number: usize,
-    front: &str,
+    prefix: &str,
 ) -> Result<(), AllocError>
-    ensures { OnOk result ((other : List ℕ) → owned_at names.new other ≡ (if bytes_eq front.now other then owned_at names.old other ++ number ∷ [] else owned_at names.old other)) }
+    ensures { OnOk result ((other : List ℕ) → owned_at names.new other ≡ (if bytes_eq prefix.now other then owned_at names.old other ++ number ∷ [] else owned_at names.old other)) }
 {
-    let name = String::from_str(alloc, front)?;
+    let name = String::from_str(alloc, prefix)?;
     names.entry(name)?.or_default().push(number)?;
     Ok(())
 }

@@ -7,26 +7,26 @@ ghost use Rattle.proto_visibility.specs.Entities.{IsEntityOf};
 ghost use Rattle.proto_visibility.specs.Files.{HaveOwnPaths, HaveOrigins, HasFacts, HasPathAt, IsIncludedAt};
 ghost use Rattle.proto_visibility.specs.Sees.{Sees, Counts};
 ghost use Rattle.proto_visibility.specs.Clashes.{Clash, NoClash};
-ghost use Rattle.proto_visibility.specs.Tables.FileItems.{AreAllFronts};
+ghost use Rattle.proto_visibility.specs.Tables.FileItems.{AreAllPrefixes};
 ghost use Rattle.proto_visibility.specs.Linked.{CanBeLinked, MayRefuse};
 ghost use Rattle.proto_visibility.specs.Knows.{KnowsAs};
-ghost use Rattle.proto_visibility.specs.Given.{admits, SeesGiving};
+ghost use Rattle.proto_visibility.specs.FileNames.{admits, SeesGiving};
 
 use crate::absent::first_absent;
-use crate::all_items::{all_fronts, all_items};
+use crate::all_items::{all_items, all_prefixes};
 use crate::clash::first_clash;
 use crate::counting::{counted_files, first_unread};
 use crate::entities::{Entity, entity_in};
 use crate::fault::LinkFault;
 use crate::file_row::FileRow;
-use crate::given::Role;
-use crate::knowing::first_giving;
+use crate::import_table::numbers_of;
 use crate::link_file::LinkFile;
+use crate::name_owners::first_giving;
 use crate::names::Names;
 use crate::origins::have_origins;
 use crate::place::FilePlace;
+use crate::role::Role;
 use crate::seeing::seen_files;
-use crate::steps::numbers_of;
 use proto_decl::FileFacts;
 use sequences::{OwnedText, Sequence};
 use std::alloc::{AllocError, Global};
@@ -72,8 +72,8 @@ impl<'a> Namespace<'a> {
         if let Some(number) = first_unread(files, &counted) {
             return Err(LinkFault::Broken(number));
         }
-        let fronts = all_fronts(alloc, files)?;
-        let clash = clash_among(alloc, files, fronts.as_slice(), &counted)?;
+        let prefixes = all_prefixes(alloc, files)?;
+        let clash = clash_among(alloc, files, prefixes.as_slice(), &counted)?;
         if let Some((first, second)) = clash {
             return Err(LinkFault::Duplicate(first, second));
         }
@@ -81,7 +81,7 @@ impl<'a> Namespace<'a> {
             return Err(LinkFault::MissingImport(place));
         }
         have_origins(files);
-        let names = Names::of(alloc, files, fronts.as_slice())?;
+        let names = Names::of(alloc, files, prefixes.as_slice())?;
         Ok(Namespace { files, rows, names })
     }
 
@@ -173,14 +173,14 @@ impl<'a> Namespace<'a> {
 fn clash_among(
     alloc: Global,
     files: &[LinkFile],
-    fronts: &[Sequence<OwnedText>],
+    prefixes: &[Sequence<OwnedText>],
     counted: &FileRow,
 ) -> Result<Option<(FilePlace, FilePlace)>, AllocError>
-    requires fronts { AreAllFronts files.now fronts.now }
+    requires prefixes { AreAllPrefixes files.now prefixes.now }
     requires counted { (number : ℕ) → Contains counted.now number ↔ Counts files.now number }
     ensures { IfOk result (λ clash. MatchOption clash (NoClash files.now) (λ places. Clash files.now places.0 places.1)) }
 {
-    let items = all_items(alloc, files, fronts, counted)?;
+    let items = all_items(alloc, files, prefixes, counted)?;
     let clash = first_clash(alloc, items.as_slice())?;
     Ok(clash)
 }

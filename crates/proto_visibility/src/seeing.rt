@@ -3,12 +3,12 @@
 ghost use Rattle.std.specs.Prelude.{ℕ, ◌≡◌, ◌<◌, ◌↔◌, OnOk, IfOk, Contains, length};
 ghost use Rattle.proto_visibility.specs.Files.{Imports};
 ghost use Rattle.proto_visibility.specs.Sees.{SeesBy};
-ghost use Rattle.proto_visibility.specs.Tables.StepTables.{HasStep, AreWithin, AreRowsBy, AreNumbered};
+ghost use Rattle.proto_visibility.specs.Tables.ImportTables.{HasStep, AreWithin, AreRowsBy, AreNumbered};
 
 use crate::file_row::FileRow;
+use crate::import_table::{Steps, steps_of};
 use crate::link_file::LinkFile;
 use crate::search::Search;
-use crate::steps::{Steps, steps_of};
 use std::alloc::{AllocError, Global};
 use std::collections::HashMap;
 

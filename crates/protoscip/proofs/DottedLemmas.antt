@@ -5,7 +5,7 @@ use Rattle.std.specs.List.{All, list_all, slice_split, onto_first}
 use Rattle.std.proofs.lemmas.List.Elements.{All-nil, All-cons, All-head, All-tail, All-take}
 use Rattle.std.proofs.lemmas.List.Splits.{slice_split-cons_yes, slice_split-cons_no, slice_split_none, slice_split_at, length-slice_split}
 use Rattle.proto_decl.specs.Names.{IsSimple, dotted, components_of}
-use Rattle.proto_decl.specs.Ways.{component_names}
+use Rattle.proto_decl.specs.Ancestors.{component_names}
 use Rattle.proto_decl.specs.declared.type_use.Component.{Component}
 
 abbrev is_dot : ℕ → Bool

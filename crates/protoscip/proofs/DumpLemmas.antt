@@ -13,6 +13,8 @@ use Rattle.proto_decl.specs.Seen.{Seen}
 use Rattle.index_hooks.specs.declared.choice.Choice.{Choice}
 use Rattle.source_tree.specs.Files.{TreeFile}
 use Rattle.source_tree.specs.Reading.{kept_bytes, max_kept_length}
+use Rattle.source_tree.specs.declared.reading.SourceFault.{SourceFault}
+use Rattle.source_tree.specs.declared.reading.SourceFault.TheVariants as source
 use Rattle.scip_model.specs.declared.records.Index.{Index}
 use Rattle.scip_build.specs.Builds.{IsBuilt, IsBuildFault, OfReadings}
 use Rattle.proto_visibility.specs.Linked.{CanBeLinked}
@@ -28,13 +30,13 @@ use Rattle.scip_build.specs.declared.fault.BuildFault.TheVariants as build
 use Rattle.scip_build.specs.declared.fault.FileFault.{FileFault}
 use Rattle.scip_build.specs.declared.fault.FileFault.TheVariants as file
 use Rattle.scip_wire.specs.Spelling.{spelling_of}
-use Rattle.protoscip.specs.Faults.{fault_of_build}
+use Rattle.protoscip.specs.Faults.{fault_of_build, fault_of_source}
 use Rattle.protoscip.specs.FaultLines.{HasFilesOf}
 use Rattle.protoscip.specs.Indexes.{IsRefused}
 use Rattle.protoscip.specs.Writing.{IsReadBack}
 use Rattle.protoscip.specs.Output.{Writes}
 use Rattle.protoscip.specs.DumpText.{dump_text}
-use Rattle.protoscip.specs.Dump.{source_path, dump_tree, dump_settings, default_choices, IsListing, IsRefusal, Dumps, LeavesWriter}
+use Rattle.protoscip.specs.Dump.{source_path, dump_tree, dump_settings, default_choices, IsListing, IsRefusal, Dumps, LeavesWriter, IsDumped}
 use Rattle.protoscip.specs.declared.fault.Fault.{Fault}
 use Rattle.protoscip.specs.declared.fault.Fault.TheVariants as fault
 use Rattle.protoscip.proofs.FileLemmas.{files_of_build}
@@ -205,3 +207,9 @@ module _ (W : Type 0) (contents : W → Option (List ℕ)) (failures : W → ℕ
   written_writer (Err e) wrote =
       let P : Fault → Type 0 = λ f. LeavesWriter contents failures before after due (Err f) in
       subst P (sym wrote.1) wrote.2
+
+-- where the source isn't read nothing is due, of any bytes
+pub unread_dumped : {R W : Type 0} (remaining : R → Option (List ℕ)) (contents : W → Option (List ℕ)) (failures : W → ℕ) (custom : CustomOptions) (reader : R) (out : W) (e : SourceFault)
+    → IsDumped remaining contents failures custom reader out out (Err (fault_of_source e))
+unread_dumped remaining contents failures custom reader out source.Read = record { due = []; writer = refl; some = ([], tt); told = λ bytes known. tt }
+unread_dumped remaining contents failures custom reader out source.Memory = record { due = []; writer = refl; some = ([], tt); told = λ bytes known. tt }

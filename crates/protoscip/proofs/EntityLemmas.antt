@@ -8,10 +8,10 @@ use Rattle.std.proofs.lemmas.Option.{slice_get_within}
 use Rattle.std.proofs.lemmas.List.Elements.{All-nil, All-contains, Contains-append_cases}
 use Rattle.std.proofs.lemmas.Slice.Eq.{bytes_eq-Decides}
 use Rattle.proto_lex.specs.declared.position.Encoding.{Encoding}
-use Rattle.proto_decl.specs.Names.{dotted, components_of, front_of}
+use Rattle.proto_decl.specs.Names.{dotted, components_of, prefix_of}
 use Rattle.proto_decl.specs.Names as names
 use Rattle.proto_decl.specs.Facts.{Facts, AreOfSomeFile}
-use Rattle.proto_decl.specs.Ways.{names_of, component_names, AreHeld}
+use Rattle.proto_decl.specs.Ancestors.{names_of, component_names, AreHeld}
 use Rattle.proto_decl.specs.declared.imported.Imported.{Imported}
 use Rattle.proto_decl.specs.declared.declaration.Declaration.{Declaration}
 use Rattle.proto_decl.specs.declared.type_use.Component.{Component}
@@ -53,7 +53,7 @@ use Rattle.protoscip.proofs.ListLemmas.{place_of, contained}
 
 -- what they say of identifiers
 spelled : LawsOfNames → AreIdentifiers
-spelled laws = record { named = laws.named; ways = laws.ways; held = laws.held }
+spelled laws = record { named = laws.named; paths = laws.paths; held = laws.held }
 
 -- ---- texts in a list
 
@@ -98,7 +98,7 @@ module _ (files : List File) (linked : CanBeLinked files) (origins : HaveOrigins
 
   -- a package that a source knows
   known_package : (source : ℕ) → IsSource files source → (name : List ℕ) (kind : NameKind) → Knows files source name kind → kind ≡ IsPackageKind
-      → (whole : List ℕ) (count : ℕ) → 0 < count → name ≡ front_of whole count → IsEntityOf files (OfPackage (take count (components_of whole)))
+      → (whole : List ℕ) (count : ℕ) → 0 < count → name ≡ prefix_of whole count → IsEntityOf files (OfPackage (take count (components_of whole)))
   known_package source is _ _ (known_declared sees has listed) kind whole count one front = absurd (cc)
   known_package source is _ _ (known_packaged {seen = number} {count = few} {facts = facts} sees has some within) kind whole count one front =
       let same = same_front whole count few facts.package_name one some (omega (arith, some, within)) (laws.simple facts (origins number facts has)) front in
@@ -109,7 +109,7 @@ module _ (files : List File) (linked : CanBeLinked files) (origins : HaveOrigins
       → IsEntityOf files (OfPackage (take count (components_of name)))
   named_package_is source is name number _ one (named_package known) count same =
       let Is : ℕ → Type 0 = λ n. IsEntityOf files (OfPackage (take n (components_of name))) in
-      subst Is (count_of number count same) (known_package source is (front_of name number) IsPackageKind known refl name number one refl)
+      subst Is (count_of number count same) (known_package source is (prefix_of name number) IsPackageKind known refl name number one refl)
     where
       count_of : (a b : ℕ) → link.Package a ≡ link.Package b → a ≡ b
       count_of a b e = cc
@@ -159,7 +159,7 @@ module _ (files : List File) (origins : HaveOrigins files) (good : HaveGoodPaths
   is_entity _ (of_package {number = number} {count = count} {facts = facts} counts has some few) = package-is facts count (laws.named facts (origins number facts has)) some few
   is_entity _ (of_declaration {number = number} {index = index} {facts = facts} {declared = declared} counts has) =
       let origin = origins number facts has.has_facts in
-      declaration-is facts declared (laws.named facts origin) (laws.ways facts origin) (contained facts.declarations index declared has.numbered)
+      declaration-is facts declared (laws.named facts origin) (laws.paths facts origin) (contained facts.declarations index declared has.numbered)
 
   -- a declaration is one of the facts of a file that counts
   record IsDeclared (entity : Entity) : Type 0 where

@@ -5,7 +5,7 @@ use Rattle.proto_decl.specs.Seen.{Seen}
 use Rattle.index_hooks.specs.declared.choice.Choice.{Choice}
 use Rattle.source_tree.specs.Files.{TreeFile}
 use Rattle.scip_model.specs.declared.records.Index.{Index}
-use Rattle.scip_model.specs.WholeWrites.{IsWritten}
+use Rattle.streams.specs.WholeWrites.{IsWritten}
 use Rattle.scip_build.specs.Builds.{IsBuilt, IsBuildFault}
 use Rattle.scip_build.specs.declared.built.Built.{Built}
 use Rattle.scip_build.specs.declared.settings.Settings.{Settings}

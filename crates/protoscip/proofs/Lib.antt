@@ -21,3 +21,5 @@ pub mod HeadlineLemmas
 mod DumpLawLemmas
 -- trees of files are trees, to which the headline applies
 pub mod TreeLemmas
+-- what is written, or answered from, navigates its tree
+mod NavigableLemmas

@@ -11,31 +11,34 @@ use Rattle.scip_build.specs.declared.settings.Settings.{Settings}
 use Rattle.scip_query.specs.declared.answer_fault.AnswerFault.{AnswerFault}
 use Rattle.scip_query.specs.declared.answer_fault.AnswerFault.TheVariants as answer
 use Rattle.scip_wire.specs.Spelling.{spelling_of}
-use Rattle.protoscip.specs.Faults.{fault_of_answering, outcome_of}
+use Rattle.protoscip.specs.Faults.{fault_of_answering}
 use Rattle.protoscip.specs.FaultLines.{HasFilesOf}
 use Rattle.protoscip.specs.Indexes.{IsSpelled}
 use Rattle.protoscip.specs.Conversing.{AreAnsweredFrom, Converses}
-use Rattle.protoscip.specs.Sessions.{AreAnswered, IsServed, Serves}
+use Rattle.protoscip.specs.Sessions.{AreAnswered, MayAnswer, IsServed, Serves}
 use Rattle.protoscip.specs.declared.fault.Fault.{Fault}
 use Rattle.protoscip.specs.declared.fault.Fault.TheVariants as fault
 
 module _ {R W : Type 0} (remaining : R → Option (List ℕ)) (read_failures reads ends : R → ℕ) (contents : W → Option (List ℕ)) (write_failures : W → ℕ) (before after : R) (first last : W) where
   -- commands are answered from an index that was read back
   module _ (index read : Index) (spelled : IsSpelled index (spelling_of index)) (same : read ≡ index) where
-    conversed : (answered : Result (Unit {0}) AnswerFault) → AreAnswered remaining read_failures reads ends contents write_failures read before after first last answered
+    pub conversed : (answered : Result (Unit {0}) AnswerFault) → AreAnswered remaining read_failures reads ends contents write_failures read before after first last answered
         → AreAnsweredFrom remaining read_failures reads ends contents write_failures index before after first last answered
     conversed answered are = record { spelled = spelled; are = subst (λ (i : Index). AreAnswered remaining read_failures reads ends contents write_failures i before after first last answered) same are }
 
-    stopped : (e : AnswerFault) → AreAnswered remaining read_failures reads ends contents write_failures read before after first last (Err e)
+    pub stopped : (e : AnswerFault) → MayAnswer remaining read_failures reads ends contents write_failures read before after first last (Err e)
         → Converses remaining read_failures reads ends contents write_failures index before after first last (Err (fault_of_answering e))
     stopped answer.Read are = conversed (Err answer.Read) are
     stopped (answer.Write count) are = conversed (Err (answer.Write count)) are
-    stopped answer.Memory are = inr (conversed (Err answer.Memory) are)
+    stopped answer.Memory (inl untouched) = inl untouched
+    stopped answer.Memory (inr are) = inr (conversed (Err answer.Memory) are)
 
-    pub told : (answered : Result (Unit {0}) AnswerFault) → AreAnswered remaining read_failures reads ends contents write_failures read before after first last answered
-        → Converses remaining read_failures reads ends contents write_failures index before after first last (outcome_of answered)
-    told (Ok done) are = conversed (Ok done) are
-    told (Err e) are = stopped e are
+  pub may_answer : (index : Index) (answered : Result (Unit {0}) AnswerFault) → AreAnswered remaining read_failures reads ends contents write_failures index before after first last answered
+      → MayAnswer remaining read_failures reads ends contents write_failures index before after first last answered
+  may_answer index (Ok done) are = are
+  may_answer index (Err answer.Read) are = are
+  may_answer index (Err (answer.Write count)) are = are
+  may_answer index (Err answer.Memory) are = inr are
 
   -- and that index is the one that was built
   module _ (allows : Seen → Choice → Type 0) (settings : Settings) (tree : List TreeFile) (workers : ℕ) (built : Built) (is : IsBuilt allows settings tree built) where

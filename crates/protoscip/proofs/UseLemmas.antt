@@ -5,9 +5,9 @@ use Rattle.std.specs.List.{slice_get}
 use Rattle.std.proofs.lemmas.Bool.{false≢true}
 use Rattle.std.proofs.lemmas.Option.{same_Some, none-some}
 use Rattle.std.proofs.lemmas.List.Elements.{All-contains}
-use Rattle.proto_decl.specs.Names.{components_of, front_of}
+use Rattle.proto_decl.specs.Names.{components_of, prefix_of}
 use Rattle.proto_decl.specs.Facts.{Facts, AreOfSomeFile}
-use Rattle.proto_decl.specs.Laws.{IsEntity, FrontsAreEntities}
+use Rattle.proto_decl.specs.Laws.{IsEntity, PrefixesAreEntities}
 use Rattle.proto_decl.specs.Laws.IsEntity.{packaged as entity_packaged, declared as entity_declared}
 use Rattle.proto_decl.specs.declared.declaration.Declaration.{Declaration}
 use Rattle.proto_decl.specs.declared.type_use.Component.{Component}
@@ -54,7 +54,7 @@ are_each P (suc n) at =
 
 module _ (files : List File) (file : ℕ) where
   -- a file that is seen names it, so that it is known
-  entity_named : (seen : ℕ) (facts : Facts) → Sees files file seen → HasFacts files seen facts → (name : List ℕ) (count : ℕ) (front : List ℕ) → IsEntity facts front → front ≡ front_of name count
+  entity_named : (seen : ℕ) (facts : Facts) → Sees files file seen → HasFacts files seen facts → (name : List ℕ) (count : ℕ) (front : List ℕ) → IsEntity facts front → front ≡ prefix_of name count
       → (part : Part) × IsNamed files file name count part
   entity_named seen facts sees has name count _ (entity_packaged some few) same =
       let Is : List ℕ → Type 0 = λ front. Knows files file front IsPackageKind in
@@ -62,23 +62,23 @@ module _ (files : List File) (file : ℕ) where
   entity_named seen facts sees has name count _ (entity_declared {declaration = declared} there) same =
       (link.Declared seen there.0, named_declared sees has (place_of facts.declarations declared there) same)
 
-  module _ (fronts : (facts : Facts) → AreOfSomeFile facts → FrontsAreEntities facts) (origins : HaveOrigins files) where
+  module _ (fronts : (facts : Facts) → AreOfSomeFile facts → PrefixesAreEntities facts) (origins : HaveOrigins files) where
     front_named : (name : List ℕ) (kind : NameKind) → Knows files file name kind → is_type kind ≡ true → (count : ℕ) → 0 < count → count ≤ length (components_of name)
         → (part : Part) × IsNamed files file name count part
     front_named _ _ (known_declared {seen = seen} {facts = facts} {declaration = declared} sees has listed) admitted count some few =
-        let Fronts : Declaration → Type 0 = λ d. (n : ℕ) → 0 < n → n ≤ length (components_of d.full_name) → IsEntity facts (front_of d.full_name n) in
+        let Fronts : Declaration → Type 0 = λ d. (n : ℕ) → 0 < n → n ≤ length (components_of d.full_name) → IsEntity facts (prefix_of d.full_name n) in
         let is = All-contains Fronts facts.declarations declared (fronts facts (origins seen facts has)) listed count some few in
-        entity_named seen facts sees has declared.full_name count (front_of declared.full_name count) is refl
+        entity_named seen facts sees has declared.full_name count (prefix_of declared.full_name count) is refl
     front_named _ _ (known_packaged sees has some few) admitted count one many = absurd (false≢true admitted)
 
-pub each_use_has_a_target : ((facts : Facts) → AreOfSomeFile facts → FrontsAreEntities facts) → EachUseHasATarget
+pub each_use_has_a_target : ((facts : Facts) → AreOfSomeFile facts → PrefixesAreEntities facts) → EachUseHasATarget
 each_use_has_a_target fronts files origins file type_use name resolves =
     let is = resolved_type files file type_use name resolves in
     let few = used_fit files file type_use name resolves in
     let skipped = length (components_of name) - length type_use.components in
     let parts = are_each (λ j part. IsNamed files file name (skipped + j + 1) part) (length type_use.components)
     (λ j within. front_named files file fronts origins name is.kind is.known is.admitted (skipped + j + 1) (omega arith) (omega (arith, within, few))) in
-    (record { name = name; parts = parts.list }, record { resolves = resolves; one_each = parts.one_each; named = parts.each })
+    (record { name = name; parts = parts.list }, record { resolves = resolves; skipped = skipped; split = omega (arith, few); one_each = parts.one_each; named = parts.each })
 
 -- ---- the components of a source's uses
 

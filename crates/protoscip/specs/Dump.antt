@@ -1,6 +1,6 @@
 -- What a dump answers of a source: its listing, or why there is none.
 -- `failures`, `reads` and `ends` are the feed's, `contents` the sink's; `before` and `after` are it around the call.
-use Rattle.std.specs.Prelude.{◌≡◌, ℕ, false, List, [], ◌∷◌, Option, Result, Ok, Err, codes}
+use Rattle.std.specs.Prelude.{◌≡◌, ℕ, false, List, [], ◌∷◌, Option, Some, Result, Ok, Err, codes}
 use Rattle.proto_lex.specs.declared.position.Encoding.TheVariants.{Utf8}
 use Rattle.proto_grammar.specs.declared.tree.CustomOptions.{CustomOptions}
 use Rattle.proto_decl.specs.Seen.{Seen}
@@ -8,8 +8,8 @@ use Rattle.index_hooks.specs.declared.choice.Choice.{Choice}
 use Rattle.index_hooks.specs.MayChoose.{IsDefaultChoice}
 use Rattle.source_tree.specs.Files.{TreeFile}
 use Rattle.scip_document.specs.Chosen.{Chosen}
-use Rattle.scip_model.specs.WholeReads.{IsReadFault, IsReadThrough}
-use Rattle.scip_model.specs.WholeWrites.{IsWritten, IsCutOff}
+use Rattle.streams.specs.WholeReads.{IsReadFault, IsReadThrough}
+use Rattle.streams.specs.WholeWrites.{IsWritten, IsCutOff}
 use Rattle.scip_build.specs.declared.settings.Settings.{Settings}
 use Rattle.protoscip.specs.DumpText.{dump_text}
 use Rattle.protoscip.specs.Indexes.{IsIndexed, IsRefused}
@@ -67,3 +67,12 @@ abbrev pub LeavesWriter : {W : Type 0} → (contents : W → Option (List ℕ)) 
 LeavesWriter contents failures before after due (Ok done) = IsWritten contents failures before after due
 LeavesWriter contents failures before after due (Err (Write count)) = IsCutOff contents failures before after due count
 LeavesWriter contents failures before after due (Err fault) = after ≡ before
+
+-- What a dump leaves of its writer, by the text that it has to write: that of the bytes which the reader tells that it has left; where it
+-- tells none, of some bytes.
+pub record IsDumped {R W : Type 0} (remaining : R → Option (List ℕ)) (contents : W → Option (List ℕ)) (failures : W → ℕ) (custom : CustomOptions) (reader : R) (before after : W)
+    (done : Result (Unit {0}) Fault) : Type 0 where
+  pub due : List ℕ
+  pub writer : LeavesWriter contents failures before after due done
+  pub some : (bytes : List ℕ) × Dumps custom bytes due done
+  pub told : (bytes : List ℕ) → remaining reader ≡ Some bytes → Dumps custom bytes due done

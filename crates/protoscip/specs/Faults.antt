@@ -3,7 +3,7 @@ use Rattle.scip_build.specs.declared.fault.BuildFault.{BuildFault}
 use Rattle.scip_build.specs.declared.fault.BuildFault.TheVariants as build
 use Rattle.scip_build.specs.declared.fault.FileFault.{FileFault}
 use Rattle.scip_build.specs.declared.fault.FileFault.TheVariants as file
-use Rattle.std.specs.Prelude.{ℕ, Result, Ok, Err}
+use Rattle.std.specs.Prelude.{ℕ}
 use Rattle.scip_query.specs.declared.answer_fault.AnswerFault.{AnswerFault}
 use Rattle.scip_query.specs.declared.answer_fault.AnswerFault.TheVariants as answer
 use Rattle.scip_wire.specs.declared.write_fault.SpellFault.{SpellFault}
@@ -46,8 +46,3 @@ abbrev pub fault_of_answering : AnswerFault → Fault
 fault_of_answering answer.Read = Read
 fault_of_answering (answer.Write count) = Answer count
 fault_of_answering answer.Memory = Memory
-
--- why commands aren't answered is why the run stops
-abbrev pub outcome_of : Result (Unit {0}) AnswerFault → Result (Unit {0}) Fault
-outcome_of (Ok done) = Ok done
-outcome_of (Err fault) = Err (fault_of_answering fault)

@@ -1,5 +1,5 @@
 -- The headline: what holds of the bytes of a tree's index, and of queries over them.
-use Rattle.std.specs.Prelude.{◌≡◌, ◌<◌, ◌≤◌, ℕ, ◌+◌, Bool, true, false, Some, Result, Ok, Err, List, length, Contains}
+use Rattle.std.specs.Prelude.{◌≡◌, ◌<◌, ◌≤◌, ℕ, ◌+◌, Bool, true, false, Option, Some, Result, Ok, Err, List, length, Contains}
 use Rattle.std.specs.declared.cmp.Ordering.{Ordering}
 use Rattle.std.specs.Ordering.{nat_cmp, on, then_cmp}
 use Rattle.std.specs.List.{slice_get}
@@ -22,6 +22,7 @@ use Rattle.scip_document.specs.Indexes.{HasDocument, IsAscendingListOf}
 use Rattle.scip_document.specs.Named.{HasDeclaration, NamesIn, text_of, package_at, declaration_at}
 use Rattle.scip_document.specs.Occurs.{Occurs}
 use Rattle.scip_document.specs.Occurs as rule
+use Rattle.streams.specs.WholeWrites.{IsWritten}
 use Rattle.scip_model.specs.declared.records.Index.{Index}
 use Rattle.scip_model.specs.declared.records.Document.{Document}
 use Rattle.scip_model.specs.declared.records.Occurrence.{Occurrence}
@@ -35,6 +36,7 @@ use Rattle.scip_query.specs.References.{definitions_at, references_at, is_defini
 use Rattle.scip_query.specs.Sites.{Site, Numbered, document_named}
 use Rattle.scip_wire.specs.Decodes.{Decodes}
 use Rattle.protoscip.specs.Indexes.{IsIndexed}
+use Rattle.protoscip.specs.Sessions.{AreAnswered}
 
 -- ---- what is named
 
@@ -135,9 +137,23 @@ pub record Navigates (allows : Seen → Choice → Type 0) (settings : Settings)
   pub built : IsBuilt allows settings tree (record { index = index; choices = choices })
   pub names : AnswersNames built
 
--- This holds of every tree, and of all settings whose package's parts are good: of all that `index_tree` writes, and of all that a session
--- answers from.
+-- This holds of all that is made of a tree by settings,
+abbrev pub HeadlineOfTree : (allows : Seen → Choice → Type 0) → Settings → List TreeFile → Type 0
+HeadlineOfTree allows settings tree =
+    (choices : Chosen) (bytes : List ℕ) → (indexed : IsIndexed allows settings tree choices bytes) → Navigates allows settings tree choices bytes indexed.index
+
+-- for every tree, and all settings whose package's parts are good: of all that `index_tree` writes, and of all that a session answers from.
 abbrev pub Headline : (allows : Seen → Choice → Type 0) → Type 0
-Headline allows =
-    (settings : Settings) (tree : List TreeFile) → IsTree tree → IsPackage settings.package
-    → (choices : Chosen) (bytes : List ℕ) → (indexed : IsIndexed allows settings tree choices bytes) → Navigates allows settings tree choices bytes indexed.index
+Headline allows = (settings : Settings) (tree : List TreeFile) → IsTree tree → IsPackage settings.package → HeadlineOfTree allows settings tree
+
+-- An index of the tree by these choices navigates it, and its bytes are written.
+abbrev pub WritesNavigable : {W : Type 0} → (contents : W → Option (List ℕ)) → (failures : W → ℕ) → (allows : Seen → Choice → Type 0) → Settings → List TreeFile → Chosen → W → W → Type 0
+WritesNavigable contents failures allows settings tree choices before after =
+    (bytes : List ℕ) × (index : Index) × Navigates allows settings tree choices bytes index × IsWritten contents failures before after bytes
+
+-- An index of the tree by these choices navigates it, and all commands are answered from it.
+abbrev pub AnswersNavigable : {R W : Type 0} → (remaining : R → Option (List ℕ)) → (read_failures reads ends : R → ℕ) → (contents : W → Option (List ℕ)) → (write_failures : W → ℕ)
+    → (allows : Seen → Choice → Type 0) → Settings → List TreeFile → Chosen → R → R → W → W → Type 0
+AnswersNavigable remaining read_failures reads ends contents write_failures allows settings tree choices before after first last =
+    (bytes : List ℕ) × (index : Index) × Navigates allows settings tree choices bytes index
+    × AreAnswered remaining read_failures reads ends contents write_failures index before after first last (Ok tt)

@@ -2,6 +2,7 @@
 pub mod Output
 -- why a run stops, the line that says so, and the status that a program then ends with
 pub mod Faults
+pub mod Lines
 pub mod FaultLines
 pub mod Statuses
 -- the index of a tree and its bytes

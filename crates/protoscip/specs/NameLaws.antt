@@ -2,7 +2,7 @@
 use Rattle.std.specs.Prelude.{◌≡◌, ◌≢◌, ℕ, List, [], All}
 use Rattle.proto_decl.specs.Names.{IsSimple}
 use Rattle.proto_decl.specs.Facts.{Facts, AreOfSomeFile}
-use Rattle.proto_decl.specs.Ways.{AreNamed, AreHeld}
+use Rattle.proto_decl.specs.Ancestors.{AreNamed, AreHeld}
 use Rattle.proto_link.specs.Laws.{OneDeclarationAName}
 use Rattle.scip_symbol.specs.Package.{Package, IsPackage}
 use Rattle.scip_symbol.specs.Entities.{Entity, IsEntity, symbol_in}
@@ -14,7 +14,7 @@ use Rattle.protoscip.specs.UseLaws.{EachUseHasATarget}
 -- entity; and each use that names a type has a target.
 pub record LawsOfNames : Type 0 where
   pub named : (facts : Facts) → AreOfSomeFile facts → AreNamed facts.package_name facts.declarations
-  pub ways : (facts : Facts) → AreOfSomeFile facts → All (λ declaration. declaration.path ≢ []) facts.declarations
+  pub paths : (facts : Facts) → AreOfSomeFile facts → All (λ declaration. declaration.path ≢ []) facts.declarations
   pub held : (facts : Facts) → AreOfSomeFile facts → AreHeld facts.package_name facts.declarations
   pub simple : (facts : Facts) → AreOfSomeFile facts → All (λ component. IsSimple component.name) facts.package_name
   pub one_name : OneDeclarationAName

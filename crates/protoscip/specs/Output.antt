@@ -1,6 +1,6 @@
 -- Writing a text to the program's output.
 use Rattle.std.specs.Prelude.{◌≡◌, ℕ, List, Option, Result, MatchResult}
-use Rattle.scip_model.specs.WholeWrites.{IsWritten, IsCutOff}
+use Rattle.streams.specs.WholeWrites.{IsWritten, IsCutOff}
 use Rattle.protoscip.specs.declared.fault.Fault.{Fault}
 use Rattle.protoscip.specs.declared.fault.Fault.TheVariants.{Write}
 

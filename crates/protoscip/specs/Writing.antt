@@ -1,6 +1,6 @@
 -- What the writing of an index answers, and what it leaves of the writer.
 use Rattle.std.specs.Prelude.{◌≡◌, ℕ, ◌<◌, List, length, Option, Result, Ok, Err}
-use Rattle.scip_model.specs.WholeWrites.{IsWritten, IsCutOff}
+use Rattle.streams.specs.WholeWrites.{IsWritten, IsCutOff}
 use Rattle.scip_model.specs.declared.records.Index.{Index}
 use Rattle.scip_wire.specs.Spelling.{spelling_of, max_index_len}
 use Rattle.protoscip.specs.Indexes.{IsSpelled}

@@ -1,9 +1,9 @@
 //! From a source's bytes to the listing of its occurrences.
 
-ghost use Rattle.std.specs.Prelude.{◌≡◌, ℕ, List, [], Some, IfOk, IfErr, MatchResult};
+ghost use Rattle.std.specs.Prelude.{◌≡◌, [], IfOk, IfErr, MatchResult};
 ghost use Rattle.std.specs.String.{string_bytes};
-ghost use Rattle.scip_model.specs.WholeReads.{IsReadBriefly};
-ghost use Rattle.protoscip.specs.Dump.{dump_tree, dump_settings, IsListing, IsRefusal, Dumps, LeavesReader, LeavesWriter};
+ghost use Rattle.streams.specs.WholeReads.{IsReadBriefly};
+ghost use Rattle.protoscip.specs.Dump.{dump_tree, dump_settings, IsListing, IsRefusal, IsDumped, LeavesReader};
 ghost use Rattle.protoscip.specs.FaultLines.{HasFilesOf};
 
 use crate::fault::Fault;
@@ -16,12 +16,13 @@ use proto_decl::DeclView;
 use proto_lex::Encoding;
 use proto_parse::CustomOptions;
 use scip_build::{Settings, build};
-use scip_model::{Feed, OwnedText, Sink};
+use scip_model::OwnedText;
 use scip_symbol::PackageId;
 use source_tree::{Source, Tree, TreeFault, read_source};
 use std::alloc::{AllocError, Global};
 use std::sync::Wait;
 use std::thread::Threads;
+use streams::{Feed, Sink};
 
 /// The path under which a dump, and what is said of its fault, shows its source.
 pub const SOURCE_PATH: &str = "input.proto";
@@ -118,8 +119,7 @@ pub fn dump<R: Threads + Wait, F: Feed, W: Sink>(
     source: &mut F,
     out: &mut W,
 ) -> Result<(), Fault>
-    ensures dumped { (due : List ℕ) × LeavesWriter W.contents W.failures out.old out.new due result
-        × ((bytes : List ℕ) → F.remaining source.old ≡ Some bytes → Dumps custom bytes due result) }
+    ensures dumped { IsDumped F.remaining W.contents W.failures custom source.old out.old out.new result }
     ensures files { IfErr result (HasFilesOf (dump_tree [])) }
     ensures reader { LeavesReader F.failures F.reads F.ends source.old source.new result }
     ensures briefly { IsReadBriefly F.reads source.old source.new }

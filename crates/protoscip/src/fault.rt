@@ -1,6 +1,7 @@
 //! Why a run stops short of its answer.
 
 ghost use Rattle.std.specs.Prelude.{◌≡◌};
+ghost use Rattle.protoscip.specs.FaultLines.{name_of};
 ghost use Rattle.protoscip.specs.Statuses.{status_of};
 
 use crate::statuses::{MEMORY_STATUS, SOURCES_STATUS, STREAM_STATUS};
@@ -11,51 +12,50 @@ use scip_build::{BuildFault, FileFault};
 use scip_query::AnswerFault;
 use scip_wire::{SpellFault, WriteFault};
 use source_tree::SourceFault;
-use std::alloc::{AllocError, AllocFailed};
-use thiserror::Error;
+use std::alloc::AllocError;
+use std::error::Error;
+use std::fmt;
 
 /// Why a run stops short of its answer. The first of those that hold is answered, in this order; but
 /// `Spawn` and `Memory` also come again, before what the same step would answer.
 ///
 /// A file is told by its number in the tree.
-#[derive(Clone, Copy, Debug, Drop, PartialEq, Eq, Error)]
+#[derive(Clone, Copy, Debug, Drop, PartialEq, Eq)]
 pub enum Fault {
     /// A thread could not be started.
-    #[error("Spawn")]
     Spawn,
     /// Memory ran out.
-    #[error("Memory")]
     Memory,
     /// The number of a file, and why its bytes are no text, or a text without a lexing: of the first
     /// source that can't be read; or, where all can be, of the first included file that some source
     /// sees and that can't be.
-    #[error("{1}")]
     Lex(usize, LexFault),
     /// The number of a file, and why the tokens of its text derive no tree: of the same file.
-    #[error("{1}")]
     Syntax(usize, SyntaxFault),
     /// Two places that give one full name.
-    #[error("Duplicate")]
     Duplicate(FilePlace, FilePlace),
     /// The first import of a path that no file has.
-    #[error("MissingImport")]
     MissingImport(FilePlace),
     /// The first use of the first source in which a use names no type.
-    #[error("Unresolved")]
     Unresolved(FilePlace),
     /// The index would have more than `MAX_INDEX_LEN` bytes.
-    #[error("TooLarge")]
     TooLarge,
     /// A write failed after this many bytes.
-    #[error("Write({0})")]
     Write(u64),
     /// A read failed, or `MAX_READS` reads gave no end.
-    #[error("Read")]
     Read,
     /// A write of answers failed after this many bytes of them, in a session.
-    #[error("Answer({0})")]
     Answer(u64),
 }
+
+/// Its name.
+impl fmt::Display for Fault {
+    fn fmt<W: fmt::Write>(&self, f: &mut fmt::Formatter<W>) -> fmt::Result {
+        f.write_str(self.name())
+    }
+}
+
+impl Error for Fault {}
 
 impl From<AllocError> for Fault {
     ghost use Rattle.protoscip.specs.declared.fault.Fault.TheVariants.{Memory};
@@ -63,16 +63,6 @@ impl From<AllocError> for Fault {
     ghost from_gives = { λ _ e. e ≡ Memory };
 
     fn from(_refused: AllocError) -> Fault {
-        Fault::Memory
-    }
-}
-
-impl<T: Drop> From<AllocFailed<T>> for Fault {
-    ghost use Rattle.protoscip.specs.declared.fault.Fault.TheVariants.{Memory};
-
-    ghost from_gives = { λ _ e. e ≡ Memory };
-
-    fn from(_refused: AllocFailed<T>) -> Fault {
         Fault::Memory
     }
 }
@@ -150,6 +140,25 @@ impl From<AnswerFault> for Fault {
 }
 
 impl Fault {
+    /// The name that its line has: the variant's, or that of the file's fault.
+    pub fn name(&self) -> &'static str
+        ensures { result.now ≡ name_of self.now }
+    {
+        match self {
+            Fault::Spawn => "Spawn",
+            Fault::Memory => "Memory",
+            Fault::Lex(_, fault) => fault.name(),
+            Fault::Syntax(_, fault) => fault.name(),
+            Fault::Duplicate(..) => "Duplicate",
+            Fault::MissingImport(_) => "MissingImport",
+            Fault::Unresolved(_) => "Unresolved",
+            Fault::TooLarge => "TooLarge",
+            Fault::Write(_) => "Write",
+            Fault::Read => "Read",
+            Fault::Answer(_) => "Answer",
+        }
+    }
+
     /// The exit status of a program that stops for it.
     pub fn status(&self) -> u8
         ensures { result ≡ status_of self.now }

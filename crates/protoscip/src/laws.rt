@@ -2,17 +2,18 @@
 //! that does nothing.
 
 ghost use Rattle.protoscip.specs.DumpLaws.{OneListing, ListedUnlessMemory};
-ghost use Rattle.protoscip.specs.Headline.{Headline};
+ghost use Rattle.protoscip.specs.Headline.{Headline, HeadlineOfTree};
 ghost use Rattle.protoscip.specs.IndexLaws.{OneReason, OneFileFault, IndexedHasNoFault, OneIndexing, OneIndexingHasNoFault};
 ghost use Rattle.protoscip.specs.NameLaws.{LawsOfNames};
 ghost use Rattle.protoscip.specs.UseLaws.{EachUseHasATarget};
 
 use crate::dumping::DefaultChoices;
 use index_hooks::Chooses;
-use proto_decl::{fronts_are_entities, names_are_identifiers, scopes_are_known};
+use proto_decl::{names_are_identifiers, prefixes_are_entities, scopes_are_known};
 use proto_link::one_declaration_a_name;
-use scip_build::{built_has_no_fault, file_faults_are_alike, one_build_fault, one_built};
+use scip_build::{Settings, built_has_no_fault, file_faults_are_alike, one_build_fault, one_built};
 use scip_symbol::{files_are_without_clash, symbols_name_one_entity};
+use source_tree::Tree;
 
 /// Two faults of a tree name the same, whatever was chosen.
 pub fn one_reason<C: Chooses, D: Chooses>(chooser: &C, other: &D)
@@ -54,7 +55,7 @@ pub fn one_indexing<C: Chooses, D: Chooses>(chooser: &C, other: &D)
 pub fn each_use_has_a_target()
     ensures { EachUseHasATarget }
 {
-    fronts_are_entities();
+    prefixes_are_entities();
 }
 
 /// What the headline rests on, whatever was chosen: a full name is that of one declaration, a symbol that
@@ -81,6 +82,15 @@ pub fn headline<C: Chooses>(chooser: &C)
     ensures { Headline (C.allows chooser.now) }
 {
     laws_of_names();
+}
+
+/// The headline, of what is made of a tree by settings: they are good, whatever they are.
+pub(crate) fn headline_of_tree<C: Chooses>(chooser: &C, tree: &Tree, settings: &Settings)
+    ensures { HeadlineOfTree (C.allows chooser.now) settings.now tree.now }
+{
+    headline(chooser);
+    tree.file_count();
+    settings.package.manager();
 }
 
 /// A source has one listing at most.

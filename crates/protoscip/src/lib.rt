@@ -12,14 +12,17 @@ mod listing;
 mod output;
 
 // Answers to commands about the index of a tree.
+mod answering;
 mod reading_back;
 mod sessions;
 
 // Why a run stops.
 mod fault;
 mod fault_lines;
+mod lines;
 mod statuses;
 
+pub use answering::answer_commands;
 pub use dumping::{SOURCE_PATH, dump, dump_tree};
 pub use fault::Fault;
 pub use fault_lines::fault_line;
@@ -28,6 +31,7 @@ pub use laws::{
     each_use_has_a_target, headline, indexed_has_no_fault, laws_of_names, listed_unless_memory,
     one_file_fault, one_indexing, one_listing, one_reason,
 };
+pub use lines::{path_line, placed_line, plain_line};
 pub use output::write_text;
 pub use sessions::session;
 pub use statuses::{MEMORY_STATUS, SOURCES_STATUS, STREAM_STATUS};

@@ -3,22 +3,11 @@
 ghost use Rattle.std.specs.Prelude.{◌≡◌, ◌++◌, IfOk, OnOk};
 ghost use Rattle.std.specs.List.{flat_map};
 ghost use Rattle.std.specs.String.{string_bytes};
-ghost use Rattle.protoscip.specs.DumpText.{line_of, occurrence_line, dump_text};
+ghost use Rattle.protoscip.specs.DumpText.{occurrence_line, dump_text};
 
-use scip_model::{Index, Occurrence, Range};
+use scip_model::{Index, Occurrence};
+use scip_query::push_line;
 use std::alloc::{AllocError, Global};
-
-/// Appends the line of an occurrence with a range, roles and a symbol.
-fn push_line(text: &mut String, range: Range, roles: i32, symbol: &str) -> Result<(), AllocError>
-    ensures { OnOk result (string_bytes text.new ≡ string_bytes text.old ++ line_of range roles symbol.now) }
-{
-    let (start_line, start_column) = (range.start_line(), range.start_column());
-    let (end_line, end_column) = (range.end_line(), range.end_column());
-    writeln!(
-        text,
-        "{start_line} {start_column} {end_line} {end_column} {roles} {symbol}"
-    )
-}
 
 /// Appends the lines of occurrences.
 fn push_occurrences(text: &mut String, occurrences: &[Occurrence]) -> Result<(), AllocError>

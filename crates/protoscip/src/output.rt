@@ -3,7 +3,7 @@
 ghost use Rattle.protoscip.specs.Output.{Writes};
 
 use crate::fault::Fault;
-use scip_model::{Sink, write_all};
+use streams::{Sink, write_all};
 
 /// Writes a text.
 ///

@@ -1,31 +1,25 @@
 //! From a tree to answers to commands about its index.
 
-ghost use Rattle.std.specs.Prelude.{◌≡◌, IfErr};
+ghost use Rattle.std.specs.Prelude.{IfErr, IfOk};
 ghost use Rattle.protoscip.specs.FaultLines.{HasFilesOf};
-ghost use Rattle.protoscip.specs.Faults.{outcome_of};
 ghost use Rattle.protoscip.specs.Conversing.{Converses};
+ghost use Rattle.protoscip.specs.Headline.{AnswersNavigable};
 ghost use Rattle.protoscip.specs.Sessions.{Serves};
 
+use crate::answering::answer_commands;
 use crate::fault::Fault;
+use crate::laws::headline_of_tree;
 use crate::reading_back::read_back;
 use index_hooks::Chooses;
 use index_pool::{Gate, Workers};
 use scip_build::{Built, Settings, build};
 use scip_document::Choices;
-use scip_model::{Feed, Index, Sink};
-use scip_query::{AnswerFault, Queries};
+use scip_model::Index;
 use source_tree::Tree;
 use std::alloc::Global;
 use std::sync::Wait;
 use std::thread::Threads;
-
-/// What becomes of a run whose commands were answered so.
-fn outcome_of(answered: Result<(), AnswerFault>) -> Result<(), Fault>
-    ensures { result ≡ outcome_of answered }
-{
-    answered?;
-    Ok(())
-}
+use streams::{Feed, Sink};
 
 /// Answers commands about the index that an index's bytes decode to: itself.
 fn converse<F: Feed, W: Sink>(
@@ -37,8 +31,8 @@ fn converse<F: Feed, W: Sink>(
     ensures { Converses F.remaining F.failures F.reads F.ends W.contents W.failures index commands.old commands.new answers.old answers.new result }
 {
     let read = read_back(alloc, index)?;
-    let queries = Queries::new(alloc, read)?;
-    outcome_of(queries.answer_all(alloc, commands, answers))
+    answer_commands(alloc, read, commands, answers)?;
+    Ok(())
 }
 
 /// Builds the index of a tree, as `index_tree` does, and answers commands about it, one a line, as
@@ -60,8 +54,10 @@ pub fn session<R: Threads + Wait, C: Chooses + Sync, G: Gate, F: Feed, W: Sink>(
     answers: &mut W,
 ) -> Result<Choices, Fault>
     ensures served { Serves F.remaining F.failures F.reads F.ends W.contents W.failures (C.allows chooser.now) settings.now tree.now workers commands.old commands.new answers.old answers.new result }
+    ensures navigable { IfOk result (λ choices. AnswersNavigable F.remaining F.failures F.reads F.ends W.contents W.failures (C.allows chooser.now) settings.now tree.now choices commands.old commands.new answers.old answers.new) }
     ensures files { IfErr result (HasFilesOf tree.now) }
 {
+    headline_of_tree(chooser, tree, settings);
     let Built { index, choices } = build(rt, alloc, tree, chooser, workers, settings, gate)?;
     converse(alloc, index, commands, answers)?;
     Ok(choices)

@@ -2,10 +2,10 @@
 #![tactic(auto)]
 
 use command_line::request_of_process;
-use programs::{out_path, run};
-use scip_model::Std;
+use programs::{Host, out_path, run};
 use source_files::{OutFile, SystemFiles};
 use std::process::ExitCode;
+use streams::Std;
 
 /// Does what the command line asks for, over the process's streams and the system's files, and ends with its
 /// status.
@@ -17,11 +17,14 @@ fn main(rt: HostRuntime) -> ExitCode {
     let mut input = Std::new(rt.stdin());
     let mut out = Std::new(rt.stdout());
     let mut messages = Std::new(rt.stderr());
+    let host = Host {
+        rt: &rt,
+        alloc: rt.alloc(),
+        files: &files,
+    };
     let status = run(
-        &rt,
-        rt.alloc(),
+        &host,
         &asked,
-        &files,
         &mut input,
         &mut out,
         &mut file,

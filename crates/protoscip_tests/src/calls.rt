@@ -3,13 +3,12 @@
 ghost use Rattle.protoscip.specs.FaultLines.{HasFilesOf};
 
 use crate::streams::Failing;
-use index_hooks::Registry;
+use index_hooks::Chooses;
 use index_pool::{NoGate, Workers};
 use proto_lex::Encoding;
 use proto_parse::CustomOptions;
 use protoscip::{Fault, fault_line, index_tree};
 use scip_build::Settings;
-use scip_model::Std;
 use scip_symbol::PackageId;
 use sequences::OwnedText;
 use source_tree::{Source, Tree, TreeFault};
@@ -17,10 +16,11 @@ use std::alloc::{AllocError, Global};
 use std::process::Abort;
 use std::sync::Wait;
 use std::thread::Threads;
+use streams::Std;
 
-/// Fails the test where this doesn't hold.
-pub(crate) fn see(rt: &impl Abort, holds: bool, what: &str) {
-    assert!(rt; holds, "{what}");
+/// Sees that what a case says holds. (A formatted assertion is proved once, here.)
+pub(crate) fn see(rt: &impl Abort, holds: bool, case: &str) {
+    assert!(rt; holds, "{case}");
 }
 
 /// So many workers, which are 1 to 16.
@@ -31,30 +31,28 @@ pub(crate) fn workers(rt: &impl Abort, count: usize) -> Workers {
 /// The counts of workers of each case.
 pub(crate) const COUNTS: [usize; 3] = [1, 2, 16];
 
-/// A file: its path, its text, and whether it is included.
-pub(crate) type File<'a> = (&'a str, &'a str, bool);
-
-/// Appends a file to those of its kind.
-fn push_file(alloc: Global, files: &mut Vec<Source>, file: &File<'_>) -> Result<(), AllocError> {
-    files.push(Source {
-        path: String::from_str(alloc, file.0)?,
-        bytes: Vec::from_slice(alloc, file.1.as_bytes())?,
-    })?;
+/// Adds a file with this path and this text.
+fn add(alloc: Global, found: &mut Vec<Source>, path: &str, text: &str) -> Result<(), AllocError> {
+    let path = String::from_str(alloc, path)?;
+    let bytes = Vec::from_slice(alloc, text.as_bytes())?;
+    found.push(Source { path, bytes })?;
     Ok(())
 }
 
 /// The sources among files, or the included ones.
-fn those(alloc: Global, files: &[File<'_>], included: bool) -> Result<Vec<Source>, AllocError> {
+fn those(alloc: Global, files: &str, included: bool) -> Result<Vec<Source>, AllocError> {
     let mut found = Vec::new(alloc);
-    for file in files {
-        if file.2 == included {
-            push_file(alloc, &mut found, file)?;
+    for file in files.split_terminator('|') {
+        let (path, text) = file.split_once('\n').unwrap_or((file, ""));
+        let below = path.strip_prefix('+');
+        if below.is_some() == included {
+            add(alloc, &mut found, below.unwrap_or(path), text)?;
         }
     }
     Ok(found)
 }
 
-fn tree_once(alloc: Global, files: &[File<'_>]) -> Result<Option<Tree>, AllocError> {
+fn tree_once(alloc: Global, files: &str) -> Result<Option<Tree>, AllocError> {
     let sources = those(alloc, files, false)?;
     let included = those(alloc, files, true)?;
     match Tree::with_included(alloc, sources, included) {
@@ -64,58 +62,14 @@ fn tree_once(alloc: Global, files: &[File<'_>]) -> Result<Option<Tree>, AllocErr
     }
 }
 
-/// The tree of these files. After want of memory it is made again.
-pub(crate) fn tree_of(
-    rt: &impl Abort,
-    alloc: Global,
-    files: &[File<'_>],
-) -> Result<Tree, AllocError> {
+/// The tree of files. Each has a line with its path, which has a `+` in front where it is included, and
+/// then its text; between files stands `|`. After want of memory the tree is made again.
+fn tree_of(rt: &impl Abort, alloc: Global, files: &str) -> Result<Tree, AllocError> {
     let made = match tree_once(alloc, files) {
         Ok(made) => made,
         Err(_) => tree_once(alloc, files)?,
     };
     Ok(made.expect(rt, "files with good paths of their own"))
-}
-
-/// What is set: the project's root, the parts of the package, and the unit of columns.
-#[derive(Clone, Copy, Drop)]
-pub(crate) struct Set<'a> {
-    pub(crate) root: &'a str,
-    pub(crate) parts: [&'a str; 3],
-    pub(crate) encoding: Encoding,
-}
-
-pub(crate) const PLAIN: Set<'static> = Set {
-    root: "file:///",
-    parts: ["", "", ""],
-    encoding: Encoding::Utf8,
-};
-
-/// The package with these parts, of which each is a good one.
-fn package_of(rt: &impl Abort, alloc: Global, parts: &[&str; 3]) -> Result<PackageId, AllocError> {
-    let manager = String::from_str(alloc, parts[0])?;
-    let name = String::from_str(alloc, parts[1])?;
-    let version = String::from_str(alloc, parts[2])?;
-    Ok(
-        PackageId::new([manager, name, version])
-            .ok()
-            .expect(rt, "good parts"),
-    )
-}
-
-/// The settings of a case.
-pub(crate) fn settings_of(
-    rt: &impl Abort,
-    alloc: Global,
-    set: &Set<'_>,
-) -> Result<Settings, AllocError> {
-    let package = package_of(rt, alloc, &set.parts)?;
-    Ok(Settings {
-        project_root: OwnedText::copy_of(alloc, set.root)?,
-        package,
-        encoding: set.encoding,
-        custom_options: CustomOptions::Refuse,
-    })
 }
 
 /// A tree, and the settings of its index.
@@ -125,14 +79,20 @@ pub(crate) struct Given {
     pub(crate) settings: Settings,
 }
 
-/// The tree of these files, and these settings.
+/// The tree of files, as `tree_of` takes them, with plain settings and this unit of columns.
 pub(crate) fn given_of(
     rt: &impl Abort,
     alloc: Global,
-    files: &[File<'_>],
-    set: &Set<'_>,
+    files: &str,
+    encoding: Encoding,
 ) -> Result<Given, AllocError> {
-    let settings = settings_of(rt, alloc, set)?;
+    let parts = [String::new(alloc), String::new(alloc), String::new(alloc)];
+    let settings = Settings {
+        project_root: OwnedText::copy_of(alloc, "file:///")?,
+        package: PackageId::new(parts).ok().expect(rt, "good parts"),
+        encoding,
+        custom_options: CustomOptions::Refuse,
+    };
     let tree = tree_of(rt, alloc, files)?;
     Ok(Given { tree, settings })
 }
@@ -154,37 +114,58 @@ pub(crate) fn said(
     }
 }
 
-/// What one call of `index_tree` answers: nothing, or the line and the status of its fault; and what its
-/// writer then has, which takes so many bytes.
-fn indexed_once<R: Threads + Wait>(
+/// Whether this line is said, with status 1.
+pub(crate) fn is_said(answer: Option<(String, u8)>, line: &str) -> bool {
+    match answer {
+        Some((said, status)) => said.as_str() == line && status == 1,
+        None => false,
+    }
+}
+
+/// What one call of `index_tree` answers: nothing, or the line and the status of its fault.
+fn indexed_once<R: Threads + Wait, C: Chooses + Sync>(
     rt: &R,
     alloc: Global,
-    registry: &Registry,
+    chooser: &C,
     given: &Given,
     workers: Workers,
     out: &mut Std<Failing>,
 ) -> Result<Option<(String, u8)>, AllocError> {
     let (tree, settings) = (&given.tree, &given.settings);
-    match index_tree(rt, alloc, tree, registry, workers, settings, &NoGate, out) {
+    match index_tree(rt, alloc, tree, chooser, workers, settings, &NoGate, out) {
         Ok(_) => Ok(None),
         Err(fault) => said(alloc, tree, &fault),
     }
 }
 
-/// What `index_tree` answers, and what its writer then has. After want of memory or of a thread, when
-/// nothing may be written, it is called again, and the second answer counts.
-pub(crate) fn indexed<R: Threads + Wait + Abort>(
+/// What `index_tree` answers. After want of memory or of a thread, when nothing may be written, it is
+/// called again, and the second answer counts.
+pub(crate) fn indexed<R: Threads + Wait, C: Chooses + Sync>(
     rt: &R,
     alloc: Global,
-    registry: &Registry,
+    chooser: &C,
     given: &Given,
     workers: Workers,
     out: &mut Std<Failing>,
 ) -> Result<Option<(String, u8)>, AllocError> {
-    match indexed_once(rt, alloc, registry, given, workers, out) {
+    match indexed_once(rt, alloc, chooser, given, workers, out) {
         Ok(answer) => Ok(answer),
-        Err(_) => indexed_once(rt, alloc, registry, given, workers, out),
+        Err(_) => indexed_once(rt, alloc, chooser, given, workers, out),
     }
+}
+
+/// Whether these bytes are what `index_tree` writes.
+pub(crate) fn is_indexed<R: Threads + Wait, C: Chooses + Sync>(
+    rt: &R,
+    alloc: Global,
+    chooser: &C,
+    given: &Given,
+    workers: Workers,
+    due: &[u8],
+) -> Result<bool, AllocError> {
+    let mut out = writer(alloc, due.len())?;
+    let is_ok = indexed(rt, alloc, chooser, given, workers, &mut out)?.is_none();
+    Ok(is_ok && out.into_inner().bytes.as_slice() == due)
 }
 
 /// A writer that takes so many bytes, at most `most` a call, and then fails at each call or takes nothing

@@ -1,321 +1,177 @@
-//! Trees indexed, by whole bytes.
+//! Trees indexed, by whole bytes, as an encoder of another hand writes them.
 
-use crate::bytes::{
-    CHAIN, COMPOUND, EACH_OTHER, IN_UTF16, INCLUDED, JOINED_IMPORT, NO_FILES, ONE_M, ONE_MESSAGE,
-    OTHER_SETTINGS, OWN_NAME, SERVICE,
-};
-use crate::calls::{
-    COUNTS, File, Given, PLAIN, Set, given_of, indexed, see, slow_writer, workers, writer,
-};
+use crate::calls::{COUNTS, Given, given_of, indexed, is_indexed, see, slow_writer, workers};
 use crate::streams::Failing;
 use index_hooks::Registry;
 use proto_lex::Encoding;
-use scip_model::Std;
 use std::alloc::{AllocError, Global};
 use std::process::Abort;
 use std::sync::Wait;
 use std::test::Fail;
 use std::thread::Threads;
+use streams::Std;
 
-const ONE: [File<'static>; 1] = [("a.proto", "syntax = \"proto3\";\nmessage A {}\n", false)];
+/// The index of no files.
+const NO_FILES: &[u8; 30] = b"\n\x1C\x12\x0E\n\x09protoscip\x12\x011\x1A\x08file:/// \x01";
 
-pub(crate) const PACKAGES: [File<'static>; 3] = [
-    (
-        "t.proto",
-        "syntax = \"proto3\";\npackage google.protobuf;\nmessage Timestamp {}\n",
-        false,
-    ),
-    (
-        "a.proto",
-        "syntax = \"proto3\";\npackage acme;\nimport \"b.proto\";\nimport \"t.proto\";\nmessage M { .google.protobuf.Timestamp t = 1; }\n",
-        false,
-    ),
-    (
-        "b.proto",
-        "syntax = \"proto3\";\npackage acme.google;\n",
-        false,
-    ),
-];
+/// The index of a source that names a declaration of an included file.
+const INCLUDED: &[u8] =
+    b"\n\x1C\x12\x0E\n\x09protoscip\x12\x011\x1A\x08file:/// \x01\x12\xD6\x02\n\x07a.proto\x12'\n\x03\x00\x00\x00\x12\x1Escip-protobuf . . . `a.proto`/\x18\x01\x12'\n\x03\x01\x07\x10\x12\x1Escip-protobuf . . . `t.proto`/\x18\x02\x12\x1F\n\x03\x02\x08\x09\x12\x16scip-protobuf . . . M#\x18\x01\x12\x1F\n\x03\x02\x0C\x0F\x12\x18scip-protobuf . . . lib/\x12!\n\x03\x02\x10\x11\x12\x1Ascip-protobuf . . . lib/T#\x12!\n\x03\x02\x12\x13\x12\x18scip-protobuf . . . M#t.\x18\x01\x1A\x1B\n\x16scip-protobuf . . . M#2\x01M\x1A\x1D\n\x18scip-protobuf . . . M#t.2\x01t\x1A)\n\x1Escip-protobuf . . . `a.proto`/2\x07a.proto\"\x08Protobuf0\x01\x1A)\n\x1Ascip-protobuf . . . lib/T#\x1A\x08A thing.2\x01T";
 
-const ROOTS: [File<'static>; 3] = [
-    ("u.proto", "syntax = \"proto2\";\n", true),
-    (
-        "t.proto",
-        "syntax = \"proto3\";\npackage lib;\n// A thing.\nmessage T { int32 n = 1; }\n",
-        true,
-    ),
-    (
-        "a.proto",
-        "syntax = \"proto3\";\nimport \"t.proto\";\nmessage M { lib.T t = 1; }\n",
-        false,
-    ),
-];
-
-const UNUSED_ROOTS: [File<'static>; 2] = [
-    (
-        "a.proto",
-        "syntax = \"proto3\";\nimport \"t.proto\";\nmessage M { lib.T t = 1; }\n",
-        false,
-    ),
-    (
-        "t.proto",
-        "syntax = \"proto3\";\npackage lib;\n// A thing.\nmessage T { Gone n = 1; }\nimport \"gone.proto\";\n",
-        true,
-    ),
-];
-
-const JOINED: [File<'static>; 2] = [
-    (
-        "m.proto",
-        "syntax = \"proto3\";\nimport \"a\"\n\"b.proto\";\n",
-        false,
-    ),
-    ("ab.proto", "syntax = \"proto3\";\n", false),
-];
-
-const EACH: [File<'static>; 2] = [
-    (
-        "a.proto",
-        "syntax = \"proto3\";\nimport \"b.proto\";\nmessage A { B b = 1; }\n",
-        false,
-    ),
-    (
-        "b.proto",
-        "syntax = \"proto3\";\nimport \"a.proto\";\nmessage B { A a = 1; }\n",
-        false,
-    ),
-];
-
-pub(crate) const FIELDS: [File<'static>; 1] = [(
-    "a.proto",
-    "syntax = \"proto3\";\npackage p;\nmessage Foo {}\nmessage M { string Foo = 1; Foo x = 2; }\n",
-    false,
-)];
-
-const METHOD: [File<'static>; 1] = [(
-    "a.proto",
-    "syntax = \"proto3\";\nmessage Foo {}\nservice S { rpc Foo(Foo) returns (stream Foo); }\n",
-    false,
-)];
-
-const PUBLIC_CHAIN: [File<'static>; 4] = [
-    ("d.proto", "syntax = \"proto3\";\nmessage D {}\n", false),
-    (
-        "c.proto",
-        "syntax = \"proto3\";\nimport public \"d.proto\";\n",
-        false,
-    ),
-    (
-        "b.proto",
-        "syntax = \"proto3\";\nimport public \"c.proto\";\n",
-        false,
-    ),
-    (
-        "a.proto",
-        "syntax = \"proto3\";\nimport \"b.proto\";\nmessage M { D d = 1; }\n",
-        false,
-    ),
-];
-
-const UNSEEN: [File<'static>; 2] = [
-    ("a.proto", "syntax = \"proto3\";\nmessage M {}\n", false),
-    ("t.proto", "syntax = \"proto3\";\nmessage M {}\n", true),
-];
-
-const INCLUDED_ALONE: [File<'static>; 2] = [
-    ("t.proto", "syntax = \"proto3\";\nmessage M {}\n", true),
-    ("u.proto", "syntax = \"proto2\";\n", true),
-];
-
-/// Files, settings, and the bytes that are due.
-#[derive(Clone, Copy, Drop)]
-pub(crate) struct Case<'a> {
-    pub(crate) name: &'a str,
-    pub(crate) files: &'a [File<'a>],
-    pub(crate) set: Set<'a>,
-    pub(crate) due: &'a [u8],
+/// Files, as `tree_of` takes them, the unit of columns, and the bytes of the index.
+struct Row {
+    files: &'static str,
+    encoding: Encoding,
+    due: &'static [u8],
 }
 
-static CASES: [Case<'static>; 14] = [
-    Case {
-        name: "no files",
-        files: &[],
-        set: PLAIN,
+// The second row reads: behind the 30 bytes of the metadata stands the document of `a.proto` (`\x12`, of 167
+// bytes), in which the file occurs at 0 to 0 of line 0, and `A#` at 8 to 9 of line 1.
+static ROWS: [Row; 18] = [
+    Row {
+        files: "",
+        encoding: Encoding::Utf8,
         due: NO_FILES,
     },
-    Case {
-        name: "one message",
-        files: &ONE,
-        set: PLAIN,
-        due: ONE_MESSAGE,
+    Row {
+        files: "a.proto\nsyntax = \"proto3\";\nmessage A {}\n",
+        encoding: Encoding::Utf8,
+        due: b"\n\x1C\x12\x0E\n\x09protoscip\x12\x011\x1A\x08file:/// \x01\x12\xA7\x01\n\x07a.proto\x12'\n\x03\x00\x00\x00\x12\x1Escip-protobuf . . . `a.proto`/\x18\x01\x12\x1F\n\x03\x01\x08\x09\x12\x16scip-protobuf . . . A#\x18\x01\x1A\x1B\n\x16scip-protobuf . . . A#2\x01A\x1A)\n\x1Escip-protobuf . . . `a.proto`/2\x07a.proto\"\x08Protobuf0\x01",
     },
-    Case {
-        name: "columns in UTF-16",
-        files: &ONE,
-        set: Set {
-            encoding: Encoding::Utf16,
-            ..PLAIN
-        },
-        due: IN_UTF16,
+    Row {
+        files: "a.proto\nsyntax = \"proto3\";\nmessage A {}\n",
+        encoding: Encoding::Utf16,
+        due: b"\n\x1C\x12\x0E\n\x09protoscip\x12\x011\x1A\x08file:/// \x01\x12\xA7\x01\n\x07a.proto\x12'\n\x03\x00\x00\x00\x12\x1Escip-protobuf . . . `a.proto`/\x18\x01\x12\x1F\n\x03\x01\x08\x09\x12\x16scip-protobuf . . . A#\x18\x01\x1A\x1B\n\x16scip-protobuf . . . A#2\x01A\x1A)\n\x1Escip-protobuf . . . `a.proto`/2\x07a.proto\"\x08Protobuf0\x02",
     },
-    Case {
-        name: "another root, and a package",
-        files: &ONE,
-        set: Set {
-            root: "file:///home/user",
-            parts: ["my mgr", "", "1.0"],
-            ..PLAIN
-        },
-        due: OTHER_SETTINGS,
+    Row {
+        files: "a.proto\nsyntax = \"proto3\";\n/* é */ message A {}\n",
+        encoding: Encoding::Utf8,
+        due: b"\n\x1C\x12\x0E\n\x09protoscip\x12\x011\x1A\x08file:/// \x01\x12\xA7\x01\n\x07a.proto\x12'\n\x03\x00\x00\x00\x12\x1Escip-protobuf . . . `a.proto`/\x18\x01\x12\x1F\n\x03\x01\x11\x12\x12\x16scip-protobuf . . . A#\x18\x01\x1A\x1B\n\x16scip-protobuf . . . A#2\x01A\x1A)\n\x1Escip-protobuf . . . `a.proto`/2\x07a.proto\"\x08Protobuf0\x01",
     },
-    Case {
-        name: "a compound name",
-        files: &PACKAGES,
-        set: PLAIN,
-        due: COMPOUND,
+    Row {
+        files: "a.proto\nsyntax = \"proto3\";\n/* é */ message A {}\n",
+        encoding: Encoding::Utf16,
+        due: b"\n\x1C\x12\x0E\n\x09protoscip\x12\x011\x1A\x08file:/// \x01\x12\xA7\x01\n\x07a.proto\x12'\n\x03\x00\x00\x00\x12\x1Escip-protobuf . . . `a.proto`/\x18\x01\x12\x1F\n\x03\x01\x10\x11\x12\x16scip-protobuf . . . A#\x18\x01\x1A\x1B\n\x16scip-protobuf . . . A#2\x01A\x1A)\n\x1Escip-protobuf . . . `a.proto`/2\x07a.proto\"\x08Protobuf0\x02",
     },
-    Case {
-        name: "included roots",
-        files: &ROOTS,
-        set: PLAIN,
+    Row {
+        files: "a.proto\nsyntax = \"proto3\";\n/* 😀 */ message A {}\n",
+        encoding: Encoding::Utf8,
+        due: b"\n\x1C\x12\x0E\n\x09protoscip\x12\x011\x1A\x08file:/// \x01\x12\xA7\x01\n\x07a.proto\x12'\n\x03\x00\x00\x00\x12\x1Escip-protobuf . . . `a.proto`/\x18\x01\x12\x1F\n\x03\x01\x13\x14\x12\x16scip-protobuf . . . A#\x18\x01\x1A\x1B\n\x16scip-protobuf . . . A#2\x01A\x1A)\n\x1Escip-protobuf . . . `a.proto`/2\x07a.proto\"\x08Protobuf0\x01",
+    },
+    Row {
+        files: "a.proto\nsyntax = \"proto3\";\n/* 😀 */ message A {}\n",
+        encoding: Encoding::Utf16,
+        due: b"\n\x1C\x12\x0E\n\x09protoscip\x12\x011\x1A\x08file:/// \x01\x12\xA7\x01\n\x07a.proto\x12'\n\x03\x00\x00\x00\x12\x1Escip-protobuf . . . `a.proto`/\x18\x01\x12\x1F\n\x03\x01\x11\x12\x12\x16scip-protobuf . . . A#\x18\x01\x1A\x1B\n\x16scip-protobuf . . . A#2\x01A\x1A)\n\x1Escip-protobuf . . . `a.proto`/2\x07a.proto\"\x08Protobuf0\x02",
+    },
+    Row {
+        files: "a.proto\n\u{FEFF}syntax = \"proto3\"; message A {}",
+        encoding: Encoding::Utf8,
+        due: b"\n\x1C\x12\x0E\n\x09protoscip\x12\x011\x1A\x08file:/// \x01\x12\xA7\x01\n\x07a.proto\x12'\n\x03\x00\x00\x00\x12\x1Escip-protobuf . . . `a.proto`/\x18\x01\x12\x1F\n\x03\x00\x1E\x1F\x12\x16scip-protobuf . . . A#\x18\x01\x1A\x1B\n\x16scip-protobuf . . . A#2\x01A\x1A)\n\x1Escip-protobuf . . . `a.proto`/2\x07a.proto\"\x08Protobuf0\x01",
+    },
+    Row {
+        files: "a.proto\n\u{FEFF}syntax = \"proto3\"; message A {}",
+        encoding: Encoding::Utf16,
+        due: b"\n\x1C\x12\x0E\n\x09protoscip\x12\x011\x1A\x08file:/// \x01\x12\xA7\x01\n\x07a.proto\x12'\n\x03\x00\x00\x00\x12\x1Escip-protobuf . . . `a.proto`/\x18\x01\x12\x1F\n\x03\x00\x1C\x1D\x12\x16scip-protobuf . . . A#\x18\x01\x1A\x1B\n\x16scip-protobuf . . . A#2\x01A\x1A)\n\x1Escip-protobuf . . . `a.proto`/2\x07a.proto\"\x08Protobuf0\x02",
+    },
+    Row {
+        files: "t.proto\nsyntax = \"proto3\";\npackage google.protobuf;\nmessage Timestamp {}\n|\
+a.proto\nsyntax = \"proto3\";\npackage acme;\nimport \"b.proto\";\nimport \"t.proto\";\nmessage M { .google.protobuf.Timestamp t = 1; }\n|\
+b.proto\nsyntax = \"proto3\";\npackage acme.google;\n",
+        encoding: Encoding::Utf8,
+        due: b"\n\x1C\x12\x0E\n\x09protoscip\x12\x011\x1A\x08file:/// \x01\x12\x9E\x04\n\x07a.proto\x12'\n\x03\x00\x00\x00\x12\x1Escip-protobuf . . . `a.proto`/\x18\x01\x12\"\n\x03\x01\x08\x0C\x12\x19scip-protobuf . . . acme/\x18\x01\x12'\n\x03\x02\x07\x10\x12\x1Escip-protobuf . . . `b.proto`/\x18\x02\x12'\n\x03\x03\x07\x10\x12\x1Escip-protobuf . . . `t.proto`/\x18\x02\x12$\n\x03\x04\x08\x09\x12\x1Bscip-protobuf . . . acme/M#\x18\x01\x12\"\n\x03\x04\x0D\x13\x12\x1Bscip-protobuf . . . google/\x12+\n\x03\x04\x14\x1C\x12$scip-protobuf . . . google/protobuf/\x125\n\x03\x04\x1D&\x12.scip-protobuf . . . google/protobuf/Timestamp#\x12&\n\x03\x04'(\x12\x1Dscip-protobuf . . . acme/M#t.\x18\x01\x1A)\n\x1Escip-protobuf . . . `a.proto`/2\x07a.proto\x1A!\n\x19scip-protobuf . . . acme/2\x04acme\x1A \n\x1Bscip-protobuf . . . acme/M#2\x01M\x1A\"\n\x1Dscip-protobuf . . . acme/M#t.2\x01t\"\x08Protobuf0\x01\x12\x8C\x02\n\x07b.proto\x12'\n\x03\x00\x00\x00\x12\x1Escip-protobuf . . . `b.proto`/\x18\x01\x12\"\n\x03\x01\x08\x0C\x12\x19scip-protobuf . . . acme/\x18\x01\x12)\n\x03\x01\x0D\x13\x12 scip-protobuf . . . acme/google/\x18\x01\x1A)\n\x1Escip-protobuf . . . `b.proto`/2\x07b.proto\x1A!\n\x19scip-protobuf . . . acme/2\x04acme\x1A/\n scip-protobuf . . . acme/google/2\x0Bacme.google\"\x08Protobuf0\x01\x12\x94\x03\n\x07t.proto\x12'\n\x03\x00\x00\x00\x12\x1Escip-protobuf . . . `t.proto`/\x18\x01\x12$\n\x03\x01\x08\x0E\x12\x1Bscip-protobuf . . . google/\x18\x01\x12-\n\x03\x01\x0F\x17\x12$scip-protobuf . . . google/protobuf/\x18\x01\x127\n\x03\x02\x08\x11\x12.scip-protobuf . . . google/protobuf/Timestamp#\x18\x01\x1A)\n\x1Escip-protobuf . . . `t.proto`/2\x07t.proto\x1A%\n\x1Bscip-protobuf . . . google/2\x06google\x1A7\n$scip-protobuf . . . google/protobuf/2\x0Fgoogle.protobuf\x1A;\n.scip-protobuf . . . google/protobuf/Timestamp#2\x09Timestamp\"\x08Protobuf0\x01",
+    },
+    Row {
+        files: "a.proto\nsyntax = \"proto3\";\npackage p;\nmessage Foo {}\nmessage M { string Foo = 1; Foo x = 2; }\n",
+        encoding: Encoding::Utf8,
+        due: b"\n\x1C\x12\x0E\n\x09protoscip\x12\x011\x1A\x08file:/// \x01\x12\xE6\x03\n\x07a.proto\x12'\n\x03\x00\x00\x00\x12\x1Escip-protobuf . . . `a.proto`/\x18\x01\x12\x1F\n\x03\x01\x08\x09\x12\x16scip-protobuf . . . p/\x18\x01\x12#\n\x03\x02\x08\x0B\x12\x1Ascip-protobuf . . . p/Foo#\x18\x01\x12!\n\x03\x03\x08\x09\x12\x18scip-protobuf . . . p/M#\x18\x01\x12%\n\x03\x03\x13\x16\x12\x1Cscip-protobuf . . . p/M#Foo.\x18\x01\x12!\n\x03\x03\x1C\x1F\x12\x1Ascip-protobuf . . . p/Foo#\x12#\n\x03\x03 !\x12\x1Ascip-protobuf . . . p/M#x.\x18\x01\x1A)\n\x1Escip-protobuf . . . `a.proto`/2\x07a.proto\x1A\x1B\n\x16scip-protobuf . . . p/2\x01p\x1A!\n\x1Ascip-protobuf . . . p/Foo#2\x03Foo\x1A\x1D\n\x18scip-protobuf . . . p/M#2\x01M\x1A#\n\x1Cscip-protobuf . . . p/M#Foo.2\x03Foo\x1A\x1F\n\x1Ascip-protobuf . . . p/M#x.2\x01x\"\x08Protobuf0\x01",
+    },
+    Row {
+        files: "a.proto\nsyntax = \"proto3\";\nmessage Foo {}\nservice S { rpc Foo(Foo) returns (stream Foo); }\n",
+        encoding: Encoding::Utf8,
+        due: b"\n\x1C\x12\x0E\n\x09protoscip\x12\x011\x1A\x08file:/// \x01\x12\xF9\x02\n\x07a.proto\x12'\n\x03\x00\x00\x00\x12\x1Escip-protobuf . . . `a.proto`/\x18\x01\x12!\n\x03\x01\x08\x0B\x12\x18scip-protobuf . . . Foo#\x18\x01\x12\x1F\n\x03\x02\x08\x09\x12\x16scip-protobuf . . . S#\x18\x01\x12%\n\x03\x02\x10\x13\x12\x1Cscip-protobuf . . . S#Foo().\x18\x01\x12\x1F\n\x03\x02\x14\x17\x12\x18scip-protobuf . . . Foo#\x12\x1F\n\x03\x02),\x12\x18scip-protobuf . . . Foo#\x1A\x1F\n\x18scip-protobuf . . . Foo#2\x03Foo\x1A\x1B\n\x16scip-protobuf . . . S#2\x01S\x1A#\n\x1Cscip-protobuf . . . S#Foo().2\x03Foo\x1A)\n\x1Escip-protobuf . . . `a.proto`/2\x07a.proto\"\x08Protobuf0\x01",
+    },
+    Row {
+        files: "d.proto\nsyntax = \"proto3\";\nmessage D {}\n|\
+c.proto\nsyntax = \"proto3\";\nimport public \"d.proto\";\n|\
+b.proto\nsyntax = \"proto3\";\nimport public \"c.proto\";\n|\
+a.proto\nsyntax = \"proto3\";\nimport \"b.proto\";\nmessage M { D d = 1; }\n",
+        encoding: Encoding::Utf8,
+        due: b"\n\x1C\x12\x0E\n\x09protoscip\x12\x011\x1A\x08file:/// \x01\x12\xB1\x02\n\x07a.proto\x12'\n\x03\x00\x00\x00\x12\x1Escip-protobuf . . . `a.proto`/\x18\x01\x12'\n\x03\x01\x07\x10\x12\x1Escip-protobuf . . . `b.proto`/\x18\x02\x12\x1F\n\x03\x02\x08\x09\x12\x16scip-protobuf . . . M#\x18\x01\x12\x1D\n\x03\x02\x0C\x0D\x12\x16scip-protobuf . . . D#\x12!\n\x03\x02\x0E\x0F\x12\x18scip-protobuf . . . M#d.\x18\x01\x1A\x1B\n\x16scip-protobuf . . . M#2\x01M\x1A\x1D\n\x18scip-protobuf . . . M#d.2\x01d\x1A)\n\x1Escip-protobuf . . . `a.proto`/2\x07a.proto\"\x08Protobuf0\x01\x12\x92\x01\n\x07b.proto\x12'\n\x03\x00\x00\x00\x12\x1Escip-protobuf . . . `b.proto`/\x18\x01\x12'\n\x03\x01\x0E\x17\x12\x1Escip-protobuf . . . `c.proto`/\x18\x02\x1A)\n\x1Escip-protobuf . . . `b.proto`/2\x07b.proto\"\x08Protobuf0\x01\x12\x92\x01\n\x07c.proto\x12'\n\x03\x00\x00\x00\x12\x1Escip-protobuf . . . `c.proto`/\x18\x01\x12'\n\x03\x01\x0E\x17\x12\x1Escip-protobuf . . . `d.proto`/\x18\x02\x1A)\n\x1Escip-protobuf . . . `c.proto`/2\x07c.proto\"\x08Protobuf0\x01\x12\xA7\x01\n\x07d.proto\x12'\n\x03\x00\x00\x00\x12\x1Escip-protobuf . . . `d.proto`/\x18\x01\x12\x1F\n\x03\x01\x08\x09\x12\x16scip-protobuf . . . D#\x18\x01\x1A\x1B\n\x16scip-protobuf . . . D#2\x01D\x1A)\n\x1Escip-protobuf . . . `d.proto`/2\x07d.proto\"\x08Protobuf0\x01",
+    },
+    Row {
+        files: "a.proto\nsyntax = \"proto3\";\nimport \"b.proto\";\nmessage A { B b = 1; }\n|\
+b.proto\nsyntax = \"proto3\";\nimport \"a.proto\";\nmessage B { A a = 1; }\n",
+        encoding: Encoding::Utf8,
+        due: b"\n\x1C\x12\x0E\n\x09protoscip\x12\x011\x1A\x08file:/// \x01\x12\xB1\x02\n\x07a.proto\x12'\n\x03\x00\x00\x00\x12\x1Escip-protobuf . . . `a.proto`/\x18\x01\x12'\n\x03\x01\x07\x10\x12\x1Escip-protobuf . . . `b.proto`/\x18\x02\x12\x1F\n\x03\x02\x08\x09\x12\x16scip-protobuf . . . A#\x18\x01\x12\x1D\n\x03\x02\x0C\x0D\x12\x16scip-protobuf . . . B#\x12!\n\x03\x02\x0E\x0F\x12\x18scip-protobuf . . . A#b.\x18\x01\x1A\x1B\n\x16scip-protobuf . . . A#2\x01A\x1A\x1D\n\x18scip-protobuf . . . A#b.2\x01b\x1A)\n\x1Escip-protobuf . . . `a.proto`/2\x07a.proto\"\x08Protobuf0\x01\x12\xB1\x02\n\x07b.proto\x12'\n\x03\x00\x00\x00\x12\x1Escip-protobuf . . . `b.proto`/\x18\x01\x12'\n\x03\x01\x07\x10\x12\x1Escip-protobuf . . . `a.proto`/\x18\x02\x12\x1F\n\x03\x02\x08\x09\x12\x16scip-protobuf . . . B#\x18\x01\x12\x1D\n\x03\x02\x0C\x0D\x12\x16scip-protobuf . . . A#\x12!\n\x03\x02\x0E\x0F\x12\x18scip-protobuf . . . B#a.\x18\x01\x1A\x1B\n\x16scip-protobuf . . . B#2\x01B\x1A\x1D\n\x18scip-protobuf . . . B#a.2\x01a\x1A)\n\x1Escip-protobuf . . . `b.proto`/2\x07b.proto\"\x08Protobuf0\x01",
+    },
+    Row {
+        files: "m.proto\nsyntax = \"proto3\";\nimport \"a\"\n\"b.proto\";\n|\
+ab.proto\nsyntax = \"proto3\";\n",
+        encoding: Encoding::Utf8,
+        due: b"\n\x1C\x12\x0E\n\x09protoscip\x12\x011\x1A\x08file:/// \x01\x12m\n\x08ab.proto\x12(\n\x03\x00\x00\x00\x12\x1Fscip-protobuf . . . `ab.proto`/\x18\x01\x1A+\n\x1Fscip-protobuf . . . `ab.proto`/2\x08ab.proto\"\x08Protobuf0\x01\x12\x94\x01\n\x07m.proto\x12'\n\x03\x00\x00\x00\x12\x1Escip-protobuf . . . `m.proto`/\x18\x01\x12)\n\x04\x01\x07\x02\x09\x12\x1Fscip-protobuf . . . `ab.proto`/\x18\x02\x1A)\n\x1Escip-protobuf . . . `m.proto`/2\x07m.proto\"\x08Protobuf0\x01",
+    },
+    Row {
+        files: "+u.proto\nsyntax = \"proto2\";\n|\
++t.proto\nsyntax = \"proto3\";\npackage lib;\n// A thing.\nmessage T { int32 n = 1; }\n|\
+a.proto\nsyntax = \"proto3\";\nimport \"t.proto\";\nmessage M { lib.T t = 1; }\n",
+        encoding: Encoding::Utf8,
         due: INCLUDED,
     },
-    Case {
-        name: "an included file's own uses and imports",
-        files: &UNUSED_ROOTS,
-        set: PLAIN,
+    Row {
+        files: "a.proto\nsyntax = \"proto3\";\nimport \"t.proto\";\nmessage M { lib.T t = 1; }\n|\
++t.proto\nsyntax = \"proto3\";\npackage lib;\n// A thing.\nmessage T { Gone n = 1; }\nimport \"gone.proto\";\n",
+        encoding: Encoding::Utf8,
         due: INCLUDED,
     },
-    Case {
-        name: "an import of two literals",
-        files: &JOINED,
-        set: PLAIN,
-        due: JOINED_IMPORT,
-    },
-    Case {
-        name: "two files that import each other",
-        files: &EACH,
-        set: PLAIN,
-        due: EACH_OTHER,
-    },
-    Case {
-        name: "a field named like its type",
-        files: &FIELDS,
-        set: PLAIN,
-        due: OWN_NAME,
-    },
-    Case {
-        name: "a service",
-        files: &METHOD,
-        set: PLAIN,
-        due: SERVICE,
-    },
-    Case {
-        name: "a chain of public imports",
-        files: &PUBLIC_CHAIN,
-        set: PLAIN,
-        due: CHAIN,
-    },
-    Case {
-        name: "an included file that nobody sees has the same message",
-        files: &UNSEEN,
-        set: PLAIN,
-        due: ONE_M,
-    },
-    Case {
-        name: "included files alone",
-        files: &INCLUDED_ALONE,
-        set: PLAIN,
-        due: NO_FILES,
+    Row {
+        files: "a.proto\nsyntax = \"proto3\";\nmessage M {}\n|\
++t.proto\nsyntax = \"proto3\";\nmessage M {}\n",
+        encoding: Encoding::Utf8,
+        due: b"\n\x1C\x12\x0E\n\x09protoscip\x12\x011\x1A\x08file:/// \x01\x12\xA7\x01\n\x07a.proto\x12'\n\x03\x00\x00\x00\x12\x1Escip-protobuf . . . `a.proto`/\x18\x01\x12\x1F\n\x03\x01\x08\x09\x12\x16scip-protobuf . . . M#\x18\x01\x1A\x1B\n\x16scip-protobuf . . . M#2\x01M\x1A)\n\x1Escip-protobuf . . . `a.proto`/2\x07a.proto\"\x08Protobuf0\x01",
     },
 ];
 
-/// Sees that a tree is indexed with no fault.
-fn see_indexed<R: Threads + Wait + Abort>(
-    rt: &R,
-    alloc: Global,
-    registry: &Registry,
-    given: &Given,
-    count: usize,
-    out: &mut Std<Failing>,
-    name: &str,
-) -> Result<(), AllocError> {
-    let answer = indexed(rt, alloc, registry, given, workers(rt, count), out)?;
-    see(rt, answer.is_none(), name);
-    Ok(())
-}
-
-/// Sees that a tree's index has the bytes that are due, by so many workers.
+/// Sees that the index of a row's tree has the bytes that are due, on 1, 2 and 16 workers.
 fn see_bytes<R: Threads + Wait + Abort>(
     rt: &R,
     alloc: Global,
     registry: &Registry,
     given: &Given,
-    case: &Case<'_>,
-    count: usize,
+    row: &Row,
 ) -> Result<(), AllocError> {
-    let mut out = writer(alloc, case.due.len())?;
-    see_indexed(rt, alloc, registry, given, count, &mut out, case.name)?;
-    see(rt, out.into_inner().bytes.as_slice() == case.due, case.name);
-    Ok(())
-}
-
-/// Sees that the index of a case's tree has the bytes that are due, by so many workers.
-fn see_case<R: Threads + Wait + Abort>(
-    rt: &R,
-    alloc: Global,
-    registry: &Registry,
-    case: &Case<'_>,
-    count: usize,
-) -> Result<(), AllocError> {
-    let given = given_of(rt, alloc, case.files, &case.set)?;
-    see_bytes(rt, alloc, registry, &given, case, count)
-}
-
-fn see_each<R: Threads + Wait + Abort>(
-    rt: &R,
-    alloc: Global,
-    registry: &Registry,
-    cases: &[Case<'_>],
-    count: usize,
-) -> Result<(), AllocError> {
-    for case in cases {
-        see_case(rt, alloc, registry, case, count)?;
+    for count in &COUNTS {
+        let workers = workers(rt, *count);
+        let is = is_indexed(rt, alloc, registry, given, workers, row.due)?;
+        see(rt, is, row.files);
     }
     Ok(())
 }
 
-/// Sees that indexes have the bytes that are due, by the empty registry, and by so many workers.
-pub(crate) fn see_cases<R: Threads + Wait + Abort>(
+fn see_row<R: Threads + Wait + Abort>(
     rt: &R,
     alloc: Global,
-    cases: &[Case<'_>],
-    count: usize,
+    registry: &Registry,
+    row: &Row,
 ) -> Result<(), AllocError> {
-    let registry = Registry::new(alloc);
-    see_each(rt, alloc, &registry, cases, count)
+    let given = given_of(rt, alloc, row.files, row.encoding)?;
+    see_bytes(rt, alloc, registry, &given, row)
+}
+
+fn see_rows<R: Threads + Wait + Abort>(
+    rt: &R,
+    alloc: Global,
+    registry: &Registry,
+) -> Result<(), AllocError> {
+    for row in &ROWS {
+        see_row(rt, alloc, registry, row)?;
+    }
+    Ok(())
 }
 
 #[test]
 fn bytes_of_indexes(rt: HostRuntime) -> Result<(), Fail> {
-    for count in COUNTS {
-        see_cases(&rt, rt.alloc(), &CASES, count)?;
-    }
-    Ok(())
-}
-
-static COMPOUND_NAME: [Case<'static>; 1] = [Case {
-    name: "a compound name",
-    files: &PACKAGES,
-    set: PLAIN,
-    due: COMPOUND,
-}];
-
-#[test]
-fn a_compound_name_on_1_and_4_workers(rt: HostRuntime) -> Result<(), Fail> {
-    see_cases(&rt, rt.alloc(), &COMPOUND_NAME, 1)?;
-    see_cases(&rt, rt.alloc(), &COMPOUND_NAME, 4)?;
-    Ok(())
+    let registry = Registry::new(rt.alloc());
+    Ok(see_rows(&rt, rt.alloc(), &registry)?)
 }
 
 /// Sees whether the writer of an index fails.
@@ -367,7 +223,7 @@ fn see_writers<R: Threads + Wait + Abort>(
     alloc: Global,
     registry: &Registry,
 ) -> Result<(), AllocError> {
-    let given = given_of(rt, alloc, &[], &PLAIN)?;
+    let given = given_of(rt, alloc, "", Encoding::Utf8)?;
     see_cuts(rt, alloc, registry, &given)
 }
 

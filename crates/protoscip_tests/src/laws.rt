@@ -2,22 +2,20 @@
 
 use index_hooks::Registry;
 use protoscip::{
-    each_use_has_a_target, headline, indexed_has_no_fault, listed_unless_memory, one_file_fault,
-    one_indexing, one_listing, one_reason,
+    each_use_has_a_target, headline, indexed_has_no_fault, laws_of_names, listed_unless_memory,
+    one_file_fault, one_indexing, one_listing, one_reason,
 };
-use std::test::Fail;
 
 #[test]
-fn laws_of_indexes(rt: HostRuntime) -> Result<(), Fail> {
+fn laws_of_indexes(rt: HostRuntime) {
     let registry = Registry::new(rt.alloc());
-    let other = Registry::new(rt.alloc());
     headline(&registry);
     each_use_has_a_target();
-    one_reason(&registry, &other);
-    one_file_fault(&registry, &other);
-    indexed_has_no_fault(&registry, &other);
-    one_indexing(&registry, &other);
+    one_reason(&registry, &registry);
+    one_file_fault(&registry, &registry);
+    indexed_has_no_fault(&registry, &registry);
+    one_indexing(&registry, &registry);
+    laws_of_names();
     one_listing();
     listed_unless_memory();
-    Ok(())
 }

@@ -2,8 +2,6 @@
 #![tactic(auto)]
 
 #[cfg(test)]
-mod bytes;
-#[cfg(test)]
 mod calls;
 #[cfg(test)]
 mod dumps;
@@ -19,5 +17,3 @@ mod lines;
 mod streams;
 #[cfg(test)]
 mod talks;
-#[cfg(test)]
-mod units;

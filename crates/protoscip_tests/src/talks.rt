@@ -1,75 +1,46 @@
 //! Sessions: commands about the index of a tree, and their answers.
 
-use crate::calls::{COUNTS, File, Given, PLAIN, given_of, said, see, workers, writer};
-use crate::indexes::{FIELDS, PACKAGES};
-use crate::lines::{TREES, is_said};
-use crate::streams::{Dripping, Failing};
+use crate::calls::{COUNTS, Given, given_of, see, workers, writer};
+use crate::streams::Dripping;
 use index_hooks::{DocAlways, DocChoice, Registry};
 use index_pool::{NoGate, Workers};
+use proto_lex::Encoding;
 use protoscip::{Fault, session};
-use scip_model::Std;
 use std::alloc::{AllocError, Global};
-use std::io::Read;
 use std::process::Abort;
 use std::sync::Wait;
 use std::test::Fail;
 use std::thread::Threads;
+use streams::Std;
 
-pub(crate) const COMMENTS: [File<'static>; 1] = [(
-    "a.proto",
-    "syntax = \"proto3\";\n// One.\n// Two.\nmessage A { // tail\n  int32 x = 1; /* unit */\n}\n",
-    false,
-)];
+/// What a session is held over, and what it is due to answer and to write to a writer with this room.
+#[derive(Clone, Copy, Drop)]
+struct Talk<'a> {
+    commands: Dripping,
+    room: usize,
+    fault: Option<Fault>,
+    answers: &'a str,
+}
 
-const ROOTS: [File<'static>; 2] = [
-    (
-        "a.proto",
-        "syntax = \"proto3\";\nimport \"t.proto\";\nmessage M { lib.T t = 1; }\n",
-        false,
-    ),
-    (
-        "t.proto",
-        "syntax = \"proto3\";\npackage lib;\n// A thing.\nmessage T { int32 n = 1; }\n",
-        true,
-    ),
-];
-
-/// Files, commands, and the answers that are due.
-static TALKS: [(&[File<'static>], &str, &str); 5] = [
-    (&[], "", ""),
-    (&[], "sym a.proto", "? no document\n"),
-    (
-        &FIELDS,
-        "ref 3 28 a.proto\ndef 3 28 a.proto\ndef 3 31 a.proto\ndef 0 0 a.proto\ndef 0 0 z.proto\nref\nsym a.proto",
-        "2 8 2 11 1 a.proto\n3 28 3 31 0 a.proto\n= 2\n2 8 2 11 1 a.proto\n= 1\n? nothing there\n0 0 0 0 1 a.proto\n= 1\n? no document\n? bad command\nscip-protobuf . . . `a.proto`/\nscip-protobuf . . . p/\nscip-protobuf . . . p/Foo#\nscip-protobuf . . . p/M#\nscip-protobuf . . . p/M#Foo.\nscip-protobuf . . . p/M#x.\n= 6\n",
-    ),
-    (&COMMENTS, "doc 3 8 a.proto\n", "| One.\n| Two.\n= 1\n"),
-    (
-        &ROOTS,
-        "def 2 16 a.proto\nref 2 16 a.proto\ndoc 2 16 a.proto\n",
-        "= 0\n2 16 2 17 0 a.proto\n= 1\n| A thing.\n= 1\n",
-    ),
-];
-
-/// What one session answers, and what its writer then has, which takes so many bytes.
-fn served_once<R: Threads + Wait, S: Read + Drop>(
+/// What one session answers, and what its writer then has.
+fn served_once<R: Threads + Wait>(
     rt: &R,
     alloc: Global,
     registry: &Registry,
     given: &Given,
     workers: Workers,
-    commands: S,
-    room: usize,
+    talk: &Talk<'_>,
 ) -> Result<(Option<Fault>, Vec<u8>), AllocError> {
-    let mut input = Std::new(commands);
-    let mut output = writer(alloc, room)?;
+    let (tree, settings) = (&given.tree, &given.settings);
+    let mut input = Std::new(talk.commands);
+    let mut output = writer(alloc, talk.room)?;
     let answer = session(
         rt,
         alloc,
-        &given.tree,
+        tree,
         registry,
         workers,
-        &given.settings,
+        settings,
         &NoGate,
         &mut input,
         &mut output,
@@ -78,84 +49,130 @@ fn served_once<R: Threads + Wait, S: Read + Drop>(
     Ok((answer, output.into_inner().bytes))
 }
 
-/// What a session answers, and what its writer then has. After want of memory or of a thread it is held
-/// again, and the second answers count.
-fn served<R: Threads + Wait, S: Read + Drop + Copy>(
+/// Whether a session answers as is due; none after want of memory or of a thread.
+fn is_served<R: Threads + Wait>(
     rt: &R,
     alloc: Global,
     registry: &Registry,
     given: &Given,
     workers: Workers,
-    commands: S,
-    room: usize,
-) -> Result<(Option<Fault>, Vec<u8>), AllocError> {
-    let first = served_once(rt, alloc, registry, given, workers, commands, room)?;
-    if !matches!(first.0, Some(Fault::Memory | Fault::Spawn)) {
-        return Ok(first);
+    talk: &Talk<'_>,
+) -> Result<Option<bool>, AllocError> {
+    let (answer, written) = served_once(rt, alloc, registry, given, workers, talk)?;
+    match answer {
+        Some(Fault::Memory) | Some(Fault::Spawn) => Ok(None),
+        answer => {
+            let is_written = written.as_slice() == talk.answers.as_bytes();
+            Ok(Some(answer == talk.fault && is_written))
+        }
     }
-    served_once(rt, alloc, registry, given, workers, commands, room)
 }
 
-/// Sees what a session answers, and what its writer then has, which takes so many bytes.
-fn see_served<R: Threads + Wait + Abort, S: Read + Drop + Copy>(
+/// Sees that a session answers as is due, by so many workers. After want of memory or of a thread it is
+/// held again, and the second answers count.
+fn see_served<R: Threads + Wait + Abort>(
     rt: &R,
     alloc: Global,
     registry: &Registry,
     given: &Given,
     count: usize,
-    commands: S,
-    room: usize,
-    due: (Option<Fault>, &[u8]),
-    case: &str,
+    talk: &Talk<'_>,
 ) -> Result<(), AllocError> {
     let workers = workers(rt, count);
-    let (answer, written) = served(rt, alloc, registry, given, workers, commands, room)?;
-    see(rt, answer == due.0, case);
-    see(rt, written.as_slice() == due.1, case);
+    let is_so = match is_served(rt, alloc, registry, given, workers, talk)? {
+        None => is_served(rt, alloc, registry, given, workers, talk)?,
+        is_so => is_so,
+    };
+    see(rt, is_so == Some(true), talk.answers);
     Ok(())
 }
 
-/// Files, commands, and the answers that are due.
-type Talk<'a> = (&'a [File<'a>], &'a str, &'a str);
+/// Files, as `tree_of` takes them, commands, and the answers that are due.
+struct Row {
+    files: &'static str,
+    commands: &'static str,
+    answers: &'static str,
+}
 
-/// Sees that commands are answered as is due, by so many workers.
+// The fourth row reads: the text before `A`, which stands at line 3, is that of both comments.
+static ROWS: [Row; 5] = [
+    Row {
+        files: "",
+        commands: "",
+        answers: "",
+    },
+    Row {
+        files: "",
+        commands: "sym a.proto",
+        answers: "? no document\n",
+    },
+    Row {
+        files: FIELDS,
+        commands: "ref 3 28 a.proto\ndef 3 28 a.proto\ndef 3 31 a.proto\ndef 0 0 a.proto\ndef 0 0 z.proto\nref\nsym a.proto",
+        answers: "2 8 2 11 1 a.proto\n3 28 3 31 0 a.proto\n= 2\n2 8 2 11 1 a.proto\n= 1\n? nothing there\n0 0 0 0 1 a.proto\n= 1\n? no document\n? bad command\nscip-protobuf . . . `a.proto`/\nscip-protobuf . . . p/\nscip-protobuf . . . p/Foo#\nscip-protobuf . . . p/M#\nscip-protobuf . . . p/M#Foo.\nscip-protobuf . . . p/M#x.\n= 6\n",
+    },
+    Row {
+        files: COMMENTS,
+        commands: "doc 3 8 a.proto\n",
+        answers: "| One.\n| Two.\n= 1\n",
+    },
+    Row {
+        files: "a.proto\nsyntax = \"proto3\";\nimport \"t.proto\";\nmessage M { lib.T t = 1; }\n|\
++t.proto\nsyntax = \"proto3\";\npackage lib;\n// A thing.\nmessage T { int32 n = 1; }\n",
+        commands: "def 2 16 a.proto\nref 2 16 a.proto\ndoc 2 16 a.proto\n",
+        answers: "= 0\n2 16 2 17 0 a.proto\n= 1\n| A thing.\n= 1\n",
+    },
+];
+
+const FIELDS: &str =
+    "a.proto\nsyntax = \"proto3\";\npackage p;\nmessage Foo {}\nmessage M { string Foo = 1; Foo x = 2; }\n";
+
+const COMMENTS: &str =
+    "a.proto\nsyntax = \"proto3\";\n// One.\n// Two.\nmessage A { // tail\n  int32 x = 1; /* unit */\n}\n";
+
+/// Sees that a session answers as is due, by each of these counts of workers.
 fn see_talk<R: Threads + Wait + Abort>(
     rt: &R,
     alloc: Global,
     registry: &Registry,
+    given: &Given,
     talk: &Talk<'_>,
-    count: usize,
+    counts: &[usize],
 ) -> Result<(), AllocError> {
-    let (files, commands, due) = *talk;
-    let given = given_of(rt, alloc, files, &PLAIN)?;
-    let bytes = commands.as_bytes();
-    let due = (None, due.as_bytes());
-    let room = due.1.len();
-    see_served(
-        rt, alloc, registry, &given, count, bytes, room, due, commands,
-    )
-}
-
-fn see_talks<R: Threads + Wait + Abort>(
-    rt: &R,
-    alloc: Global,
-    registry: &Registry,
-) -> Result<(), AllocError> {
-    for talk in &TALKS {
-        see_on_each_count(rt, alloc, registry, talk)?;
+    for count in counts {
+        see_served(rt, alloc, registry, given, *count, talk)?;
     }
     Ok(())
 }
 
-/// Sees that commands are answered as is due, on 1, 2 and 16 workers.
-fn see_on_each_count<R: Threads + Wait + Abort>(
+/// Sees that the commands of a row are answered as is due, by each of these counts of workers.
+fn see_row<R: Threads + Wait + Abort>(
     rt: &R,
     alloc: Global,
     registry: &Registry,
-    talk: &Talk<'_>,
+    row: &Row,
+    counts: &[usize],
 ) -> Result<(), AllocError> {
-    for count in &COUNTS {
-        see_talk(rt, alloc, registry, talk, *count)?;
+    let talk = Talk {
+        commands: Dripping {
+            bytes: row.commands.as_bytes(),
+            calls_left: usize::MAX,
+        },
+        room: row.answers.len(),
+        fault: None,
+        answers: row.answers,
+    };
+    let given = given_of(rt, alloc, row.files, Encoding::Utf8)?;
+    see_talk(rt, alloc, registry, &given, &talk, counts)
+}
+
+fn see_rows<R: Threads + Wait + Abort>(
+    rt: &R,
+    alloc: Global,
+    registry: &Registry,
+) -> Result<(), AllocError> {
+    for row in &ROWS {
+        see_row(rt, alloc, registry, row, &COUNTS)?;
     }
     Ok(())
 }
@@ -163,35 +180,29 @@ fn see_on_each_count<R: Threads + Wait + Abort>(
 #[test]
 fn answers_to_commands(rt: HostRuntime) -> Result<(), Fail> {
     let registry = Registry::new(rt.alloc());
-    Ok(see_talks(&rt, rt.alloc(), &registry)?)
+    Ok(see_rows(&rt, rt.alloc(), &registry)?)
 }
 
-const COMPOUND_NAME: Talk<'static> = (
-    &PACKAGES,
-    "def 4 29 a.proto\nref 4 13 a.proto\ndef 4 20 a.proto\n",
-    "2 8 2 17 1 t.proto\n= 1\n4 13 4 19 0 a.proto\n1 8 1 14 1 t.proto\n= 2\n1 15 1 23 1 t.proto\n= 1\n",
-);
+static COMPOUND_NAME: Row = Row {
+    files: "t.proto\nsyntax = \"proto3\";\npackage google.protobuf;\nmessage Timestamp {}\n|\
+a.proto\nsyntax = \"proto3\";\npackage acme;\nimport \"b.proto\";\nimport \"t.proto\";\nmessage M { .google.protobuf.Timestamp t = 1; }\n|\
+b.proto\nsyntax = \"proto3\";\npackage acme.google;\n",
+    commands: "def 4 29 a.proto\nref 4 13 a.proto\ndef 4 20 a.proto\n",
+    answers: "2 8 2 17 1 t.proto\n= 1\n4 13 4 19 0 a.proto\n1 8 1 14 1 t.proto\n= 2\n1 15 1 23 1 t.proto\n= 1\n",
+};
 
-fn see_on_1_and_4<R: Threads + Wait + Abort>(
-    rt: &R,
-    alloc: Global,
-    registry: &Registry,
-) -> Result<(), AllocError> {
-    see_talk(rt, alloc, registry, &COMPOUND_NAME, 1)?;
-    see_talk(rt, alloc, registry, &COMPOUND_NAME, 4)
-}
-
+/// A test of its own, so that `checks/refuse_allocations` refuses each of its allocations.
 #[test]
 fn a_compound_name_on_1_and_4_workers(rt: HostRuntime) -> Result<(), Fail> {
     let registry = Registry::new(rt.alloc());
-    Ok(see_on_1_and_4(&rt, rt.alloc(), &registry)?)
+    Ok(see_row(&rt, rt.alloc(), &registry, &COMPOUND_NAME, &[1, 4])?)
 }
 
-const BOTH_TEXTS: Talk<'static> = (
-    &COMMENTS,
-    "doc 3 8 a.proto\ndoc 4 8 a.proto\n",
-    "| One.\n| Two.\n| tail\n= 2\n|  unit \n= 1\n",
-);
+static BOTH_TEXTS: Row = Row {
+    files: COMMENTS,
+    commands: "doc 3 8 a.proto\ndoc 4 8 a.proto\n",
+    answers: "| One.\n| Two.\n| tail\n= 2\n|  unit \n= 1\n",
+};
 
 #[test]
 fn texts_that_a_rule_takes(rt: HostRuntime) -> Result<(), Fail> {
@@ -200,184 +211,87 @@ fn texts_that_a_rule_takes(rt: HostRuntime) -> Result<(), Fail> {
     if let Err((rule, _)) = registry.add_doc(rule) {
         see(&rt, registry.add_doc(rule).is_ok(), "added again");
     }
-    Ok(see_on_each_count(&rt, rt.alloc(), &registry, &BOTH_TEXTS)?)
-}
-
-/// What is said of a session over a tree that is refused, by so many workers.
-fn said_once<R: Threads + Wait>(
-    rt: &R,
-    alloc: Global,
-    registry: &Registry,
-    given: &Given,
-    workers: Workers,
-    input: &mut Std<&'static [u8]>,
-    output: &mut Std<Failing>,
-) -> Result<Option<(String, u8)>, AllocError> {
-    let (tree, settings) = (&given.tree, &given.settings);
-    match session(
-        rt, alloc, tree, registry, workers, settings, &NoGate, input, output,
-    ) {
-        Ok(_) => Ok(None),
-        Err(fault) => said(alloc, tree, &fault),
-    }
-}
-
-/// Whether this line is said of a session over a tree that is refused, by so many workers, with nothing
-/// read of three bytes of commands, and nothing written.
-fn is_refused_once<R: Threads + Wait>(
-    rt: &R,
-    alloc: Global,
-    registry: &Registry,
-    given: &Given,
-    workers: Workers,
-    line: &str,
-) -> Result<bool, AllocError> {
-    let mut input = Std::new(b"ref".as_slice());
-    let mut output = writer(alloc, 64)?;
-    let said = said_once(rt, alloc, registry, given, workers, &mut input, &mut output)?;
-    let untouched = input.into_inner().len() == 3 && output.into_inner().bytes.is_empty();
-    Ok(untouched && is_said(said, line))
-}
-
-/// Sees that a session over a tree is refused with this line, with nothing read or written.
-fn see_refusal<R: Threads + Wait + Abort>(
-    rt: &R,
-    alloc: Global,
-    registry: &Registry,
-    given: &Given,
-    line: &str,
-    count: usize,
-) -> Result<(), AllocError> {
-    let workers = workers(rt, count);
-    let is_refused = match is_refused_once(rt, alloc, registry, given, workers, line) {
-        Ok(is_refused) => is_refused,
-        Err(_) => is_refused_once(rt, alloc, registry, given, workers, line)?,
-    };
-    see(rt, is_refused, line);
-    Ok(())
-}
-
-/// Sees that sessions over files are refused with this line, on 1, 2 and 16 workers.
-fn see_refused<R: Threads + Wait + Abort>(
-    rt: &R,
-    alloc: Global,
-    registry: &Registry,
-    given: &Given,
-    line: &str,
-) -> Result<(), AllocError> {
-    for count in &COUNTS {
-        see_refusal(rt, alloc, registry, given, line, *count)?;
-    }
-    Ok(())
-}
-
-fn see_refused_files<R: Threads + Wait + Abort>(
-    rt: &R,
-    alloc: Global,
-    registry: &Registry,
-    files: &[File<'_>],
-    line: &str,
-) -> Result<(), AllocError> {
-    let given = given_of(rt, alloc, files, &PLAIN)?;
-    see_refused(rt, alloc, registry, &given, line)
-}
-
-fn see_all_refused<R: Threads + Wait + Abort>(
-    rt: &R,
-    alloc: Global,
-    registry: &Registry,
-) -> Result<(), AllocError> {
-    for (files, line) in &TREES {
-        see_refused_files(rt, alloc, registry, files, line)?;
-    }
-    Ok(())
-}
-
-#[test]
-fn sessions_over_trees_that_are_refused(rt: HostRuntime) -> Result<(), Fail> {
-    let registry = Registry::new(rt.alloc());
-    Ok(see_all_refused(&rt, rt.alloc(), &registry)?)
+    Ok(see_row(&rt, rt.alloc(), &registry, &BOTH_TEXTS, &COUNTS)?)
 }
 
 const DEFINITION: &str = "2 8 2 11 1 a.proto\n= 1\n";
 
-/// Sees what one worker answers of `FIELDS`, where the writer takes so many bytes, and which part of what is
-/// due is then written.
-fn see_part<R: Threads + Wait + Abort, S: Read + Drop + Copy>(
-    rt: &R,
-    alloc: Global,
-    registry: &Registry,
-    commands: S,
-    room: usize,
-    due: (Option<Fault>, &[u8]),
-) -> Result<(), AllocError> {
-    let given = given_of(rt, alloc, &FIELDS, &PLAIN)?;
-    see_served(
-        rt, alloc, registry, &given, 1, commands, room, due, "a part",
-    )
-}
-
-fn see_writers<R: Threads + Wait + Abort>(
-    rt: &R,
-    alloc: Global,
-    registry: &Registry,
-) -> Result<(), AllocError> {
-    let commands = b"def 3 28 a.proto".as_slice();
-    for room in 0..24 {
-        let fault = if room == 23 {
+/// A command whose answers are cut off behind so many bytes.
+fn cut_off(room: usize) -> Talk<'static> {
+    Talk {
+        commands: Dripping {
+            bytes: b"def 3 28 a.proto",
+            calls_left: usize::MAX,
+        },
+        room,
+        fault: if room == 23 {
             None
         } else {
             Some(Fault::Answer(room as u64))
-        };
-        let due = (fault, &DEFINITION.as_bytes()[..room]);
-        see_part(rt, alloc, registry, commands, room, due)?;
+        },
+        answers: DEFINITION.split_at(room.min(23)).0,
     }
-    Ok(())
-}
-
-#[test]
-fn writers_of_answers_that_fail(rt: HostRuntime) -> Result<(), Fail> {
-    let registry = Registry::new(rt.alloc());
-    Ok(see_writers(&rt, rt.alloc(), &registry)?)
 }
 
 const BOTH_ANSWERS: &str =
     "2 8 2 11 1 a.proto\n= 1\n2 8 2 11 1 a.proto\n3 28 3 31 0 a.proto\n= 2\n";
 
-/// What answers the commands of `readers_of_commands_that_fail` that have ended after so many reads.
-fn answered_after(calls: usize) -> &'static str {
-    if calls < 17 {
-        ""
-    } else if calls < 34 {
-        DEFINITION
-    } else {
-        BOTH_ANSWERS
+/// Two commands, of 17 and 18 bytes, whose reading fails at a call, each of a byte.
+fn read_until(calls_left: usize) -> Talk<'static> {
+    let (fault, answers) = match calls_left {
+        0..17 => (Some(Fault::Read), ""),
+        17..34 => (Some(Fault::Read), DEFINITION),
+        34 => (Some(Fault::Read), BOTH_ANSWERS),
+        _ => (None, BOTH_ANSWERS),
+    };
+    Talk {
+        commands: Dripping {
+            bytes: b"def 3 28 a.proto\nref 3 28 a.proto\n",
+            calls_left,
+        },
+        room: 100,
+        fault,
+        answers,
     }
 }
 
-fn see_readers<R: Threads + Wait + Abort>(
+/// Sees what is answered where a reader or a writer fails, at each call and at each byte.
+fn see_parts<R: Threads + Wait + Abort>(
     rt: &R,
     alloc: Global,
     registry: &Registry,
+    given: &Given,
+    reads: bool,
 ) -> Result<(), AllocError> {
-    for calls_left in 0..36 {
-        let commands = Dripping {
-            bytes: b"def 3 28 a.proto\nref 3 28 a.proto\n",
-            calls_left,
-        };
-        let fault = if calls_left == 35 {
-            None
+    for count in 0..36 {
+        let talk = if reads {
+            read_until(count)
         } else {
-            Some(Fault::Read)
+            cut_off(count.min(23))
         };
-        let due = (fault, answered_after(calls_left).as_bytes());
-        see_part(rt, alloc, registry, commands, 100, due)?;
+        see_served(rt, alloc, registry, given, 1, &talk)?;
     }
     Ok(())
+}
+
+fn see_streams<R: Threads + Wait + Abort>(
+    rt: &R,
+    alloc: Global,
+    registry: &Registry,
+    reads: bool,
+) -> Result<(), AllocError> {
+    let given = given_of(rt, alloc, FIELDS, Encoding::Utf8)?;
+    see_parts(rt, alloc, registry, &given, reads)
+}
+
+#[test]
+fn writers_of_answers_that_fail(rt: HostRuntime) -> Result<(), Fail> {
+    let registry = Registry::new(rt.alloc());
+    Ok(see_streams(&rt, rt.alloc(), &registry, false)?)
 }
 
 #[test]
 fn readers_of_commands_that_fail(rt: HostRuntime) -> Result<(), Fail> {
     let registry = Registry::new(rt.alloc());
-    Ok(see_readers(&rt, rt.alloc(), &registry)?)
+    Ok(see_streams(&rt, rt.alloc(), &registry, true)?)
 }

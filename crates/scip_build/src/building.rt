@@ -29,14 +29,15 @@ use source_tree::Tree;
 use std::alloc::{AllocError, Global};
 use std::sync::Wait;
 use std::thread::Threads;
+use tool::{NAME, VERSION};
 
 /// What the index says of itself.
 fn metadata(alloc: Global, project_root: &OwnedText) -> Result<Metadata, AllocError>
     ensures { IfOk result (λ made. made ≡ metadata_of project_root.now) }
 {
     let tool_info = ToolInfo {
-        name: OwnedText::copy_of(alloc, "protoscip")?,
-        version: OwnedText::copy_of(alloc, "1")?,
+        name: OwnedText::copy_of(alloc, NAME)?,
+        version: OwnedText::copy_of(alloc, VERSION)?,
         arguments: Sequence::new(alloc),
     };
     Ok(Metadata {

@@ -4,20 +4,31 @@ use proto_lex::LexFault;
 use proto_link::FilePlace;
 use proto_parse::SyntaxFault;
 use std::alloc::AllocError;
-use thiserror::Error;
+use std::error::Error;
+use std::fmt;
 
 /// Why a file can't be read. `Lex` comes before `Syntax`: a file is lexed whole before it is parsed.
 ///
 /// Neither holds its `Memory`: want of memory is no fault of a file.
-#[derive(Clone, Copy, Debug, Drop, PartialEq, Eq, Error)]
+#[derive(Clone, Copy, Debug, Drop, PartialEq, Eq)]
 pub enum FileFault {
     /// Its bytes are no text, or the text has no lexing.
-    #[error("{0}")]
     Lex(LexFault),
     /// The tokens of its text derive no tree.
-    #[error("{0}")]
     Syntax(SyntaxFault),
 }
+
+/// The fault that it holds.
+impl fmt::Display for FileFault {
+    fn fmt<W: fmt::Write>(&self, f: &mut fmt::Formatter<W>) -> fmt::Result {
+        match self {
+            FileFault::Lex(fault) => fmt::Display::fmt(fault, f),
+            FileFault::Syntax(fault) => fmt::Display::fmt(fault, f),
+        }
+    }
+}
+
+impl Error for FileFault {}
 
 /// Why a tree has no index. The first of those that hold is answered, in this order; but `Spawn` and
 /// `Memory` also come again, before what the same step would answer.

@@ -1,8 +1,9 @@
 //! A gate round both phases.
 
-use crate::calls::{keeping, see, workers};
-use crate::expected::{PLAIN, Site, is_due, site_of};
-use crate::trees::EACH_OTHER;
+use crate::asking::Asking;
+use crate::built::{Site, is_told, site_of};
+use crate::calls::{see, workers};
+use index_hooks::Registry;
 use index_pool::{Gate, Workers};
 use std::alloc::Global;
 use std::sync::Wait;
@@ -48,13 +49,32 @@ impl<C: Clock + Sync> Gate for Meeting<C> {
     }
 }
 
+/// Two files that import each other.
+const EACH_OTHER: &str =
+    "a.proto\nsyntax = \"proto3\";\nimport \"b.proto\";\nmessage A { B b = 1; }\n|\
+b.proto\nsyntax = \"proto3\";\nimport \"a.proto\";\nmessage B { A a = 1; }\n";
+
+const DUE: &str = "a.proto
+0 0 0 0 1 `a.proto`/
+1 7 1 16 2 `b.proto`/
+2 8 2 9 1 A#
+2 12 2 13 0 B#
+2 14 2 15 1 A#b.
+b.proto
+0 0 0 0 1 `b.proto`/
+1 7 1 16 2 `a.proto`/
+2 8 2 9 1 B#
+2 12 2 13 0 A#
+2 14 2 15 1 B#a.
+";
+
 /// Whether the index that is due is built, by two workers that meet in each phase.
 fn is_met<R: Threads + Wait + Clock + Sync>(
     rt: &R,
     alloc: Global,
     site: &Site,
+    registry: &Registry,
     workers: Workers,
-    due: &str,
 ) -> bool {
     let gate = Meeting {
         clock: rt,
@@ -63,10 +83,9 @@ fn is_met<R: Threads + Wait + Clock + Sync>(
         left: AtomicU64::new(0),
         run_outs: AtomicU64::new(0),
     };
-    let chooser = keeping();
-    let met = is_due(rt, alloc, site, &chooser, workers, &gate, &PLAIN, due);
-    met == Some(true)
-        && chooser.asked() == 4
+    let chooser = Asking::new(registry, false);
+    is_told(rt, alloc, site, &chooser, workers, &gate, DUE)
+        && chooser.count() == 4
         && gate.first.load(Ordering::SeqCst) == 2
         && gate.second.load(Ordering::SeqCst) == 2
         && gate.left.load(Ordering::SeqCst) == 4
@@ -75,10 +94,11 @@ fn is_met<R: Threads + Wait + Clock + Sync>(
 
 #[test]
 fn two_workers_meet_in_each_phase(rt: HostRuntime) -> Result<(), Fail> {
-    let (_, files, due) = EACH_OTHER;
-    let site = site_of(&rt, rt.alloc(), &PLAIN, files)?;
+    let registry = Registry::new(rt.alloc());
+    let site = site_of(&rt, rt.alloc(), EACH_OTHER)?;
     let two = workers(&rt, 2);
-    let met = is_met(&rt, rt.alloc(), &site, two, due) || is_met(&rt, rt.alloc(), &site, two, due);
+    let met = is_met(&rt, rt.alloc(), &site, &registry, two)
+        || is_met(&rt, rt.alloc(), &site, &registry, two);
     see(&rt, met, "two met");
     Ok(())
 }

@@ -2,32 +2,16 @@
 #![tactic(auto)]
 
 #[cfg(test)]
-mod callbacks;
+mod asking;
+#[cfg(test)]
+mod built;
 #[cfg(test)]
 mod calls;
 #[cfg(test)]
-mod choices;
-#[cfg(test)]
-mod custom;
-#[cfg(test)]
-mod expected;
-#[cfg(test)]
-mod faults;
-#[cfg(test)]
 mod gates;
 #[cfg(test)]
-mod linking;
+mod hooks;
 #[cfg(test)]
-mod listed;
+mod laws;
 #[cfg(test)]
 mod readings;
-#[cfg(test)]
-mod refusals;
-#[cfg(test)]
-mod refused;
-#[cfg(test)]
-mod roots;
-#[cfg(test)]
-mod trees;
-#[cfg(test)]
-mod units;

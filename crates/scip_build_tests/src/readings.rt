@@ -1,117 +1,150 @@
-//! What files are read as.
+//! What files are read as, and what is asked and linked then.
 
-use crate::calls::{keeping, read, see, tree_of, workers};
-use index_pool::Workers;
+ghost use Rattle.std.specs.Prelude.{◌≡◌};
+ghost use Rattle.scip_build.specs.Linking.{linked_files};
+
+use crate::asking::Asking;
+use crate::calls::{see, tree_of, workers};
+use index_hooks::{Choice, Registry};
+use index_pool::{NoGate, Workers};
 use proto_lex::LexFault;
-use proto_parse::{CustomOptions, SyntaxFault};
-use scip_build::{FileFault, Reading};
+use proto_link::{LinkFile, have_own_paths};
+use proto_parse::CustomOptions;
+use scip_build::{
+    BuildFault, FileFault, Reading, Run, chosen_lists, link, linked_files, read_files,
+};
 use source_tree::Tree;
-use std::alloc::Global;
+use std::alloc::{AllocError, Global};
+use std::process::Abort;
 use std::sync::Wait;
 use std::test::Fail;
 use std::thread::Threads;
 
-const MESSAGE: &str =
-    "syntax = \"proto3\";\npackage lib;\n// A thing.\nmessage T { int32 n = 1; }\n";
-
-const IMPORT: &str = "syntax = \"proto3\";\nimport \"t.proto\";\nmessage M { lib.T t = 1; }\n";
-
-/// Whether a reading has the path, the text and so many declarations, choices, imports and uses.
-fn has_read(
-    reading: &Reading<'_>,
-    path: &str,
-    text: &str,
-    declared: usize,
-    imported: usize,
-    used: usize,
-) -> bool {
-    match &reading.contents {
-        Ok(contents) => {
-            reading.path == path
-                && contents.text.as_str() == text
-                && contents.facts.declarations().len() == declared
-                && contents.choices.as_slice().len() == declared
-                && contents.facts.imports().len() == imported
-                && contents.facts.uses().len() == used
-        }
-        Err(_) => false,
+/// Whether files are linked.
+fn are_linked(
+    alloc: Global,
+    readings: &[Reading<'_>],
+    files: &[LinkFile<'_>],
+) -> Result<bool, AllocError>
+    requires { files.now ≡ linked_files readings.now }
+{
+    if !have_own_paths(alloc, files)? {
+        return Ok(false);
+    }
+    match link(alloc, readings, files) {
+        Ok(_) => Ok(true),
+        Err(BuildFault::Memory) => Err(AllocError),
+        Err(_) => Ok(false),
     }
 }
 
-/// Whether an included file has this fault in place of contents.
-fn has_fault(reading: &Reading<'_>, path: &str, fault: FileFault) -> bool {
-    reading.is_included
-        && reading.path == path
-        && matches!(&reading.contents, Err(cause) if *cause == fault)
+fn is_linked(alloc: Global, readings: &[Reading<'_>]) -> Result<bool, AllocError> {
+    let files = linked_files(alloc, readings)?;
+    are_linked(alloc, readings, &files)
 }
 
-/// Of which the first has the text `IMPORT`, the third the text `MESSAGE`.
-const FOUR: &str =
-    "a.proto\nsyntax = \"proto3\";\nimport \"t.proto\";\nmessage M { lib.T t = 1; }\n|\
-+o.proto\n\"abc|\
-+t.proto\nsyntax = \"proto3\";\npackage lib;\n// A thing.\nmessage T { int32 n = 1; }\n|\
-+u.proto\nsyntax = \"proto2\";\n";
-
-/// Whether these are the readings of those files.
-fn are_read(readings: &[Reading<'_>]) -> bool {
-    match readings {
-        [a, o, t, u] => {
-            has_read(a, "a.proto", IMPORT, 2, 1, 1)
-                && !a.is_included
-                && has_fault(o, "o.proto", FileFault::Lex(LexFault::OpenString(0)))
-                && has_read(t, "t.proto", MESSAGE, 2, 0, 0)
-                && t.is_included
-                && has_fault(u, "u.proto", FileFault::Syntax(SyntaxFault::NotProto3(9)))
-        }
+/// Whether these are the choices for four declarations, for two and for none.
+fn are_lists(lists: &[Vec<Choice>]) -> bool {
+    match lists {
+        [a, s, u] => a.len() == 4 && s.len() == 2 && u.is_empty(),
         _ => false,
     }
 }
 
-/// Whether each file that has facts has them under its number.
-fn are_numbered(readings: &[Reading<'_>]) -> bool {
-    for (number, reading) in readings.iter().enumerate() {
-        if let Ok(contents) = &reading.contents
-            && contents.facts.number() != number
-        {
-            return false;
-        }
-    }
-    true
+fn are_listed(alloc: Global, readings: &[Reading<'_>]) -> Result<bool, AllocError> {
+    let lists = chosen_lists(alloc, readings)?;
+    Ok(are_lists(&lists))
 }
 
-/// Whether the four files are read as told.
-fn is_read<R: Threads + Wait>(rt: &R, alloc: Global, tree: &Tree, workers: Workers) -> bool {
-    match read(rt, alloc, tree, &keeping(), workers, CustomOptions::Refuse) {
-        Ok(readings) => are_read(&readings) && are_numbered(&readings),
-        Err(_) => false,
+/// Whether the choices of readings are listed, and their files linked.
+fn are_taken(alloc: Global, readings: &[Reading<'_>]) -> Result<bool, AllocError> {
+    Ok(are_listed(alloc, readings)? && is_linked(alloc, readings)?)
+}
+
+/// A source, an included file, and one that can't be read.
+const FILES: &str = "a.proto\nsyntax = \"proto3\";\nenum E { ZERO = 0; }\nmessage M { E e = 1; }\n|\
++s.proto\nsyntax = \"proto3\";\nmessage S { message T {} }\n|\
++u.proto\nsyntax = \"proto2\";\n";
+
+/// Whether each declaration of files is asked about once, and the files are read as told.
+fn are_read_once<R: Threads + Wait>(
+    rt: &R,
+    alloc: Global,
+    tree: &Tree,
+    registry: &Registry,
+    workers: Workers,
+) -> Result<bool, AllocError> {
+    let (chooser, gate) = (Asking::new(registry, false), &NoGate);
+    let run = Run {
+        rt,
+        alloc,
+        workers,
+        gate,
+    };
+    match read_files(&run, tree, &chooser, CustomOptions::Refuse) {
+        Ok(readings) => Ok(are_taken(alloc, &readings)? && chooser.count() == 6),
+        Err(BuildFault::Memory) | Err(BuildFault::Spawn) => Err(AllocError),
+        Err(_) => Ok(false),
     }
+}
+
+fn see_read<R: Threads + Wait + Abort>(
+    rt: &R,
+    alloc: Global,
+    tree: &Tree,
+    registry: &Registry,
+    workers: Workers,
+) -> Result<(), AllocError> {
+    let are = match are_read_once(rt, alloc, tree, registry, workers) {
+        Ok(are) => are,
+        Err(AllocError) => are_read_once(rt, alloc, tree, registry, workers)?,
+    };
+    see(rt, are, "read, and asked about once");
+    Ok(())
 }
 
 #[test]
-fn files_are_read_under_their_numbers(rt: HostRuntime) -> Result<(), Fail> {
-    let tree = tree_of(&rt, rt.alloc(), FOUR)?;
-    for count in [1, 2, 3, 16] {
-        let as_told = is_read(&rt, rt.alloc(), &tree, workers(&rt, count));
-        see(&rt, as_told, "readings, under their numbers");
+fn each_declaration_is_asked_about_once(rt: HostRuntime) -> Result<(), Fail> {
+    let registry = Registry::new(rt.alloc());
+    let tree = tree_of(&rt, rt.alloc(), FILES)?;
+    for count in [1, 2, 16] {
+        see_read(&rt, rt.alloc(), &tree, &registry, workers(&rt, count))?;
     }
     Ok(())
 }
 
-/// Whether a tree has no readings.
-fn has_none<R: Threads + Wait>(rt: &R, alloc: Global, tree: &Tree, workers: Workers) -> bool {
-    match read(rt, alloc, tree, &keeping(), workers, CustomOptions::Refuse) {
-        Ok(readings) => readings.is_empty(),
-        Err(_) => false,
-    }
+/// Whether a file is refused at a byte of no token, which stands behind one that can't stand there, with
+/// nobody asked.
+fn is_unasked<R: Threads + Wait>(
+    rt: &R,
+    alloc: Global,
+    tree: &Tree,
+    registry: &Registry,
+    workers: Workers,
+) -> bool {
+    let (chooser, gate) = (Asking::new(registry, false), &NoGate);
+    let run = Run {
+        rt,
+        alloc,
+        workers,
+        gate,
+    };
+    let fault = FileFault::Lex(LexFault::BadByte(34));
+    let answer = read_files(&run, tree, &chooser, CustomOptions::Refuse).err();
+    answer == Some(BuildFault::File(0, fault)) && chooser.count() == 0
 }
 
 #[test]
-fn no_files_have_no_readings(rt: HostRuntime) -> Result<(), Fail> {
-    let tree = tree_of(&rt, rt.alloc(), "")?;
-    see(
+fn a_file_is_lexed_whole_before_anybody_is_asked(rt: HostRuntime) -> Result<(), Fail> {
+    let registry = Registry::new(rt.alloc());
+    let tree = tree_of(
         &rt,
-        has_none(&rt, rt.alloc(), &tree, workers(&rt, 4)),
-        "none",
-    );
+        rt.alloc(),
+        "a.proto\nsyntax = \"proto3\"; message A {} } @",
+    )?;
+    let one = workers(&rt, 1);
+    let is = is_unasked(&rt, rt.alloc(), &tree, &registry, one)
+        || is_unasked(&rt, rt.alloc(), &tree, &registry, one);
+    see(&rt, is, "the fault of the lexing, and nobody asked");
     Ok(())
 }

@@ -6,14 +6,14 @@ use Rattle.std.proofs.lemmas.List.Elements.{All-nil, All-cons, All-contains, Con
 use Rattle.std.proofs.lemmas.Option.{same_Some, slice_get-get_or}
 use Rattle.proto_decl.specs.Names.{dotted}
 use Rattle.proto_decl.specs.Facts.{Facts, AreOfSomeFile}
-use Rattle.proto_decl.specs.Ways.{names_of, component_names, AreNamed, AreHeld}
+use Rattle.proto_decl.specs.Ancestors.{names_of, component_names, AreNamed, AreHeld}
 use Rattle.proto_decl.specs.declared.declaration.Declaration.{Declaration}
 use Rattle.proto_visibility.specs.Files.{File, HasFacts, HaveOrigins}
 use Rattle.proto_visibility.specs.Sees.{Counts}
 use Rattle.proto_visibility.specs.Clashes.{NoClash}
 use Rattle.proto_link.specs.Laws.{OneDeclarationAName}
 use Rattle.proto_visibility.proofs.FactLemmas.{one_list_of_facts}
-use Rattle.proto_visibility.proofs.GivenLemmas.{contained}
+use Rattle.proto_visibility.proofs.FirstLemmas.{contained}
 use Rattle.scip_symbol.specs.Package.{Package, IsPackage}
 use Rattle.scip_symbol.specs.Entities.{Entity, OfFile, OfPackage, OfDeclaration, IsEntity, symbol_in}
 use Rattle.scip_symbol.specs.SymbolText.{symbol_text}
@@ -85,8 +85,8 @@ module _ (files : List File) (origins : HaveOrigins files) (clear : NoClash file
         let listed = contained f.declarations i d at in
         let its = contained g.declarations j e there in
         let entity = one-text (declaration_at f d) (declaration_at g e)
-        (declaration-is f d (spelled.named f (origins m f a.known)) (spelled.ways f (origins m f a.known)) listed)
-        (declaration-is g e (spelled.named g (origins n g b.known)) (spelled.ways g (origins n g b.known)) its)
+        (declaration-is f d (spelled.named f (origins m f a.known)) (spelled.paths f (origins m f a.known)) listed)
+        (declaration-is g e (spelled.named g (origins n g b.known)) (spelled.paths g (origins n g b.known)) its)
         (put (f ∷ (g ∷ [])) f d (first-in f (g ∷ [])) listed) (put (f ∷ (g ∷ [])) g e (behind-in f (g ∷ []) g (first-in g [])) its) same in
         one-declaration m n f g i j d e a b at there
         (All-contains (λ (x : Declaration). x.full_name ≡ dotted (component_names f.package_name ++ names_of x.path)) f.declarations d (AreHeld.full_names (spelled.held f (origins m f a.known))) listed

@@ -4,7 +4,7 @@ use Rattle.std.specs.Prelude.{All, Contains}
 use Rattle.std.proofs.lemmas.List.{take-map, length-map, length-take-le}
 use Rattle.std.proofs.lemmas.List.Elements.{All-take, All-contains}
 use Rattle.proto_decl.specs.Facts.{Facts}
-use Rattle.proto_decl.specs.Ways.{component_names, AreNamed}
+use Rattle.proto_decl.specs.Ancestors.{component_names, AreNamed}
 use Rattle.proto_decl.specs.declared.declaration.Declaration.{Declaration}
 use Rattle.proto_decl.specs.declared.declaration.DeclarationStep.{DeclarationStep}
 use Rattle.proto_decl.specs.declared.type_use.Component.{Component}
@@ -29,8 +29,8 @@ package-is facts count named some within =
 -- a declaration
 pub declaration-is : (facts : Facts) (declaration : Declaration) → AreNamed facts.package_name facts.declarations → All (λ (d : Declaration). d.path ≢ []) facts.declarations
     → Contains facts.declarations declaration → IsEntity (declaration_at facts declaration)
-declaration-is facts declaration named ways listed = (
+declaration-is facts declaration named paths listed = (
   named.of_components,
-  All-contains (λ (d : Declaration). d.path ≢ []) facts.declarations declaration ways listed,
+  All-contains (λ (d : Declaration). d.path ≢ []) facts.declarations declaration paths listed,
   All-contains (λ (d : Declaration). All (λ (step : DeclarationStep). IsIdentifier step.name) d.path) facts.declarations declaration named.of_steps listed,
 )

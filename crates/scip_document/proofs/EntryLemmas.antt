@@ -9,7 +9,7 @@ use Rattle.std.proofs.lemmas.Option.{same_Some, none-some}
 use Rattle.index_hooks.specs.declared.choice.Choice.{Choice}
 use Rattle.proto_decl.specs.Facts.{Facts}
 use Rattle.proto_decl.specs.declared.declaration.Declaration.{Declaration}
-use Rattle.scip_model.specs.declared.records.Info.{Info}
+use Rattle.scip_model.specs.declared.records.SymbolInformation.{SymbolInformation}
 use Rattle.scip_symbol.specs.Package.{Package}
 use Rattle.scip_document.specs.Chosen.{Chosen, IsChosen}
 use Rattle.scip_document.specs.Entries.{package_entry, declaration_entry}
@@ -37,7 +37,7 @@ at-index (x ∷ xs) (suc i) within = at-index xs i (omega (arith, within))
 -- ---- packages
 
 module _ (id : Package) (facts : Facts) where
-  pub in-packages : (count : ℕ) (x : Info) → Contains (package_entries_up_to id facts count) x → (index : ℕ) × (index < count) × (x ≡ package_entry id facts (index + 1))
+  pub in-packages : (count : ℕ) (x : SymbolInformation) → Contains (package_entries_up_to id facts count) x → (index : ℕ) × (index < count) × (x ≡ package_entry id facts (index + 1))
   in-packages count x there =
       let entry = λ (i : ℕ). package_entry id facts (i + 1) in
       let within : there.0 < count = omega (arith, there.1, length-map-range_with_len entry 0 count) in
@@ -53,7 +53,7 @@ module _ (id : Package) (facts : Facts) where
 -- ---- declarations that are kept
 
 -- the entry of one of these declarations, which is kept
-pub record IsOfKept (id : Package) (facts : Facts) (ds : List Declaration) (cs : List Choice) (entry : Info) : Type 0 where
+pub record IsOfKept (id : Package) (facts : Facts) (ds : List Declaration) (cs : List Choice) (entry : SymbolInformation) : Type 0 where
   pub index : ℕ
   pub declared : Declaration
   pub choice : Choice
@@ -71,7 +71,7 @@ module _ (id : Package) (facts : Facts) where
   more-kept (x ∷ ds) (y ∷ cs) zero d c at chosen =
       append-nil (entry_if_kept id facts x y) ∙ (ap (λ (e : Declaration). entry_if_kept id facts e y) (same_Some x d at) ∙ ap (entry_if_kept id facts d) (same_Some y c chosen))
   more-kept (x ∷ ds) (y ∷ cs) (suc i) d c at chosen =
-      ap (λ (l : List Info). entry_if_kept id facts x y ++ l) (more-kept ds cs i d c at chosen)
+      ap (λ (l : List SymbolInformation). entry_if_kept id facts x y ++ l) (more-kept ds cs i d c at chosen)
       ∙ sym (append_assoc (entry_if_kept id facts x y) (kept_entries id facts (take i ds) cs) (entry_if_kept id facts d c))
 
   pub kept-more : (ds : List Declaration) (cs : List Choice) (i : ℕ) (d : Declaration) (c : Choice) → slice_get ds i ≡ Some d → slice_get cs i ≡ Some c
@@ -79,15 +79,15 @@ module _ (id : Package) (facts : Facts) where
   kept-more ds cs i d c at chosen = rw add-one (more-kept ds cs i d c at chosen)
 
   -- that of one declaration
-  pub in-one : (b : Bool) (y x : Info) → Contains (cond b (y ∷ []) []) x → (b ≡ true) × (x ≡ y)
+  pub in-one : (b : Bool) (y x : SymbolInformation) → Contains (cond b (y ∷ []) []) x → (b ≡ true) × (x ≡ y)
   in-one true y x there = (refl, sym (alone-in y x there))
   in-one false y x there = absurd (nothing-in x there)
 
-  one-in : (b : Bool) (y : Info) → b ≡ true → Contains (cond b (y ∷ []) []) y
+  one-in : (b : Bool) (y : SymbolInformation) → b ≡ true → Contains (cond b (y ∷ []) []) y
   one-in true y kept = Contains-push [] y
   one-in false y kept = absurd (false≢true kept)
 
-  pub in-kept : (ds : List Declaration) (cs : List Choice) (x : Info) → Contains (kept_entries id facts ds cs) x → IsOfKept id facts ds cs x
+  pub in-kept : (ds : List Declaration) (cs : List Choice) (x : SymbolInformation) → Contains (kept_entries id facts ds cs) x → IsOfKept id facts ds cs x
   in-kept [] cs x there = absurd (nothing-in x there)
   in-kept (d ∷ ds) [] x there = absurd (nothing-in x there)
   in-kept (d ∷ ds) (c ∷ cs) x there = elim (Contains-append_cases (entry_if_kept id facts d c) (kept_entries id facts ds cs) x there) [

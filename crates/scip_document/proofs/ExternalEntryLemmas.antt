@@ -20,8 +20,8 @@ use Rattle.proto_link.specs.Targets.IsNamed.{packaged, declared}
 use Rattle.proto_visibility.specs.declared.entities.Entity.{Entity}
 use Rattle.proto_visibility.specs.declared.entities.Entity.TheVariants as link
 use Rattle.proto_visibility.proofs.FactLemmas.{one_list_of_facts}
-use Rattle.proto_visibility.proofs.GivenLemmas.{contained}
-use Rattle.scip_model.specs.declared.records.Info.{Info}
+use Rattle.proto_visibility.proofs.FirstLemmas.{contained}
+use Rattle.scip_model.specs.declared.records.SymbolInformation.{SymbolInformation}
 use Rattle.scip_symbol.specs.Package.{Package, IsPackage}
 use Rattle.scip_document.specs.Chosen.{Chosen, HaveChoices, HasChoice, IsChosen}
 use Rattle.scip_document.specs.Named.{HasDeclaration, declaration_at}
@@ -106,7 +106,7 @@ one-choice chosen file index a b x y =
     same_Some a b (sym x.declaration_is ∙ (ap (λ (l : List Choice). slice_get l index) lists ∙ y.declaration_is))
 
 module _ (files : List File) (chosen : Chosen) (id : Package) where
-  pub kept-entry : (count : ℕ) (x : Pair) (facts : Facts) (entry : Info) → IsExternal files chosen count x → HasFacts files x.0 facts → IsEntryAt chosen id facts x.0 x.1 entry
+  pub kept-entry : (count : ℕ) (x : Pair) (facts : Facts) (entry : SymbolInformation) → IsExternal files chosen count x → HasFacts files x.0 facts → IsEntryAt chosen id facts x.0 x.1 entry
       → IsKeptEntry files chosen id x.0 x.1 entry
   kept-entry count x facts entry is known made =
       let kept = is.of_source.of_uses.is.of_parts.is.kept in
@@ -120,7 +120,7 @@ module _ (files : List File) (chosen : Chosen) (id : Package) where
         is = made.is;
       }
 
-  one-entry : (file index : ℕ) (x y : Info) → IsKeptEntry files chosen id file index x → IsKeptEntry files chosen id file index y → x ≡ y
+  one-entry : (file index : ℕ) (x y : SymbolInformation) → IsKeptEntry files chosen id file index x → IsKeptEntry files chosen id file index y → x ≡ y
   one-entry file index x y a b =
       let facts : a.facts ≡ b.facts = one_list_of_facts files file a.facts b.facts a.has.has_facts b.has.has_facts in
       let declaration : a.declaration ≡ b.declaration =
@@ -135,7 +135,7 @@ module _ (files : List File) (chosen : Chosen) (id : Package) where
   pair-of : ℕ → ℕ → Pair
   pair-of file index = (file, index)
 
-  external-pair : (entry : Info) (has : HasExternal files chosen id entry) → IsExternal files chosen (length files) (has.number, has.index)
+  external-pair : (entry : SymbolInformation) (has : HasExternal files chosen id entry) → IsExternal files chosen (length files) (has.number, has.index)
   external-pair entry has =
       let names = has.names in
       let used = find names.facts.uses names.type_use names.listed in
@@ -172,7 +172,7 @@ module _ (files : List File) (chosen : Chosen) (id : Package) where
         };
       }
 
-  pair-external : (count : ℕ) (x : Pair) (entry : Info) → IsExternal files chosen count x → IsKeptEntry files chosen id x.0 x.1 entry → HasExternal files chosen id entry
+  pair-external : (count : ℕ) (x : Pair) (entry : SymbolInformation) → IsExternal files chosen count x → IsKeptEntry files chosen id x.0 x.1 entry → HasExternal files chosen id entry
   pair-external count x entry is kept =
       let source = is.of_source in
       let used = source.of_uses in
@@ -212,7 +212,7 @@ module _ (files : List File) (chosen : Chosen) (id : Package) where
     ascends = tt;
   }
     where
-      unlike : (x : Info) → HasExternal files chosen id x → ⊥
+      unlike : (x : SymbolInformation) → HasExternal files chosen id x → ⊥
       unlike x has =
           let not = none has.number (slice_get_within files has.number has.file has.numbered) in
           false≢true (not.2 ∙ (ap (λ (f : File). f.is_included) (same_Some not.0 has.file (sym not.1 ∙ has.numbered)) ∙ has.included))
@@ -247,15 +247,15 @@ none-tie = tt
 module _ (files : List File) (origins : HaveOrigins files) (clear : NoClash files) (one_name : OneDeclarationAName) (spelled : AreIdentifiers)
     (symbols : SymbolsNameOne) (unclashed : WithoutClash) (id : Package) (good : IsPackage id) (chosen : Chosen) where
   -- declarations that differ have entries of different symbols
-  symbols-differ : (p q : Pair) (x y : Info) → IsThere files p.0 p.1 → IsThere files q.0 q.1 → IsEntryOf files chosen id p x → IsEntryOf files chosen id q y
+  symbols-differ : (p q : Pair) (x y : SymbolInformation) → IsThere files p.0 p.1 → IsThere files q.0 q.1 → IsEntryOf files chosen id p x → IsEntryOf files chosen id q y
       → x.symbol ≡ y.symbol → (p.0 ≡ q.0) × (p.1 ≡ q.1)
   symbols-differ p q x y there its a b same =
       one-declared files origins clear one_name spelled symbols unclashed id good p.0 q.0 a.facts b.facts
       (record { counts = there.counts; known = a.has.has_facts }) (record { counts = its.counts; known = b.has.has_facts })
       p.1 q.1 a.declaration b.declaration a.has.numbered b.has.numbered
-      (sym (ap (λ (i : Info). i.symbol) a.is) ∙ (same ∙ ap (λ (i : Info). i.symbol) b.is))
+      (sym (ap (λ (i : SymbolInformation). i.symbol) a.is) ∙ (same ∙ ap (λ (i : SymbolInformation). i.symbol) b.is))
 
-  made-distinct : (pairs : List Pair) (made : List Info) → ((x : Pair) → Contains pairs x → IsThere files x.0 x.1) → IsStrictlySortedBy pair_cmp pairs
+  made-distinct : (pairs : List Pair) (made : List SymbolInformation) → ((x : Pair) → Contains pairs x → IsThere files x.0 x.1) → IsStrictlySortedBy pair_cmp pairs
       → AllZip (IsEntryOf files chosen id) pairs made → IsDistinct (eq_by_cmp info_cmp) made
   unfolding IsStrictlySortedBy
   made-distinct [] [] there up all = none-tie
@@ -273,7 +273,7 @@ module _ (files : List File) (origins : HaveOrigins files) (clear : NoClash file
 
   -- the entries of all, in order
   pub external-list : (pairs : List Pair) → ((x : Pair) → Contains pairs x ↔ IsExternal files chosen (length files) x) → IsStrictlySortedBy pair_cmp pairs
-      → (made list : List Info) → AllZip (IsEntryOf files chosen id) pairs made → IsPermutation made list → IsSorted info_cmp list → AreExternals files chosen id list
+      → (made list : List SymbolInformation) → AllZip (IsEntryOf files chosen id) pairs made → IsPermutation made list → IsSorted info_cmp list → AreExternals files chosen id list
   external-list pairs exact up made list all moved sorted =
       ascending-list infos_total (HasExternal files chosen id) made list
       (λ x. (

@@ -12,7 +12,7 @@ use Rattle.proto_lex.specs.declared.token.TokenKind.TheVariants.{Identifier}
 use Rattle.proto_lex.proofs.PieceFound.{sign_cases}
 use Rattle.proto_decl.specs.Names.{qualified, dotted, components_of}
 use Rattle.proto_decl.specs.Facts.{Facts, AreOfSomeFile}
-use Rattle.proto_decl.specs.Ways.{scoped, names_of, component_names}
+use Rattle.proto_decl.specs.Ancestors.{scoped, names_of, component_names}
 use Rattle.proto_decl.specs.declared.kind.DeclarationKind.{DeclarationKind}
 use Rattle.proto_decl.specs.declared.kind.DeclarationKind.TheVariants.{Message, Enum, Service, Field, Oneof, Value, Method}
 use Rattle.proto_decl.specs.declared.declaration.DeclarationStep.{DeclarationStep}
@@ -118,7 +118,7 @@ declared_all facts spelled origin d listed =
     let package_name = component_names facts.package_name in
     let way = names_of d.path in
     let steps = All-contains (λ (x : Declaration). All IsNamedStep x.path) facts.declarations d named.of_steps listed in
-    let some = way_some d.path (All-contains (λ (x : Declaration). x.path ≢ []) facts.declarations d (spelled.ways facts origin) listed) in
+    let some = way_some d.path (All-contains (λ (x : Declaration). x.path ≢ []) facts.declarations d (spelled.paths facts origin) listed) in
     let all = All-append IsIdentifier package_name way named.of_components (way_all d.path steps) in
     let full : d.full_name ≡ dotted (package_name ++ way) =
     All-contains (λ (x : Declaration). x.full_name ≡ dotted (package_name ++ names_of x.path)) facts.declarations d (spelled.held facts origin).full_names listed in

@@ -21,7 +21,7 @@ use Rattle.std.proofs.lemmas.Map.Keys.{Less-from_sorted, IsDistinct-from_apart, 
 use Rattle.std.proofs.lemmas.Map.Lookups.{exact_bytes}
 use Rattle.std.proofs.lemmas.Cmp.{eq_by_cmp_equiv}
 use Rattle.std.proofs.lemmas.Option.{slice_get-map, slice_get_within, slice_get-get_or, get_or_from_slice_get, same_Some}
-use Rattle.proto_visibility.proofs.GivenLemmas.{contained, position-none}
+use Rattle.proto_visibility.proofs.FirstLemmas.{contained, position-none}
 use Rattle.scip_model.specs.declared.records.Document.{Document}
 use Rattle.scip_document.specs.Indexes.{document_cmp}
 use Rattle.scip_document.specs.Pieces.{IsRising, paths_of, AreMerged, IsStranger, IsTwice, AreFine, IsFirstMissing, MayRefuseMerge, texts}

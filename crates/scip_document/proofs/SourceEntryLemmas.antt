@@ -24,13 +24,13 @@ use Rattle.proto_visibility.specs.Files.{File, HaveOrigins}
 use Rattle.proto_visibility.specs.Clashes.{NoClash}
 use Rattle.proto_link.specs.Laws.{OneDeclarationAName}
 use Rattle.proto_visibility.proofs.FactLemmas.{one_list_of_facts}
-use Rattle.scip_model.specs.declared.records.Info.{Info}
+use Rattle.scip_model.specs.declared.records.SymbolInformation.{SymbolInformation}
 use Rattle.scip_symbol.specs.Path.{IsGoodPath}
 use Rattle.scip_symbol.specs.Package.{Package, IsPackage}
 use Rattle.scip_symbol.specs.Entities.{Entity, OfFile, OfPackage, OfDeclaration, IsEntity}
 use Rattle.scip_symbol.specs.OneEntity.{IsAmong, declarations_of}
 use Rattle.scip_symbol.proofs.ClashLemmas.{put}
-use Rattle.proto_visibility.proofs.GivenLemmas.{contained}
+use Rattle.proto_visibility.proofs.FirstLemmas.{contained}
 use Rattle.scip_document.specs.Chosen.{Chosen}
 use Rattle.scip_document.specs.Named.{text_of, package_at, declaration_at}
 use Rattle.scip_document.specs.Entries.{file_entry, package_entry, declaration_entry, HasEntry}
@@ -43,19 +43,19 @@ use Rattle.scip_document.proofs.SortLemmas.{ascending-list, distinct-cons, disti
 use Rattle.scip_document.proofs.ApartLemmas.{SymbolsNameOne, WithoutClash, AreIdentifiers, AreCounted, one-text, one-declared}
 
 pub infos_total : IsTotalOrder info_cmp
-infos_total = on_total (λ (i : Info). i.symbol) nat_list_cmp_total
+infos_total = on_total (λ (i : SymbolInformation). i.symbol) nat_list_cmp_total
 
 pub infos_rank : IsStrictWeakOrder (λ x y. is_lt (info_cmp x y))
 infos_rank = ranks_by infos_total (λ i. i)
 
 -- entries of different symbols don't tie
-pub differ : (x y : Info) → x.symbol ≢ y.symbol → eq_by_cmp info_cmp x y ≡ false
+pub differ : (x y : SymbolInformation) → x.symbol ≢ y.symbol → eq_by_cmp info_cmp x y ≡ false
 differ x y other = elim (cases_Bool (eq_by_cmp info_cmp x y)) [
   | inl same ↦ absurd (other (exact_bytes x.symbol y.symbol ((Equal-is (info_cmp x y)).0 same)))
   | inr unlike ↦ unlike
 ]
 
-one-distinct : (b : Bool) (entry : Info) → IsDistinct (eq_by_cmp info_cmp) (cond b (entry ∷ []) [])
+one-distinct : (b : Bool) (entry : SymbolInformation) → IsDistinct (eq_by_cmp info_cmp) (cond b (entry ∷ []) [])
 unfolding IsDistinct
 one-distinct true entry = (tt, tt)
 one-distinct false entry = tt
@@ -73,7 +73,7 @@ kept-distinct id facts (d ∷ ds) (c ∷ cs) apart =
     (λ x y here later.
     let one = in-one id facts c.keep (declaration_entry id facts d c) x here in
     let other = in-kept id facts ds cs y later in
-    differ x y (λ same. apart 0 (suc other.index) d other.declared (omega arith) refl other.stands (sym (ap (λ (i : Info). i.symbol) one.1) ∙ (same ∙ ap (λ (i : Info). i.symbol) other.is))))
+    differ x y (λ same. apart 0 (suc other.index) d other.declared (omega arith) refl other.stands (sym (ap (λ (i : SymbolInformation). i.symbol) one.1) ∙ (same ∙ ap (λ (i : SymbolInformation). i.symbol) other.is))))
 
 size-of : Entity → ℕ
 size-of (OfFile path) = 0
@@ -87,7 +87,7 @@ module _ (files : List File) (origins : HaveOrigins files) (clear : NoClash file
   package-entity index within = package-is facts (index + 1) (spelled.named facts (origins source facts counted.known)) (omega arith) (omega (arith, within))
 
   declaration-entity : (d : Declaration) → Contains facts.declarations d → IsEntity (declaration_at facts d)
-  declaration-entity d listed = declaration-is facts d (spelled.named facts (origins source facts counted.known)) (spelled.ways facts (origins source facts counted.known)) listed
+  declaration-entity d listed = declaration-is facts d (spelled.named facts (origins source facts counted.known)) (spelled.paths facts (origins source facts counted.known)) listed
 
   same-text : (a b : Entity) → IsEntity a → IsEntity b → IsAmong (declarations_of (facts ∷ (facts ∷ []))) a → IsAmong (declarations_of (facts ∷ (facts ∷ []))) b → text_of id a ≡ text_of id b → a ≡ b
   same-text = one-text files origins clear one_name spelled symbols unclashed id good source source facts facts counted counted
@@ -133,14 +133,14 @@ module _ (files : List File) (origins : HaveOrigins files) (clear : NoClash file
       let apart : eq_by_cmp info_cmp (entry i) (entry j) ≡ false = differ (entry i) (entry j) (package-package i j less (omega (arith, inside, most))) in
       rw (first, second) apart)
 
-  packages : List Info
+  packages : List SymbolInformation
   packages = package_entries id facts
 
   module _ (cs : List Choice) where
-    kept-text : (y : Info) → Contains (kept_entries id facts facts.declarations cs) y → (d : Declaration) × Contains facts.declarations d × (y.symbol ≡ text_of id (declaration_at facts d))
+    kept-text : (y : SymbolInformation) → Contains (kept_entries id facts facts.declarations cs) y → (d : Declaration) × Contains facts.declarations d × (y.symbol ≡ text_of id (declaration_at facts d))
     kept-text y there =
         let of = in-kept id facts facts.declarations cs y there in
-        (of.declared, contained facts.declarations of.index of.declared of.stands, ap (λ (i : Info). i.symbol) of.is)
+        (of.declared, contained facts.declarations of.index of.declared of.stands, ap (λ (i : SymbolInformation). i.symbol) of.is)
 
     pub distinct : IsDistinct (eq_by_cmp info_cmp) (source_entries id file.path facts cs)
     distinct =
@@ -148,7 +148,7 @@ module _ (files : List File) (origins : HaveOrigins files) (clear : NoClash file
         (λ y there. elim (Contains-append_cases (package_entries id facts) (kept_entries id facts facts.declarations cs) y there) [
           | inl package_of ↦ (
               let of = in-packages id facts (length facts.package_name) y package_of in
-              differ (file_entry id file.path) y (λ same. file-package of.0 of.1 (same ∙ ap (λ (i : Info). i.symbol) of.2)))
+              differ (file_entry id file.path) y (λ same. file-package of.0 of.1 (same ∙ ap (λ (i : SymbolInformation). i.symbol) of.2)))
           | inr kept ↦ (
               let of = kept-text y kept in
               differ (file_entry id file.path) y (λ same. file-declaration of.0 of.1 (same ∙ of.2)))
@@ -159,12 +159,12 @@ module _ (files : List File) (origins : HaveOrigins files) (clear : NoClash file
         (λ x y first second.
         let of = in-packages id facts (length facts.package_name) x first in
         let its = kept-text y second in
-        differ x y (λ same. package-declaration of.0 its.0 of.1 its.1 (sym (ap (λ (i : Info). i.symbol) of.2) ∙ (same ∙ its.2)))))
+        differ x y (λ same. package-declaration of.0 its.0 of.1 its.1 (sym (ap (λ (i : SymbolInformation). i.symbol) of.2) ∙ (same ∙ its.2)))))
 
   -- ---- what the list has
 
   module _ (chosen : Chosen) where
-    listed-is : (x : Info) → Contains (source_entries id file.path facts (choices_for chosen source)) x → HasEntry files chosen id source x
+    listed-is : (x : SymbolInformation) → Contains (source_entries id file.path facts (choices_for chosen source)) x → HasEntry files chosen id source x
     listed-is x there = elim (Contains-append_cases (file_entry id file.path ∷ []) (package_entries id facts ++ kept_entries id facts facts.declarations (choices_for chosen source)) x there) [
       | inl file_is ↦ subst (HasEntry files chosen id source) (alone-in (file_entry id file.path) x file_is) (of_file {file = file} numbered)
       | inr others ↦ elim (Contains-append_cases (package_entries id facts) (kept_entries id facts facts.declarations (choices_for chosen source)) x others) [
@@ -186,7 +186,7 @@ module _ (files : List File) (origins : HaveOrigins files) (clear : NoClash file
       ]
     ]
 
-    is-listed : {x : Info} → HasEntry files chosen id source x → Contains (source_entries id file.path facts (choices_for chosen source)) x
+    is-listed : {x : SymbolInformation} → HasEntry files chosen id source x → Contains (source_entries id file.path facts (choices_for chosen source)) x
     is-listed (of_file {file = other} at) =
         subst (λ (f : File). Contains (source_entries id file.path facts (choices_for chosen source)) (file_entry id f.path)) (same_Some file other (sym numbered ∙ at))
         (first-in (file_entry id file.path) (package_entries id facts ++ kept_entries id facts facts.declarations (choices_for chosen source)))
@@ -207,8 +207,8 @@ module _ (files : List File) (origins : HaveOrigins files) (clear : NoClash file
         (kept-in id facts facts.declarations (choices_for chosen source) index kept.declaration kept.choice at (chosen-for chosen source index kept.choice kept.is_chosen) kept.keeps)))
 
     -- sorted, it is the list of them
-    pub source-list : (made list : List Info) → made ≡ source_entries id file.path facts (choices_for chosen source) → IsPermutation made list → IsSorted info_cmp list
+    pub source-list : (made list : List SymbolInformation) → made ≡ source_entries id file.path facts (choices_for chosen source) → IsPermutation made list → IsSorted info_cmp list
         → IsAscendingListOf info_cmp (HasEntry files chosen id source) list
     source-list made list is moved up =
         ascending-list infos_total (HasEntry files chosen id source) (source_entries id file.path facts (choices_for chosen source)) list
-        (λ x. (listed-is x, λ has. is-listed has)) (distinct (choices_for chosen source)) (subst (λ (l : List Info). IsPermutation l list) is moved) up
+        (λ x. (listed-is x, λ has. is-listed has)) (distinct (choices_for chosen source)) (subst (λ (l : List SymbolInformation). IsPermutation l list) is moved) up

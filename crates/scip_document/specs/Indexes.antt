@@ -10,7 +10,7 @@ use Rattle.proto_lex.specs.declared.position.Encoding.TheVariants.{Utf8, Utf16}
 use Rattle.scip_model.specs.declared.records.Index.{Index}
 use Rattle.scip_model.specs.declared.records.Metadata.{Metadata}
 use Rattle.scip_model.specs.declared.records.Document.{Document}
-use Rattle.scip_model.specs.declared.records.Info.{Info}
+use Rattle.scip_model.specs.declared.records.SymbolInformation.{SymbolInformation}
 use Rattle.scip_symbol.specs.Package.{Package}
 use Rattle.proto_visibility.specs.Files.{File, IsSource}
 use Rattle.scip_document.specs.Chosen.{Chosen}
@@ -24,8 +24,8 @@ pub record IsAscendingListOf {X : Type 0} (cmp : X → X → Ordering) (IsWanted
   pub ascends : IsStrictlySortedBy cmp list
 
 -- by symbol
-abbrev pub info_cmp : Info → Info → Ordering
-info_cmp = on (λ (i : Info). i.symbol) (slice_cmp nat_cmp)
+abbrev pub info_cmp : SymbolInformation → SymbolInformation → Ordering
+info_cmp = on (λ (i : SymbolInformation). i.symbol) (slice_cmp nat_cmp)
 
 -- (`scip.proto`, PositionEncoding)
 abbrev pub encoding_number : Encoding → ℤ
@@ -44,7 +44,7 @@ pub record IsDocumentOf (files : List File) (chosen : Chosen) (id : Package) (en
   pub position_encoding : document.position_encoding ≡ encoding_number encoding
 
 -- the external entries
-abbrev pub AreExternals : List File → Chosen → Package → List Info → Type 0
+abbrev pub AreExternals : List File → Chosen → Package → List SymbolInformation → Type 0
 AreExternals files chosen id = IsAscendingListOf info_cmp (HasExternal files chosen id)
 
 -- What an index says of itself (`scip.proto`, Metadata, ProtocolVersion, TextEncoding): the protocol's version 0; the sources are UTF-8.

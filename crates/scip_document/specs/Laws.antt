@@ -6,7 +6,7 @@ use Rattle.proto_visibility.specs.Files.{File}
 use Rattle.scip_model.specs.declared.records.Document.{Document}
 use Rattle.scip_model.specs.declared.records.Occurrence.{Occurrence}
 use Rattle.scip_model.specs.declared.records.Index.{Index}
-use Rattle.scip_model.specs.declared.records.Info.{Info}
+use Rattle.scip_model.specs.declared.records.SymbolInformation.{SymbolInformation}
 use Rattle.scip_symbol.specs.Package.{Package}
 use Rattle.scip_document.specs.Chosen.{Chosen}
 use Rattle.scip_document.specs.Indexes.{AreExternals, IsDocumentOf, IsIndexOf}
@@ -21,7 +21,7 @@ OneDocument =
 
 -- files have one list of external entries at most
 abbrev pub OneListOfExternals : Type 0
-OneListOfExternals = (files : List File) (chosen : Chosen) (id : Package) (entries others : List Info)
+OneListOfExternals = (files : List File) (chosen : Chosen) (id : Package) (entries others : List SymbolInformation)
     → AreExternals files chosen id entries → AreExternals files chosen id others → entries ≡ others
 
 -- files with texts have one index at most

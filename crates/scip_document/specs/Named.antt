@@ -3,7 +3,7 @@ use Rattle.std.specs.Prelude.{◌≡◌, ℕ, Some, List, take, Contains}
 use Rattle.std.specs.List.{slice_get}
 use Rattle.proto_decl.specs.Names.{components_of}
 use Rattle.proto_decl.specs.Facts.{Facts}
-use Rattle.proto_decl.specs.Ways.{component_names}
+use Rattle.proto_decl.specs.Ancestors.{component_names}
 use Rattle.proto_decl.specs.declared.declaration.Declaration.{Declaration}
 use Rattle.proto_decl.specs.declared.type_use.Component.{Component}
 use Rattle.proto_decl.specs.declared.type_use.Use.{Use}

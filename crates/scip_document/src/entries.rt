@@ -2,7 +2,7 @@
 
 ghost use Rattle.std.specs.Prelude.{ℕ, ◌≡◌, ◌<◌, ◌≤◌, ◌∷◌, ◌++◌, IfOk, OnOk, Contains, length};
 ghost use Rattle.proto_decl.specs.Names.{dotted};
-ghost use Rattle.proto_decl.specs.Ways.{component_names};
+ghost use Rattle.proto_decl.specs.Ancestors.{component_names};
 ghost use Rattle.scip_symbol.specs.Path.{IsGoodPath};
 ghost use Rattle.proto_visibility.specs.Files.{IsSource};
 ghost use Rattle.scip_document.specs.Chosen.{HasChoice, HaveChoices};
@@ -18,7 +18,7 @@ use crate::known_facts::symbols_stand_apart;
 use crate::symbol_texts::{declaration_text, file_text, package_text};
 use index_hooks::Choice;
 use proto_decl::{Component, Declaration, FileFacts};
-use scip_model::Info;
+use scip_model::SymbolInformation;
 use scip_symbol::PackageId;
 use sequences::{OwnedText, Sequence};
 use std::alloc::{AllocError, Global};
@@ -49,14 +49,14 @@ fn joined_behind(
     Ok(OwnedText::from_string(name))
 }
 
-fn file_entry(alloc: Global, id: &PackageId, path: &str) -> Result<Info, AllocError>
+fn file_entry(alloc: Global, id: &PackageId, path: &str) -> Result<SymbolInformation, AllocError>
     requires { IsGoodPath path.now }
     ensures { IfOk result (λ entry. entry ≡ file_entry id.now path.now) }
 {
     let symbol = file_text(alloc, id, path)?;
     let documentation = Sequence::new(alloc);
     let display_name = OwnedText::copy_of(alloc, path)?;
-    Ok(Info {
+    Ok(SymbolInformation {
         symbol,
         documentation,
         display_name,
@@ -69,7 +69,7 @@ fn package_entry(
     id: &PackageId,
     facts: &FileFacts,
     count: usize,
-) -> Result<Info, AllocError>
+) -> Result<SymbolInformation, AllocError>
     requires some { 0 < count }
     requires within { count ≤ length facts.now.package_name }
     ensures { IfOk result (λ entry. entry ≡ package_entry id.now facts.now count) }
@@ -77,7 +77,7 @@ fn package_entry(
     let symbol = package_text(alloc, id, facts, count)?;
     let (front, _) = facts.package_name().split_at(count);
     let display_name = joined(alloc, front)?;
-    Ok(Info {
+    Ok(SymbolInformation {
         symbol,
         documentation: Sequence::new(alloc),
         display_name,
@@ -90,7 +90,7 @@ pub(crate) fn declaration_entry(
     facts: &FileFacts,
     declaration: &Declaration,
     choice: Choice,
-) -> Result<Info, AllocError>
+) -> Result<SymbolInformation, AllocError>
     requires { Contains facts.now.declarations declaration.now }
     ensures { IfOk result (λ entry. entry ≡ declaration_entry id.now facts.now declaration.now choice) }
 {
@@ -98,7 +98,7 @@ pub(crate) fn declaration_entry(
     let documentation = documentation_of(alloc, choice.doc, declaration)?;
     let view = declaration.view();
     let display_name = OwnedText::copy_of(alloc, view.name())?;
-    Ok(Info {
+    Ok(SymbolInformation {
         symbol,
         documentation,
         display_name,
@@ -108,7 +108,7 @@ pub(crate) fn declaration_entry(
 // Appends those of a file's packages.
 fn push_packages(
     alloc: Global,
-    entries: &mut Vec<Info>,
+    entries: &mut Vec<SymbolInformation>,
     id: &PackageId,
     facts: &FileFacts,
 ) -> Result<(), AllocError>
@@ -124,7 +124,7 @@ fn push_packages(
 // Appends that of a declaration that is kept.
 fn push_if_kept(
     alloc: Global,
-    entries: &mut Vec<Info>,
+    entries: &mut Vec<SymbolInformation>,
     id: &PackageId,
     facts: &FileFacts,
     declaration: &Declaration,
@@ -144,7 +144,7 @@ fn push_if_kept(
 
 // Appends those of the source's declarations that are kept.
 fn push_declarations(
-    entries: &mut Vec<Info>,
+    entries: &mut Vec<SymbolInformation>,
     maker: &DocumentMaker<'_, '_, '_>,
     facts: &FileFacts,
 ) -> Result<(), AllocError>
@@ -173,7 +173,7 @@ fn listed_entries(
     maker: &DocumentMaker<'_, '_, '_>,
     path: &str,
     facts: &FileFacts,
-) -> Result<Vec<Info>, AllocError>
+) -> Result<Vec<SymbolInformation>, AllocError>
     requires path { IsGoodPath path.now }
     requires choices { (index : ℕ) → index < length facts.now.declarations
         → HasChoice maker.now.choices.now maker.now.source index }
@@ -189,14 +189,16 @@ fn listed_entries(
 }
 
 /// By symbol.
-pub(crate) fn compare_symbols(a: &Info, b: &Info) -> Ordering
+pub(crate) fn compare_symbols(a: &SymbolInformation, b: &SymbolInformation) -> Ordering
     ensures { result ≡ info_cmp a.now b.now }
 {
     a.symbol.as_str().cmp(b.symbol.as_str())
 }
 
 // The entries of the source, by symbol.
-pub(crate) fn entries(maker: &DocumentMaker<'_, '_, '_>) -> Result<Sequence<Info>, AllocError>
+pub(crate) fn entries(
+    maker: &DocumentMaker<'_, '_, '_>,
+) -> Result<Sequence<SymbolInformation>, AllocError>
     requires source { IsSource maker.now.linker.now maker.now.source }
     requires paths { HaveGoodPaths maker.now.linker.now }
     requires choices { HaveChoices maker.now.linker.now maker.now.choices.now }

@@ -18,7 +18,7 @@ use crate::entries::{compare_symbols, declaration_entry};
 use crate::known_facts::symbols_stand_apart;
 use proto_decl::{FileFacts, Use};
 use proto_link::{Entity, LinkFault, Linker, one_target_a_use};
-use scip_model::Info;
+use scip_model::SymbolInformation;
 use scip_symbol::PackageId;
 use sequences::Sequence;
 use std::alloc::{AllocError, Global};
@@ -179,7 +179,7 @@ fn external_entry(
     facts: &FileFacts,
     file: usize,
     index: usize,
-) -> Result<Info, AllocError>
+) -> Result<SymbolInformation, AllocError>
     requires within { index < length facts.now.declarations }
     requires chosen { HasChoice choices.now file index }
     ensures { IfOk result (λ entry. IsEntryAt choices.now id.now facts.now file index entry) }
@@ -197,7 +197,7 @@ fn entry_of(
     choices: &Choices,
     id: &PackageId,
     pair: (usize, usize),
-) -> Result<Info, AllocError>
+) -> Result<SymbolInformation, AllocError>
     requires choices { HaveChoices linker.now choices.now }
     requires named { IsExternal linker.now choices.now (length linker.now) pair }
     ensures { IfOk result (IsKeptEntry linker.now choices.now id.now pair.0 pair.1) }
@@ -213,7 +213,7 @@ fn external_entries(
     choices: &Choices,
     id: &PackageId,
     pairs: &[(usize, usize)],
-) -> Result<Vec<Info>, AllocError>
+) -> Result<Vec<SymbolInformation>, AllocError>
     requires choices { HaveChoices linker.now choices.now }
     requires named { All (IsExternal linker.now choices.now (length linker.now)) pairs.now }
     ensures { IfOk result (λ entries. AllZip (IsEntryOf linker.now choices.now id.now) pairs.now entries.items) }
@@ -248,7 +248,7 @@ pub fn externals(
     linker: &Linker<'_>,
     choices: &Choices,
     id: &PackageId,
-) -> Result<Sequence<Info>, AllocError>
+) -> Result<Sequence<SymbolInformation>, AllocError>
     requires choices { HaveChoices linker.now choices.now }
     requires resolve { AllResolve linker.now }
     ensures { IfOk result (AreExternals linker.now choices.now id.now) }

@@ -1,6 +1,6 @@
 //! Why documents make no index.
 
-use scip_model::{Document, Info};
+use scip_model::{Document, SymbolInformation};
 use sequences::Sequence;
 use std::alloc::{AllocError, AllocFailed};
 use thiserror::Error;
@@ -49,6 +49,6 @@ impl<T: Drop> From<AllocFailed<T>> for MergeFault {
 #[derive(Debug, Drop)]
 pub struct Unmerged {
     pub pieces: Vec<Document>,
-    pub externals: Sequence<Info>,
+    pub externals: Sequence<SymbolInformation>,
     pub fault: MergeFault,
 }

@@ -7,7 +7,7 @@ ghost use Rattle.scip_document.specs.Pieces.{IsRising, AreMerged, MayRefuseMerge
 ghost use Rattle.scip_document.specs.Tables.TakenPaths.{AreClear, IsMarked, IsNotMarked, AreMarked};
 
 use crate::merge_fault::{MergeFault, Unmerged};
-use scip_model::{Document, Index, Info, Metadata};
+use scip_model::{Document, Index, Metadata, SymbolInformation};
 use sequences::Sequence;
 use std::alloc::{AllocError, Global};
 use std::cmp::Ordering;
@@ -101,7 +101,7 @@ pub fn merge(
     paths: &[&str],
     pieces: Vec<Document>,
     metadata: Metadata,
-    externals: Sequence<Info>,
+    externals: Sequence<SymbolInformation>,
 ) -> Result<Index, Unmerged>
     requires { IsRising (texts paths.now) }
     ensures merged { IfOk result (λ index. AreMerged (texts paths.now) pieces.items index.documents) }

@@ -7,7 +7,7 @@ ghost use denote.Ref.{Bor};
 ghost use Rattle.proto_lex.specs.Lexed.{IsPart};
 ghost use Rattle.proto_decl.specs.Names.{components_of};
 ghost use Rattle.proto_decl.specs.Facts.{Facts};
-ghost use Rattle.proto_decl.specs.Ways.{component_names};
+ghost use Rattle.proto_decl.specs.Ancestors.{component_names};
 ghost use Rattle.proto_decl.specs.declared.declaration.Declaration.{Declaration};
 ghost use Rattle.proto_decl.specs.declared.type_use.Component.{Component};
 ghost use Rattle.proto_decl.specs.declared.type_use.Use.{Use};

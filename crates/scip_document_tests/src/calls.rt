@@ -7,7 +7,7 @@ ghost use Rattle.scip_document.specs.Texts.{HasText};
 
 use proto_link::{LinkFault, Linker};
 use scip_document::{Choices, DocumentMaker, document, externals};
-use scip_model::{Document, Info};
+use scip_model::{Document, SymbolInformation};
 use scip_symbol::PackageId;
 use sequences::Sequence;
 use std::alloc::{AllocError, Global};
@@ -48,7 +48,7 @@ pub(crate) fn externals_again(
     linker: &Linker<'_>,
     choices: &Choices,
     id: &PackageId,
-) -> Result<Sequence<Info>, AllocError>
+) -> Result<Sequence<SymbolInformation>, AllocError>
     requires choices { HaveChoices linker.now choices.now }
     requires resolve { AllResolve linker.now }
 {

@@ -9,7 +9,7 @@ use crate::resolving::all_resolve;
 use proto_lex::Encoding;
 use proto_link::{LinkFault, LinkFile, Linker, have_own_paths};
 use scip_document::{Choices, DocumentMaker};
-use scip_model::{Document, Info};
+use scip_model::{Document, SymbolInformation};
 use scip_symbol::PackageId;
 use sequences::Sequence;
 use std::alloc::{AllocError, Global};
@@ -108,7 +108,7 @@ pub(crate) fn externals_of(
     readings: &[Reading<'_>],
     choices: &Choices,
     id: &PackageId,
-) -> Result<Option<Sequence<Info>>, AllocError>
+) -> Result<Option<Sequence<SymbolInformation>>, AllocError>
     requires files { linker.now ≡ linked_files readings.now }
     requires choices { map (λ list. length list) choices.now ≡ counts readings.now }
 {

@@ -1,6 +1,6 @@
 //! Occurrences and symbol entries, as tests list them.
 
-use scip_model::{Info, Occurrence};
+use scip_model::{Occurrence, SymbolInformation};
 use sequences::OwnedText;
 
 fn is_symbol(symbol: &OwnedText, front: &str, rest: &str) -> bool {
@@ -64,7 +64,7 @@ fn are_texts(texts: &[OwnedText], due: &str) -> bool {
     rest.is_empty()
 }
 
-fn is_entry(info: &Info, front: &str, entry: &str) -> bool {
+fn is_entry(info: &SymbolInformation, front: &str, entry: &str) -> bool {
     let Some((symbol, entry)) = entry.split_once('|') else {
         return false;
     };
@@ -78,7 +78,7 @@ fn is_entry(info: &Info, front: &str, entry: &str) -> bool {
 
 /// Whether these are the entries of a text, in order. Each has the symbol without its front, the
 /// display name, and each text of the documentation, with `|` behind each of them, and `;` behind all.
-pub(crate) fn are_entries(infos: &[Info], front: &str, entries: &str) -> bool {
+pub(crate) fn are_entries(infos: &[SymbolInformation], front: &str, entries: &str) -> bool {
     let mut rest = infos;
     for entry in entries.split_terminator(';') {
         match rest {

@@ -4,7 +4,7 @@ ghost use Rattle.scip_document.specs.Pieces.{IsRising};
 
 use crate::calls::see;
 use scip_document::{MergeFault, Unmerged, merge, one_merge_refusal, one_merged_list};
-use scip_model::{Document, Index, Info, Metadata};
+use scip_model::{Document, Index, Metadata, SymbolInformation};
 use sequences::{OwnedText, Sequence};
 use std::alloc::{AllocError, Global};
 use std::process::Abort;
@@ -81,9 +81,9 @@ fn pieces_of(alloc: Global, paths: &[(&str, i32)]) -> Result<Vec<Document>, Allo
 }
 
 /// One entry.
-fn externals_of(alloc: Global) -> Result<Sequence<Info>, AllocError> {
+fn externals_of(alloc: Global) -> Result<Sequence<SymbolInformation>, AllocError> {
     let mut externals = Sequence::new(alloc);
-    externals.push(Info {
+    externals.push(SymbolInformation {
         symbol: OwnedText::copy_of(alloc, "local x")?,
         documentation: Sequence::new(alloc),
         display_name: OwnedText::new(alloc),
@@ -104,7 +104,7 @@ fn metadata_of(alloc: Global) -> Metadata {
 fn merged(
     alloc: Global,
     pieces: Vec<Document>,
-    externals: Sequence<Info>,
+    externals: Sequence<SymbolInformation>,
 ) -> Result<Index, Unmerged> {
     let paths = ["a.proto", "b.proto"];
     merge(alloc, &paths, pieces, metadata_of(alloc), externals)
@@ -115,7 +115,7 @@ fn merged(
 fn merged_again(
     alloc: Global,
     pieces: Vec<Document>,
-    externals: Sequence<Info>,
+    externals: Sequence<SymbolInformation>,
 ) -> Result<Index, Unmerged> {
     match merged(alloc, pieces, externals) {
         Ok(index) => Ok(index),
@@ -137,7 +137,7 @@ fn have_marks(pieces: &[Document], marks: &[i32]) -> bool {
     rest.is_empty()
 }
 
-fn is_the_entry(externals: &[Info]) -> bool {
+fn is_the_entry(externals: &[SymbolInformation]) -> bool {
     match externals {
         [info] => info.symbol.as_str() == "local x",
         _ => false,

@@ -1,17 +1,9 @@
-//! The records of a SCIP index, and the traits of what it is written to and read from.
+//! The records of a SCIP index.
 #![tactic(auto)]
 
-mod failed;
-mod feed;
 mod range;
 mod records;
-mod sink;
-mod std_streams;
 
-pub use failed::Failed;
-pub use feed::{Feed, MAX_READS};
 pub use range::{MAX_RANGE_NUMBER, Range};
-pub use records::{Document, Index, Info, Metadata, Occurrence, ToolInfo};
+pub use records::{Document, Index, Metadata, Occurrence, SymbolInformation, ToolInfo};
 pub use sequences::{OwnedText, Sequence};
-pub use sink::{CutOff, Sink, write_all};
-pub use std_streams::Std;

@@ -8,7 +8,7 @@ use sequences::{OwnedText, Sequence};
 pub struct Index {
     pub metadata: Option<Metadata>,
     pub documents: Sequence<Document>,
-    pub external_symbols: Sequence<Info>,
+    pub external_symbols: Sequence<SymbolInformation>,
 }
 
 /// What an index says of itself (`scip.proto`, `Metadata`).
@@ -37,7 +37,7 @@ pub struct Document {
     /// The path from the project's root, with `/` between components.
     pub relative_path: OwnedText,
     pub occurrences: Sequence<Occurrence>,
-    pub symbols: Sequence<Info>,
+    pub symbols: Sequence<SymbolInformation>,
     pub language: OwnedText,
     /// An enum: columns count 1 UTF-8, 2 UTF-16 or 3 UTF-32 code units from the line's start.
     pub position_encoding: i32,
@@ -54,7 +54,7 @@ pub struct Occurrence {
 
 /// What is known of a symbol (`scip.proto`, `SymbolInformation`).
 #[derive(Debug, Drop)]
-pub struct Info {
+pub struct SymbolInformation {
     pub symbol: OwnedText,
     pub documentation: Sequence<OwnedText>,
     pub display_name: OwnedText,

@@ -2,10 +2,4 @@
 #![tactic(auto)]
 
 #[cfg(test)]
-mod large;
-#[cfg(test)]
 mod records;
-#[cfg(test)]
-mod see;
-#[cfg(test)]
-mod streams;

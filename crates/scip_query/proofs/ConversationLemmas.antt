@@ -6,15 +6,15 @@ use Rattle.std.proofs.Math.Seq.{take-append_seam}
 use Rattle.std.proofs.lemmas.List.{append-nil, length-append, take-append-drop, take-append-le, take_more}
 use Rattle.std.proofs.lemmas.List.Sums.{sum_by-append}
 use Rattle.std.proofs.lemmas.Grind.{flat_map-append}
-use Rattle.scip_model.specs.Streams.{last_count, more_by}
-use Rattle.scip_model.specs.WholeReads.{IsReadThrough}
-use Rattle.scip_model.specs.WholeWrites.{IsWritten, IsCutOff}
+use Rattle.streams.specs.Streams.{last_count, more_by}
+use Rattle.streams.specs.WholeReads.{IsReadThrough}
+use Rattle.streams.specs.WholeWrites.{IsWritten, IsCutOff}
 use Rattle.scip_model.specs.declared.records.Index.{Index}
-use Rattle.scip_model.proofs.WholeWriteLemmas.{IsWritten-nil, IsWritten-trans, IsCutOff-after}
+use Rattle.streams.proofs.WholeWriteLemmas.{IsWritten-nil, IsWritten-trans, IsCutOff-after}
 use Rattle.scip_query.specs.Commands.{lines_of}
 use Rattle.scip_query.specs.AnswerText.{answer_to, answer_text}
-use Rattle.scip_query.specs.Conversing.{is_line_end, ended_lines, Replies, IsDue, LeavesFeed}
-use Rattle.scip_query.specs.ConversingSteps.{kept_line, kept_with, Stands, IsHalted, Goes, AnswersNext, Concludes}
+use Rattle.scip_query.specs.Conversing.{is_line_end, ended_lines, Replies, IsDue, LeavesFeed, IsConversed}
+use Rattle.scip_query.specs.ConversingSteps.{kept_line, kept_with, Stands, IsCutShort, IsHalted, Goes, AnswersNext, Concludes}
 use Rattle.scip_query.specs.declared.answer_fault.AnswerFault.{AnswerFault}
 use Rattle.scip_query.specs.declared.answer_fault.AnswerFault.TheVariants.{Read, Write, Memory}
 use Rattle.scip_query.specs.declared.conversation.Conversation.{Conversation}
@@ -233,57 +233,82 @@ module _ {W : Type 0} (contents : W → Option (List ℕ)) (failures : W → ℕ
     -- at the end of the bytes
     pub concluded_due : (known left : Option (List ℕ)) (read : List ℕ) (now : W) (result : Result (Unit {0}) AnswerFault)
         → ((all : List ℕ) → known ≡ Some all → all ≡ read) → Concludes contents failures index first read now result
-        → (due : List ℕ) × Replies contents failures first now due result × ((all : List ℕ) → known ≡ Some all → IsDue index all left due result)
-    concluded_due known left read now (Ok done) is p = (answer_text index read, p, λ all e. ap (answer_text index) (sym (is all e)))
+        → IsConversed contents failures index first now known left result
+    concluded_due known left read now (Ok done) is p =
+        record { due = answer_text index read; replies = p; some = (read, None, refl); told = λ all e. ap (answer_text index) (sym (is all e)) }
     concluded_due known left read now (Err Read) is p = absurd p
-    concluded_due known left read now (Err (Write count)) is p = (answer_text index read, p, λ all e. ap (answer_text index) (sym (is all e)))
-    concluded_due known left read now (Err Memory) is p = (
-      flat_map (answer_to index) p.ended,
-      p.answered,
-      λ all e.
-          let found = p.lines [] in
-          halted_due all p.ended found.1 found.0 (ap lines_of (is all e ∙ sym (append-nil read)) ∙ found.2),
-    )
+    concluded_due known left read now (Err (Write count)) is p =
+        record { due = answer_text index read; replies = p; some = (read, None, refl); told = λ all e. ap (answer_text index) (sym (is all e)) }
+    concluded_due known left read now (Err Memory) is p =
+        let found = p.lines [] in
+        let of = λ (all : List ℕ) (e : all ≡ read). halted_due all p.ended found.1 found.0 (ap lines_of (e ∙ sym (append-nil read)) ∙ found.2) in
+        record {
+          due = flat_map (answer_to index) p.ended;
+          replies = p.answered;
+          some = (read, None, of read refl);
+          told = λ all e. of all (is all e);
+        }
+
+    -- answers that are cut off before the end of the bytes are those to all of them, cut off there
+    record AreCutOff (all : List ℕ) (now : W) (count : ℕ) : Type 0 where
+      due : List ℕ
+      replies : Replies contents failures first now due (Err (Write count))
+      is : due ≡ answer_text index all
+
+    all_due : (read rest : List ℕ) (now : W) (count : ℕ) → IsCutShort contents failures index first read now count → AreCutOff (read ++ rest) now count
+    all_due read rest now count p =
+        let found = p.lines rest in
+        record {
+          due = flat_map (answer_to index) p.ended ++ flat_map (answer_to index) found.0;
+          replies = (p.sent, p.counted, cut_off_more first now _ (flat_map (answer_to index) found.0) p.sent p.cut_off);
+          is = sym (flat_map-append (answer_to index) p.ended found.0) ∙ ap (flat_map (answer_to index)) (sym found.1);
+        }
 
     -- on the way
     pub halted_on_the_way : (known left : Option (List ℕ)) (read : List ℕ) (talk : Conversation) (now : W) (fault : AnswerFault)
         → ((all : List ℕ) → known ≡ Some all → (rest : List ℕ) × (all ≡ read ++ rest)) → Goes contents failures index first read talk now (Err fault)
-        → (due : List ℕ) × Replies contents failures first now due (Err fault) × ((all : List ℕ) → known ≡ Some all → IsDue index all left due (Err fault))
+        → IsConversed contents failures index first now known left (Err fault)
     halted_on_the_way known left read talk now Read is p = absurd p
-    halted_on_the_way None left read talk now (Write count) is p = (flat_map (answer_to index) p.ended, (p.sent, p.counted, p.cut_off), λ all e. absurd cc)
+    halted_on_the_way None left read talk now (Write count) is p =
+        let whole = all_due read [] now count p in
+        record { due = whole.due; replies = whole.replies; some = (read ++ [], None, whole.is); told = λ all e. absurd cc }
     halted_on_the_way (Some known) left read talk now (Write count) is p =
         let behind = is known refl in
-        let found = p.lines behind.0 in
-        let text : flat_map (answer_to index) p.ended ++ flat_map (answer_to index) found.0 ≡ answer_text index known =
-        sym (flat_map-append (answer_to index) p.ended found.0) ∙ ap (flat_map (answer_to index)) (sym (ap lines_of behind.1 ∙ found.1)) in (
-          answer_text index known,
-          (p.sent, p.counted, subst (λ l. IsCutOff contents failures first now l p.sent) text (cut_off_more first now _ (flat_map (answer_to index) found.0) p.sent p.cut_off)),
-          λ all e. let same : known ≡ all = cc in ap (answer_text index) same,
-        )
-    halted_on_the_way known left read talk now Memory is p = (
-      flat_map (answer_to index) p.ended,
-      p.answered,
-      λ all e.
-          let behind = is all e in
-          let found = p.lines behind.0 in
-          halted_due all p.ended found.1 found.0 (ap lines_of behind.1 ∙ found.2),
-    )
+        let whole = all_due read behind.0 now count p in
+        let due : whole.due ≡ answer_text index known = whole.is ∙ ap (answer_text index) (sym behind.1) in
+        record {
+          due = whole.due;
+          replies = whole.replies;
+          some = (known, None, due);
+          told = λ all e. let same : known ≡ all = cc in due ∙ ap (answer_text index) same;
+        }
+    halted_on_the_way known left read talk now Memory is p =
+        let of = λ (all rest : List ℕ) (e : all ≡ read ++ rest).
+        let found = p.lines rest in
+        halted_due all p.ended found.1 found.0 (ap lines_of e ∙ found.2) in
+        record {
+          due = flat_map (answer_to index) p.ended;
+          replies = p.answered;
+          some = (read ++ [], None, of (read ++ []) [] refl);
+          told = λ all e. let behind = is all e in of all behind.0 behind.1;
+        }
 
     -- where the bytes aren't read to their end
     pub unread_due : (known left : Option (List ℕ)) (read : List ℕ) (talk : Conversation) (now : W)
         → ((all : List ℕ) → known ≡ Some all → (rest : List ℕ) × (left ≡ Some rest) × (all ≡ read ++ rest)) → Stands contents failures index first read talk now
-        → (due : List ℕ) × Replies contents failures first now due (Err Read) × ((all : List ℕ) → known ≡ Some all → IsDue index all left due (Err Read))
+        → IsConversed contents failures index first now known left (Err Read)
     unread_due known left read talk now is s =
         let ended : ended_lines read ≡ s.ended =
         ap (take (count_by is_line_end read)) (lines_read read talk now s)
         ∙ ap (λ n. take n (s.ended ++ lines_of s.begun)) s.ends
-        ∙ take-append_seam s.ended (lines_of s.begun) in (
-          flat_map (answer_to index) s.ended,
-          s.answered,
-          λ all e.
-              let behind = is all e in
-              (read, behind.0, behind.1, behind.2, ap (flat_map (answer_to index)) (sym ended)),
-        )
+        ∙ take-append_seam s.ended (lines_of s.begun) in
+        let due = ap (flat_map (answer_to index)) (sym ended) in
+        record {
+          due = flat_map (answer_to index) s.ended;
+          replies = s.answered;
+          some = (read, Some [], (read, [], refl, sym (append-nil read), due));
+          told = λ all e. let behind = is all e in (read, behind.0, behind.1, behind.2, due);
+        }
 
     -- ---- the feed
 

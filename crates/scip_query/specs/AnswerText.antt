@@ -4,7 +4,7 @@ use Rattle.std.specs.List.{flat_map, slice_split}
 use Rattle.std.specs.Fmt.{decimal, signed_decimal}
 use Rattle.scip_model.specs.Range.{RangeNumbers}
 use Rattle.scip_model.specs.declared.records.Index.{Index}
-use Rattle.scip_model.specs.declared.records.Info.{Info}
+use Rattle.scip_model.specs.declared.records.SymbolInformation.{SymbolInformation}
 use Rattle.scip_query.specs.Sites.{Site}
 use Rattle.scip_query.specs.References.{definitions_at, references_at}
 use Rattle.scip_query.specs.Documentation.{documentation_at, symbols_of}
@@ -21,12 +21,12 @@ line_end = 10 ∷ []
 abbrev pub count_line : ℕ → List ℕ
 count_line n = codes "= " ++ decimal n ++ line_end
 
--- where an occurrence begins and ends, its roles and its document's path: `L C L2 E ROLE PATH`
+-- where an occurrence begins and ends, its roles and a name, which is its document's path in an answer: `L C L2 E ROLE NAME`
 abbrev pub line_of : RangeNumbers → ℤ → List ℕ → List ℕ
-line_of range roles path =
+line_of range roles name =
     decimal range.start_line ++ space ++ decimal range.start_column ++ space
     ++ decimal range.end_line ++ space ++ decimal range.end_column ++ space
-    ++ signed_decimal roles ++ space ++ path ++ line_end
+    ++ signed_decimal roles ++ space ++ name ++ line_end
 
 abbrev pub site_line : Site → List ℕ
 site_line site = line_of site.occurrence.range site.occurrence.symbol_roles site.document.relative_path
@@ -38,7 +38,7 @@ quoted_line line = codes "| " ++ line ++ line_end
 abbrev pub quoted : List ℕ → List ℕ
 quoted text = flat_map quoted_line (slice_split (λ b. b == 10) text)
 
-abbrev pub symbol_line : Info → List ℕ
+abbrev pub symbol_line : SymbolInformation → List ℕ
 symbol_line entry = entry.symbol ++ line_end
 
 abbrev pub miss_text : Miss → List ℕ

@@ -1,7 +1,7 @@
 -- What becomes of the answer to a command.
 -- `contents` and `failures` are the sink's, `before` and `after` the sink around the call.
 use Rattle.std.specs.Prelude.{◌≡◌, ℕ, List, [], Option, None, Some, Result, Ok, Err}
-use Rattle.scip_model.specs.WholeWrites.{IsWritten, IsCutOff}
+use Rattle.streams.specs.WholeWrites.{IsWritten, IsCutOff}
 use Rattle.scip_query.specs.Sites.{Site}
 use Rattle.scip_query.specs.AnswerText.{site_line}
 use Rattle.scip_query.specs.declared.answer_fault.AnswerFault.{AnswerFault}

@@ -2,9 +2,9 @@
 -- `contents`, `failures`, `reads` and `ends` are the sink's or the feed's, `before` and `after` it around the call.
 use Rattle.std.specs.Prelude.{◌≡◌, ℕ, ◌==◌, ◌<◌, min, Bool, List, ◌++◌, length, take, Option, Some, Result, Ok, Err}
 use Rattle.std.specs.List.{flat_map, count_by}
-use Rattle.scip_model.specs.Streams.{last_count}
-use Rattle.scip_model.specs.WholeReads.{IsReadThrough, IsReadFault}
-use Rattle.scip_model.specs.WholeWrites.{IsWritten, IsCutOff}
+use Rattle.streams.specs.Streams.{last_count}
+use Rattle.streams.specs.WholeReads.{IsReadThrough, IsReadFault}
+use Rattle.streams.specs.WholeWrites.{IsWritten, IsCutOff}
 use Rattle.scip_model.specs.declared.records.Index.{Index}
 use Rattle.scip_query.specs.Commands.{lines_of}
 use Rattle.scip_query.specs.AnswerText.{answer_to, answer_text}
@@ -30,6 +30,14 @@ IsDue index all left due (Ok done) = due ≡ answer_text index all
 IsDue index all left due (Err Read) = (read : List ℕ) × (rest : List ℕ) × (left ≡ Some rest) × (all ≡ read ++ rest) × (due ≡ flat_map (answer_to index) (ended_lines read))
 IsDue index all left due (Err (Write count)) = due ≡ answer_text index all
 IsDue index all left due (Err Memory) = (k : ℕ) × (k < length (lines_of all)) × (due ≡ flat_map (answer_to index) (take k (lines_of all)))
+
+-- The answers to commands, of which `known` tells all bytes before the call and `left` those after it: so much of a text went out that is
+-- due to them; where they aren't told, to some bytes.
+pub record IsConversed {W : Type 0} (contents : W → Option (List ℕ)) (failures : W → ℕ) (index : Index) (before after : W) (known left : Option (List ℕ)) (result : Result (Unit {0}) AnswerFault) : Type 0 where
+  pub due : List ℕ
+  pub replies : Replies contents failures before after due result
+  pub some : (all : List ℕ) × (rest : Option (List ℕ)) × IsDue index all rest due result
+  pub told : (all : List ℕ) → known ≡ Some all → IsDue index all left due result
 
 -- the feed: it was read to its end; at Read, why it wasn't; else no read failed
 abbrev pub LeavesFeed : {R : Type 0} → (failures reads ends : R → ℕ) → R → R → Result (Unit {0}) AnswerFault → Type 0

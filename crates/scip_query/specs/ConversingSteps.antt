@@ -3,8 +3,8 @@
 -- bytes that were read in between.
 use Rattle.std.specs.Prelude.{◌≡◌, ℕ, ◌+◌, nat_le, cond, min, List, [], ◌∷◌, ◌++◌, length, take, Option, Result, Ok, Err}
 use Rattle.std.specs.List.{flat_map, count_by}
-use Rattle.scip_model.specs.Streams.{last_count, more_by}
-use Rattle.scip_model.specs.WholeWrites.{IsWritten, IsCutOff}
+use Rattle.streams.specs.Streams.{last_count, more_by}
+use Rattle.streams.specs.WholeWrites.{IsWritten, IsCutOff}
 use Rattle.scip_model.specs.declared.records.Index.{Index}
 use Rattle.scip_query.specs.Commands.{lines_of, max_command_length}
 use Rattle.scip_query.specs.AnswerText.{answer_to, answer_text}

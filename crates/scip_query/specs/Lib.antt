@@ -13,4 +13,5 @@ pub mod ConversingSteps
 pub mod Runs
 pub mod Tables
 pub mod Outcomes
+pub mod AnswerFaults
 pub mod Views

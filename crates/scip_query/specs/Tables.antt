@@ -9,7 +9,7 @@ use Rattle.std.specs.Ordering.{nat_cmp, on, is_gt}
 use Rattle.std.specs.Cmp.Lexicographic.{slice_cmp}
 use Rattle.scip_model.specs.declared.records.Index.{Index}
 use Rattle.scip_model.specs.declared.records.Document.{Document}
-use Rattle.scip_model.specs.declared.records.Info.{Info}
+use Rattle.scip_model.specs.declared.records.SymbolInformation.{SymbolInformation}
 use Rattle.scip_model.specs.declared.records.Occurrence.{Occurrence}
 use Rattle.scip_query.specs.Positions.{position_cmp, start_of}
 use Rattle.scip_query.specs.declared.position.Position.{Position}
@@ -62,19 +62,19 @@ definition_or_not (Some o) = is_definition o
 abbrev pub defines_listed : List Document → Place → Bool
 defines_listed documents place = definition_or_not (occurrence_listed documents place)
 
-abbrev pub entries_or : List Info → Option Document → List Info
+abbrev pub entries_or : List SymbolInformation → Option Document → List SymbolInformation
 entries_or external None = external
 entries_or external (Some d) = d.symbols
 
 -- the symbol entries with a list's number: those of a document, and behind the documents the external ones
-abbrev pub entries_listed : Index → ℕ → List Info
+abbrev pub entries_listed : Index → ℕ → List SymbolInformation
 entries_listed index list = entries_or index.external_symbols (slice_get index.documents list)
 
 -- the symbol entry at a place
-abbrev pub entry_listed : Index → EntryPlace → Option Info
+abbrev pub entry_listed : Index → EntryPlace → Option SymbolInformation
 entry_listed index place = slice_get (entries_listed index place.list) place.entry
 
-abbrev pub entry_symbol_or_none : Option Info → List ℕ
+abbrev pub entry_symbol_or_none : Option SymbolInformation → List ℕ
 entry_symbol_or_none None = []
 entry_symbol_or_none (Some entry) = entry.symbol
 
@@ -134,11 +134,11 @@ places_from number [] = []
 places_from number (d ∷ documents) = places_in number d ++ places_from (number + 1) documents
 
 -- the places in a list of symbol entries with a number
-abbrev pub entry_places_in : ℕ → List Info → List EntryPlace
+abbrev pub entry_places_in : ℕ → List SymbolInformation → List EntryPlace
 entry_places_in list entries = map (λ (k : ℕ). record { list = list; entry = k }) (numbers (length entries))
 
 -- those of documents, and then those of the external symbols
-abbrev pub entry_places_from : ℕ → List Info → List Document → List EntryPlace
+abbrev pub entry_places_from : ℕ → List SymbolInformation → List Document → List EntryPlace
 entry_places_from list external [] = entry_places_in list external
 entry_places_from list external (d ∷ documents) = entry_places_in list d.symbols ++ entry_places_from (list + 1) external documents
 

@@ -5,7 +5,7 @@ ghost use Rattle.std.specs.Option.{option_map};
 ghost use Rattle.std.specs.Borrow.{Bor};
 ghost use Rattle.std.specs.List.{flat_map, slice_split};
 ghost use Rattle.std.specs.String.{string_bytes};
-ghost use Rattle.scip_model.specs.declared.records.Info.{Info};
+ghost use Rattle.scip_model.specs.declared.records.SymbolInformation.{SymbolInformation};
 ghost use Rattle.scip_query.specs.Tables.{site_listed};
 ghost use Rattle.scip_query.specs.AnswerText.{count_line, line_of, site_line, quoted, quoted_line, symbol_line, miss_text, listing, answer_of, answer_to};
 ghost use Rattle.scip_query.specs.Answering.{Answers, line_or_none};
@@ -24,8 +24,9 @@ use crate::place::Place;
 use crate::position::Position;
 use crate::queries::Queries;
 use crate::query_fault::QueryFault;
-use scip_model::{Document, Info, Range, Sink, write_all};
+use scip_model::{Document, Range, SymbolInformation};
 use std::alloc::{AllocError, Global};
+use streams::{Sink, write_all};
 
 /// The command of a line that isn't too long.
 fn short_command_of(line: &[u8]) -> Option<Command<'_>>
@@ -45,15 +46,15 @@ fn push_count(text: &mut String, count: usize) -> Result<(), AllocError>
     writeln!(text, "= {count}")
 }
 
-/// Appends `L C L2 E ROLE PATH`.
-fn push_line(text: &mut String, range: Range, roles: i32, path: &str) -> Result<(), AllocError>
-    ensures { OnOk result (string_bytes text.new ≡ string_bytes text.old ++ line_of range roles path.now) }
+/// Appends `L C L2 E ROLE NAME`: where an occurrence begins and ends, its roles and a name.
+pub fn push_line(text: &mut String, range: Range, roles: i32, name: &str) -> Result<(), AllocError>
+    ensures { OnOk result (string_bytes text.new ≡ string_bytes text.old ++ line_of range roles name.now) }
 {
     let (start_line, start_column) = (range.start_line(), range.start_column());
     let (end_line, end_column) = (range.end_line(), range.end_column());
     writeln!(
         text,
-        "{start_line} {start_column} {end_line} {end_column} {roles} {path}"
+        "{start_line} {start_column} {end_line} {end_column} {roles} {name}"
     )
 }
 
@@ -122,8 +123,8 @@ fn push_texts(alloc: Global, text: &mut String, texts: &[&str]) -> Result<(), Al
 }
 
 /// Appends the symbols of entries, and how many there are.
-fn push_symbols(text: &mut String, entries: &[&Info]) -> Result<(), AllocError>
-    ensures { OnOk result (string_bytes text.new ≡ string_bytes text.old ++ flat_map (λ (entry : Bor Info). symbol_line entry.now) entries.now ++ count_line (length entries.now)) }
+fn push_symbols(text: &mut String, entries: &[&SymbolInformation]) -> Result<(), AllocError>
+    ensures { OnOk result (string_bytes text.new ≡ string_bytes text.old ++ flat_map (λ (entry : Bor SymbolInformation). symbol_line entry.now) entries.now ++ count_line (length entries.now)) }
 {
     for entry in entries {
         let symbol = entry.symbol.as_str();

@@ -1,16 +1,16 @@
 //! Answers to commands that are read.
 
-ghost use Rattle.std.specs.Prelude.{◌≡◌, ◌++◌, ◌∷◌, [], List, ℕ, Some, OnOk};
+ghost use Rattle.std.specs.Prelude.{◌≡◌, ◌++◌, ◌∷◌, [], List, ℕ, OnOk};
 ghost use Rattle.scip_query.specs.AnswerText.{answer_to};
-ghost use Rattle.scip_query.specs.Conversing.{Replies, LeavesFeed, IsDue};
+ghost use Rattle.scip_query.specs.Conversing.{IsConversed, LeavesFeed};
 ghost use Rattle.scip_query.specs.ConversingSteps.{kept_with, Stands, Goes, AnswersNext, Concludes};
-ghost use Rattle.scip_model.specs.WholeReads.{IsReadBriefly};
+ghost use Rattle.streams.specs.WholeReads.{IsReadBriefly};
 
 use crate::answer_fault::AnswerFault;
 use crate::command::MAX_COMMAND_LENGTH;
 use crate::queries::Queries;
-use scip_model::{Failed, Feed, MAX_READS, Sink, write_all};
 use std::alloc::{AllocError, Global};
+use streams::{Failed, Feed, MAX_READS, Sink, write_all};
 
 /// How many bytes are read at a time, at most.
 const BUFFER_LENGTH: usize = 16_384;
@@ -126,8 +126,7 @@ impl Queries {
         commands: &mut R,
         answers: &mut W,
     ) -> Result<(), AnswerFault>
-        ensures replies { (due : List ℕ) × Replies W.contents W.failures answers.old answers.new due result
-            × ((all : List ℕ) → R.remaining commands.old ≡ Some all → IsDue self.now all (R.remaining commands.new) due result) }
+        ensures replies { IsConversed W.contents W.failures self.now answers.old answers.new (R.remaining commands.old) (R.remaining commands.new) result }
         ensures feed { LeavesFeed R.failures R.reads R.ends commands.old commands.new result }
         ensures briefly { IsReadBriefly R.reads commands.old commands.new }
     {

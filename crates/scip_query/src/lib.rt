@@ -18,6 +18,7 @@ mod run;
 mod search;
 mod tables;
 
+pub use answer::push_line;
 pub use answer_fault::AnswerFault;
 pub use command::MAX_COMMAND_LENGTH;
 pub use laws::commands_follow_the_grammar;

@@ -5,7 +5,7 @@ ghost use Rattle.scip_query.specs.Tables.{path_listed, occurrence_listed, symbol
 
 use crate::place::{EntryPlace, Place};
 use crate::position::compare_innermost;
-use scip_model::{Document, Index, Info, Occurrence};
+use scip_model::{Document, Index, Occurrence, SymbolInformation};
 use std::cmp::Ordering;
 
 /// The path of the document with a number; no text where there is none.
@@ -40,7 +40,7 @@ pub(crate) fn symbol_listed(documents: &[Document], place: Place) -> &str
 
 /// The symbol entries with a list's number: those of a document, and behind the documents the
 /// external ones.
-fn entries_listed(index: &Index, list: usize) -> &[Info]
+fn entries_listed(index: &Index, list: usize) -> &[SymbolInformation]
     ensures { result.now ≡ entries_listed index.now list }
 {
     match index.documents.as_slice().get(list) {
@@ -50,7 +50,7 @@ fn entries_listed(index: &Index, list: usize) -> &[Info]
 }
 
 /// The symbol entry at a place, where there is one.
-pub(crate) fn entry_listed(index: &Index, place: EntryPlace) -> Option<&Info>
+pub(crate) fn entry_listed(index: &Index, place: EntryPlace) -> Option<&SymbolInformation>
     ensures { option_copied result ≡ entry_listed index.now place }
 {
     entries_listed(index, place.list).get(place.entry)

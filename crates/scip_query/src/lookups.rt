@@ -4,7 +4,7 @@ ghost use Rattle.std.specs.Prelude.{◌≡◌, ℕ, List, Some, IfOk, map, filte
 ghost use Rattle.std.specs.Borrow.{Bor};
 ghost use Rattle.std.specs.List.{find, slice_get};
 ghost use Rattle.std.specs.Str.{bytes_eq};
-ghost use Rattle.scip_model.specs.declared.records.Info.{Info};
+ghost use Rattle.scip_model.specs.declared.records.SymbolInformation.{SymbolInformation};
 ghost use Rattle.scip_query.specs.Sites.{Site};
 ghost use Rattle.scip_query.specs.References.{references_at, definitions_of, definitions_at, site_places};
 ghost use Rattle.scip_query.specs.Documentation.{entries_for, texts_of, documentation_at, symbols_of};
@@ -18,7 +18,7 @@ use crate::position::Position;
 use crate::queries::{Queries, Subject, is_local};
 use crate::query_fault::{QueryFault, fault_of};
 use crate::search::entry_places_in;
-use scip_model::{Document, Info, OwnedText};
+use scip_model::{Document, OwnedText, SymbolInformation};
 use std::alloc::{AllocError, Global};
 
 /// The role of a definition (`scip.proto`, `SymbolRole`).
@@ -52,7 +52,10 @@ fn defining(
 }
 
 /// The texts of an entry, or none.
-fn texts_of<'a>(alloc: Global, entry: Option<&'a Info>) -> Result<Vec<&'a str>, AllocError>
+fn texts_of<'a>(
+    alloc: Global,
+    entry: Option<&'a SymbolInformation>,
+) -> Result<Vec<&'a str>, AllocError>
     ensures { IfOk result (λ texts. map (λ (text : Bor (List ℕ)). text.now) texts.items ≡ texts_of (option_copied entry.entry)) }
 {
     match entry {
@@ -72,8 +75,8 @@ fn texts_in(alloc: Global, documentation: &[OwnedText]) -> Result<Vec<&str>, All
 }
 
 /// The symbol entries of a document.
-fn entries_of(alloc: Global, document: &Document) -> Result<Vec<&Info>, AllocError>
-    ensures { IfOk result (λ entries. map (λ (entry : Bor Info). entry.now) entries.items ≡ document.now.symbols) }
+fn entries_of(alloc: Global, document: &Document) -> Result<Vec<&SymbolInformation>, AllocError>
+    ensures { IfOk result (λ entries. map (λ (entry : Bor SymbolInformation). entry.now) entries.items ≡ document.now.symbols) }
 {
     let symbols = document.symbols.as_slice();
     let mut entries = Vec::with_capacity(alloc, symbols.len())?;
@@ -93,9 +96,9 @@ impl Queries {
 
     /// The entry in which a subject's documentation is: the first with its symbol, in the documents
     /// in their order and then among the external symbols; of a local symbol in its document alone.
-    fn entry_of(&self, subject: &Subject<'_>) -> Option<&Info>
+    fn entry_of(&self, subject: &Subject<'_>) -> Option<&SymbolInformation>
         requires { slice_get self.now.documents subject.now.asked.number ≡ Some subject.now.asked.document.now }
-        ensures { option_copied result ≡ find (λ (entry : Info). bytes_eq entry.symbol subject.now.symbol.now) (entries_for self.now (subject_view subject.now)) }
+        ensures { option_copied result ≡ find (λ (entry : SymbolInformation). bytes_eq entry.symbol subject.now.symbol.now) (entries_for self.now (subject_view subject.now)) }
     {
         let places = self.entry_places_with(subject.symbol);
         if is_local(subject.symbol) {
@@ -157,8 +160,8 @@ impl Queries {
     }
 
     /// The symbol entries of the document that a path names, in its order.
-    pub fn symbols(&self, alloc: Global, path: &str) -> Result<Vec<&Info>, QueryFault>
-        ensures { Gives (λ entries. map (λ (entry : Bor Info). entry.now) entries.items) result (symbols_of self.now path.now) }
+    pub fn symbols(&self, alloc: Global, path: &str) -> Result<Vec<&SymbolInformation>, QueryFault>
+        ensures { Gives (λ entries. map (λ (entry : Bor SymbolInformation). entry.now) entries.items) result (symbols_of self.now path.now) }
     {
         match self.named(path) {
             Some(named) => Ok(entries_of(alloc, named.document)?),

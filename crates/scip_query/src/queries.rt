@@ -22,7 +22,7 @@ use crate::place::{EntryPlace, Place};
 use crate::position::Position;
 use crate::search::{entry_places_of, number_named, places_in, places_of};
 use crate::tables::{Tables, tables_of};
-use scip_model::{Document, Index, Info, Occurrence, Sequence};
+use scip_model::{Document, Index, Occurrence, Sequence, SymbolInformation};
 use std::alloc::{AllocError, AllocFailed, Global};
 use std::marker::Model;
 
@@ -207,7 +207,7 @@ impl Queries {
     }
 
     /// The symbol entry at the first of some places.
-    pub(crate) fn first_entry(&self, places: &[EntryPlace]) -> Option<&Info>
+    pub(crate) fn first_entry(&self, places: &[EntryPlace]) -> Option<&SymbolInformation>
         ensures { option_copied result ≡ option_and_then (entry_listed self.now) (slice_get places.now 0) }
     {
         match places.first() {

@@ -4,21 +4,19 @@ ghost use Rattle.std.specs.Prelude.{◌≡◌};
 ghost use Rattle.scip_query.specs.Outcomes.{fault_of};
 
 use crate::miss::Miss;
-use std::alloc::{AllocError, AllocFailed};
-use thiserror::Error;
+use std::alloc::AllocError;
+use std::error::Error;
+use std::fmt;
 
 /// Why a query isn't answered. Where more than one is so, the first of these in this order is given,
 /// but `Memory` at any time.
-#[derive(Clone, Copy, Debug, Drop, PartialEq, Eq, Error)]
+#[derive(Clone, Copy, Debug, Drop, PartialEq, Eq)]
 pub enum QueryFault {
     /// No document of the index has the path.
-    #[error("NoDocument")]
     NoDocument,
     /// No occurrence with a symbol has a range that contains the position.
-    #[error("NothingThere")]
     NothingThere,
     /// Memory ran out.
-    #[error("Memory")]
     Memory,
 }
 
@@ -32,6 +30,15 @@ pub(crate) fn fault_of(miss: Miss) -> QueryFault
     }
 }
 
+/// The variant's name.
+impl fmt::Display for QueryFault {
+    fn fmt<W: fmt::Write>(&self, f: &mut fmt::Formatter<W>) -> fmt::Result {
+        fmt::Debug::fmt(self, f)
+    }
+}
+
+impl Error for QueryFault {}
+
 impl From<AllocError> for QueryFault {
     ghost use Rattle.std.specs.Prelude.{◌≡◌};
     ghost use Rattle.scip_query.specs.declared.query_fault.QueryFault.TheVariants.{Memory};
@@ -39,17 +46,6 @@ impl From<AllocError> for QueryFault {
     ghost from_gives = { λ _ fault. fault ≡ Memory };
 
     fn from(_refused: AllocError) -> QueryFault {
-        QueryFault::Memory
-    }
-}
-
-impl<T: Drop> From<AllocFailed<T>> for QueryFault {
-    ghost use Rattle.std.specs.Prelude.{◌≡◌};
-    ghost use Rattle.scip_query.specs.declared.query_fault.QueryFault.TheVariants.{Memory};
-
-    ghost from_gives = { λ _ fault. fault ≡ Memory };
-
-    fn from(_refused: AllocFailed<T>) -> QueryFault {
         QueryFault::Memory
     }
 }

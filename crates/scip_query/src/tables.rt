@@ -6,7 +6,7 @@ ghost use Rattle.std.specs.List.{AllZip};
 
 use crate::listed::{compare_entry_symbols, compare_inner, compare_paths, compare_symbols};
 use crate::place::{EntryPlace, Place};
-use scip_model::{Document, Index, Info, Occurrence, Sequence};
+use scip_model::{Document, Index, Occurrence, Sequence, SymbolInformation};
 use std::alloc::{AllocError, Global};
 
 /// Tables of numbers over the documents and symbol entries of an index.
@@ -101,7 +101,7 @@ fn by_symbol(alloc: Global, documents: &[Document]) -> Result<Sequence<Place>, A
 fn push_entry_places(
     places: &mut Vec<EntryPlace>,
     list: usize,
-    entries: &[Info],
+    entries: &[SymbolInformation],
 ) -> Result<(), AllocError>
     ensures { OnOk result (places.new.items ≡ places.old.items ++ entry_places_in list entries.now) }
 {

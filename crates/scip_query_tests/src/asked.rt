@@ -1,11 +1,12 @@
 //! Calls that are made again after `Memory`, where the second answer counts.
 
 use crate::streams::{Dripping, Limits, Narrow};
-use scip_model::{Index, Info, Std};
+use scip_model::{Index, SymbolInformation};
 use scip_query::{AnswerFault, Place, Queries, QueryFault};
 use scip_wire::{WireFault, read_index};
 use std::alloc::{AllocError, Global};
 use std::process::Abort;
+use streams::Std;
 
 /// Sees that what a case says holds. (A formatted assertion is proved once, here.)
 pub fn see(rt: &impl Abort, holds: bool, case: &str) {
@@ -86,7 +87,7 @@ pub fn documentation(
 }
 
 /// What `symbols` answers.
-pub fn symbols(alloc: Global, asked: &Queries) -> Result<Vec<&Info>, QueryFault> {
+pub fn symbols(alloc: Global, asked: &Queries) -> Result<Vec<&SymbolInformation>, QueryFault> {
     match asked.symbols(alloc, "a.proto") {
         Err(QueryFault::Memory) => asked.symbols(alloc, "a.proto"),
         answer => answer,

@@ -3,7 +3,7 @@
 use crate::asked::{definitions, documentation, references, see, symbols};
 use crate::checks::{Check, see_bytes};
 use crate::indexes::{DOCUMENTED, FIELD_NAMED_LIKE_A_TYPE, OVERLAPPING};
-use scip_model::Info;
+use scip_model::SymbolInformation;
 use scip_query::{Place, Queries, QueryFault};
 use std::alloc::Global;
 use std::process::Abort;
@@ -37,7 +37,7 @@ pub fn see_places(rt: &impl Abort, alloc: Global, asked: &Queries) {
     see_are(rt, definitions(alloc, asked, 3, 28), &[2]);
 }
 
-fn are_entries(entries: Result<Vec<&Info>, QueryFault>, due: [&str; 2]) -> bool {
+fn are_entries(entries: Result<Vec<&SymbolInformation>, QueryFault>, due: [&str; 2]) -> bool {
     match entries {
         Ok(entries) => match entries.as_slice() {
             [first, second] => first.symbol.as_str() == due[0] && second.symbol.as_str() == due[1],

@@ -3,7 +3,7 @@ use Rattle.std.proofs.Common.{◌≡◌, ◌≢◌, ◌⊎◌, inl, inr, ℕ, Li
 use Rattle.std.specs.Prelude.{Contains}
 use Rattle.std.proofs.lemmas.List.Elements.{All-nil, All-contains, Contains-append_left, Contains-append_right, Contains-append_cases, Contains-push, Contains-push_cases}
 use Rattle.proto_decl.specs.Names.{dotted}
-use Rattle.proto_decl.specs.Ways.{names_of, component_names, AreHeld}
+use Rattle.proto_decl.specs.Ancestors.{names_of, component_names, AreHeld}
 use Rattle.proto_decl.specs.Facts.{Facts}
 use Rattle.proto_decl.specs.declared.declaration.DeclarationStep.{DeclarationStep}
 use Rattle.proto_decl.specs.declared.declaration.Declaration.{Declaration as Declared}

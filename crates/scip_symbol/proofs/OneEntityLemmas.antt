@@ -12,7 +12,7 @@ use Rattle.scip_symbol.specs.Package.{Package, IsPackage}
 use Rattle.scip_symbol.specs.SpellsSymbol.{SpellsSymbol}
 use Rattle.scip_symbol.specs.SymbolText.{symbol_text}
 use Rattle.scip_symbol.specs.Entities.{Entity, OfFile, OfPackage, OfDeclaration, suffix_of, namespace_of, step_descriptor, descriptors_of, scheme_text, global_in, symbol_in, IsIdentifier, IsEntity}
-use Rattle.proto_decl.specs.Ways.{scoped, names_of}
+use Rattle.proto_decl.specs.Ancestors.{scoped, names_of}
 use Rattle.scip_symbol.specs.OneEntity.{Declaration, declaration, IsWithoutClash, IsAmong}
 use Rattle.proto_decl.specs.declared.kind.DeclarationKind.{DeclarationKind}
 use Rattle.proto_decl.specs.declared.kind.DeclarationKind.TheVariants.{Message, Enum, Service, Field, Oneof, Value, Method}

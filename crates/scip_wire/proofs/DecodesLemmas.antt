@@ -10,7 +10,7 @@ use Rattle.scip_model.specs.declared.records.Metadata.{Metadata}
 use Rattle.scip_model.specs.declared.records.ToolInfo.{ToolInfo}
 use Rattle.scip_model.specs.declared.records.Document.{Document}
 use Rattle.scip_model.specs.declared.records.Occurrence.{Occurrence}
-use Rattle.scip_model.specs.declared.records.Info.{Info}
+use Rattle.scip_model.specs.declared.records.SymbolInformation.{SymbolInformation}
 use Rattle.scip_wire.specs.declared.wire_fault.WireFault.{WireFault}
 use Rattle.scip_wire.specs.declared.wire_fault.WireFault.TheVariants.{Memory}
 use Rattle.scip_wire.specs.declared.read.occurrence.OccurrenceParts.{OccurrenceParts}
@@ -26,7 +26,7 @@ use Rattle.scip_wire.proofs.ColumnLemmas.{text_found, text_exact, texts_found, t
 
 -- ---- symbol information
 
-pub info_found : (bytes : List ℕ) (i : Info) → info_at bytes ≡ Some i → IsInfo bytes i
+pub info_found : (bytes : List ℕ) (i : SymbolInformation) → info_at bytes ≡ Some i → IsInfo bytes i
 unfolding info_at info_step
 info_found bytes i e =
     let f = fields_found info_step bytes no_info i e in
@@ -34,7 +34,7 @@ info_found bytes i e =
     let b = both_found _ _ f.0 _ _ a.1 in
     record { fields = f.0; has_fields = f.1; symbol = text_found 1 f.0 i.symbol a.0; documentation = texts_found 3 f.0 i.documentation b.0; display_name = text_found 6 f.0 i.display_name b.1 }
 
-pub info_exact : (bytes : List ℕ) (i : Info) → IsInfo bytes i → info_at bytes ≡ Some i
+pub info_exact : (bytes : List ℕ) (i : SymbolInformation) → IsInfo bytes i → info_at bytes ≡ Some i
 unfolding info_at info_step
 info_exact bytes i d =
     fields_exact info_step d.has_fields no_info i (parted_exact _ _ _ (λ t. refl) (λ s. refl) d.fields no_info i

@@ -11,7 +11,7 @@ use Rattle.scip_model.specs.declared.records.Metadata.{Metadata}
 use Rattle.scip_model.specs.declared.records.ToolInfo.{ToolInfo}
 use Rattle.scip_model.specs.declared.records.Document.{Document}
 use Rattle.scip_model.specs.declared.records.Occurrence.{Occurrence}
-use Rattle.scip_model.specs.declared.records.Info.{Info}
+use Rattle.scip_model.specs.declared.records.SymbolInformation.{SymbolInformation}
 use Rattle.scip_wire.specs.Fields.{Payload, Delimited, Field, max_field_number}
 use Rattle.scip_wire.specs.Decodes.{payloads, Joined, none, next, absent, only, GivesMessage, message, OneMessage, IsInfo, IsToolInfo, IsMetadata, IsDocument, Decodes, low_32_bits, ArePacked, none as no_number, next as next_number, GivesNumbers, packed, AreRangeNumbers, on_one_line, over_lines, HoldsOccurrence, GivesOccurrence, occurrence}
 use Rattle.scip_wire.specs.Spelling.{varint, field_bytes, bytes_of, bytes_field, text_fields, int_fields, number_fields, in_64_bits, repeated_text_fields, repeated_message_fields, optional_message_fields, range_numbers, occurrence_fields, info_fields, document_fields, tool_info_fields, metadata_fields, index_fields, spelling_of, max_index_len}
@@ -169,7 +169,7 @@ message_given Is Fit fields n k given same (Some x) fit short =
 
 -- ---- the messages of `scip.proto`
 
-pub info_is : (i : Info) → IsFitInfo i → fields_len (info_fields i) < 2 ^ 64 → IsInfo (bytes_of (info_fields i)) i
+pub info_is : (i : SymbolInformation) → IsFitInfo i → fields_len (info_fields i) < 2 ^ 64 → IsInfo (bytes_of (info_fields i)) i
 info_is i fit short =
     let first = text_part 1 (omega arith) (omega arith) i.symbol in
     let others = texts_part 3 (omega arith) (omega arith) i.documentation ∷ text_part 6 (omega arith) (omega arith) i.display_name ∷ [] in

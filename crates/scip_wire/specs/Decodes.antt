@@ -11,7 +11,7 @@ use Rattle.scip_model.specs.declared.records.Metadata.{Metadata}
 use Rattle.scip_model.specs.declared.records.ToolInfo.{ToolInfo}
 use Rattle.scip_model.specs.declared.records.Document.{Document}
 use Rattle.scip_model.specs.declared.records.Occurrence.{Occurrence}
-use Rattle.scip_model.specs.declared.records.Info.{Info}
+use Rattle.scip_model.specs.declared.records.SymbolInformation.{SymbolInformation}
 use Rattle.scip_wire.specs.Fields.{Payload, Varint, Delimited, Field, IsVarint, HasFields, max_varint_len}
 
 -- ---- the values of a field
@@ -86,7 +86,7 @@ Messages IsMessage number fields = Joined (GivesMessage IsMessage) (payloads num
 
 -- ---- the messages of `scip.proto`
 
-pub record IsInfo (bytes : List ℕ) (info : Info) : Type 0 where
+pub record IsInfo (bytes : List ℕ) (info : SymbolInformation) : Type 0 where
   pub fields : List Field
   pub has_fields : HasFields bytes fields
   pub symbol : Text 1 fields info.symbol

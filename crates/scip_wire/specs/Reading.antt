@@ -8,7 +8,7 @@ use Rattle.scip_model.specs.declared.records.Metadata.{Metadata}
 use Rattle.scip_model.specs.declared.records.ToolInfo.{ToolInfo}
 use Rattle.scip_model.specs.declared.records.Document.{Document}
 use Rattle.scip_model.specs.declared.records.Occurrence.{Occurrence}
-use Rattle.scip_model.specs.declared.records.Info.{Info}
+use Rattle.scip_model.specs.declared.records.SymbolInformation.{SymbolInformation}
 use Rattle.scip_wire.specs.declared.read.occurrence.OccurrenceParts.{OccurrenceParts}
 use Rattle.scip_wire.specs.Fields.{Payload, Varint, Fixed64, Delimited, Fixed32, Field, max_varint_len}
 use Rattle.scip_wire.specs.Decodes.{last_or, low_32_bits}
@@ -135,15 +135,15 @@ messages_column read = column add_more (message_in read)
 
 -- ---- the messages
 
-unfoldable pub info_step : Info → Field → Option Info
+unfoldable pub info_step : SymbolInformation → Field → Option SymbolInformation
 info_step = parted (λ i. (i.symbol, (i.documentation, i.display_name)))
     (λ t. record { symbol = t.0; documentation = t.1.0; display_name = t.1.1 })
     (both (text_column 1) (both (texts_column 3) (text_column 6)))
 
-abbrev pub no_info : Info
+abbrev pub no_info : SymbolInformation
 no_info = record { symbol = []; documentation = []; display_name = [] }
 
-unfoldable pub info_at : List ℕ → Option Info
+unfoldable pub info_at : List ℕ → Option SymbolInformation
 info_at bytes = fold_at field_at info_step bytes no_info
 
 unfoldable pub tool_info_step : ToolInfo → Field → Option ToolInfo

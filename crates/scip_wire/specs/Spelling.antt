@@ -7,7 +7,7 @@ use Rattle.scip_model.specs.declared.records.Metadata.{Metadata}
 use Rattle.scip_model.specs.declared.records.ToolInfo.{ToolInfo}
 use Rattle.scip_model.specs.declared.records.Document.{Document}
 use Rattle.scip_model.specs.declared.records.Occurrence.{Occurrence}
-use Rattle.scip_model.specs.declared.records.Info.{Info}
+use Rattle.scip_model.specs.declared.records.SymbolInformation.{SymbolInformation}
 use Rattle.scip_wire.specs.Fields.{Payload, Varint, Fixed64, Delimited, Fixed32, Field}
 
 -- The shortest varint of a number of at most `further + 1` groups (Encoding, Base 128 Varints):
@@ -86,7 +86,7 @@ occurrence_fields o =
     ++ text_fields 2 o.symbol
     ++ int_fields 3 o.symbol_roles
 
-abbrev pub info_fields : Info → List Field
+abbrev pub info_fields : SymbolInformation → List Field
 info_fields i =
     text_fields 1 i.symbol
     ++ repeated_text_fields 3 i.documentation

@@ -9,14 +9,14 @@ use Rattle.scip_model.specs.declared.records.Metadata.{Metadata}
 use Rattle.scip_model.specs.declared.records.ToolInfo.{ToolInfo}
 use Rattle.scip_model.specs.declared.records.Document.{Document}
 use Rattle.scip_model.specs.declared.records.Occurrence.{Occurrence}
-use Rattle.scip_model.specs.declared.records.Info.{Info}
+use Rattle.scip_model.specs.declared.records.SymbolInformation.{SymbolInformation}
 
 pub record IsFitOccurrence (o : Occurrence) : Type 0 where
   pub range : IsRange o.range
   pub symbol : IsUtf8 o.symbol
   pub symbol_roles : FitsSigned w32 o.symbol_roles
 
-pub record IsFitInfo (i : Info) : Type 0 where
+pub record IsFitInfo (i : SymbolInformation) : Type 0 where
   pub symbol : IsUtf8 i.symbol
   pub documentation : All IsUtf8 i.documentation
   pub display_name : IsUtf8 i.display_name

@@ -1,6 +1,6 @@
 -- What a write of an index answers, and what it leaves.
 use Rattle.std.specs.Prelude.{◌≡◌, ℕ, List, Option}
-use Rattle.scip_model.specs.WholeWrites.{IsCutOff}
+use Rattle.streams.specs.WholeWrites.{IsCutOff}
 use Rattle.scip_wire.specs.declared.write_fault.SpellFault.{SpellFault}
 use Rattle.scip_wire.specs.declared.write_fault.SpellFault.TheVariants as spell
 use Rattle.scip_wire.specs.declared.write_fault.WriteFault.{WriteFault}

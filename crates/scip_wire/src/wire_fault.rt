@@ -1,5 +1,8 @@
 //! Why bytes are no index.
 
+ghost use Rattle.std.specs.Prelude.{◌≡◌};
+ghost use Rattle.scip_wire.specs.WireFaults.{name_of, offset_of};
+
 use std::alloc::{AllocError, AllocFailed};
 use std::error::Error;
 use std::fmt;
@@ -32,6 +35,42 @@ pub enum WireFault {
     BadRange(usize),
     /// Memory ran out.
     Memory,
+}
+
+impl WireFault {
+    /// The variant's name.
+    pub fn name(&self) -> &'static str
+        ensures { result.now ≡ name_of self.now }
+    {
+        match self {
+            WireFault::Truncated(_) => "Truncated",
+            WireFault::Varint(_) => "Varint",
+            WireFault::FieldZero(_) => "FieldZero",
+            WireFault::Group(_) => "Group",
+            WireFault::WireType(_) => "WireType",
+            WireFault::Repeated(_) => "Repeated",
+            WireFault::Utf8(_) => "Utf8",
+            WireFault::BadRange(_) => "BadRange",
+            WireFault::Memory => "Memory",
+        }
+    }
+
+    /// The offset that it names.
+    pub fn offset(&self) -> Option<usize>
+        ensures { result ≡ offset_of self.now }
+    {
+        match *self {
+            WireFault::Truncated(offset)
+            | WireFault::Varint(offset)
+            | WireFault::FieldZero(offset)
+            | WireFault::Group(offset)
+            | WireFault::WireType(offset)
+            | WireFault::Repeated(offset)
+            | WireFault::Utf8(offset)
+            | WireFault::BadRange(offset) => Some(offset),
+            WireFault::Memory => None,
+        }
+    }
 }
 
 /// The variant's name, and its number in parentheses where it has one.

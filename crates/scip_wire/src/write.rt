@@ -1,15 +1,16 @@
 //! Writing an index.
 
 ghost use Rattle.std.specs.Prelude.{◌≡◌, ◌<◌, ◌≤◌, ◌↔◌, length, IfOk, IfErr, OnOk, OkIff, Err};
-ghost use Rattle.scip_model.specs.WholeWrites.{IsWritten};
+ghost use Rattle.streams.specs.WholeWrites.{IsWritten};
 ghost use Rattle.scip_wire.specs.Spelling.{spelling_of, max_index_len};
 ghost use Rattle.scip_wire.specs.WellFormed.{IsWellFormed};
 ghost use Rattle.scip_wire.specs.Writing.{Leaves};
 
 use crate::spell::Encode;
 use crate::write_fault::{SpellFault, TooLarge, WriteFault};
-use scip_model::{Index, Sink, write_all};
+use scip_model::Index;
 use std::alloc::Global;
+use streams::{Sink, write_all};
 
 /// The most bytes that an index may have: the Protocol Buffers libraries' own limit.
 pub const MAX_INDEX_LEN: u32 = 2147483647;

@@ -2,12 +2,13 @@
 
 use crate::calls::{decoded, see};
 use crate::indexes::NO_DOCUMENT;
-use scip_model::{Index, Std};
+use scip_model::Index;
 use scip_wire::{WriteFault, write_index};
 use std::alloc::Global;
 use std::io;
 use std::io::{ErrorKind, Write};
 use std::process::Abort;
+use streams::Std;
 
 /// What a writer does once it has no room left.
 #[derive(Clone, Copy, PartialEq, Eq)]

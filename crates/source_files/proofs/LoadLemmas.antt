@@ -8,14 +8,12 @@ use Rattle.source_tree.specs.Files.{SourceFile, IsByPath}
 use Rattle.source_tree.specs.Laws.{OneSortingByPath}
 use Rattle.source_tree.specs.Refusals.{HaveBadPath, HaveSamePath}
 use Rattle.source_files.specs.declared.file_fault.FileFault.{FileFault}
-use Rattle.source_files.specs.declared.root.RootFault.{RootFault}
-use Rattle.source_files.specs.declared.root.RootFault.TheVariants.{Unreadable, Memory}
 use Rattle.source_files.specs.Roots.{AreBelow, AreBelowEach, no_root, next_root, IsUnreadableBelow}
 use Rattle.source_files.specs.RootFaults.{MayStop}
 use Rattle.source_files.specs.declared.load_fault.LoadFault.{LoadFault}
 use Rattle.source_files.specs.declared.load_fault.LoadFault.TheVariants as load
 use Rattle.source_files.specs.Loads.{MayNotLoad}
-use Rattle.source_files.specs.LoadFaults.{fault_of_root, MayStopBelow, MayRefuseFiles}
+use Rattle.source_files.specs.LoadFaults.{MayStopBelow, MayRefuseFiles}
 
 -- a list that is mapped, parted at an item
 pub parted_at : {A B : Type 0} (f : A → B) (xs : List A) (number : ℕ) (x : A) → number < length xs → x ≡ get_or xs number x
@@ -33,9 +31,9 @@ module _ (lists : List ℕ → Result (List (List ℕ)) FileFault → Type 0) (g
       subst (AreBelowEach lists gives (first ∷ (roots ++ root ∷ []))) (sym (append_assoc front others here)) (next_root of (below_more root here rest below))
 
   -- below the next root something can't be read
-  pub stop_below : (before : List (List ℕ)) (root : List ℕ) (behind roots : List (List ℕ)) (sources : List SourceFile) (fault : RootFault)
+  pub stop_below : (before : List (List ℕ)) (root : List ℕ) (behind roots : List (List ℕ)) (sources : List SourceFile) (fault : LoadFault)
       → roots ≡ before ++ root ∷ behind → AreBelowEach lists gives before sources → MayStop lists gives root fault → MayStopBelow lists gives roots fault
-  stop_below before root behind roots sources (Unreadable name) are read stop = record {
+  stop_below before root behind roots sources (load.Unreadable name) are read stop = record {
     before = before;
     root = root;
     behind = behind;
@@ -44,7 +42,10 @@ module _ (lists : List ℕ → Result (List (List ℕ)) FileFault → Type 0) (g
     read = read;
     unreadable = stop;
   }
-  stop_below before root behind roots sources Memory are read stop = tt
+  stop_below before root behind roots sources load.TooMany are read stop = absurd stop
+  stop_below before root behind roots sources (load.BadPath path) are read stop = absurd stop
+  stop_below before root behind roots sources (load.SamePath path) are read stop = absurd stop
+  stop_below before root behind roots sources load.Memory are read stop = tt
 
   -- the same behind a root that can be read
   pub stop_behind : (root : List ℕ) (roots : List (List ℕ)) (here : List SourceFile) (name : List ℕ)
@@ -84,8 +85,8 @@ same_path one sources included back number path same by at =
 
 module _ (lists : List ℕ → Result (List (List ℕ)) FileFault → Type 0) (gives : List ℕ → Result (List ℕ) FileFault → Type 0) (root : List ℕ) (roots : List (List ℕ)) where
   -- what can't be read below the first root isn't loaded
-  pub refused_root : (fault : RootFault) → MayStop lists gives root fault → MayNotLoad lists gives root roots (fault_of_root fault)
-  refused_root (Unreadable name) stop = record {
+  pub refused_root : (fault : LoadFault) → MayStop lists gives root fault → MayNotLoad lists gives root roots fault
+  refused_root (load.Unreadable name) stop = record {
     before = [];
     root = root;
     behind = roots;
@@ -94,13 +95,19 @@ module _ (lists : List ℕ → Result (List (List ℕ)) FileFault → Type 0) (g
     read = no_root;
     unreadable = stop;
   }
-  refused_root Memory stop = tt
+  refused_root load.TooMany stop = absurd stop
+  refused_root (load.BadPath path) stop = absurd stop
+  refused_root (load.SamePath path) stop = absurd stop
+  refused_root load.Memory stop = tt
 
   -- nor what can't be read below the included roots
-  pub refused_included : (here : List SourceFile) (fault : RootFault) → AreBelow lists gives root here → MayStopBelow lists gives roots fault
-      → MayNotLoad lists gives root roots (fault_of_root fault)
-  refused_included here (Unreadable name) below stop = stop_behind lists gives root roots here (string_bytes name) below stop
-  refused_included here Memory below stop = tt
+  pub refused_included : (here : List SourceFile) (fault : LoadFault) → AreBelow lists gives root here → MayStopBelow lists gives roots fault
+      → MayNotLoad lists gives root roots fault
+  refused_included here (load.Unreadable name) below stop = stop_behind lists gives root roots here (string_bytes name) below stop
+  refused_included here load.TooMany below stop = absurd stop
+  refused_included here (load.BadPath path) below stop = absurd stop
+  refused_included here (load.SamePath path) below stop = absurd stop
+  refused_included here load.Memory below stop = tt
 
   -- files that make no tree
   pub refused_files : (sources included : List SourceFile) (fault : LoadFault) → AreBelow lists gives root sources → AreBelowEach lists gives roots included

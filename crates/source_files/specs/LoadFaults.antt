@@ -3,22 +3,16 @@ use Rattle.std.specs.Prelude.{ℕ, ⊤, List, Result, string_bytes}
 use Rattle.source_tree.specs.Files.{SourceFile}
 use Rattle.source_tree.specs.Refusals.{AreTooMany}
 use Rattle.source_files.specs.declared.file_fault.FileFault.{FileFault}
-use Rattle.source_files.specs.declared.root.RootFault.{RootFault}
-use Rattle.source_files.specs.declared.root.RootFault.TheVariants as root
 use Rattle.source_files.specs.declared.load_fault.LoadFault.{LoadFault}
 use Rattle.source_files.specs.declared.load_fault.LoadFault.TheVariants.{Unreadable, TooMany, BadPath, SamePath, Memory}
 use Rattle.source_files.specs.Roots.{IsUnreadableBelow}
 use Rattle.source_files.specs.Loads.{HasBadPath, HasSamePath}
 
--- what can't be read below a root can't be loaded
-abbrev pub fault_of_root : RootFault → LoadFault
-fault_of_root (root.Unreadable name) = Unreadable name
-fault_of_root root.Memory = Memory
-
 -- why files below several roots can't be read
-abbrev pub MayStopBelow : (List ℕ → Result (List (List ℕ)) FileFault → Type 0) → (List ℕ → Result (List ℕ) FileFault → Type 0) → (roots : List (List ℕ)) → RootFault → Type 0
-MayStopBelow lists gives roots (root.Unreadable name) = IsUnreadableBelow lists gives roots (string_bytes name)
-MayStopBelow lists gives roots root.Memory = ⊤
+abbrev pub MayStopBelow : (List ℕ → Result (List (List ℕ)) FileFault → Type 0) → (List ℕ → Result (List ℕ) FileFault → Type 0) → (roots : List (List ℕ)) → LoadFault → Type 0
+MayStopBelow lists gives roots (Unreadable name) = IsUnreadableBelow lists gives roots (string_bytes name)
+MayStopBelow lists gives roots Memory = ⊤
+MayStopBelow lists gives roots other = ⊥
 
 -- why files that were read make no tree, with the path that is to be named
 abbrev pub MayRefuseFiles : (sources included : List SourceFile) → LoadFault → Type 0

@@ -1,7 +1,7 @@
 //! Why files aren't read.
 
 use source_tree::SourceFault;
-use std::alloc::{AllocError, AllocFailed};
+use std::alloc::AllocError;
 use std::io;
 use std::io::ErrorKind;
 
@@ -36,17 +36,6 @@ impl From<AllocError> for FileFault {
     ghost from_gives = { λ _ e. e ≡ Memory };
 
     fn from(_refused: AllocError) -> FileFault {
-        FileFault::Memory
-    }
-}
-
-impl<T: Drop> From<AllocFailed<T>> for FileFault {
-    ghost use Rattle.std.specs.Prelude.{◌≡◌};
-    ghost use Rattle.source_files.specs.declared.file_fault.FileFault.TheVariants.{Memory};
-
-    ghost from_gives = { λ _ e. e ≡ Memory };
-
-    fn from(_refused: AllocFailed<T>) -> FileFault {
         FileFault::Memory
     }
 }

@@ -16,5 +16,5 @@ pub use load::load_tree;
 pub use load_fault::LoadFault;
 pub use out_file::OutFile;
 pub use read_files::ReadFiles;
-pub use root::{RootFault, read_root};
+pub use root::read_root;
 pub use system_files::SystemFiles;

@@ -9,7 +9,7 @@ ghost use Rattle.source_files.specs.LoadFaults.{MayRefuseFiles, MayStopBelow};
 
 use crate::load_fault::LoadFault;
 use crate::read_files::ReadFiles;
-use crate::root::{RootFault, read_root};
+use crate::root::read_root;
 use source_tree::{Source, Tree, TreeFault, one_sorting_by_path};
 use std::alloc::Global;
 
@@ -18,7 +18,7 @@ fn read_roots<F: ReadFiles>(
     alloc: Global,
     files: &F,
     roots: &[String],
-) -> Result<Vec<Source>, RootFault>
+) -> Result<Vec<Source>, LoadFault>
     ensures ok { IfOk result (λ sources. AreBelowEach (F.lists files.now) (F.gives files.now) (map string_bytes roots.now) sources.items) }
     ensures err { IfErr result (MayStopBelow (F.lists files.now) (F.gives files.now) (map string_bytes roots.now)) }
 {

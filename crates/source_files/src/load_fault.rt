@@ -1,6 +1,6 @@
 //! Why the files below roots make no tree.
 
-use crate::root::RootFault;
+use std::alloc::{AllocError, AllocFailed};
 
 /// Why there is no tree of the sources below a root and the files below included roots.
 #[derive(Debug, Drop)]
@@ -18,16 +18,24 @@ pub enum LoadFault {
     Memory,
 }
 
-impl From<RootFault> for LoadFault {
+impl From<AllocError> for LoadFault {
     ghost use Rattle.std.specs.Prelude.{◌≡◌};
-    ghost use Rattle.source_files.specs.LoadFaults.{fault_of_root};
+    ghost use Rattle.source_files.specs.declared.load_fault.LoadFault.TheVariants.{Memory};
 
-    ghost from_gives = { λ fault e. e ≡ fault_of_root fault };
+    ghost from_gives = { λ _ e. e ≡ Memory };
 
-    fn from(fault: RootFault) -> LoadFault {
-        match fault {
-            RootFault::Unreadable(name) => LoadFault::Unreadable(name),
-            RootFault::Memory => LoadFault::Memory,
-        }
+    fn from(_refused: AllocError) -> LoadFault {
+        LoadFault::Memory
+    }
+}
+
+impl<T: Drop> From<AllocFailed<T>> for LoadFault {
+    ghost use Rattle.std.specs.Prelude.{◌≡◌};
+    ghost use Rattle.source_files.specs.declared.load_fault.LoadFault.TheVariants.{Memory};
+
+    ghost from_gives = { λ _ e. e ≡ Memory };
+
+    fn from(_refused: AllocFailed<T>) -> LoadFault {
+        LoadFault::Memory
     }
 }

@@ -2,10 +2,10 @@
 
 ghost use Rattle.std.specs.Prelude.{◌≡◌, ◌≤◌, None, length, IfOk};
 
-use scip_model::{Failed, Sink};
 use std::io::Write;
 use std::rt::Files;
 use std::{fs, io};
+use streams::{Failed, Sink};
 
 /// A file that is made at the first write to it, in place of one that is there. What it holds isn't
 /// known.

@@ -7,41 +7,10 @@ ghost use Rattle.source_files.specs.Roots.{path_below, AreBelow};
 ghost use Rattle.source_files.specs.RootFaults.{MayName, MayStop};
 
 use crate::file_fault::FileFault;
+use crate::load_fault::LoadFault;
 use crate::read_files::ReadFiles;
 use source_tree::Source;
-use std::alloc::{AllocError, AllocFailed, Global};
-
-/// Why the sources below a root aren't read.
-#[derive(Debug, Drop)]
-pub enum RootFault {
-    /// The root can't be listed, and this is the root; or of its sources that can't be read this is
-    /// the first one's path below the root.
-    Unreadable(String),
-    /// Memory ran out.
-    Memory,
-}
-
-impl From<AllocError> for RootFault {
-    ghost use Rattle.std.specs.Prelude.{◌≡◌};
-    ghost use Rattle.source_files.specs.declared.root.RootFault.TheVariants.{Memory};
-
-    ghost from_gives = { λ _ e. e ≡ Memory };
-
-    fn from(_refused: AllocError) -> RootFault {
-        RootFault::Memory
-    }
-}
-
-impl<T: Drop> From<AllocFailed<T>> for RootFault {
-    ghost use Rattle.std.specs.Prelude.{◌≡◌};
-    ghost use Rattle.source_files.specs.declared.root.RootFault.TheVariants.{Memory};
-
-    ghost from_gives = { λ _ e. e ≡ Memory };
-
-    fn from(_refused: AllocFailed<T>) -> RootFault {
-        RootFault::Memory
-    }
-}
+use std::alloc::{AllocError, Global};
 
 // A path below a root, for the system.
 fn path_below(alloc: Global, root: &str, path: &str) -> Result<String, AllocError>
@@ -67,31 +36,34 @@ fn read_below<F: ReadFiles>(
     files.read_source(alloc, below.as_str())
 }
 
-fn stop_at(name: String, fault: FileFault) -> RootFault
+fn stop_at(name: String, fault: FileFault) -> LoadFault
     ensures { MayName (string_bytes name) fault result }
 {
     match fault {
-        FileFault::Unreadable => RootFault::Unreadable(name),
-        FileFault::Memory => RootFault::Memory,
+        FileFault::Unreadable => LoadFault::Unreadable(name),
+        FileFault::Memory => LoadFault::Memory,
     }
 }
 
 // Why a root isn't listed.
-fn stop_at_root(alloc: Global, root: &str, fault: FileFault) -> RootFault
+fn stop_at_root(alloc: Global, root: &str, fault: FileFault) -> LoadFault
     ensures { MayName root.now fault result }
 {
     match String::from_str(alloc, root) {
         Ok(name) => stop_at(name, fault),
-        Err(_) => RootFault::Memory,
+        Err(_) => LoadFault::Memory,
     }
 }
 
 /// The sources below a root, by path.
+///
+/// `Unreadable`: the root, which can't be listed, or else the first source that can't be read. Beside it
+/// `Memory` may come, and no other fault.
 pub fn read_root<F: ReadFiles>(
     alloc: Global,
     files: &F,
     root: &str,
-) -> Result<Vec<Source>, RootFault>
+) -> Result<Vec<Source>, LoadFault>
     ensures ok { IfOk result (λ sources. AreBelow (F.lists files.now) (F.gives files.now) root.now sources.items) }
     ensures err { IfErr result (MayStop (F.lists files.now) (F.gives files.now) root.now) }
 {

@@ -3,12 +3,12 @@
 use crate::file_fault::FileFault;
 use crate::read_files::ReadFiles;
 use crate::walk;
-use scip_model::Std;
 use source_tree::read_source;
 use std::alloc::Global;
 use std::fs;
 use std::fs::File;
 use std::rt::Files;
+use streams::Std;
 
 /// The system's files. Nothing is known of what they hold.
 #[derive(Drop)]

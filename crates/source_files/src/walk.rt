@@ -33,10 +33,11 @@ fn joined(alloc: Global, front: &str, name: &str) -> Result<String, AllocError> 
 impl Walk {
     fn from_root(alloc: Global, root: &str) -> Result<Walk, FileFault> {
         let mut folders = Vec::new(alloc);
-        folders.push(Folder {
+        let root = Folder {
             path: String::from_str(alloc, root)?,
             front: String::new(alloc),
-        })?;
+        };
+        folders.push(root).map_err(AllocError::from)?;
         Ok(Walk {
             folders,
             paths: Vec::new(alloc),
@@ -68,10 +69,11 @@ impl Walk {
             let path = String::from_str(alloc, entry.path().to_string_lossy())?;
             let mut front = joined(alloc, folder.front.as_str(), name)?;
             front.push('/')?;
-            self.folders.push(Folder { path, front })?;
+            let folder = Folder { path, front };
+            self.folders.push(folder).map_err(AllocError::from)?;
         } else if kind.is_file() && name.ends_with(ENDING) {
-            self.paths
-                .push(joined(alloc, folder.front.as_str(), name)?)?;
+            let path = joined(alloc, folder.front.as_str(), name)?;
+            self.paths.push(path).map_err(AllocError::from)?;
         }
         Ok(())
     }

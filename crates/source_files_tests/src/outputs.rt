@@ -1,12 +1,12 @@
 //! Files that are made at their first write.
 
-use scip_model::{Failed, Sink};
 use source_files::OutFile;
 use std::fs::File;
 use std::io::Read;
 use std::rt::Files;
 use std::test::Fail;
 use std::{fs, io};
+use streams::{Failed, Sink};
 
 /// Whether a file holds these bytes and no more. Takes no memory.
 fn holds<S: Files>(system: &S, path: &str, due: &[u8]) -> io::Result<bool> {

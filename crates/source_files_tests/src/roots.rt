@@ -1,6 +1,6 @@
 //! The sources below a root.
 
-use source_files::{FileFault, ReadFiles, RootFault, SystemFiles, read_root};
+use source_files::{FileFault, LoadFault, ReadFiles, SystemFiles, read_root};
 use source_tree::Source;
 use std::alloc::{AllocError, Global};
 use std::process::Abort;
@@ -47,9 +47,9 @@ fn read_again<F: ReadFiles>(
     alloc: Global,
     files: &F,
     root: &str,
-) -> Result<Vec<Source>, RootFault> {
+) -> Result<Vec<Source>, LoadFault> {
     match read_root(alloc, files, root) {
-        Err(RootFault::Memory) => read_root(alloc, files, root),
+        Err(LoadFault::Memory) => read_root(alloc, files, root),
         answer => answer,
     }
 }

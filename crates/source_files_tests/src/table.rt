@@ -1,9 +1,9 @@
 //! Files in memory, listed below roots.
 
-use scip_model::Std;
 use source_files::{FileFault, ReadFiles};
 use source_tree::read_source;
 use std::alloc::{AllocError, Global};
+use streams::Std;
 
 /// A root, with the files below it, where it can be listed: each its path below the root and its text.
 #[derive(Clone, Copy)]

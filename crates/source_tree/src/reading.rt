@@ -1,12 +1,12 @@
 //! Reading a source to its end.
 
 ghost use Rattle.std.specs.Prelude.{◌≡◌, ◌≤◌, ◌+◌, ◌-◌, ◌++◌, ℕ, List, Some, take, length, min, IfOk, IfErr, OnOk};
-ghost use Rattle.scip_model.specs.WholeReads.{IsReadThrough, IsReadFault, IsReadBriefly};
+ghost use Rattle.streams.specs.WholeReads.{IsReadThrough, IsReadFault, IsReadBriefly};
 ghost use Rattle.source_tree.specs.Reading.{kept_bytes, max_kept_length};
 
 use proto_lex::MAX_TEXT_LENGTH;
-use scip_model::{Failed, Feed, MAX_READS};
 use std::alloc::{AllocError, Global};
+use streams::{Failed, Feed, MAX_READS};
 
 /// How many bytes are read at a time, at most.
 const BUFFER_LENGTH: usize = 16_384;

@@ -1,5 +1,6 @@
 //! Why a phase is refused.
 
+use crate::lanes::LaneOwner;
 use std::alloc::AllocError;
 
 /// Why a phase is refused. Where several hold, the first of these is answered.
@@ -13,10 +14,11 @@ pub enum PoolFault<F> {
     Job(usize, F),
 }
 
-// Why no results are gathered.
-#[derive(Clone, Copy)]
+// Why no results are gathered. With a refused start comes the calling thread's own lane, which was
+// emptied, so that no thief gets more of it.
+#[derive(Drop)]
 pub(crate) enum Stop {
-    Spawn,
+    Spawn(LaneOwner),
     Memory,
 }
 

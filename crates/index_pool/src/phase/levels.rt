@@ -3,13 +3,15 @@
 ghost use Rattle.std.specs.Prelude.{◌≡◌, ℕ, ◌+◌, ◌<◌, ◌≤◌, false, [], All, length, sum_by, IfOk, IfErr, IfSome, OnOk};
 ghost use Rattle.index_pool.specs.LaneEnds.{owner_deque, owner_view, thief_deque, thief_view};
 ghost use Rattle.index_pool.specs.PhaseSteps.{AllBelow, FreshPost, FreshLane, AllGiven, weight, Worked, Gathers, Settles, MayStop};
+ghost use Rattle.index_pool.specs.declared.phase.fault.Stop.TheVariants.{Memory};
 
 use super::fault::Stop;
+use super::task::Task;
 use super::worker::{Done, Post, Ran, drain, run_own, work};
 use crate::gate::Gate;
 use crate::job::Job;
 use crate::lanes::{LaneOwner, LaneThief};
-use std::alloc::{AllocError, Global};
+use std::alloc::AllocError;
 use std::snapshot::Snapshot;
 use std::thread::{Promise, PromisedHandle, Scope, Threads};
 
@@ -37,18 +39,17 @@ impl<J: Job> Promise<Done<Result<J::Out, J::Fault>>> for Duty<J> {
 // its post is then dropped.
 fn start<'s, E, J: Job, G: Gate>(
     scope: &'s Scope<'s, E>,
-    alloc: Global,
-    job: &'s J,
-    gate: &'s G,
+    task: &Task<'s, J, G>,
     post: Post,
     starts: usize,
 ) -> Option<PromisedHandle<Done<Result<J::Out, J::Fault>>, Duty<J>>>
-    requires { FreshPost (J.inputs job.now) post }
-    ensures { IfSome result (λ h. (h.promise.job.value ≡ job.now) × (h.promise.post.value ≡ post) × (0 < starts)) }
+    requires { FreshPost (J.inputs task.now.job.now) post }
+    ensures { IfSome result (λ h. (h.promise.job.value ≡ task.now.job.now) × (h.promise.post.value ≡ post) × (0 < starts)) }
 {
     if starts == 0 {
         return None;
     }
+    let (alloc, job, gate) = (task.alloc, task.job, task.gate);
     let duty = Duty {
         job: Snapshot::of(job),
         post: Snapshot::of(&post),
@@ -56,7 +57,7 @@ fn start<'s, E, J: Job, G: Gate>(
     let run = move || -> Done<Result<J::Out, J::Fault>>
         requires { FreshPost (J.inputs job.now) post }
         ensures { Worked (J.gives job.entry.now) post result }
-    { work(alloc, job, gate, post) };
+    { work(&Task { alloc, job, gate }, post) };
     scope.spawn_with(duty, run).ok()
 }
 
@@ -66,32 +67,30 @@ fn start<'s, E, J: Job, G: Gate>(
 pub(crate) fn level<'s, E, R: Threads, J: Job, G: Gate>(
     scope: &'s Scope<'s, E>,
     rt: &R,
-    alloc: Global,
-    job: &'s J,
-    gate: &'s G,
+    task: &Task<'s, J, G>,
     post: Post,
     mut lanes: Vec<(LaneOwner, LaneThief)>,
     starts: usize,
 ) -> Result<Gathered<Result<J::Out, J::Fault>>, Stop>
-    requires post { FreshPost (J.inputs job.now) post }
-    requires lanes { All (FreshLane (J.inputs job.now)) lanes.items }
-    ensures gathers { IfOk result (Gathers (J.gives job.now) post lanes.items) }
+    requires post { FreshPost (J.inputs task.now.job.now) post }
+    requires lanes { All (FreshLane (J.inputs task.now.job.now)) lanes.items }
+    ensures gathers { IfOk result (Gathers (J.gives task.now.job.now) post lanes.items) }
     ensures started { IfOk result (λ _. length lanes.items ≤ starts) }
-    ensures stopped { IfErr result (MayStop (length lanes.items + 1)) }
+    ensures stopped { IfErr result (MayStop post (length lanes.items) starts) }
 {
     let Some(last) = lanes.pop() else {
-        return alone(alloc, job, gate, post);
+        return alone(task, post);
     };
     let (theirs, ours) = swapped(post, last);
-    let Some(child) = start(scope, alloc, job, gate, theirs, starts) else {
+    let Some(child) = start(scope, task, theirs, starts) else {
         let Post { mut owner, thief } = ours;
         drain(&mut owner);
         drop(thief);
-        return Err(Stop::Spawn);
+        return Err(Stop::Spawn(owner));
     };
-    let rest = level(scope, rt, alloc, job, gate, ours, lanes, starts - 1);
+    let rest = level(scope, rt, task, ours, lanes, starts - 1);
     let done = child.join(rt);
-    settle(job, gate, done, rest?)
+    settle(task, done, rest?)
 }
 
 // The post of the worker whose lane this is, who steals where the calling thread would, and the
@@ -110,20 +109,18 @@ fn swapped(post: Post, lane: (LaneOwner, LaneThief)) -> (Post, Post)
 
 // The calling thread's own work, once every thread was started.
 fn alone<J: Job, G: Gate>(
-    alloc: Global,
-    job: &J,
-    gate: &G,
+    task: &Task<'_, J, G>,
     post: Post,
 ) -> Result<Gathered<Result<J::Out, J::Fault>>, Stop>
-    requires { FreshPost (J.inputs job.now) post }
-    ensures gathers { IfOk result (Gathers (J.gives job.now) post []) }
-    ensures stopped { IfErr result (MayStop 1) }
+    requires { FreshPost (J.inputs task.now.job.now) post }
+    ensures gathers { IfOk result (Gathers (J.gives task.now.job.now) post []) }
+    ensures stopped { IfErr result (λ stop. stop ≡ Memory) }
 {
     let Done {
         post,
         results,
         starved,
-    } = work(alloc, job, gate, post);
+    } = work(task, post);
     if starved {
         return Err(Stop::Memory);
     }
@@ -133,15 +130,14 @@ fn alone<J: Job, G: Gate>(
 // A joined worker's results and those of the rest. Its lane, of which both ends are at hand now, is
 // popped until it is empty.
 fn settle<J: Job, G: Gate>(
-    job: &J,
-    gate: &G,
+    task: &Task<'_, J, G>,
     done: Done<Result<J::Out, J::Fault>>,
     rest: Gathered<Result<J::Out, J::Fault>>,
 ) -> Result<Gathered<Result<J::Out, J::Fault>>, Stop>
     requires deque { thief_deque rest.post.thief ≡ owner_deque done.post.owner }
-    requires below { AllBelow (J.inputs job.now) (owner_view done.post.owner).given }
-    ensures settles { IfOk result (Settles (J.gives job.now) done rest) }
-    ensures stopped { IfErr result (MayStop 1) }
+    requires below { AllBelow (J.inputs task.now.job.now) (owner_view done.post.owner).given }
+    ensures settles { IfOk result (Settles (J.gives task.now.job.now) done rest) }
+    ensures stopped { IfErr result (λ stop. stop ≡ Memory) }
 {
     let Done {
         post: theirs,
@@ -161,7 +157,7 @@ fn settle<J: Job, G: Gate>(
         thief: held,
     } = theirs;
     let Post { owner, thief } = ours;
-    close(job, gate, settled, thief, &mut results)?;
+    close(task, settled, thief, &mut results)?;
     Ok(Gathered {
         post: Post { owner, thief: held },
         results,
@@ -170,18 +166,17 @@ fn settle<J: Job, G: Gate>(
 
 // Brings the two ends of a lane together, and pops it until it is empty.
 pub(crate) fn close<J: Job, G: Gate>(
-    job: &J,
-    gate: &G,
+    task: &Task<'_, J, G>,
     mut owner: LaneOwner,
     thief: LaneThief,
     results: &mut Vec<Ran<Result<J::Out, J::Fault>>>,
 ) -> Result<(), AllocError>
     requires deque { thief_deque thief ≡ owner_deque owner }
-    requires below { AllBelow (J.inputs job.now) (owner_view owner).given }
-    ensures answers { AllGiven (J.gives job.now) results.old.items → AllGiven (J.gives job.now) results.new.items }
+    requires below { AllBelow (J.inputs task.now.job.now) (owner_view owner).given }
+    ensures answers { AllGiven (J.gives task.now.job.now) results.old.items → AllGiven (J.gives task.now.job.now) results.new.items }
     ensures weighed { OnOk result ((h : ℕ → ℕ) → weight h results.new.items + (sum_by h (owner_view owner).popped + sum_by h (thief_view thief).stolen) ≡ weight h results.old.items + sum_by h (owner_view owner).given) }
 {
     owner.rejoin(thief);
-    run_own(job, gate, &mut owner, results)?;
+    run_own(task, &mut owner, results)?;
     Ok(())
 }

@@ -9,7 +9,7 @@ use Rattle.proto_grammar.specs.declared.tree.Field.{Field}
 use Rattle.proto_grammar.specs.declared.tree.MapField.{MapField}
 use Rattle.proto_grammar.specs.Lexeme.{Lexeme}
 use Rattle.proto_grammar.specs.Terminal.{first_is, is_word, not_next}
-use Rattle.proto_grammar.specs.Grammar.Steps.{Passes}
+use Rattle.proto_grammar.specs.Grammar.Repetition.{Passes}
 use Rattle.proto_grammar.specs.Grammar.Fields.{IsNumbered, IsTyped, IsLabel, IsField, IsOneofField, IsMapField}
 use Rattle.proto_grammar.specs.Grammar.Fields.IsNumbered.{numbered}
 use Rattle.proto_grammar.specs.Grammar.Fields.IsTyped.{typed}
@@ -24,7 +24,7 @@ use Rattle.proto_grammar.specs.Grammar.Reserved.IsRange.{single, range}
 use Rattle.proto_grammar.specs.Grammar.Reserved.IsReservedItem.{name as a_name, number as a_number}
 use Rattle.proto_grammar.specs.Grammar.Reserved.IsCommaItem.{comma_item}
 use Rattle.proto_grammar.specs.Grammar.Reserved.IsReserved.{reserved}
-use Rattle.proto_grammar.specs.Reading.Steps.{span_at, passing}
+use Rattle.proto_grammar.specs.Reading.Repetition.{span_at, passing}
 use Rattle.proto_grammar.specs.Reading.Fields.{numbered_at, typed_at, label_at, field_at, oneof_field_at, pass_field_at, map_field_at}
 use Rattle.proto_grammar.specs.Reading.Reserved.{plain_integer_at, integer_at, range_end_at, range_at, reserved_item_at, comma_item_at, comma_items_at, reserved_at}
 use Rattle.proto_grammar.proofs.TokenLemmas.{token_exact, one_next, one_others, next_other_kind, next_no_word, next_other_word}

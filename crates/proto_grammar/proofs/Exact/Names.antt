@@ -6,15 +6,15 @@ use Rattle.proto_grammar.specs.declared.tree.TypeName.{TypeName}
 use Rattle.proto_grammar.specs.declared.tree.FieldType.{FieldType}
 use Rattle.proto_grammar.specs.Lexeme.{Lexeme}
 use Rattle.proto_grammar.specs.Terminal.{is_kind, first_is, of_kind, is_scalar, not_next, begins_scalar}
-use Rattle.proto_grammar.specs.Grammar.Steps.{One, Adds}
-use Rattle.proto_grammar.specs.Grammar.Steps.One.{one}
-use Rattle.proto_grammar.specs.Grammar.Steps.Until.{done}
+use Rattle.proto_grammar.specs.Grammar.Repetition.{One, Adds}
+use Rattle.proto_grammar.specs.Grammar.Repetition.One.{one}
+use Rattle.proto_grammar.specs.Grammar.Repetition.Until.{done}
 use Rattle.proto_grammar.specs.Grammar.Names.{IsDotName, IsName, IsTypeName, IsType}
 use Rattle.proto_grammar.specs.Grammar.Names.IsDotName.{dot_name}
 use Rattle.proto_grammar.specs.Grammar.Names.IsName.{name}
 use Rattle.proto_grammar.specs.Grammar.Names.IsTypeName.{rooted, plain}
 use Rattle.proto_grammar.specs.Grammar.Names.IsType.{scalar, named}
-use Rattle.proto_grammar.specs.Reading.Steps.{adding}
+use Rattle.proto_grammar.specs.Reading.Repetition.{adding}
 use Rattle.proto_grammar.specs.Reading.Names.{dot_name_at, dot_names_at, name_at, pass_dot_name_at, pass_dot_names_at, pass_name_at, leading_dot_at, type_name_at, pass_type_name_at, named_type_at, type_at}
 use Rattle.proto_grammar.proofs.OptionSteps.{both_true}
 use Rattle.proto_grammar.proofs.TokenLemmas.{token_exact, one_next, next_other_kind}

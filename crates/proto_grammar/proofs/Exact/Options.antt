@@ -7,8 +7,8 @@ use Rattle.proto_lex.specs.declared.token.TokenKind.TheVariants.{Identifier, Int
 use Rattle.proto_grammar.specs.declared.tree.CustomOptions.{CustomOptions}
 use Rattle.proto_grammar.specs.Lexeme.{Lexeme}
 use Rattle.proto_grammar.specs.Terminal.{is_kind, first_is, of_kind, is_sign, is_numeral, not_next}
-use Rattle.proto_grammar.specs.Grammar.Steps.{One, Passes}
-use Rattle.proto_grammar.specs.Grammar.Steps.One.{one}
+use Rattle.proto_grammar.specs.Grammar.Repetition.{One, Passes}
+use Rattle.proto_grammar.specs.Grammar.Repetition.One.{one}
 use Rattle.proto_grammar.specs.Grammar.Options.{IsOptionPart, IsDotPart, IsOptionName, IsLiteral, IsStrings, IsClosed, IsConstant, IsSetting, IsCommaSetting, IsOption, IsOptions}
 use Rattle.proto_grammar.specs.Grammar.Options.IsOptionPart.{plain, extension}
 use Rattle.proto_grammar.specs.Grammar.Options.IsDotPart.{dot_part}
@@ -21,7 +21,7 @@ use Rattle.proto_grammar.specs.Grammar.Options.IsSetting.{setting}
 use Rattle.proto_grammar.specs.Grammar.Options.IsCommaSetting.{comma_setting}
 use Rattle.proto_grammar.specs.Grammar.Options.IsOption.{option}
 use Rattle.proto_grammar.specs.Grammar.Options.IsOptions.{none, some}
-use Rattle.proto_grammar.specs.Reading.Steps.{passing}
+use Rattle.proto_grammar.specs.Reading.Repetition.{passing}
 use Rattle.proto_grammar.specs.Reading.Options.{extension_at, part_at, dot_part_at, dot_parts_at, option_name_at, literal_at, literals_at, strings_at, closed_at, aggregate_at, signed_at, constant_at, setting_at, comma_setting_at, comma_settings_at, option_at, bracketed_at, options_at}
 use Rattle.proto_grammar.proofs.OptionSteps.{either_true}
 use Rattle.proto_grammar.proofs.TokenLemmas.{token_exact, one_next, other_kind, next_other_kind}

@@ -12,13 +12,13 @@ use Rattle.proto_grammar.specs.declared.tree.Field.{Field}
 use Rattle.proto_grammar.specs.declared.tree.MapField.{MapField}
 use Rattle.proto_grammar.specs.Lexeme.{Lexeme}
 use Rattle.proto_grammar.specs.Terminal.{is_kind, first_is, of_kind, is_word, is_key, is_scalar, not_next, begins_scalar}
-use Rattle.proto_grammar.specs.Grammar.Steps.{One, Passes}
-use Rattle.proto_grammar.specs.Grammar.Steps.One.{one}
+use Rattle.proto_grammar.specs.Grammar.Repetition.{One, Passes}
+use Rattle.proto_grammar.specs.Grammar.Repetition.One.{one}
 use Rattle.proto_grammar.specs.Grammar.Names.{IsType, IsTypeName}
 use Rattle.proto_grammar.specs.Grammar.Names.IsType.{scalar, named}
 use Rattle.proto_grammar.specs.Grammar.Names.IsTypeName.{rooted, plain as a_plain}
 use Rattle.proto_grammar.specs.Grammar.Names.IsName.{name}
-use Rattle.proto_grammar.specs.Grammar.Steps.Until.{done, more}
+use Rattle.proto_grammar.specs.Grammar.Repetition.Until.{done, more}
 use Rattle.proto_grammar.specs.Grammar.Fields.{IsNumbered, IsTyped, IsLabel, IsField, IsOneofField, IsMapField}
 use Rattle.proto_grammar.specs.Grammar.Fields.IsNumbered.{numbered}
 use Rattle.proto_grammar.specs.Grammar.Fields.IsTyped.{typed}
@@ -33,7 +33,7 @@ use Rattle.proto_grammar.specs.Grammar.Reserved.IsRange.{single, range}
 use Rattle.proto_grammar.specs.Grammar.Reserved.IsReservedItem.{name as a_name, number as a_number}
 use Rattle.proto_grammar.specs.Grammar.Reserved.IsCommaItem.{comma_item}
 use Rattle.proto_grammar.specs.Grammar.Reserved.IsReserved.{reserved}
-use Rattle.proto_grammar.specs.Reading.Steps.{token_that, span_at, passing, until_at}
+use Rattle.proto_grammar.specs.Reading.Repetition.{token_that, span_at, passing, until_at}
 use Rattle.proto_grammar.specs.Reading.Names.{type_at, pass_type_name_at}
 use Rattle.proto_grammar.specs.Reading.Options.{options_at}
 use Rattle.proto_grammar.specs.Reading.Fields.{numbered_at, typed_at, label_at, field_at, oneof_field_at, pass_field_at, map_field_at}

@@ -6,8 +6,8 @@ use Rattle.proto_grammar.specs.declared.tree.CustomOptions.{CustomOptions}
 use Rattle.proto_grammar.specs.declared.tree.CustomOptions.TheVariants.{Refuse, Skip}
 use Rattle.proto_grammar.specs.Lexeme.{Lexeme}
 use Rattle.proto_grammar.specs.Terminal.{first_is, of_kind, is_word, is_sign, is_numeral, is_number, not_next}
-use Rattle.proto_grammar.specs.Grammar.Steps.{Passes}
-use Rattle.proto_grammar.specs.Grammar.Steps.One.{one}
+use Rattle.proto_grammar.specs.Grammar.Repetition.{Passes}
+use Rattle.proto_grammar.specs.Grammar.Repetition.One.{one}
 use Rattle.proto_grammar.specs.Grammar.Options.{IsOptionPart, IsDotPart, IsOptionName, IsLiteral, IsStrings, IsClosed, IsConstant, IsSetting, IsCommaSetting, IsOption, IsOptions}
 use Rattle.proto_grammar.specs.Grammar.Options.IsOptionPart.{plain, extension}
 use Rattle.proto_grammar.specs.Grammar.Options.IsDotPart.{dot_part}
@@ -20,7 +20,7 @@ use Rattle.proto_grammar.specs.Grammar.Options.IsSetting.{setting}
 use Rattle.proto_grammar.specs.Grammar.Options.IsCommaSetting.{comma_setting}
 use Rattle.proto_grammar.specs.Grammar.Options.IsOption.{option}
 use Rattle.proto_grammar.specs.Grammar.Options.IsOptions.{none, some}
-use Rattle.proto_grammar.specs.Reading.Steps.{token_that, passing, until_at}
+use Rattle.proto_grammar.specs.Reading.Repetition.{token_that, passing, until_at}
 use Rattle.proto_grammar.specs.Reading.Names.{pass_type_name_at}
 use Rattle.proto_grammar.specs.Reading.Options.{extension_at, part_at, dot_part_at, dot_parts_at, option_name_at, literal_at, literals_at, strings_at, depth_behind, closed_at, aggregate_at, signed_at, constant_at, setting_at, comma_setting_at, comma_settings_at, option_at, bracketed_at, options_at}
 use Rattle.proto_grammar.proofs.OptionSteps.{bind_some, chosen}

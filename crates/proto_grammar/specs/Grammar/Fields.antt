@@ -12,7 +12,7 @@ use Rattle.proto_grammar.specs.declared.tree.Field.{Field}
 use Rattle.proto_grammar.specs.declared.tree.MapField.{MapField}
 use Rattle.proto_grammar.specs.Lexeme.{Lexeme}
 use Rattle.proto_grammar.specs.Terminal.{first_is, of_kind, is_word, is_key}
-use Rattle.proto_grammar.specs.Grammar.Steps.{One}
+use Rattle.proto_grammar.specs.Grammar.Repetition.{One}
 use Rattle.proto_grammar.specs.Grammar.Names.{IsType}
 use Rattle.proto_grammar.specs.Grammar.Options.{IsOptions}
 

@@ -7,7 +7,7 @@ use Rattle.proto_grammar.specs.declared.tree.FieldType.{FieldType}
 use Rattle.proto_grammar.specs.declared.tree.FieldType.TheVariants.{Scalar, Named}
 use Rattle.proto_grammar.specs.Lexeme.{Lexeme}
 use Rattle.proto_grammar.specs.Terminal.{of_kind, is_scalar, not_next, begins_scalar}
-use Rattle.proto_grammar.specs.Grammar.Steps.{One, Until, Adds}
+use Rattle.proto_grammar.specs.Grammar.Repetition.{One, Until, Adds}
 
 -- "." IDENT
 pub data IsDotName : List Lexeme → Option Span → List Lexeme → Type 0 where

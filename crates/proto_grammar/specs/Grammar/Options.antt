@@ -9,7 +9,7 @@ use Rattle.proto_grammar.specs.declared.tree.CustomOptions.TheVariants.{Skip}
 use Rattle.proto_grammar.specs.declared.tree.TypeName.{TypeName}
 use Rattle.proto_grammar.specs.Lexeme.{Lexeme}
 use Rattle.proto_grammar.specs.Terminal.{first_is, of_kind, is_word, is_sign, is_numeral, is_number, not_next}
-use Rattle.proto_grammar.specs.Grammar.Steps.{One, Until, Passes}
+use Rattle.proto_grammar.specs.Grammar.Repetition.{One, Until, Passes}
 use Rattle.proto_grammar.specs.Grammar.Names.{IsName, IsTypeName}
 
 -- A part of an option's name: IDENT. Where custom options are read past (the project's own), also "(" typename ")".

@@ -4,7 +4,7 @@ use Rattle.proto_lex.specs.declared.span.Span.{Span}
 use Rattle.proto_lex.specs.declared.token.TokenKind.TheVariants.{Integer, StringLiteral, Semicolon, Comma, Minus}
 use Rattle.proto_grammar.specs.Lexeme.{Lexeme}
 use Rattle.proto_grammar.specs.Terminal.{first_is, of_kind, is_word, not_next}
-use Rattle.proto_grammar.specs.Grammar.Steps.{One, Until, Passes}
+use Rattle.proto_grammar.specs.Grammar.Repetition.{One, Until, Passes}
 use Rattle.proto_grammar.specs.Grammar.Options.{IsStrings}
 
 -- INT. Where numbers may be negative, [ "-" ] INT.

@@ -10,7 +10,7 @@ use Rattle.proto_grammar.specs.declared.tree.Label.TheVariants.{Repeated, Option
 use Rattle.proto_grammar.specs.declared.tree.Field.{Field}
 use Rattle.proto_grammar.specs.declared.tree.MapField.{MapField}
 use Rattle.proto_grammar.specs.Terminal.{others, first_is, of_kind, is_word, is_key}
-use Rattle.proto_grammar.specs.Reading.Steps.{◌>>=◌, Read, token_that, span_at}
+use Rattle.proto_grammar.specs.Reading.Repetition.{◌>>=◌, Read, token_that, span_at}
 use Rattle.proto_grammar.specs.Reading.Names.{type_at, pass_type_name_at}
 use Rattle.proto_grammar.specs.Reading.Options.{options_at}
 

@@ -6,7 +6,7 @@ use Rattle.proto_grammar.specs.declared.tree.TypeName.{TypeName}
 use Rattle.proto_grammar.specs.declared.tree.FieldType.{FieldType}
 use Rattle.proto_grammar.specs.declared.tree.FieldType.TheVariants.{Scalar, Named}
 use Rattle.proto_grammar.specs.Terminal.{first_is, of_kind, is_scalar, not_next, begins_scalar}
-use Rattle.proto_grammar.specs.Reading.Steps.{◌>>=◌, Read, token_that, until_at, adding, passing, passed}
+use Rattle.proto_grammar.specs.Reading.Repetition.{◌>>=◌, Read, token_that, until_at, adding, passing, passed}
 
 unfoldable pub dot_name_at : Read (Option Span)
 dot_name_at tokens = do

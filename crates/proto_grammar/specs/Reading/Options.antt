@@ -8,7 +8,7 @@ use Rattle.proto_grammar.specs.declared.tree.CustomOptions.TheVariants.{Refuse, 
 use Rattle.proto_grammar.specs.Lexeme.{Lexeme}
 use Rattle.proto_grammar.specs.Terminal.{first, others, first_is, of_kind, is_word, is_sign, is_numeral, is_number}
 use Rattle.proto_grammar.specs.Terminal.{not_next}
-use Rattle.proto_grammar.specs.Reading.Steps.{◌>>=◌, Read, token_that, until_at, passing}
+use Rattle.proto_grammar.specs.Reading.Repetition.{◌>>=◌, Read, token_that, until_at, passing}
 use Rattle.proto_grammar.specs.Reading.Names.{pass_name_at, pass_type_name_at}
 
 unfoldable pub extension_at : CustomOptions → Read (Unit {0})

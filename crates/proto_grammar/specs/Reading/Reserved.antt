@@ -2,7 +2,7 @@
 use Rattle.std.specs.Prelude.{Bool, cond, ◌&&◌, Some, codes}
 use Rattle.proto_lex.specs.declared.token.TokenKind.TheVariants.{Integer, StringLiteral, Semicolon, Comma, Minus}
 use Rattle.proto_grammar.specs.Terminal.{others, first_is, of_kind, is_word, not_next}
-use Rattle.proto_grammar.specs.Reading.Steps.{◌>>=◌, Read, token_that, until_at, passing}
+use Rattle.proto_grammar.specs.Reading.Repetition.{◌>>=◌, Read, token_that, until_at, passing}
 use Rattle.proto_grammar.specs.Reading.Options.{strings_at}
 
 unfoldable pub plain_integer_at : Read (Unit {0})

@@ -16,7 +16,7 @@ use Rattle.proto_grammar.specs.Lexeme.{Lexeme}
 use Rattle.proto_grammar.specs.Terminal.{first_is, of_kind, is_word, closes}
 use Rattle.proto_parse.specs.Choice.{message_statement_of}
 use Rattle.proto_grammar.specs.Tree.{MessageTree}
-use Rattle.proto_grammar.specs.Grammar.Steps.{Passes, Adds}
+use Rattle.proto_grammar.specs.Grammar.Repetition.{Passes, Adds}
 use Rattle.proto_parse.specs.Grammar.Messages.{IsHeading, IsValue, IsEnumItem, IsEnum, IsOneofItem, IsOneof, IsExtendItem, IsExtend, IsMessageItem, IsMessageOf, IsMessage}
 use Rattle.proto_parse.specs.Grammar.Messages.IsHeading.{heading}
 use Rattle.proto_parse.specs.Grammar.Messages.IsValue.{value}
@@ -36,7 +36,7 @@ use Rattle.proto_parse.specs.Grammar.Services.IsMethodEnd.{semicolon, body}
 use Rattle.proto_parse.specs.Grammar.Services.IsMethod.{method}
 use Rattle.proto_parse.specs.Grammar.Services.IsServiceItem.{empty as services-empty, option as services-option, method as services-method}
 use Rattle.proto_parse.specs.Grammar.Services.IsService.{service}
-use Rattle.proto_grammar.specs.Reading.Steps.{Read, adding, passing}
+use Rattle.proto_grammar.specs.Reading.Repetition.{Read, adding, passing}
 use Rattle.proto_parse.specs.Reading.Messages.{heading_at, value_at, enum_item_at, enum_items_at, enum_at, oneof_item_at, oneof_items_at, oneof_at, extend_item_at, extend_items_at, extend_at, message_item_by, message_item_at, message_of_at, message_at}
 use Rattle.proto_parse.specs.Reading.Services.{stream_at, method_type_at, method_item_at, method_items_at, method_body_at, method_end_at, method_at, service_item_at, service_items_at, service_at}
 use Rattle.proto_grammar.proofs.TokenLemmas.{token_exact, one_next, one_others, next_other_kind, next_word_kind, next_other_word}

@@ -22,8 +22,8 @@ use Rattle.proto_grammar.specs.Lexeme.{Lexeme}
 use Rattle.proto_grammar.specs.Terminal.{first, first_is, of_kind, is_word, is_plain_literal, not_next, is_end, between_quotes}
 use Rattle.proto_parse.specs.Choice.{file_statement_of}
 use Rattle.proto_parse.specs.Limits.{max_message_depth}
-use Rattle.proto_grammar.specs.Grammar.Steps.{Until, Adds}
-use Rattle.proto_grammar.specs.Grammar.Steps.Until.{done, more}
+use Rattle.proto_grammar.specs.Grammar.Repetition.{Until, Adds}
+use Rattle.proto_grammar.specs.Grammar.Repetition.Until.{done, more}
 use Rattle.proto_parse.specs.Grammar.Files.{empty_file, SpellsJoined, IsSyntax, IsImportKind, IsPathLiteral, IsImport, IsPackage, IsStatement, IsFile}
 use Rattle.proto_parse.specs.Grammar.Files.SpellsJoined.{none, some}
 use Rattle.proto_parse.specs.Grammar.Files.IsSyntax.{syntax}
@@ -33,7 +33,7 @@ use Rattle.proto_parse.specs.Grammar.Files.IsImport.{import}
 use Rattle.proto_parse.specs.Grammar.Files.IsPackage.{package_statement}
 use Rattle.proto_parse.specs.Grammar.Files.IsStatement.{empty as statements-empty, import as statements-import, package_statement as statements-package_statement, option as statements-option, message as statements-message, enum as statements-enum, service as statements-service, extend as statements-extend}
 use Rattle.proto_parse.specs.Grammar.Files.IsFile.{file}
-use Rattle.proto_grammar.specs.Reading.Steps.{token_that, adding, until_at}
+use Rattle.proto_grammar.specs.Reading.Repetition.{token_that, adding, until_at}
 use Rattle.proto_grammar.specs.Reading.Names.{name_at}
 use Rattle.proto_grammar.specs.Reading.Options.{option_at}
 use Rattle.proto_parse.specs.Reading.Messages.{enum_at, extend_at, message_at}

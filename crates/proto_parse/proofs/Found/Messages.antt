@@ -18,7 +18,7 @@ use Rattle.proto_grammar.specs.Lexeme.{Lexeme}
 use Rattle.proto_grammar.specs.Terminal.{first_is, of_kind, is_word, closes}
 use Rattle.proto_parse.specs.Choice.{message_statement_of}
 use Rattle.proto_grammar.specs.Tree.{MessageTree}
-use Rattle.proto_grammar.specs.Grammar.Steps.{Passes, Adds}
+use Rattle.proto_grammar.specs.Grammar.Repetition.{Passes, Adds}
 use Rattle.proto_grammar.specs.Grammar.Options.{IsOption}
 use Rattle.proto_grammar.specs.Grammar.Options.IsOption.{option as an_option}
 use Rattle.proto_parse.specs.Grammar.Messages.{IsHeading, IsValue, IsEnumItem, IsEnum, IsOneofItem, IsOneof, IsExtendItem, IsExtend, IsMessageItem, IsMessageOf, IsMessage}
@@ -40,7 +40,7 @@ use Rattle.proto_parse.specs.Grammar.Services.IsMethodEnd.{semicolon, body}
 use Rattle.proto_parse.specs.Grammar.Services.IsMethod.{method}
 use Rattle.proto_parse.specs.Grammar.Services.IsServiceItem.{empty as services-empty, option as services-option, method as services-method}
 use Rattle.proto_parse.specs.Grammar.Services.IsService.{service}
-use Rattle.proto_grammar.specs.Reading.Steps.{token_that, adding, passing, until_at}
+use Rattle.proto_grammar.specs.Reading.Repetition.{token_that, adding, passing, until_at}
 use Rattle.proto_grammar.specs.Reading.Names.{named_type_at, pass_type_name_at}
 use Rattle.proto_grammar.specs.Reading.Options.{option_at, options_at}
 use Rattle.proto_grammar.specs.Reading.Fields.{field_at, oneof_field_at, map_field_at}

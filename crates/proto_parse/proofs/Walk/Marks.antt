@@ -26,10 +26,10 @@ use Rattle.proto_grammar.specs.Items.{body_of}
 use Rattle.proto_parse.specs.Walk.{Mark, Among, MarksAreInOrder, each_then, name_then, names_then, literal_then, type_name_then, type_then, heading_then, field_then, map_field_then, enum_then, oneof_then, leaf_then, body_then, message_then, method_then, service_then, item_then, import_then, marks_of_items, marks_of_imports, marks_of_package}
 use Rattle.proto_parse.specs.Walk.Mark.{Name, Other}
 use Rattle.proto_parse.specs.Walk.Among.{none as no_marks, skip, first as at_first, name as at_name, literal as at_literal, other as at_other}
-use Rattle.proto_grammar.specs.Grammar.Steps.{Until, Adds}
-use Rattle.proto_grammar.specs.Grammar.Steps.One.{one}
-use Rattle.proto_grammar.specs.Grammar.Steps.Until.{done, more}
-use Rattle.proto_grammar.specs.Grammar.Steps.Adds.{adds}
+use Rattle.proto_grammar.specs.Grammar.Repetition.{Until, Adds}
+use Rattle.proto_grammar.specs.Grammar.Repetition.One.{one}
+use Rattle.proto_grammar.specs.Grammar.Repetition.Until.{done, more}
+use Rattle.proto_grammar.specs.Grammar.Repetition.Adds.{adds}
 use Rattle.proto_grammar.specs.Grammar.Names.{IsDotName, IsName, IsTypeName, IsType}
 use Rattle.proto_grammar.specs.Grammar.Names.IsDotName.{dot_name}
 use Rattle.proto_grammar.specs.Grammar.Names.IsName.{name}

@@ -6,8 +6,8 @@ use Rattle.proto_grammar.specs.declared.tree.FileItem.{FileItem}
 use Rattle.proto_grammar.specs.declared.tree.File.{File}
 use Rattle.proto_grammar.specs.Lexeme.{Lexeme}
 use Rattle.proto_grammar.specs.Terminal.{is_end}
-use Rattle.proto_grammar.specs.Grammar.Steps.{Until}
-use Rattle.proto_grammar.specs.Grammar.Steps.Until.{done, more}
+use Rattle.proto_grammar.specs.Grammar.Repetition.{Until}
+use Rattle.proto_grammar.specs.Grammar.Repetition.Until.{done, more}
 use Rattle.std.proofs.lemmas.Option.{same_Some}
 use Rattle.proto_parse.specs.Grammar.Files.{empty_file, IsStatement, IsFile}
 use Rattle.proto_parse.specs.Grammar.Files.IsStatement.{empty, import, package_statement, option, message, enum, service, extend}

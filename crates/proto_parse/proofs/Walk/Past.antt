@@ -24,11 +24,11 @@ use Rattle.proto_grammar.specs.Tree.{MessageTree}
 use Rattle.proto_parse.specs.Walk.{Mark, Among}
 use Rattle.proto_parse.specs.Walk.Mark.{First, Name, Literal, Other}
 use Rattle.proto_parse.specs.Walk.Among.{skip, first as at_first, name as at_name, literal as at_literal, other as at_other}
-use Rattle.proto_grammar.specs.Grammar.Steps.{One, Until, Adds, Passes}
-use Rattle.proto_grammar.specs.Grammar.Steps.One.{one}
-use Rattle.proto_grammar.specs.Grammar.Steps.Until.{done, more}
-use Rattle.proto_grammar.specs.Grammar.Steps.Adds.{adds}
-use Rattle.proto_grammar.specs.Grammar.Steps.Passes.{passes}
+use Rattle.proto_grammar.specs.Grammar.Repetition.{One, Until, Adds, Passes}
+use Rattle.proto_grammar.specs.Grammar.Repetition.One.{one}
+use Rattle.proto_grammar.specs.Grammar.Repetition.Until.{done, more}
+use Rattle.proto_grammar.specs.Grammar.Repetition.Adds.{adds}
+use Rattle.proto_grammar.specs.Grammar.Repetition.Passes.{passes}
 use Rattle.proto_grammar.specs.Grammar.Names.{IsDotName, IsName, IsTypeName, IsType}
 use Rattle.proto_grammar.specs.Grammar.Names.IsDotName.{dot_name}
 use Rattle.proto_grammar.specs.Grammar.Names.IsName.{name}

@@ -16,7 +16,7 @@ use Rattle.proto_grammar.specs.Terminal.{first_is, of_kind, is_word, is_plain_li
 use Rattle.proto_parse.specs.Choice.{file_statement_of}
 use Rattle.proto_grammar.specs.Tree.{MessageTree}
 use Rattle.proto_parse.specs.Limits.{max_message_depth}
-use Rattle.proto_grammar.specs.Grammar.Steps.{One, Until, Adds}
+use Rattle.proto_grammar.specs.Grammar.Repetition.{One, Until, Adds}
 use Rattle.proto_grammar.specs.Grammar.Names.{IsName}
 use Rattle.proto_grammar.specs.Grammar.Options.{IsOption}
 use Rattle.proto_parse.specs.Grammar.Messages.{IsEnum, IsExtend, IsMessage}

@@ -20,7 +20,7 @@ use Rattle.proto_grammar.specs.Terminal.{first_is, of_kind, is_word, closes}
 use Rattle.proto_parse.specs.Choice.{message_statement_of}
 use Rattle.proto_grammar.specs.Tree.{MessageTree}
 use Rattle.proto_grammar.specs.Items.{body_of}
-use Rattle.proto_grammar.specs.Grammar.Steps.{One, Until, Adds, Passes}
+use Rattle.proto_grammar.specs.Grammar.Repetition.{One, Until, Adds, Passes}
 use Rattle.proto_grammar.specs.Grammar.Names.{IsTypeName}
 use Rattle.proto_grammar.specs.Grammar.Options.{IsOption, IsOptions}
 use Rattle.proto_grammar.specs.Grammar.Fields.{IsField, IsOneofField, IsMapField}

@@ -10,7 +10,7 @@ use Rattle.proto_grammar.specs.declared.tree.Method.{Method}
 use Rattle.proto_grammar.specs.declared.tree.Service.{Service}
 use Rattle.proto_grammar.specs.Lexeme.{Lexeme}
 use Rattle.proto_grammar.specs.Terminal.{first_is, of_kind, is_word, closes, begins_scalar}
-use Rattle.proto_grammar.specs.Grammar.Steps.{One, Until, Adds, Passes}
+use Rattle.proto_grammar.specs.Grammar.Repetition.{One, Until, Adds, Passes}
 use Rattle.proto_grammar.specs.Grammar.Names.{IsTypeName}
 use Rattle.proto_grammar.specs.Grammar.Options.{IsOption}
 use Rattle.proto_parse.specs.Grammar.Messages.{IsHeading}

@@ -16,7 +16,7 @@ use Rattle.proto_grammar.specs.Terminal.{others, first_is, of_kind, is_word, clo
 use Rattle.proto_parse.specs.Choice.{message_statement_of}
 use Rattle.proto_grammar.specs.Tree.{MessageTree}
 use Rattle.proto_grammar.specs.Items.{body_of}
-use Rattle.proto_grammar.specs.Reading.Steps.{◌>>=◌, Read, token_that, until_at, adding, passing}
+use Rattle.proto_grammar.specs.Reading.Repetition.{◌>>=◌, Read, token_that, until_at, adding, passing}
 use Rattle.proto_grammar.specs.Reading.Names.{pass_type_name_at}
 use Rattle.proto_grammar.specs.Reading.Options.{option_at, options_at}
 use Rattle.proto_grammar.specs.Reading.Fields.{field_at, oneof_field_at, map_field_at, pass_field_at}

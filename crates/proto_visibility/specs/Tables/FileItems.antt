@@ -1,27 +1,23 @@
 -- The items of one file.
-use Rattle.std.specs.Prelude.{◌≡◌, ◌⊎◌, ◌↔◌, ℕ, ◌+◌, ◌<◌, true, false, Option, Some, None, List, [], ◌++◌, length, map, take, Contains}
+use Rattle.std.specs.Prelude.{◌≡◌, ◌⊎◌, ◌↔◌, ℕ, ◌+◌, ◌<◌, true, false, Option, Some, None, List, [], ◌++◌, length, map, Contains}
 use Rattle.std.specs.List.{slice_get}
-use Rattle.proto_decl.specs.Names.{dotted}
+use Rattle.proto_decl.specs.Names.{package_of}
 use Rattle.proto_decl.specs.Facts.{Facts}
 use Rattle.proto_decl.specs.declared.type_use.Component.{Component}
 use Rattle.proto_decl.specs.declared.declaration.Declaration.{Declaration}
 use Rattle.proto_visibility.specs.Files.{File}
 use Rattle.proto_visibility.specs.Items.{Item}
 
--- the name of the first `count` components
-abbrev pub front_named : List Component → (count : ℕ) → List ℕ
-front_named components count = dotted (map (λ component. component.name) (take count components))
-
 -- for each component the name up to it
-pub record AreFronts (components : List Component) (fronts : List (List ℕ)) : Type 0 where
-  pub one_each : length fronts ≡ length components
-  pub each : (index : ℕ) (front : List ℕ) → slice_get fronts index ≡ Some front → front ≡ front_named components (index + 1)
+pub record ArePrefixes (components : List Component) (prefixes : List (List ℕ)) : Type 0 where
+  pub one_each : length prefixes ≡ length components
+  pub each : (index : ℕ) (prefix : List ℕ) → slice_get prefixes index ≡ Some prefix → prefix ≡ package_of components (index + 1)
 
 abbrev pub declared_item : (number : ℕ) → Declaration → Item
 declared_item number declaration = record { place = record { file = number; span = declaration.name }; full_name = declaration.full_name; is_declaration = true }
 
 abbrev pub packaged_item : (number : ℕ) → List Component → (index : ℕ) → Component → Item
-packaged_item number components index component = record { place = record { file = number; span = component.span }; full_name = front_named components (index + 1); is_declaration = false }
+packaged_item number components index component = record { place = record { file = number; span = component.span }; full_name = package_of components (index + 1); is_declaration = false }
 
 -- the item of a component of the package's name, one of the first so many
 abbrev pub IsPackaged : (number : ℕ) → List Component → (count : ℕ) → Item → Type 0
@@ -53,10 +49,10 @@ package_name_in (Some facts) = facts.package_name
 abbrev pub package_name_of : File → List Component
 package_name_of file = package_name_in file.facts
 
--- for each file the fronts of its package's name
-pub record AreAllFronts (files : List File) (fronts : List (List (List ℕ))) : Type 0 where
-  pub one_each : length fronts ≡ length files
-  pub each : (number : ℕ) (file : File) (its : List (List ℕ)) → slice_get files number ≡ Some file → slice_get fronts number ≡ Some its → AreFronts (package_name_of file) its
+-- for each file the prefixes of its package's name
+pub record AreAllPrefixes (files : List File) (prefixes : List (List (List ℕ))) : Type 0 where
+  pub one_each : length prefixes ≡ length files
+  pub each : (number : ℕ) (file : File) (its : List (List ℕ)) → slice_get files number ≡ Some file → slice_get prefixes number ≡ Some its → ArePrefixes (package_name_of file) its
 
 -- an item of a file with this number, which has facts
 abbrev pub IsItemIn : (number : ℕ) → File → Item → Type 0

@@ -13,7 +13,7 @@ use Rattle.proto_visibility.specs.declared.names.Names.{Names}
 use Rattle.proto_visibility.specs.Files.{File}
 use Rattle.proto_visibility.specs.Knows.{NameKind, is_aggregate}
 use Rattle.proto_visibility.specs.Knows.NameKind.{OfPackage, OfDeclaration}
-use Rattle.proto_visibility.specs.Given.{IsFront}
+use Rattle.proto_visibility.specs.FileNames.{IsPrefix}
 
 -- what a map lists at a name
 abbrev pub listed_at : {X A S : Type 0} → HashMap (Bor (List ℕ)) (Vec X A) S → (name : List ℕ) → List X
@@ -43,12 +43,12 @@ abbrev pub AreDeclared : List File → (List ℕ → List DeclaredAt) → Type 0
 AreDeclared files at = (name : List ℕ) (one : DeclaredAt) → Contains (at name) one ↔ ((number : ℕ) × IsDeclaredBy files number name one)
 
 -- the name is that of the file's package, or of one around it
-abbrev pub HasFront : List File → (number : ℕ) → (name : List ℕ) → Type 0
-HasFront files number name = (file : File) × (facts : Facts) × (slice_get files number ≡ Some file) × (file.facts ≡ Some facts) × IsFront facts.package_name name
+abbrev pub HasPrefix : List File → (number : ℕ) → (name : List ℕ) → Type 0
+HasPrefix files number name = (file : File) × (facts : Facts) × (slice_get files number ≡ Some file) × (file.facts ≡ Some facts) × IsPrefix facts.package_name name
 
 -- at each name stand the files that have this package or one below it
 abbrev pub ArePackaged : List File → (List ℕ → List ℕ) → Type 0
-ArePackaged files at = (name : List ℕ) (number : ℕ) → Contains (at name) number ↔ HasFront files number name
+ArePackaged files at = (name : List ℕ) (number : ℕ) → Contains (at name) number ↔ HasPrefix files number name
 
 -- the tables have the names that the files give, and no others; the files of a package are in order of their numbers
 pub record AreNames (files : List File) (names : Names) : Type 0 where
@@ -56,9 +56,9 @@ pub record AreNames (files : List File) (names : Names) : Type 0 where
   pub packaged : ArePackaged files (owned_at names.packages)
   pub in_order : (name : List ℕ) → IsNonDecreasing (owned_at names.packages name)
 
--- some file of these fronts has this one
-abbrev pub HasFrontAt : List (List (List ℕ)) → (number : ℕ) → (name : List ℕ) → Type 0
-HasFrontAt fronts number name = (its : List (List ℕ)) × (slice_get fronts number ≡ Some its) × Contains its name
+-- some file of these prefixes has this one
+abbrev pub HasPrefixAt : List (List (List ℕ)) → (number : ℕ) → (name : List ℕ) → Type 0
+HasPrefixAt prefixes number name = (its : List (List ℕ)) × (slice_get prefixes number ≡ Some its) × Contains its name
 
 -- some of these declarations is one of the file with this number, and is admitted
 abbrev pub IsDeclaring : List DeclaredAt → (NameKind → Bool) → (number : ℕ) → Type 0
@@ -72,5 +72,5 @@ IsListed names admits name number = IsDeclaring (listed_at names.declared name) 
 pub record AreNamesOf (number : ℕ) (facts : Facts) (names : Names) : Type 0 where
   pub declared : (name : List ℕ) (one : DeclaredAt) → Contains (listed_at names.declared name) one → one.file ≡ number
       → (declaration : Declaration) × (slice_get facts.declarations one.index ≡ Some declaration) × (declaration.full_name ≡ name)
-  pub packaged : (name : List ℕ) → Contains (owned_at names.packages name) number → IsFront facts.package_name name
+  pub packaged : (name : List ℕ) → Contains (owned_at names.packages name) number → IsPrefix facts.package_name name
   pub in_order : (name : List ℕ) → IsNonDecreasing (owned_at names.packages name)

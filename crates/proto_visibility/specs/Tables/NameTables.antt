@@ -5,7 +5,7 @@ use Rattle.std.specs.HashMap.{HashMap}
 use denote.Ref.{Bor}
 use Rattle.proto_visibility.specs.declared.place.FilePlace.{FilePlace}
 use Rattle.proto_visibility.specs.Items.{Before, Item}
-use Rattle.proto_visibility.specs.Tables.StepTables.{number_in}
+use Rattle.proto_visibility.specs.Tables.ImportTables.{number_in}
 
 -- each item stands before those behind it
 abbrev pub AreInPlace : List Item → Type 0

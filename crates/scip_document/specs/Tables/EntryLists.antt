@@ -1,7 +1,7 @@
 -- The entries of a source, as the code lists them: its packages', and those of its declarations that are kept.
 use Rattle.std.specs.Prelude.{ℕ, ◌+◌, List, [], ◌∷◌, ◌++◌, length, map, if◌then◌else◌, slice_index_or}
 use Rattle.std.specs.List.{range_with_len}
-use Rattle.scip_model.specs.declared.records.Info.{Info}
+use Rattle.scip_model.specs.declared.records.SymbolInformation.{SymbolInformation}
 use Rattle.index_hooks.specs.declared.choice.Choice.{Choice}
 use Rattle.proto_decl.specs.Facts.{Facts}
 use Rattle.proto_decl.specs.declared.declaration.Declaration.{Declaration}
@@ -10,23 +10,23 @@ use Rattle.scip_document.specs.Chosen.{Chosen}
 use Rattle.scip_document.specs.Entries.{file_entry, package_entry, declaration_entry}
 
 -- of the first component, the first two, and so on
-abbrev pub package_entries_up_to : Package → Facts → (count : ℕ) → List Info
+abbrev pub package_entries_up_to : Package → Facts → (count : ℕ) → List SymbolInformation
 package_entries_up_to id facts count = map (λ index. package_entry id facts (index + 1)) (range_with_len 0 count)
 
-abbrev pub package_entries : Package → Facts → List Info
+abbrev pub package_entries : Package → Facts → List SymbolInformation
 package_entries id facts = package_entries_up_to id facts (length facts.package_name)
 
-abbrev pub entry_if_kept : Package → Facts → Declaration → Choice → List Info
+abbrev pub entry_if_kept : Package → Facts → Declaration → Choice → List SymbolInformation
 entry_if_kept id facts declared choice = if choice.keep then declaration_entry id facts declared choice ∷ [] else []
 
 -- of declarations, with the choice for each
-abbrev pub kept_entries : Package → Facts → List Declaration → List Choice → List Info
+abbrev pub kept_entries : Package → Facts → List Declaration → List Choice → List SymbolInformation
 kept_entries id facts [] choices = []
 kept_entries id facts (declared ∷ others) [] = []
 kept_entries id facts (declared ∷ others) (choice ∷ choices) = entry_if_kept id facts declared choice ++ kept_entries id facts others choices
 
 -- the file's, its packages', and its declarations'
-abbrev pub source_entries : Package → (path : List ℕ) → Facts → List Choice → List Info
+abbrev pub source_entries : Package → (path : List ℕ) → Facts → List Choice → List SymbolInformation
 source_entries id path facts choices = file_entry id path ∷ (package_entries id facts ++ kept_entries id facts facts.declarations choices)
 
 -- the choices for a file's declarations

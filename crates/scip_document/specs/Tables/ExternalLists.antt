@@ -7,7 +7,7 @@ use Rattle.proto_decl.specs.Facts.{Facts}
 use Rattle.proto_decl.specs.declared.declaration.Declaration.{Declaration}
 use Rattle.proto_decl.specs.declared.type_use.Use.{Use}
 use Rattle.index_hooks.specs.declared.choice.Choice.{Choice}
-use Rattle.scip_model.specs.declared.records.Info.{Info}
+use Rattle.scip_model.specs.declared.records.SymbolInformation.{SymbolInformation}
 use Rattle.scip_symbol.specs.Package.{Package}
 use Rattle.proto_visibility.specs.Files.{File, HasFacts, IsSource, IsIncludedAt}
 use Rattle.proto_link.specs.Targets.{IsTarget}
@@ -68,7 +68,7 @@ module _ (files : List File) (chosen : Chosen) where
     pub of_source : IsOfSource source x
 
 -- the entry of a declaration of these facts, with the choice for it
-pub record IsEntryAt (chosen : Chosen) (id : Package) (facts : Facts) (file index : ℕ) (entry : Info) : Type 0 where
+pub record IsEntryAt (chosen : Chosen) (id : Package) (facts : Facts) (file index : ℕ) (entry : SymbolInformation) : Type 0 where
   pub declaration : Declaration
   pub choice : Choice
   pub stands : slice_get facts.declarations index ≡ Some declaration
@@ -76,7 +76,7 @@ pub record IsEntryAt (chosen : Chosen) (id : Package) (facts : Facts) (file inde
   pub is : entry ≡ declaration_entry id facts declaration choice
 
 -- the entry of a declaration that is kept
-abbrev pub IsEntryOf : List File → Chosen → Package → Pair → Info → Type 0
+abbrev pub IsEntryOf : List File → Chosen → Package → Pair → SymbolInformation → Type 0
 IsEntryOf files chosen id x = IsKeptEntry files chosen id x.0 x.1
 
 -- some file is included

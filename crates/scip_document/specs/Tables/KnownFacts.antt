@@ -1,7 +1,7 @@
 -- What the laws of the crates below say of the facts of files and of their symbols.
 use Rattle.std.specs.Prelude.{◌≡◌, ◌≢◌, List, [], All}
 use Rattle.proto_decl.specs.Facts.{Facts, AreOfSomeFile, NamesInOrder, UsesInOrder, ImportsInOrder, PackageInOrder}
-use Rattle.proto_decl.specs.Ways.{AreNamed, AreHeld}
+use Rattle.proto_decl.specs.Ancestors.{AreNamed, AreHeld}
 use Rattle.scip_symbol.specs.Package.{Package, IsPackage}
 use Rattle.scip_symbol.specs.Entities.{Entity, IsEntity, symbol_in}
 use Rattle.scip_symbol.specs.SymbolText.{symbol_text}
@@ -28,5 +28,5 @@ WithoutClash = (files : List Facts) → AreWithoutClash files → IsWithoutClash
 -- Facts spell each name by identifiers, and each declaration is in its scope.
 pub record AreIdentifiers : Type 0 where
   pub named : (facts : Facts) → AreOfSomeFile facts → AreNamed facts.package_name facts.declarations
-  pub ways : (facts : Facts) → AreOfSomeFile facts → All (λ declaration. declaration.path ≢ []) facts.declarations
+  pub paths : (facts : Facts) → AreOfSomeFile facts → All (λ declaration. declaration.path ≢ []) facts.declarations
   pub held : (facts : Facts) → AreOfSomeFile facts → AreHeld facts.package_name facts.declarations

@@ -5,7 +5,7 @@ use super::message::{
     Encode, encode_messages, encode_optional_message, messages_len, optional_message_len,
 };
 use super::range::{encode_range, range_len};
-use scip_model::{Document, Index, Info, Metadata, Occurrence, ToolInfo};
+use scip_model::{Document, Index, Metadata, Occurrence, SymbolInformation, ToolInfo};
 use std::alloc::AllocError;
 
 impl Encode for Index {
@@ -115,7 +115,7 @@ impl Encode for Document {
     }
 }
 
-impl Encode for Info {
+impl Encode for SymbolInformation {
     ghost use Rattle.scip_wire.specs.Spelling.{info_fields};
     ghost use Rattle.scip_wire.specs.WellFormed.{IsFitInfo};
 

@@ -1,7 +1,7 @@
 use Rattle.std.proofs.Common.{◌∙◌, refl, sym, subst, List}
 use Rattle.clap.specs.Words.{Row}
-use Rattle.command_line.specs.Given.{Carries}
-use Rattle.command_line.proofs.GivenLemmas.{matches_name, matches_rows}
+use Rattle.command_line.specs.Values.{Carries}
+use Rattle.command_line.proofs.ValueLemmas.{matches_name, matches_rows}
 use Rattle.command_line.proofs.reading.named.Goals as goal
 
 pub returns-in-Some-subcommand_matches : goal.returns-in-Some-subcommand_matches

@@ -31,7 +31,7 @@ loop-worker-preserved c =
     let ends = c.in_ok-lane.field-0 in record {
       count = (let a = ap length more in let b = length_push c.loop-worker.lanes.items ends in let d = c.loop-worker.invariant.count in omega arith);
       fresh = All-same (FreshLane c.args.inputs) _ _ more (All-push (FreshLane c.args.inputs) c.loop-worker.lanes.items ends c.loop-worker.invariant.fresh
-          (fresh_owner c.args.inputs c.args.workers c.loop-worker.worker ends.0 new.owner, fresh_thief c.args.inputs c.args.workers c.loop-worker.worker ends.1 new.thief, new.deque));
+          (fresh_owner c.args.inputs c.args.workers c.loop-worker.worker ends.0 new.owner, fresh_thief c.args.inputs c.args.workers c.loop-worker.worker ends.1 new.thief new.tries, new.deque));
       weighed = λ h. (
           let a = ap (sum_by (given_weight h)) more in
           let b = sum_by_push (given_weight h) c.loop-worker.lanes.items ends in

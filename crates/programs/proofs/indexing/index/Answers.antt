@@ -1,10 +1,11 @@
-use Rattle.std.proofs.Common.{refl, subst, ℕ, List, Option}
+use Rattle.std.specs.String.{string_bytes}
+use Rattle.std.proofs.Common.{refl, ℕ, List, Option}
 use Rattle.index_hooks.specs.declared.choice.DocChoice.{DocChoice}
 use Rattle.scip_build.specs.declared.settings.Settings.{Settings}
 use Rattle.programs.specs.Choices.{IsChosenBy}
-use Rattle.programs.specs.Messages.{Tells}
 use Rattle.programs.specs.StartFaults.{line_of as start_line}
 use Rattle.programs.specs.TreeRuns.{not_started, over_tree}
+use Rattle.programs.proofs.MessageLemmas.{told}
 use Rattle.programs.proofs.MoveLemmas.{moved4}
 use Rattle.protoscip.specs.Indexes.{Indexes}
 use Rattle.programs.proofs.indexing.index.Goals as goal
@@ -14,7 +15,7 @@ returns-in-Err g c =
     let fault = c.in-Err.fault in
     let line = start_line fault in
     not_started fault c.in-Err.ensures.stops refl
-    (subst (λ due. Tells g.M.Sink.contents g.M.Sink.failures line due c.args.messages.now c.report.new.messages c.report.result) c.status.ensures (c.report.ensures line c.line.ensures))
+    (told g.M.Sink.contents g.M.Sink.failures c.args.messages.now c.report.new.messages c.report.result _ _ string_bytes c.line.result line c.status.ensures c.line.ensures c.report.ensures)
 
 pub returns : goal.returns
 returns g c =

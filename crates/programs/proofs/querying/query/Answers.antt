@@ -1,19 +1,24 @@
-use Rattle.std.proofs.Common.{subst, inr, sym, Ok}
-use Rattle.scip_model.specs.declared.records.Index.{Index}
-use Rattle.programs.specs.Queries.{IsReadFrom}
+use Rattle.std.proofs.Common.{refl, Ok, Err}
+use Rattle.std.proofs.lemmas.Result.{err_from_is_err_and}
+use Rattle.programs.specs.Streams.{reader, writer}
+use Rattle.programs.proofs.QueryLemmas.{unread, told}
 use Rattle.programs.proofs.querying.query.Goals as goal
+
+pub returns-in_err-index : goal.returns-in_err-index
+returns-in_err-index g c =
+    let p = err_from_is_err_and c.from_residual.result c.from_residual.ensures.1 in
+    rw (p.1, p.2) (unread (g.F.ReadFiles.gives c.args.files.now c.args.path.now) (reader g.R.Feed.remaining g.R.Feed.failures g.R.Feed.reads g.R.Feed.ends c.args.commands.now c.args.commands.now)
+    (writer g.W.Sink.contents g.W.Sink.failures c.args.answers.now c.args.answers.now) c.in_err-index.field-0.0 c.in_err-index.ensures (record { unread = refl; unwritten = refl }))
+
+pub returns-in_err-answer_commands : goal.returns-in_err-answer_commands
+returns-in_err-answer_commands g c =
+    let p = err_from_is_err_and c.from_residual-in_err-answer_commands.result c.from_residual-in_err-answer_commands.ensures.1 in
+    rw (p.1, p.2) (told (g.F.ReadFiles.gives c.args.files.now c.args.path.now)
+    (reader g.R.Feed.remaining g.R.Feed.failures g.R.Feed.reads g.R.Feed.ends c.args.commands.now c.answer_commands.new.commands)
+    (writer g.W.Sink.contents g.W.Sink.failures c.args.answers.now c.answer_commands.new.answers) c.in_ok-index.index c.in_ok-index.ensures (Err c.in_err-answer_commands.field-0.0) c.in_err-answer_commands.ensures)
 
 pub returns : goal.returns
 returns g c =
-    let answered = c.answer_all.ensures in
-    inr (record {
-      index = c.in_ok-queries.queries;
-      is = subst (λ (i : Index). IsReadFrom (g.F.ReadFiles.gives c.args.files.now c.args.path.now) (Ok i)) (sym c.in_ok-queries.ensures) c.in_ok-index.ensures;
-      answered = c.answer_all.result;
-      stops = c.outcome_of.ensures;
-      due = answered.replies.0;
-      replies = answered.replies.1;
-      asked = answered.replies.2;
-      feed = answered.feed;
-      briefly = answered.briefly;
-    })
+    told (g.F.ReadFiles.gives c.args.files.now c.args.path.now)
+    (reader g.R.Feed.remaining g.R.Feed.failures g.R.Feed.reads g.R.Feed.ends c.args.commands.now c.answer_commands.new.commands)
+    (writer g.W.Sink.contents g.W.Sink.failures c.args.answers.now c.answer_commands.new.answers) c.in_ok-index.index c.in_ok-index.ensures (Ok tt) c.in_ok-answer_commands.ensures

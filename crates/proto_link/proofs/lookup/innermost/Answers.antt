@@ -2,7 +2,7 @@ use Rattle.std.proofs.Common.{List, ℕ, Option, sym, ◌∙◌, subst}
 use Rattle.std.proofs.lemmas.Bool.{false≢true}
 use denote.Ref.{Bor}
 use Rattle.proto_visibility.specs.Knows.{KnowsAs}
-use Rattle.proto_visibility.specs.Given.{admits}
+use Rattle.proto_visibility.specs.FileNames.{admits}
 use Rattle.proto_link.proofs.LookupLemmas.{StandsFor, at_once, stands_next}
 use Rattle.proto_link.proofs.lookup.innermost.Goals as goal
 

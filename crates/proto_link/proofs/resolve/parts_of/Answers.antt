@@ -3,8 +3,8 @@ use denote.Ref.{Bor}
 use Rattle.proto_decl.specs.Facts.{Facts}
 use Rattle.proto_visibility.specs.Files.{HasFacts}
 use Rattle.proto_visibility.specs.Knows.{KnowsAs, is_type}
-use Rattle.proto_visibility.specs.Given.{SeesGiving}
-use Rattle.proto_link.specs.Parts.{AreEntitiesOf, AreNamed}
+use Rattle.proto_visibility.specs.FileNames.{SeesGiving}
+use Rattle.proto_link.specs.Tables.Parts.{AreEntitiesOf, AreNamed}
 use Rattle.proto_link.proofs.ResolveLemmas.{ok_each}
 use Rattle.proto_link.proofs.TargetLemmas.{facts_known, some_facts, all_named}
 use Rattle.proto_link.proofs.resolve.parts_of.Goals as goal

@@ -1,6 +1,6 @@
 use Rattle.std.proofs.Common.{◌≡◌, length, []}
 use Rattle.proto_grammar.specs.Terminal.{closes}
-use Rattle.proto_grammar.specs.Reading.Steps.{until_at, adding}
+use Rattle.proto_grammar.specs.Reading.Repetition.{until_at, adding}
 use Rattle.proto_parse.specs.Reading.Messages.{enum_item_at}
 use Rattle.proto_parse.proofs.enums.enum_items.Given as goal
 

@@ -1,7 +1,7 @@
 use Rattle.std.proofs.Common.{◌≡◌, length}
 use Rattle.proto_lex.specs.declared.token.TokenKind.TheVariants.{StringLiteral}
 use Rattle.proto_grammar.specs.Terminal.{not_next}
-use Rattle.proto_grammar.specs.Reading.Steps.{until_at}
+use Rattle.proto_grammar.specs.Reading.Repetition.{until_at}
 use Rattle.proto_parse.specs.Reading.Files.{stripped_at}
 use Rattle.proto_parse.proofs.files.spelled.Given as goal
 

@@ -1,7 +1,7 @@
 use Rattle.std.proofs.Common.{◌≡◌, length}
 use Rattle.proto_grammar.specs.Terminal.{is_end}
 use Rattle.proto_parse.specs.Grammar.Files.{empty_file}
-use Rattle.proto_grammar.specs.Reading.Steps.{until_at}
+use Rattle.proto_grammar.specs.Reading.Repetition.{until_at}
 use Rattle.proto_parse.specs.Reading.Files.{statement_at}
 use Rattle.proto_parse.proofs.files.statements.Given as goal
 

@@ -1,7 +1,7 @@
 use Rattle.std.proofs.Common.{◌≡◌, true, false}
 use Rattle.std.proofs.lemmas.Result.{err_from_is_err_and}
 use Rattle.proto_grammar.specs.Terminal.{closes}
-use Rattle.proto_grammar.specs.Reading.Steps.{adding}
+use Rattle.proto_grammar.specs.Reading.Repetition.{adding}
 use Rattle.proto_parse.specs.Reading.Messages.{message_item_at, message_at}
 use Rattle.proto_grammar.proofs.UntilLemmas.{Fails-of, goes_on, is_done, stops, adding-step, adding-none}
 use Rattle.proto_parse.proofs.StepsFall.{message_items_fall}

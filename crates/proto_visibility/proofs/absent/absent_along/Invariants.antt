@@ -1,4 +1,4 @@
-use Rattle.proto_visibility.specs.Tables.StepTables.{number_in, NoneIsAbsentUpTo}
+use Rattle.proto_visibility.specs.Tables.ImportTables.{number_in, NoneIsAbsentUpTo}
 use Rattle.proto_visibility.proofs.absent.absent_along.Given as goal
 
 abbrev pub invariant-loop-import : goal.invariant-loop-import

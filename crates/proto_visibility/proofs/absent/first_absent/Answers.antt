@@ -1,7 +1,7 @@
 use Rattle.std.proofs.Common.{◌≡◌, ◌<◌, ◌≤◌, Some, length, get_or, refl, ap, subst, arith, rules}
 use Rattle.std.specs.List.{slice_get}
 use Rattle.std.proofs.lemmas.Option.{slice_get_read}
-use Rattle.proto_visibility.specs.Tables.StepTables.{number_in}
+use Rattle.proto_visibility.specs.Tables.ImportTables.{number_in}
 use Rattle.proto_visibility.proofs.CountingLemmas.{counted_at}
 use Rattle.proto_visibility.proofs.AbsentLemmas.{none_absent, none_more, is_absent_place}
 use Rattle.proto_visibility.proofs.absent.first_absent.Goals as goal

@@ -1,4 +1,4 @@
-use Rattle.proto_visibility.specs.Tables.StepTables.{number_in}
+use Rattle.proto_visibility.specs.Tables.ImportTables.{number_in}
 use Rattle.proto_visibility.proofs.AbsentLemmas.{NoneUpTo}
 use Rattle.proto_visibility.proofs.absent.first_absent.Given as goal
 

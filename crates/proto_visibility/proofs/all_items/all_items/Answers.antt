@@ -2,7 +2,7 @@ use Rattle.std.proofs.Common.{◌≡◌, ◌<◌, ◌≤◌, ◌+◌, ◌++◌, 
 use Rattle.std.specs.List.{slice_get}
 use Rattle.std.proofs.lemmas.Option.{slice_get_read}
 use Rattle.proto_visibility.specs.Tables.NameTables.{AreInPlace}
-use Rattle.proto_visibility.specs.Tables.FileItems.{AreFronts, package_name_of}
+use Rattle.proto_visibility.specs.Tables.FileItems.{ArePrefixes, package_name_of}
 use Rattle.proto_visibility.proofs.CountingLemmas.{counted_at}
 use Rattle.proto_visibility.proofs.AllItemsLemmas.{AreItemsUpTo, items_more, order_more, items_all}
 use Rattle.proto_visibility.proofs.all_items.all_items.Goals as goal
@@ -15,28 +15,28 @@ offset_bounds-files-number c =
 pub bounds-files-number : goal.bounds-files-number
 bounds-files-number c = counted_at c.args.files.now c.args.counted.now c.as_slice-number-items.result.now c.loop-number.number-index (λ n. (c.requires.counted n).0) c.as_slice-number-items.ensures.value (omega arith)
 
-pub offset_bounds-fronts-number : goal.offset_bounds-fronts-number
-offset_bounds-fronts-number c =
+pub offset_bounds-prefixes-number : goal.offset_bounds-prefixes-number
+offset_bounds-prefixes-number c =
     let within = counted_at c.args.files.now c.args.counted.now c.as_slice-number-items.result.now c.loop-number.number-index (λ n. (c.requires.counted n).0) c.as_slice-number-items.ensures.value (omega arith) in
-    let inside : get_or c.as_slice-number-items.result.now c.loop-number.number-index 0 < length c.args.fronts.now = omega (arith, c.requires.fronts.one_each) in
+    let inside : get_or c.as_slice-number-items.result.now c.loop-number.number-index 0 < length c.args.prefixes.now = omega (arith, c.requires.prefixes.one_each) in
     search (rules, inside)
 
-pub bounds-fronts-number : goal.bounds-fronts-number
-bounds-fronts-number c =
+pub bounds-prefixes-number : goal.bounds-prefixes-number
+bounds-prefixes-number c =
     let within = counted_at c.args.files.now c.args.counted.now c.as_slice-number-items.result.now c.loop-number.number-index (λ n. (c.requires.counted n).0) c.as_slice-number-items.ensures.value (omega arith) in
-    omega (arith, c.requires.fronts.one_each)
+    omega (arith, c.requires.prefixes.one_each)
 
 pub items_of_file-requires : goal.items_of_file-requires
 items_of_file-requires c =
     let files = c.args.files.now in
-    let all = c.args.fronts.now in
+    let all = c.args.prefixes.now in
     let number = get_or c.as_slice-number-items.result.now c.loop-number.number-index 0 in
     let file = c.index-files-number.result in
-    let its = c.index-fronts-number.result in
+    let its = c.index-prefixes-number.result in
     let within = counted_at files c.args.counted.now c.as_slice-number-items.result.now c.loop-number.number-index (λ n. (c.requires.counted n).0) c.as_slice-number-items.ensures.value (omega arith) in
     let stands : slice_get files number ≡ Some file = slice_get_read files (length files) number file refl within c.index-files-number.is in
-    let its_stand : slice_get all number ≡ Some its = slice_get_read all (length files) number its (sym c.requires.fronts.one_each) within c.index-fronts-number.is in
-    subst (AreFronts (package_name_of file)) (sym c.as_slice.ensures) (c.requires.fronts.each number file its stands its_stand)
+    let its_stand : slice_get all number ≡ Some its = slice_get_read all (length files) number its (sym c.requires.prefixes.one_each) within c.index-prefixes-number.is in
+    subst (ArePrefixes (package_name_of file)) (sym c.as_slice.ensures) (c.requires.prefixes.each number file its stands its_stand)
 
 pub loop-number-preserved : goal.loop-number-preserved
 loop-number-preserved c =

@@ -5,7 +5,7 @@ use Rattle.std.proofs.lemmas.Option.{slice_get_read}
 use Rattle.proto_visibility.specs.Items.{Item}
 use Rattle.proto_visibility.specs.Clashes.{ClashBy}
 use Rattle.proto_visibility.specs.Tables.NameTables.{HasNone, IsFirstNamed}
-use Rattle.proto_visibility.specs.Tables.StepTables.{number_in}
+use Rattle.proto_visibility.specs.Tables.ImportTables.{number_in}
 use Rattle.proto_visibility.proofs.ClashLemmas.{none_clash_more, is_clash, no_clash, first_more}
 use Rattle.proto_visibility.proofs.clash.first_clash.Goals as goal
 

@@ -10,15 +10,15 @@ pub loop-index-preserved : goal.loop-index-preserved
 loop-index-preserved c =
     let components = c.args.components.now in
     let component = c.index-components-index.result in
-    let fronts = c.args.fronts.now in
-    let front = c.index-fronts-index.result in
+    let prefixes = c.args.prefixes.now in
+    let prefix = c.index-prefixes-index.result in
     let index = c.loop-index.index in
     let old = c.args.items.now.items in
     let now = c.loop-index.items.items in
     let within : index < length components = omega arith in
     let stands : slice_get components index ≡ Some component = slice_get_read components (length components) index component refl within c.index-components-index.is in
-    let front_stands : slice_get fronts index ≡ Some front = slice_get_read fronts (length components) index front (sym c.requires.one_each) within c.index-fronts-index.is in
-    let name = c.as_str.ensures ∙ c.requires.each index front front_stands in
+    let prefix_stands : slice_get prefixes index ≡ Some prefix = slice_get_read prefixes (length components) index prefix (sym c.requires.one_each) within c.index-prefixes-index.is in
+    let name = c.as_str.ensures ∙ c.requires.each index prefix prefix_stands in
     let item : Item = record { place = record { file = c.args.number; span = component.span }; full_name = c.as_str.result.now; is_declaration = false } in
     let is : item ≡ packaged_item c.args.number components index component = ap (λ n. record { place = record { file = c.args.number; span = component.span }; full_name = n; is_declaration = false }) name in
     let items : c.push.new.self.items ≡ now ++ item ∷ [] = c.in_ok-push.ensures.items in

@@ -1,5 +1,5 @@
 use Rattle.std.proofs.Common.{length, subst}
-use Rattle.proto_visibility.specs.Tables.StepTables.{HasStep, AreRowsBy}
+use Rattle.proto_visibility.specs.Tables.ImportTables.{HasStep, AreRowsBy}
 use Rattle.proto_visibility.proofs.SeeingLemmas.{rows_by}
 use Rattle.proto_visibility.proofs.seeing.seen_files.Goals as goal
 

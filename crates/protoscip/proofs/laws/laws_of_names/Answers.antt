@@ -5,7 +5,7 @@ returns c =
     let identifiers = c.names_are_identifiers.ensures in
     record {
       named = identifiers.named;
-      ways = identifiers.ways;
+      paths = identifiers.paths;
       held = identifiers.held;
       simple = c.scopes_are_known.ensures.package_name;
       one_name = c.one_declaration_a_name.ensures.declarations;

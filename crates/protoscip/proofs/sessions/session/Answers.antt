@@ -1,5 +1,6 @@
 use Rattle.std.proofs.lemmas.Result.{err_from_is_err_and}
 use Rattle.protoscip.proofs.FileLemmas.{files_of_build}
+use Rattle.protoscip.proofs.NavigableLemmas.{answers}
 use Rattle.protoscip.proofs.SessionLemmas.{unserved, all_served, no_files}
 use Rattle.protoscip.proofs.sessions.session.Goals as goal
 
@@ -30,3 +31,9 @@ pub returns-clause-served : goal.returns-clause-served
 returns-clause-served g c =
     all_served g.F.Feed.remaining g.F.Feed.failures g.F.Feed.reads g.F.Feed.ends g.W.Sink.contents g.W.Sink.failures c.args.commands.now c.converse.new.commands c.args.answers.now c.converse.new.answers
     (g.C.Chooses.allows c.args.chooser.now) c.args.settings.now c.args.tree.now c.args.workers c.in_ok-index.field-0 c.in_ok-index.ensures.built c.in_ok-converse.field-0 c.in_ok-converse.ensures
+
+pub returns-clause-navigable : goal.returns-clause-navigable
+returns-clause-navigable g c =
+    answers (g.C.Chooses.allows c.args.chooser.now) c.args.settings.now c.args.tree.now c.headline_of_tree.ensures g.F.Feed.remaining g.F.Feed.failures g.F.Feed.reads g.F.Feed.ends g.W.Sink.contents g.W.Sink.failures
+    c.args.workers c.in_ok-index.field-0.choices c.args.commands.now c.converse.new.commands c.args.answers.now c.converse.new.answers
+    (returns-clause-served g c)

@@ -1,7 +1,7 @@
 use Rattle.std.proofs.Common.{◌≡◌, ◌∙◌, ◌++◌, List, [], Some, length, take, ap, sym, refl, subst, append_assoc}
 use Rattle.std.specs.List.{slice_get}
 use Rattle.std.proofs.lemmas.Option.{slice_get_read, get_or_from_slice_get}
-use Rattle.scip_model.specs.declared.records.Info.{Info}
+use Rattle.scip_model.specs.declared.records.SymbolInformation.{SymbolInformation}
 use Rattle.proto_decl.specs.declared.declaration.Declaration.{Declaration}
 use Rattle.index_hooks.specs.declared.choice.Choice.{Choice}
 use Rattle.scip_document.specs.Tables.EntryLists.{kept_entries, entry_if_kept, choices_for}
@@ -23,6 +23,6 @@ loop-index-preserved c =
     let chosen : slice_get choices index ≡ Some choice = ap (λ (l : List Choice). slice_get l index) (get_or_from_slice_get c.args.maker.now.choices.now c.args.maker.now.source c.of-choice.ensures.of_file [] c.of-choice.ensures.file_is) ∙ c.of-choice.ensures.declaration_is in
     let so_far = kept_entries id facts (take index facts.declarations) choices in
     c.in_ok-push_if_kept.ensures
-    ∙ (ap (λ (entries : List Info). entries ++ entry_if_kept id facts declaration choice) c.loop-index.invariant
+    ∙ (ap (λ (entries : List SymbolInformation). entries ++ entry_if_kept id facts declaration choice) c.loop-index.invariant
     ∙ (append_assoc old so_far (entry_if_kept id facts declaration choice)
-    ∙ ap (λ (entries : List Info). old ++ entries) (sym (kept-more id facts facts.declarations choices index declaration choice stands chosen))))
+    ∙ ap (λ (entries : List SymbolInformation). old ++ entries) (sym (kept-more id facts facts.declarations choices index declaration choice stands chosen))))

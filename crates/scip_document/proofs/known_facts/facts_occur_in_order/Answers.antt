@@ -11,6 +11,6 @@ returns-clause-order c = record {
 pub returns-clause-spelled : goal.returns-clause-spelled
 returns-clause-spelled c = record {
   named = c.names_are_identifiers.ensures.named;
-  ways = c.names_are_identifiers.ensures.ways;
+  paths = c.names_are_identifiers.ensures.paths;
   held = c.names_are_identifiers.ensures.held;
 }

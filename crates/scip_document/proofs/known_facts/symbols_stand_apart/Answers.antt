@@ -3,6 +3,6 @@ use Rattle.scip_document.proofs.known_facts.symbols_stand_apart.Goals as goal
 pub returns-clause-spelled : goal.returns-clause-spelled
 returns-clause-spelled c = record {
   named = c.names_are_identifiers.ensures.named;
-  ways = c.names_are_identifiers.ensures.ways;
+  paths = c.names_are_identifiers.ensures.paths;
   held = c.names_are_identifiers.ensures.held;
 }

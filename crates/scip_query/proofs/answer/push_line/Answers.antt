@@ -17,5 +17,5 @@ pub returns : goal.returns
 returns c =
     on_ok_weaker c.writeln.result
     (λ e. e ∙ rw (c.start_line-start_line.ensures.value, c.start_column-start_column.ensures, c.end_line-end_line.ensures, c.end_column-end_column.ensures, to_z-of_z w32 c.args.roles c.ranges.roles)
-    (regroup (string_bytes c.args.text.now) (decimal c.args.range.start_line) (decimal c.args.range.start_column) (decimal c.args.range.end_line) (decimal c.args.range.end_column) (signed_decimal c.args.roles) c.args.path.now))
+    (regroup (string_bytes c.args.text.now) (decimal c.args.range.start_line) (decimal c.args.range.start_column) (decimal c.args.range.end_line) (decimal c.args.range.end_column) (signed_decimal c.args.roles) c.args.name.now))
     c.writeln.ensures.bytes

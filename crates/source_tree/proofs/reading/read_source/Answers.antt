@@ -1,9 +1,9 @@
 use Rattle.std.proofs.Common.{◌≡◌, ℕ, ◌<◌, ◌≤◌, ◌++◌, List, [], length, take, refl, ap, sym, ◌∙◌, arith, append_assoc, subst}
 use Rattle.std.proofs.lemmas.List.{append-nil}
-use Rattle.scip_model.specs.Streams.{one_more}
-use Rattle.scip_model.specs.declared.failed.Failed.{Failed}
+use Rattle.streams.specs.Streams.{one_more}
+use Rattle.streams.specs.declared.failed.Failed.{Failed}
 use Rattle.source_tree.specs.Reading.{kept_bytes, max_kept_length}
-use Rattle.scip_model.proofs.WholeReadLemmas.{one-more-read, no-end, consumed, nothing-left, reads-full, more-reads}
+use Rattle.streams.proofs.WholeReadLemmas.{one-more-read, no-end, consumed, nothing-left, reads-full, more-reads}
 use Rattle.source_tree.proofs.ReadingLemmas.{kept_bytes-more, kept_bytes-few}
 use Rattle.source_tree.proofs.reading.read_source.Goals as goal
 

@@ -1,5 +1,5 @@
 use Rattle.std.proofs.Common.{◌≡◌, ℕ, ◌+◌, ◌<◌, ◌≤◌, ◌++◌, List, Some, length}
-use Rattle.scip_model.specs.Streams.{more_by}
+use Rattle.streams.specs.Streams.{more_by}
 use Rattle.source_tree.specs.Reading.{kept_bytes, max_kept_length}
 use Rattle.source_tree.proofs.reading.read_source.Given as goal
 

@@ -2,7 +2,7 @@ use Rattle.std.proofs.Common.{◌≡◌, true, false, refl}
 use Rattle.std.proofs.lemmas.Result.{err_from_is_err_and}
 use Rattle.proto_lex.specs.declared.token.TokenKind.TheVariants.{Comma}
 use Rattle.proto_grammar.specs.Terminal.{first_is, of_kind, not_next}
-use Rattle.proto_grammar.specs.Reading.Steps.{passing}
+use Rattle.proto_grammar.specs.Reading.Repetition.{passing}
 use Rattle.proto_grammar.specs.Reading.Options.{comma_setting_at, comma_settings_at}
 use Rattle.proto_grammar.proofs.UntilLemmas.{Fails-of, goes_on, is_done, stops}
 use Rattle.proto_grammar.proofs.StepsFall.{comma_settings_fall}

@@ -1,7 +1,7 @@
 use Rattle.std.proofs.Common.{◌≡◌, length}
 use Rattle.proto_lex.specs.declared.token.TokenKind.TheVariants.{Comma}
 use Rattle.proto_grammar.specs.Terminal.{not_next}
-use Rattle.proto_grammar.specs.Reading.Steps.{until_at, passing}
+use Rattle.proto_grammar.specs.Reading.Repetition.{until_at, passing}
 use Rattle.proto_grammar.specs.Reading.Options.{comma_setting_at}
 use Rattle.proto_grammar.proofs.parser.Parser.comma_settings.Given as goal
 

@@ -2,7 +2,7 @@ use Rattle.std.proofs.Common.{◌≡◌, true, false, refl}
 use Rattle.std.proofs.lemmas.Result.{err_from_is_err_and}
 use Rattle.proto_lex.specs.declared.token.TokenKind.TheVariants.{Dot}
 use Rattle.proto_grammar.specs.Terminal.{first_is, of_kind, not_next}
-use Rattle.proto_grammar.specs.Reading.Steps.{adding}
+use Rattle.proto_grammar.specs.Reading.Repetition.{adding}
 use Rattle.proto_grammar.specs.Reading.Names.{dot_name_at, dot_names_at}
 use Rattle.proto_grammar.proofs.UntilLemmas.{Fails-of, goes_on, is_done, stops, adding-step, adding-none}
 use Rattle.proto_grammar.proofs.StepsFall.{dot_names_fall}

@@ -4,8 +4,8 @@ use Rattle.std.proofs.lemmas.Option.{slice_get_read}
 use Rattle.proto_visibility.specs.Files.{File}
 use Rattle.proto_visibility.specs.Sees.{Sees}
 use Rattle.proto_visibility.specs.Knows.{KnowsAs}
-use Rattle.proto_visibility.specs.Given.{admits, SeesGiving}
-use Rattle.proto_visibility.proofs.KnowingLemmas.{knows_by}
+use Rattle.proto_visibility.specs.FileNames.{admits, SeesGiving}
+use Rattle.proto_visibility.proofs.NameOwnerLemmas.{knows_by}
 use Rattle.proto_visibility.proofs.ListedLemmas.{found_in_files}
 use Rattle.proto_visibility.proofs.namespace.Namespace.first_giving.Goals as goal
 

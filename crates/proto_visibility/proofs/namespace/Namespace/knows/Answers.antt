@@ -1,7 +1,7 @@
 use Rattle.std.proofs.Common.{◌↔◌, IsTrue, sym, subst}
-use Rattle.proto_visibility.specs.Given.{admits}
+use Rattle.proto_visibility.specs.FileNames.{admits}
 use Rattle.proto_visibility.specs.Knows.{KnowsAs}
-use Rattle.proto_visibility.proofs.KnowingLemmas.{knows_iff}
+use Rattle.proto_visibility.proofs.NameOwnerLemmas.{knows_iff}
 use Rattle.proto_visibility.proofs.namespace.Namespace.knows.Goals as goal
 
 pub returns : goal.returns

@@ -1,10 +1,10 @@
 use Rattle.std.proofs.Common.{◌≡◌, ◌<◌, ◌++◌, [], length, take, refl, ap, sym, ◌∙◌, arith, append_assoc}
 use Rattle.std.proofs.lemmas.List.{append-nil}
 use Rattle.std.proofs.lemmas.Result.{err_from_is_err_and}
-use Rattle.scip_model.specs.Streams.{one_more}
-use Rattle.scip_model.specs.WholeReads.{IsReadThrough}
-use Rattle.scip_model.specs.declared.failed.Failed.{Failed}
-use Rattle.scip_model.proofs.WholeReadLemmas.{one-more-read, no-end, one-end, consumed, kept-left, nothing-left, reads-full, more-reads}
+use Rattle.streams.specs.Streams.{one_more}
+use Rattle.streams.specs.WholeReads.{IsReadThrough}
+use Rattle.streams.specs.declared.failed.Failed.{Failed}
+use Rattle.streams.proofs.WholeReadLemmas.{one-more-read, no-end, one-end, consumed, kept-left, nothing-left, reads-full, more-reads}
 use Rattle.scip_query.proofs.ConversationLemmas.{starts, concluded_due, halted_on_the_way, unread_due, concluded_feed, halted_feed}
 use Rattle.scip_query.proofs.queries.Queries.answer_all.Goals as goal
 

@@ -1,5 +1,5 @@
 use Rattle.std.proofs.Common.{◌≡◌, ℕ, ◌+◌, ◌<◌, ◌≤◌, ◌++◌, List, Some}
-use Rattle.scip_model.specs.Streams.{more_by}
+use Rattle.streams.specs.Streams.{more_by}
 use Rattle.scip_query.specs.ConversingSteps.{Stands}
 use Rattle.scip_query.proofs.queries.Queries.answer_all.Given as goal
 

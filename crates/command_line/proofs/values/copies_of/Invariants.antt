@@ -1,0 +1,6 @@
+use Rattle.std.proofs.Common.{◌≡◌, map, string_bytes, take}
+use Rattle.command_line.proofs.values.copies_of.Given as goal
+
+-- the texts so far
+abbrev pub invariant-loop-text : goal.invariant-loop-text
+invariant-loop-text l = map string_bytes l.copies.items ≡ map (λ s. s.now) (take l.text-index l.texts)

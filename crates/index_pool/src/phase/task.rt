@@ -1,0 +1,12 @@
+//! What the workers of a phase share.
+
+use std::alloc::Global;
+
+/// What the workers of a phase share: the job whose inputs they run, the gate whose calls come round
+/// each run, and where their memory comes from.
+#[derive(Drop)]
+pub struct Task<'t, J, G> {
+    pub alloc: Global,
+    pub job: &'t J,
+    pub gate: &'t G,
+}

@@ -1,0 +1,14 @@
+//! What a program runs over.
+
+use std::alloc::Global;
+
+/// What a program runs over, beside its streams: threads, memory and files.
+#[derive(Drop)]
+pub struct Host<'a, R, F> {
+    /// The runtime whose threads work.
+    pub rt: &'a R,
+    /// Where memory is taken.
+    pub alloc: Global,
+    /// The system of files.
+    pub files: &'a F,
+}

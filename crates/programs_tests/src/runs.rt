@@ -1,0 +1,260 @@
+//! The program over streams and files in memory.
+//!
+//! Each writer is a part of an array, which takes no memory.
+
+use crate::files::Files;
+use crate::shared::{see, words_of};
+use command_line::{Request, request_of};
+use programs::{Host, run};
+use std::alloc::{AllocError, Global};
+use std::process::Abort;
+use std::sync::Wait;
+use std::test::Fail;
+use std::thread::Threads;
+use streams::Std;
+
+/// The most bytes that a run prints, writes to a file or says in these tests.
+const ROOM: usize = 512;
+
+/// A command line and an input; and what the run ends with. The output and the file have room for what is
+/// printed and written alone: a `\0` is room for a byte that doesn't come.
+struct Row {
+    words: &'static str,
+    input: &'static str,
+    printed: &'static str,
+    written: &'static [u8],
+    status: u8,
+    said: &'static str,
+}
+
+const SILENT: Row = Row {
+    words: "",
+    input: "",
+    printed: "\0",
+    written: b"\0",
+    status: 0,
+    said: "",
+};
+
+// The second row reads: of the version 5 bytes are taken, so a write fails, which is said, with status 3.
+static ROWS: [Row; 20] = [
+    Row {
+        words: "--version",
+        printed: "protoscip 1\n\0",
+        ..SILENT
+    },
+    Row {
+        words: "--version",
+        printed: "proto",
+        status: 3,
+        said: "protoscip: Write\n",
+        ..SILENT
+    },
+    Row {
+        words: "nothing",
+        status: 2,
+        said: "error: unrecognized subcommand 'nothing'\n\nUsage: protoscip <COMMAND>\n\nFor more information, try '--help'.\n",
+        ..SILENT
+    },
+    Row {
+        words: "dump",
+        input: "syntax = \"proto3\";",
+        printed: "0 0 0 0 1 scip-protobuf . . . `input.proto`/\n= 1\n\0",
+        ..SILENT
+    },
+    Row {
+        words: "dump --custom-options skip",
+        input: "syntax = \"proto3\";\noption (x) = 1;\n",
+        printed: "0 0 0 0 1 scip-protobuf . . . `input.proto`/\n= 1\n\0",
+        ..SILENT
+    },
+    Row {
+        words: "dump",
+        input: " @",
+        status: 1,
+        said: "protoscip: input.proto@1: BadByte\n",
+        ..SILENT
+    },
+    Row {
+        words: "query a.scip",
+        input: "ref 1 8 a\nsym b",
+        printed: "1 8 1 9 1 a\n= 1\n? no document\n\0",
+        ..SILENT
+    },
+    Row {
+        words: "query a.scip",
+        input: "ref 1 8 a\n",
+        printed: "1 8 1",
+        status: 3,
+        said: "protoscip: Write\n",
+        ..SILENT
+    },
+    Row {
+        words: "query none.scip",
+        input: "sym a\n",
+        status: 3,
+        said: "protoscip: none.scip: Unreadable\n",
+        ..SILENT
+    },
+    Row {
+        words: "query cut.scip",
+        input: "sym a\n",
+        status: 5,
+        said: "protoscip: cut.scip@0: Truncated\n",
+        ..SILENT
+    },
+    Row {
+        words: "index api out",
+        written: b"\x0A\x1C\x12\x0E\x0A\x09protoscip\x12\x011\x1A\x08file:///\x20\x01\
+\x12\xA7\x01\x0A\x07a.proto\
+\x12\x27\x0A\x03\x00\x00\x00\x12\x1Escip-protobuf . . . `a.proto`/\x18\x01\
+\x12\x1F\x0A\x03\x01\x08\x09\x12\x16scip-protobuf . . . A#\x18\x01\
+\x1A\x1B\x0A\x16scip-protobuf . . . A#\x32\x01A\
+\x1A\x29\x0A\x1Escip-protobuf . . . `a.proto`/\x32\x07a.proto\
+\x22\x08Protobuf\x30\x01\0",
+        ..SILENT
+    },
+    Row {
+        words: "index api out",
+        written: b"\x0A\x1C\x12\x0E\x0A\x09prot",
+        status: 3,
+        said: "protoscip: Write\n",
+        ..SILENT
+    },
+    Row {
+        words: "index --package . nowhere out",
+        status: 2,
+        said: "protoscip: BadPart\n",
+        ..SILENT
+    },
+    Row {
+        words: "index holes out --include nowhere",
+        status: 3,
+        said: "protoscip: b.proto: Unreadable\n",
+        ..SILENT
+    },
+    Row {
+        words: "index twice out --include bad",
+        status: 1,
+        said: "protoscip: a\n.proto: BadPath\n",
+        ..SILENT
+    },
+    Row {
+        words: "index twice out",
+        status: 1,
+        said: "protoscip: c.proto: SamePath\n",
+        ..SILENT
+    },
+    Row {
+        words: "index clash out",
+        status: 1,
+        said: "protoscip: b.proto@27: Duplicate of a.proto@46\n",
+        ..SILENT
+    },
+    Row {
+        words: "shell one",
+        input: "ref 3 28 a.proto\ndef 3 28 a.proto\ndef 3 31 a.proto\ndef 0 0 a.proto\ndef 0 0 z.proto\nref\nsym a.proto",
+        printed: "2 8 2 11 1 a.proto\n3 28 3 31 0 a.proto\n= 2\n2 8 2 11 1 a.proto\n= 1\n? nothing there\n0 0 0 0 1 a.proto\n= 1\n? no document\n? bad command\nscip-protobuf . . . `a.proto`/\nscip-protobuf . . . p/\nscip-protobuf . . . p/Foo#\nscip-protobuf . . . p/M#\nscip-protobuf . . . p/M#Foo.\nscip-protobuf . . . p/M#x.\n= 6\n\0",
+        ..SILENT
+    },
+    Row {
+        words: "shell said --doc both --only A --positions utf16 --custom-options skip --release r --workers 1",
+        input: "doc 3 8 a.proto\ndef 5 16 a.proto\nsym a.proto",
+        printed: "| One.\n| Two.\n= 2\n? nothing there\nscip-protobuf . . r A#\nscip-protobuf . . r `a.proto`/\n= 2\n\0",
+        ..SILENT
+    },
+    Row {
+        words: "shell one",
+        input: "def 3 28 a.proto",
+        printed: "2 8 2",
+        status: 3,
+        said: "protoscip: Answer\n",
+        ..SILENT
+    },
+];
+
+/// Runs what was asked for. Gives the status, and whether what is due is said.
+fn ended<R: Threads + Wait>(
+    rt: &R,
+    alloc: Global,
+    asked: &Result<Request, AllocError>,
+    row: &Row,
+    printed: &mut [u8],
+    written: &mut [u8],
+) -> (u8, bool) {
+    let mut input = Std::new(row.input.as_bytes());
+    let mut out = Std::new(printed);
+    let mut file = Std::new(written);
+    let mut told = [0u8; ROOM];
+    let mut messages = Std::new(told.as_mut_slice());
+    let host = Host {
+        rt,
+        alloc,
+        files: &Files,
+    };
+    let status = run(&host, asked, &mut input, &mut out, &mut file, &mut messages);
+    let count = ROOM - messages.into_inner().len().min(ROOM);
+    (status, told.split_at(count).0 == row.said.as_bytes())
+}
+
+/// Whether what was asked for ends as a row says; none after want of memory.
+fn ends_so<R: Threads + Wait>(
+    rt: &R,
+    alloc: Global,
+    asked: &Result<Request, AllocError>,
+    row: &Row,
+) -> Option<bool> {
+    let mut printed = [0u8; ROOM];
+    let printed = printed.split_at_mut(row.printed.len().min(ROOM)).0;
+    let mut written = [0u8; ROOM];
+    let written = written.split_at_mut(row.written.len().min(ROOM)).0;
+    let (status, is_said) = ended(rt, alloc, asked, row, printed, written);
+    if status == 4 && row.status != 4 {
+        return None;
+    }
+    let is_out = *printed == *row.printed.as_bytes() && *written == *row.written;
+    Some(status == row.status && is_said && is_out)
+}
+
+/// The same of the command line of a row.
+fn runs_so<R: Threads + Wait>(
+    rt: &R,
+    alloc: Global,
+    words: &Vec<String>,
+    row: &Row,
+) -> Option<bool> {
+    let asked = request_of(alloc, words);
+    ends_so(rt, alloc, &asked, row)
+}
+
+/// Sees that a row's command line ends so. After want of memory it is run again, and the second run counts.
+fn see_row<R: Threads + Wait + Abort>(rt: &R, alloc: Global, row: &Row) -> Result<(), AllocError> {
+    let words = words_of(alloc, row.words)?;
+    let is_so = match runs_so(rt, alloc, &words, row) {
+        None => runs_so(rt, alloc, &words, row),
+        is_so => is_so,
+    };
+    see(rt, is_so == Some(true), row.words);
+    Ok(())
+}
+
+#[test]
+fn each_program_with_its_streams(rt: HostRuntime) -> Result<(), Fail> {
+    for row in &ROWS {
+        see_row(&rt, rt.alloc(), row)?;
+    }
+    Ok(())
+}
+
+static MEMORY: Row = Row {
+    input: "syntax = \"proto3\";",
+    status: 4,
+    said: "protoscip: Memory\n",
+    ..SILENT
+};
+
+#[test]
+fn want_of_memory_for_the_command_line(rt: HostRuntime) {
+    let is_so = ends_so(&rt, rt.alloc(), &Err(AllocError), &MEMORY);
+    see(&rt, is_so == Some(true), "Memory");
+}

@@ -1,0 +1,177 @@
+//! Worked trees.
+
+use crate::drafts::Draft;
+use crate::trees::see_tree;
+use proto_link::{
+    one_broken_file, one_declaration_a_name, one_name_a_use, one_refusal, one_target_a_use,
+};
+use std::alloc::{AllocError, Global};
+use std::test::Fail;
+
+/// A tree, and what linking answers to it.
+struct Row {
+    tree: &'static str,
+    answer: &'static str,
+}
+
+/// The first row reads: `a.proto` sees all three files, and each other one itself alone; the use of
+/// `a.proto` at the bytes 81 to 106 names no type. In the second it names the type
+/// `google.protobuf.Timestamp`, by a package of one word, one of two, and the first declaration of
+/// file 2.
+static ROWS: [Row; 17] = [
+    Row {
+        tree: "a.proto\nsyntax = \"proto3\";\npackage acme;\nimport \"b.proto\";\nimport \"t.proto\";\nmessage M { google.protobuf.Timestamp t = 1; }\n|\
+b.proto\nsyntax = \"proto3\";\npackage acme.google;\n|\
+t.proto\nsyntax = \"proto3\";\npackage google.protobuf;\nmessage Timestamp {}\n|",
+        answer: "a.proto 111; ? 0 81..106\nb.proto 010\nt.proto 001\n",
+    },
+    Row {
+        tree: "a.proto\nsyntax = \"proto3\";\npackage acme;\nimport \"b.proto\";\nimport \"t.proto\";\nmessage M { .google.protobuf.Timestamp t = 1; }\n|\
+b.proto\nsyntax = \"proto3\";\npackage acme.google;\n|\
+t.proto\nsyntax = \"proto3\";\npackage google.protobuf;\nmessage Timestamp {}\n|",
+        answer: "a.proto 111; google.protobuf.Timestamp 1 2 2/0\nb.proto 010\nt.proto 001\n",
+    },
+    Row {
+        tree: "a.proto\nsyntax = \"proto3\";\npackage p;\nmessage Foo {}\nmessage M { string Foo = 1; Foo x = 2; }\n|",
+        answer: "a.proto 1; p.Foo 0/0\n",
+    },
+    Row {
+        tree: "a.proto\nsyntax = \"proto3\";\nmessage Foo {}\nservice S { rpc Foo(Foo) returns (stream Foo); }\n|",
+        answer: "a.proto 1; Foo 0/0; Foo 0/0\n",
+    },
+    Row {
+        tree: "a.proto\nsyntax = \"proto3\";\nimport \"b.proto\";\nmessage M { D d = 1; }\n|\
+b.proto\nsyntax = \"proto3\";\nimport public \"c.proto\";\n|\
+c.proto\nsyntax = \"proto3\";\nimport public \"d.proto\";\n|\
+d.proto\nsyntax = \"proto3\";\nmessage D {}\n|",
+        answer: "a.proto 1111; D 3/0\nb.proto 0111\nc.proto 0011\nd.proto 0001\n",
+    },
+    Row {
+        tree: "a.proto\nsyntax = \"proto3\";\nimport \"b.proto\";\nmessage M { D d = 1; }\n|\
+b.proto\nsyntax = \"proto3\";\nimport public \"c.proto\";\n|\
+c.proto\nsyntax = \"proto3\";\nimport \"d.proto\";\n|\
+d.proto\nsyntax = \"proto3\";\nmessage D {}\n|",
+        answer: "a.proto 1110; ? 0 49..50\nb.proto 0110\nc.proto 0011\nd.proto 0001\n",
+    },
+    Row {
+        tree: "a.proto\nsyntax = \"proto3\";\nimport \"b.proto\";\nmessage M { D d = 1; }\n|\
+b.proto\nsyntax = \"proto3\";\nimport public \"c.proto\";\n|\
+c.proto\nsyntax = \"proto3\";\nimport public \"d.proto\";\n|",
+        answer: "missing 2 33..42\n",
+    },
+    Row {
+        tree: "a.proto\nsyntax = \"proto3\";\nmessage M {\n  enum A { ZERO = 0; }\n  enum B { ZERO = 0; }\n}\n|",
+        answer: "duplicate 0 42..46 0 65..69\n",
+    },
+    Row {
+        tree: "a.proto\nsyntax = \"proto3\";\nimport \"b.proto\";\nmessage A { B b = 1; }\n|\
+b.proto\nsyntax = \"proto3\";\nimport \"a.proto\";\nmessage B { A a = 1; }\n|",
+        answer: "a.proto 11; B 1/0\nb.proto 11; A 0/0\n",
+    },
+    Row {
+        tree: "ab.proto\nsyntax = \"proto3\";\n|\
+m.proto\nsyntax = \"proto3\";\nimport \"a\"\n\"b.proto\";\n|",
+        answer: "ab.proto 10\nm.proto 11\n",
+    },
+    Row {
+        tree: "a.proto\nsyntax = \"proto3\";\nimport \"t.proto\";\nmessage M { lib.T t = 1; }\n|\
++t.proto\nsyntax = \"proto3\";\npackage lib;\n// A thing.\nmessage T { int32 n = 1; }\n|\
++u.proto\nsyntax = \"proto2\";\n|",
+        answer: "a.proto 110; lib.T 1 1/0\n+t.proto 010\n+u.proto 001\n",
+    },
+    Row {
+        tree: "a.proto\nsyntax = \"proto3\";\nimport \"t.proto\";\nmessage M { lib.T t = 1; }\nimport \"u.proto\";\n|\
++t.proto\nsyntax = \"proto3\";\npackage lib;\n// A thing.\nmessage T { int32 n = 1; }\n|\
++u.proto\nsyntax = \"proto2\";\n|",
+        answer: "broken 2\n",
+    },
+    Row {
+        tree: "a.proto\nsyntax = \"proto3\";\nimport \"t.proto\";\nmessage M { lib.T t = 1; }\n|\
++t.proto\nsyntax = \"proto3\";\npackage lib;\n// A thing.\nmessage T { Gone n = 1; }\nimport \"gone.proto\";\n|\
++u.proto\nsyntax = \"proto2\";\n|",
+        answer: "a.proto 110; lib.T 1 1/0\n+t.proto 010; ? 1 56..60\n+u.proto 001\n",
+    },
+    Row {
+        tree: "a.proto\nsyntax = \"proto3\";\nimport \"t.proto\";\nmessage M {}\n|\
++t.proto\nsyntax = \"proto3\";\nmessage M {}\n|",
+        answer: "duplicate 0 45..46 1 27..28\n",
+    },
+    Row {
+        tree: "a.proto\nsyntax = \"proto3\";\nmessage M {}\n|\
++t.proto\nsyntax = \"proto3\";\nmessage M {}\n|",
+        answer: "a.proto 10\n+t.proto 01\n",
+    },
+    Row {
+        tree: "a.proto\nsyntax = \"proto3\";\n|b.proto\n|a.proto\n|",
+        answer: "a path twice\n",
+    },
+    Row {
+        tree: "",
+        answer: "",
+    },
+];
+
+#[test]
+fn worked_trees(rt: HostRuntime) -> Result<(), Fail> {
+    for (number, row) in ROWS.iter().enumerate() {
+        see_tree(&rt, rt.alloc(), number, row.tree, Some(row.answer))?;
+    }
+    Ok(())
+}
+
+/// Adds the path of the file with this number.
+fn add_path(draft: &mut Draft, number: usize) {
+    draft.add(if number < 10 { "f0" } else { "f" });
+    draft.add_number(number);
+    draft.add(".proto");
+}
+
+/// A hundred files, each of which publicly imports the next, but one, which imports it plainly.
+fn chain_of(alloc: Global, plain: usize) -> Result<String, AllocError> {
+    let mut draft = Draft::new(alloc);
+    for number in 0..99 {
+        add_path(&mut draft, number);
+        draft.add("\nsyntax = \"proto3\";\nimport ");
+        draft.add(if number == plain { "\"" } else { "public \"" });
+        add_path(&mut draft, number + 1);
+        draft.add("\";\n|");
+    }
+    draft.add("f99.proto\nsyntax = \"proto3\";\n|");
+    draft.finish()
+}
+
+/// What linking answers to them: a file before the plain import sees the files from itself up to it, and
+/// any other one those from itself on.
+fn sights_of(alloc: Global, plain: usize) -> Result<String, AllocError> {
+    let mut draft = Draft::new(alloc);
+    for number in 0..100 {
+        add_path(&mut draft, number);
+        draft.add(" ");
+        for other in 0..100 {
+            let is_seen = number <= other && (number >= plain || other <= plain);
+            draft.add(if is_seen { "1" } else { "0" });
+        }
+        draft.add("\n");
+    }
+    draft.finish()
+}
+
+#[test]
+fn chains(rt: HostRuntime) -> Result<(), Fail> {
+    for plain in [50, 100] {
+        let chain = chain_of(rt.alloc(), plain)?;
+        let sights = sights_of(rt.alloc(), plain)?;
+        let due = Some(sights.as_str());
+        see_tree(&rt, rt.alloc(), plain, chain.as_str(), due)?;
+    }
+    Ok(())
+}
+
+#[test]
+fn laws(_rt: HostRuntime) {
+    one_broken_file();
+    one_name_a_use();
+    one_declaration_a_name();
+    one_target_a_use();
+    one_refusal();
+}

@@ -1,7 +1,0 @@
-use Rattle.std.proofs.Common.{◌≡◌, ◌≤◌, length, vec_capacity}
-use Rattle.proto_visibility.specs.Tables.StepTables.{number_in}
-use Rattle.proto_visibility.proofs.StepLemmas.{AreStepsUpTo}
-use Rattle.proto_visibility.proofs.steps.steps_of.Given as goal
-
-abbrev pub invariant-loop-file : goal.invariant-loop-file
-invariant-loop-file l = record { count : length l.table.items ≡ l.file-index; room : length l.files ≤ vec_capacity l.table; each : AreStepsUpTo (number_in l.numbers) l.files l.table.items l.file-index }

@@ -1,0 +1,136 @@
+//! Tables of what files import, by their numbers.
+
+ghost use Rattle.std.specs.Prelude.{◌≡◌, ℕ, ◌↔◌, [], ◌∷◌, ◌++◌, true, false, IfOk, OnOk, IsTrue, if◌then◌else◌};
+ghost use Rattle.std.specs.List.{filter_map};
+ghost use Rattle.proto_visibility.specs.Files.{HaveOwnPaths, is_public};
+ghost use Rattle.proto_visibility.specs.Tables.ImportTables.{IsTableOf, AreNumbered, imports_of, number_in, target};
+
+use crate::clash::first_named;
+use crate::link_file::LinkFile;
+use proto_decl::Imported;
+use proto_parse::ImportKind;
+use std::alloc::{AllocError, Global};
+use std::collections::HashMap;
+
+// The numbers of the files that a file imports.
+#[derive(Drop)]
+pub(crate) struct Steps {
+    pub(crate) plain: Vec<usize>,
+    pub(crate) public: Vec<usize>,
+}
+
+// For each file the numbers of those that it imports.
+pub(crate) fn steps_of(
+    alloc: Global,
+    files: &[LinkFile],
+    numbers: &HashMap<&str, usize>,
+) -> Result<Vec<Steps>, AllocError>
+    requires { AreNumbered files.now numbers.now }
+    ensures { IfOk result (λ table. IsTableOf files.now table.items) }
+{
+    let mut table = Vec::with_capacity(alloc, files.len())?;
+    for file in files {
+        table.push_reserved(steps_of_file(alloc, numbers, file)?);
+    }
+    Ok(table)
+}
+
+/// Whether no two of the files have one path, as `Linker::new` needs it. `Err` where memory was
+/// refused.
+pub fn have_own_paths(alloc: Global, files: &[LinkFile]) -> Result<bool, AllocError>
+    ensures { IfOk result (λ own. IsTrue own ↔ HaveOwnPaths files.now) }
+{
+    let mut numbers = HashMap::new(alloc);
+    for (number, file) in files.iter().enumerate() {
+        let path = file.path;
+        let first = first_named(&mut numbers, path, number)?;
+        if first.is_some() {
+            return Ok(false);
+        }
+    }
+    Ok(true)
+}
+
+// The numbers of the files by their paths.
+pub(crate) fn numbers_of<'a>(
+    alloc: Global,
+    files: &[LinkFile<'a>],
+) -> Result<HashMap<&'a str, usize>, AllocError>
+    requires { HaveOwnPaths files.now }
+    ensures { IfOk result (AreNumbered files.now) }
+{
+    let mut numbers = HashMap::new(alloc);
+    for (number, file) in files.iter().enumerate() {
+        let path = file.path;
+        numbers.insert(path, number)?;
+    }
+    Ok(numbers)
+}
+
+// The numbers of the files that one file imports.
+fn steps_of_file(
+    alloc: Global,
+    numbers: &HashMap<&str, usize>,
+    file: &LinkFile,
+) -> Result<Steps, AllocError>
+    ensures public { IfOk result (λ steps. steps.public.items ≡ filter_map (target (number_in numbers.now) true) (imports_of file.now)) }
+    ensures plain { IfOk result (λ steps. steps.plain.items ≡ filter_map (target (number_in numbers.now) false) (imports_of file.now)) }
+{
+    match file.facts {
+        Some(facts) => steps_along(alloc, numbers, facts.imports()),
+        None => Ok(Steps::new(alloc)),
+    }
+}
+
+fn steps_along(
+    alloc: Global,
+    numbers: &HashMap<&str, usize>,
+    imports: &[Imported],
+) -> Result<Steps, AllocError>
+    ensures public { IfOk result (λ steps. steps.public.items ≡ filter_map (target (number_in numbers.now) true) imports.now) }
+    ensures plain { IfOk result (λ steps. steps.plain.items ≡ filter_map (target (number_in numbers.now) false) imports.now) }
+{
+    let mut steps = Steps::new(alloc);
+    for import in imports {
+        steps.add_import(numbers, import)?;
+    }
+    Ok(steps)
+}
+
+impl Steps {
+    fn new(alloc: Global) -> Steps
+        ensures public { result.public.items ≡ [] }
+        ensures plain { result.plain.items ≡ [] }
+    {
+        Steps {
+            plain: Vec::new(alloc),
+            public: Vec::new(alloc),
+        }
+    }
+
+    // Adds the file that an import names, where there is one.
+    fn add_import(
+        &mut self,
+        numbers: &HashMap<&str, usize>,
+        import: &Imported,
+    ) -> Result<(), AllocError>
+        ensures public { OnOk result (self.new.public.items ≡ self.old.public.items ++ filter_map (target (number_in numbers.now) true) (import.now ∷ [])) }
+        ensures plain { OnOk result (self.new.plain.items ≡ self.old.plain.items ++ filter_map (target (number_in numbers.now) false) (import.now ∷ [])) }
+    {
+        match numbers.get(import.path.as_str()).copied() {
+            Some(number) => self.add(import.kind, number),
+            None => Ok(()),
+        }
+    }
+
+    fn add(&mut self, kind: ImportKind, number: usize) -> Result<(), AllocError>
+        ensures public { OnOk result (self.new.public.items ≡ (if is_public kind then self.old.public.items ++ number ∷ [] else self.old.public.items)) }
+        ensures plain { OnOk result (self.new.plain.items ≡ (if is_public kind then self.old.plain.items else self.old.plain.items ++ number ∷ [])) }
+    {
+        match kind {
+            ImportKind::Public => self.public.push(number)?,
+            ImportKind::Plain | ImportKind::Weak => self.plain.push(number)?,
+        }
+        Ok(())
+    }
+}

@@ -1,0 +1,24 @@
+//! Answers to commands about an index.
+
+ghost use Rattle.protoscip.specs.Sessions.{MayAnswer};
+
+use scip_model::Index;
+use scip_query::{AnswerFault, Queries};
+use std::alloc::Global;
+use streams::{Feed, Sink};
+
+/// Answers commands about an index, one a line, as `Queries::answer_all` does. Where memory doesn't suffice
+/// for the tables, nothing is read or written.
+pub fn answer_commands<F: Feed, W: Sink>(
+    alloc: Global,
+    index: Index,
+    commands: &mut F,
+    answers: &mut W,
+) -> Result<(), AnswerFault>
+    ensures { MayAnswer F.remaining F.failures F.reads F.ends W.contents W.failures index commands.old commands.new answers.old answers.new result }
+{
+    match Queries::new(alloc, index) {
+        Ok(queries) => queries.answer_all(alloc, commands, answers),
+        Err(_) => Err(AnswerFault::Memory),
+    }
+}

@@ -2,7 +2,7 @@
 
 ghost use Rattle.protoscip.specs.FaultLines.{HasFilesOf};
 
-use crate::streams::Failing;
+use crate::faulty_streams::Failing;
 use index_hooks::Chooses;
 use index_pool::{NoGate, Workers};
 use proto_lex::Encoding;

@@ -5,7 +5,7 @@ ghost use Rattle.protoscip.specs.Dump.{dump_tree};
 ghost use Rattle.protoscip.specs.FaultLines.{HasFilesOf};
 
 use crate::calls::{is_said, said, see, writer};
-use crate::streams::{Dripping, Endless, Failing};
+use crate::faulty_streams::{Dripping, Endless, Failing};
 use proto_parse::CustomOptions;
 use protoscip::{Fault, dump, dump_tree};
 use std::alloc::{AllocError, Global};

@@ -1,7 +1,7 @@
 //! Trees indexed, by whole bytes, as an encoder of another hand writes them.
 
 use crate::calls::{COUNTS, Given, given_of, indexed, is_indexed, see, slow_writer, workers};
-use crate::streams::Failing;
+use crate::faulty_streams::Failing;
 use index_hooks::Registry;
 use proto_lex::Encoding;
 use std::alloc::{AllocError, Global};

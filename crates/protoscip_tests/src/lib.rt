@@ -6,6 +6,8 @@ mod calls;
 #[cfg(test)]
 mod dumps;
 #[cfg(test)]
+mod faulty_streams;
+#[cfg(test)]
 mod hooks;
 #[cfg(test)]
 mod indexes;
@@ -13,7 +15,5 @@ mod indexes;
 mod laws;
 #[cfg(test)]
 mod lines;
-#[cfg(test)]
-mod streams;
 #[cfg(test)]
 mod talks;

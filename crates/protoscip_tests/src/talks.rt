@@ -1,7 +1,7 @@
 //! Sessions: commands about the index of a tree, and their answers.
 
 use crate::calls::{COUNTS, Given, given_of, see, workers, writer};
-use crate::streams::Dripping;
+use crate::faulty_streams::Dripping;
 use index_hooks::{DocAlways, DocChoice, Registry};
 use index_pool::{NoGate, Workers};
 use proto_lex::Encoding;

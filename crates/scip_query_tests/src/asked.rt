@@ -1,6 +1,6 @@
 //! Calls that are made again after `Memory`, where the second answer counts.
 
-use crate::streams::{Dripping, Limits, Narrow};
+use crate::faulty_streams::{Dripping, Limits, Narrow};
 use scip_model::{Index, SymbolInformation};
 use scip_query::{AnswerFault, Place, Queries, QueryFault};
 use scip_wire::{WireFault, read_index};

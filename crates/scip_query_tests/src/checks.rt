@@ -3,8 +3,8 @@
 
 use crate::asked::{Ask, Due, queries, see_asked};
 use crate::conversations::{see_no_end, see_reads, see_writers};
+use crate::faulty_streams::ALL_AT_ONCE;
 use crate::lookups::{see_innermost, see_places, see_texts};
-use crate::streams::ALL_AT_ONCE;
 use scip_query::Queries;
 use std::alloc::{AllocError, Global};
 use std::process::Abort;

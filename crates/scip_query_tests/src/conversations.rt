@@ -3,8 +3,8 @@
 
 use crate::asked::{Ask, Due, see_asked};
 use crate::checks::{Check, see_bytes};
+use crate::faulty_streams::{ALL_AT_ONCE, AtEnd, Dripping, Limits};
 use crate::indexes::FIELD_NAMED_LIKE_A_TYPE;
-use crate::streams::{ALL_AT_ONCE, AtEnd, Dripping, Limits};
 use scip_query::{AnswerFault, Queries};
 use std::alloc::Global;
 use std::process::Abort;

@@ -8,10 +8,10 @@ mod checks;
 #[cfg(test)]
 mod conversations;
 #[cfg(test)]
+mod faulty_streams;
+#[cfg(test)]
 mod indexes;
 #[cfg(test)]
 mod lookups;
 #[cfg(test)]
 mod rows;
-#[cfg(test)]
-mod streams;

@@ -111,61 +111,31 @@ pub fn fault_of(
 
 /// The offset of a fault, or 0.
 pub fn offset_of(fault: SyntaxFault) -> usize {
-    match fault {
-        SyntaxFault::NotProto3(offset)
-        | SyntaxFault::CustomOption(offset)
-        | SyntaxFault::Aggregate(offset)
-        | SyntaxFault::Extend(offset)
-        | SyntaxFault::TwoPackages(offset)
-        | SyntaxFault::ImportEscape(offset)
-        | SyntaxFault::TooDeep(offset)
-        | SyntaxFault::Grammar(offset) => offset,
-        SyntaxFault::Memory => 0,
-    }
+    fault.offset().unwrap_or(0)
 }
 
-/// This fault at another offset.
-fn moved(fault: SyntaxFault, offset: usize) -> SyntaxFault {
-    match fault {
-        SyntaxFault::NotProto3(_) => SyntaxFault::NotProto3(offset),
-        SyntaxFault::CustomOption(_) => SyntaxFault::CustomOption(offset),
-        SyntaxFault::Aggregate(_) => SyntaxFault::Aggregate(offset),
-        SyntaxFault::Extend(_) => SyntaxFault::Extend(offset),
-        SyntaxFault::TwoPackages(_) => SyntaxFault::TwoPackages(offset),
-        SyntaxFault::ImportEscape(_) => SyntaxFault::ImportEscape(offset),
-        SyntaxFault::TooDeep(_) => SyntaxFault::TooDeep(offset),
-        SyntaxFault::Grammar(_) => SyntaxFault::Grammar(offset),
-        SyntaxFault::Memory => SyntaxFault::Memory,
-    }
-}
-
-/// Whether a source, behind a front, has this fault where its `^` is.
-fn is_refused(
-    alloc: Global,
-    front: &str,
-    marked: &str,
-    fault: SyntaxFault,
-    custom: CustomOptions,
-) -> bool {
-    match marked.split_once('^') {
-        Some((before, behind)) => {
-            let want = moved(fault, front.len().wrapping_add(before.len()));
-            fault_of(alloc, front, before, behind, custom) == Some(want)
-        }
+/// Whether a source, behind a front, has the fault with this name where its `^` is.
+fn is_refused(alloc: Global, front: &str, marked: &str, name: &str, custom: CustomOptions) -> bool {
+    let Some((before, behind)) = marked.split_once('^') else {
+        return false;
+    };
+    let offset = front.len().wrapping_add(before.len());
+    match fault_of(alloc, front, before, behind, custom) {
+        Some(fault) => fault.name() == name && fault.offset() == Some(offset),
         None => false,
     }
 }
 
-/// The first source that has another fault, or has it elsewhere.
+/// The first source that has another fault than that with this name, or has it elsewhere.
 pub fn first_other(
     alloc: Global,
     front: &str,
     sources: &[&str],
-    fault: SyntaxFault,
+    name: &str,
     custom: CustomOptions,
 ) -> Option<usize> {
     for (index, marked) in sources.iter().enumerate() {
-        if !is_refused(alloc, front, marked, fault, custom) {
+        if !is_refused(alloc, front, marked, name, custom) {
             return Some(index);
         }
     }

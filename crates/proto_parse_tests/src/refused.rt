@@ -2,7 +2,7 @@
 //! by a `^`, which is taken out. No contract says this. Behind `SYNTAX`, offsets grow by 19.
 
 use crate::calls::{SYNTAX, fault_of, first_other, joined, offset_of, see};
-use proto_parse::{CustomOptions, SyntaxFault};
+use proto_parse::CustomOptions;
 use std::alloc::{AllocError, Global};
 use std::test::Fail;
 
@@ -23,20 +23,6 @@ const NOT_PROTO3: [&str; 13] = [
     "// a\nsyntax = /* b */ ^'proto2';",
 ];
 
-#[test]
-fn texts_that_are_not_proto3(rt: HostRuntime) {
-    see(
-        &rt,
-        first_other(
-            rt.alloc(),
-            "",
-            &NOT_PROTO3,
-            SyntaxFault::NotProto3(0),
-            CustomOptions::Refuse,
-        ),
-    );
-}
-
 /// The first row reads: behind the word `syntax` tokens are missing, at 6.
 const SYNTAX_STATEMENTS: [&str; 6] = [
     "syntax^",
@@ -48,16 +34,15 @@ const SYNTAX_STATEMENTS: [&str; 6] = [
 ];
 
 #[test]
-fn faults_of_syntax_statements(rt: HostRuntime) {
+fn texts_that_do_not_begin_so(rt: HostRuntime) {
+    let (alloc, refuse) = (rt.alloc(), CustomOptions::Refuse);
     see(
         &rt,
-        first_other(
-            rt.alloc(),
-            "",
-            &SYNTAX_STATEMENTS,
-            SyntaxFault::Grammar(0),
-            CustomOptions::Refuse,
-        ),
+        first_other(alloc, "", &NOT_PROTO3, "NotProto3", refuse),
+    );
+    see(
+        &rt,
+        first_other(alloc, "", &SYNTAX_STATEMENTS, "Grammar", refuse),
     );
 }
 
@@ -107,30 +92,18 @@ const IMPORT_ESCAPES: [&str; 6] = [
 ];
 
 /// The first source behind `SYNTAX` that isn't refused so.
-fn first_not(alloc: Global, fault: SyntaxFault, sources: &[&str]) -> Option<usize> {
-    first_other(alloc, SYNTAX, sources, fault, CustomOptions::Refuse)
+fn first_not(alloc: Global, name: &str, sources: &[&str]) -> Option<usize> {
+    first_other(alloc, SYNTAX, sources, name, CustomOptions::Refuse)
 }
 
 #[test]
 fn refusals_by_name(rt: HostRuntime) {
     let alloc = rt.alloc();
-    see(&rt, first_not(alloc, SyntaxFault::Extend(0), &EXTENDS));
-    see(
-        &rt,
-        first_not(alloc, SyntaxFault::Aggregate(0), &AGGREGATES),
-    );
-    see(
-        &rt,
-        first_not(alloc, SyntaxFault::CustomOption(0), &CUSTOM_OPTIONS),
-    );
-    see(
-        &rt,
-        first_not(alloc, SyntaxFault::TwoPackages(0), &TWO_PACKAGES),
-    );
-    see(
-        &rt,
-        first_not(alloc, SyntaxFault::ImportEscape(0), &IMPORT_ESCAPES),
-    );
+    see(&rt, first_not(alloc, "Extend", &EXTENDS));
+    see(&rt, first_not(alloc, "Aggregate", &AGGREGATES));
+    see(&rt, first_not(alloc, "CustomOption", &CUSTOM_OPTIONS));
+    see(&rt, first_not(alloc, "TwoPackages", &TWO_PACKAGES));
+    see(&rt, first_not(alloc, "ImportEscape", &IMPORT_ESCAPES));
 }
 
 /// The first row reads: no key of a map is a `float`, at 35.
@@ -190,11 +163,8 @@ const BEHIND_COMMENTS: [&str; 6] = [
 #[test]
 fn tokens_that_cannot_stand_there(rt: HostRuntime) {
     let alloc = rt.alloc();
-    see(&rt, first_not(alloc, SyntaxFault::Grammar(0), &TOKENS));
-    see(
-        &rt,
-        first_not(alloc, SyntaxFault::Grammar(0), &BEHIND_COMMENTS),
-    );
+    see(&rt, first_not(alloc, "Grammar", &TOKENS));
+    see(&rt, first_not(alloc, "Grammar", &BEHIND_COMMENTS));
 }
 
 /// The first row reads: where custom options are read past, a name has to stand in parentheses, at 27.
@@ -238,21 +208,22 @@ const ESCAPES_READ_PAST: [&str; 1] = ["import ^'a\\n';"];
 const PACKAGES_READ_PAST: [&str; 1] = ["package a;\n^package b;"];
 
 /// The first source behind `SYNTAX` that isn't refused so where custom options are read past.
-fn first_not_past(alloc: Global, fault: SyntaxFault, sources: &[&str]) -> Option<usize> {
-    first_other(alloc, SYNTAX, sources, fault, CustomOptions::Skip)
+fn first_not_past(alloc: Global, name: &str, sources: &[&str]) -> Option<usize> {
+    first_other(alloc, SYNTAX, sources, name, CustomOptions::Skip)
 }
 
 #[test]
 fn faults_where_custom_options_are_read_past(rt: HostRuntime) {
     let alloc = rt.alloc();
+    see(&rt, first_not_past(alloc, "Grammar", &READ_PAST));
     see(
         &rt,
-        first_not_past(alloc, SyntaxFault::Grammar(0), &READ_PAST),
+        first_not_past(alloc, "ImportEscape", &ESCAPES_READ_PAST),
     );
-    let escape = SyntaxFault::ImportEscape(0);
-    see(&rt, first_not_past(alloc, escape, &ESCAPES_READ_PAST));
-    let two = SyntaxFault::TwoPackages(0);
-    see(&rt, first_not_past(alloc, two, &PACKAGES_READ_PAST));
+    see(
+        &rt,
+        first_not_past(alloc, "TwoPackages", &PACKAGES_READ_PAST),
+    );
 }
 
 /// What stands inside 64 messages. The first row reads: the word of the 65th message, at 659.
@@ -271,10 +242,9 @@ fn sixty_four_messages_inside_one_another(rt: HostRuntime) -> Result<(), Fail> {
     let refuse = CustomOptions::Refuse;
     let found = fault_of(rt.alloc(), front.as_str(), "", end.as_str(), refuse);
     see(&rt, found.map(offset_of));
-    let deep = SyntaxFault::TooDeep(0);
     see(
         &rt,
-        first_other(rt.alloc(), front.as_str(), &TOO_DEEP, deep, refuse),
+        first_other(rt.alloc(), front.as_str(), &TOO_DEEP, "TooDeep", refuse),
     );
     Ok(())
 }

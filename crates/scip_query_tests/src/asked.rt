@@ -47,41 +47,33 @@ pub fn queries(rt: &impl Abort, alloc: Global, bytes: &[u8]) -> Result<Queries, 
     }
 }
 
-/// What `references` answers about a line and column of `a.proto`.
-pub fn references(
-    alloc: Global,
-    asked: &Queries,
-    line: u32,
-    column: u32,
-) -> Result<Vec<Place>, QueryFault> {
-    match asked.references(alloc, "a.proto", line, column) {
-        Err(QueryFault::Memory) => asked.references(alloc, "a.proto", line, column),
+/// A position in `a.proto`.
+#[derive(Clone, Copy)]
+pub struct At {
+    pub line: u32,
+    pub column: u32,
+}
+
+/// What `references` answers about a position.
+pub fn references(alloc: Global, asked: &Queries, at: At) -> Result<Vec<Place>, QueryFault> {
+    match asked.references(alloc, "a.proto", at.line, at.column) {
+        Err(QueryFault::Memory) => asked.references(alloc, "a.proto", at.line, at.column),
         answer => answer,
     }
 }
 
 /// What `definitions` answers.
-pub fn definitions(
-    alloc: Global,
-    asked: &Queries,
-    line: u32,
-    column: u32,
-) -> Result<Vec<Place>, QueryFault> {
-    match asked.definitions(alloc, "a.proto", line, column) {
-        Err(QueryFault::Memory) => asked.definitions(alloc, "a.proto", line, column),
+pub fn definitions(alloc: Global, asked: &Queries, at: At) -> Result<Vec<Place>, QueryFault> {
+    match asked.definitions(alloc, "a.proto", at.line, at.column) {
+        Err(QueryFault::Memory) => asked.definitions(alloc, "a.proto", at.line, at.column),
         answer => answer,
     }
 }
 
 /// What `documentation` answers.
-pub fn documentation(
-    alloc: Global,
-    asked: &Queries,
-    line: u32,
-    column: u32,
-) -> Result<Vec<&str>, QueryFault> {
-    match asked.documentation(alloc, "a.proto", line, column) {
-        Err(QueryFault::Memory) => asked.documentation(alloc, "a.proto", line, column),
+pub fn documentation(alloc: Global, asked: &Queries, at: At) -> Result<Vec<&str>, QueryFault> {
+    match asked.documentation(alloc, "a.proto", at.line, at.column) {
+        Err(QueryFault::Memory) => asked.documentation(alloc, "a.proto", at.line, at.column),
         answer => answer,
     }
 }

@@ -1,6 +1,6 @@
 //! The calls behind the answers.
 
-use crate::asked::{definitions, documentation, references, see, symbols};
+use crate::asked::{At, definitions, documentation, references, see, symbols};
 use crate::checks::{Check, see_bytes};
 use crate::indexes::{DOCUMENTED, FIELD_NAMED_LIKE_A_TYPE, OVERLAPPING};
 use scip_model::SymbolInformation;
@@ -33,8 +33,12 @@ fn are_places(places: &[Place], due: &[usize]) -> bool {
 
 /// Sees the places of a symbol.
 pub fn see_places(rt: &impl Abort, alloc: Global, asked: &Queries) {
-    see_are(rt, references(alloc, asked, 3, 28), &[2, 5]);
-    see_are(rt, definitions(alloc, asked, 3, 28), &[2]);
+    let at = At {
+        line: 3,
+        column: 28,
+    };
+    see_are(rt, references(alloc, asked, at), &[2, 5]);
+    see_are(rt, definitions(alloc, asked, at), &[2]);
 }
 
 fn are_entries(entries: Result<Vec<&SymbolInformation>, QueryFault>, due: [&str; 2]) -> bool {
@@ -49,7 +53,8 @@ fn are_entries(entries: Result<Vec<&SymbolInformation>, QueryFault>, due: [&str;
 
 /// Sees the texts of a symbol, and the symbols of a document.
 pub fn see_texts(rt: &impl Abort, alloc: Global, asked: &Queries) {
-    let are = match documentation(alloc, asked, 3, 8) {
+    let at = At { line: 3, column: 8 };
+    let are = match documentation(alloc, asked, at) {
         Ok(texts) => texts.as_slice() == ["One.\nTwo.", "tail"].as_slice(),
         Err(_) => false,
     };

@@ -1,5 +1,5 @@
 -- What is known of files that are linked, and of choices for their declarations.
-use Rattle.std.proofs.Common.{◌≡◌, ◌∙◌, ◌<◌, ℕ, zero, suc, false, List, [], ◌∷◌, length, map, Option, Some, ap, sym, refl, subst, arith}
+use Rattle.std.proofs.Common.{◌≡◌, ◌∙◌, ◌<◌, ℕ, zero, suc, List, [], ◌∷◌, length, map, Option, Some, ap, sym, refl, subst, arith}
 use Rattle.std.specs.Prelude.{All}
 use Rattle.std.specs.List.{slice_get}
 use Rattle.std.specs.Option.{unwrap_or, option_map}
@@ -9,7 +9,7 @@ use Rattle.index_hooks.specs.declared.choice.Choice.{Choice}
 use Rattle.proto_decl.specs.Facts.{Facts}
 use Rattle.proto_grammar.specs.declared.tree.CustomOptions.TheVariants.{Refuse}
 use Rattle.scip_symbol.specs.Path.{IsGoodPath}
-use Rattle.proto_visibility.specs.Files.{File, IsSource}
+use Rattle.proto_visibility.specs.Files.{File}
 use Rattle.scip_document.specs.Chosen.{Chosen, HaveChoices}
 use Rattle.scip_document.specs.Conditions.{HaveGoodPaths}
 use Rattle.scip_document.specs.Texts.{AreOfText, HasText}
@@ -29,9 +29,6 @@ at_mapped {A} f xs k x at = slice_get-map f xs k ∙ ap (λ (o : Option A). opti
 
 all_at : {A : Type 0} (P : A → Type 0) (xs : List A) (k : ℕ) (x : A) → slice_get xs k ≡ Some x → All P xs → P x
 all_at P xs k x at all = subst P (get_or_from_slice_get xs k x x at) (All-get_or P xs k x (slice_get_within xs k x at) all)
-
-pub is_source : (readings : List ReadFile) (k : ℕ) (reading : ReadFile) → slice_get readings k ≡ Some reading → reading.is_included ≡ false → IsSource (linked_files readings) k
-is_source readings k reading at source = record { file = linked_file reading; numbered = at_mapped linked_file readings k reading at; source = source }
 
 are_of_text : (reading : ReadFile) → IsFine reading → AreOfText reading.text reading.facts
 are_of_text reading fine =

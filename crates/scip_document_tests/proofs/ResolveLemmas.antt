@@ -1,29 +1,17 @@
--- Uses of files that all name types.
+-- Sources, and uses of files that all name types.
 use Rattle.std.proofs.Common.{inl, inr, ◌≡◌, ◌∙◌, ◌<◌, ◌+◌, ◌≤◌, ℕ, true, false, List, Option, Some, length, ap, sym, subst, arith}
-use Rattle.std.specs.Prelude.{All}
 use Rattle.std.specs.Option.{unwrap_or}
 use Rattle.std.proofs.lemmas.Option.{slice_get_within}
 use Rattle.std.proofs.lemmas.Bool.{cases_lt, false≢true}
-use Rattle.std.proofs.lemmas.List.Elements.{All-contains}
-use Rattle.proto_decl.specs.Facts.{Facts}
-use Rattle.proto_visibility.specs.Files.{File, HasFacts, IsIncludedAt}
-use Rattle.scip_document.specs.Conditions.{IsResolved, AllResolve}
+use Rattle.proto_visibility.specs.Files.{File, IsSource, IsIncludedAt}
+use Rattle.scip_document.specs.Conditions.{AllResolve}
 use Rattle.scip_document_tests.specs.Reads.{ResolveAt}
 
 same_some : {A : Type 0} (a b : A) → Some a ≡ Some b → a ≡ b
 same_some {A} a b e = ap (λ (o : Option A). unwrap_or o a) e
 
-same_facts : (files : List File) (number : ℕ) (a b : Facts) → HasFacts files number a → HasFacts files number b → a ≡ b
-same_facts files number a b first second =
-    let file = same_some first.file second.file (sym first.numbered ∙ second.numbered) in
-    same_some a b (sym first.known ∙ (ap (λ (f : File). f.facts) file ∙ second.known))
-
-pub of_facts : (files : List File) (source : ℕ) (facts : Facts) → HasFacts files source facts → All (IsResolved files source) facts.uses → ResolveAt files source
-of_facts files source facts has all other type_use is known listed =
-    All-contains (IsResolved files source) other.uses type_use (subst (λ (f : Facts). All (IsResolved files source) f.uses) (same_facts files source facts other has known) all) listed
-
-pub no_facts : (files : List File) (source : ℕ) → ((facts : Facts) → HasFacts files source facts → ⊥) → ResolveAt files source
-no_facts files source none facts type_use is known listed = absurd (none facts known)
+pub is_source : (files : List File) (number : ℕ) → IsIncludedAt files number false → IsSource files number
+is_source files number of = record { file = of.0; numbered = of.1; source = sym of.2 }
 
 pub included : (files : List File) (source : ℕ) → IsIncludedAt files source true → ResolveAt files source
 included files source of facts type_use is known listed =

@@ -1,17 +1,19 @@
-//! Sources that are linked, and their documents.
+//! Sources that are linked, and what is made of them.
 
-ghost use Rattle.std.specs.Prelude.{◌≡◌, ◌<◌, length, map, All, IfOk};
-ghost use Rattle.scip_document_tests.specs.Reads.{IsFine, linked_file, linked_files, counts};
+ghost use Rattle.std.specs.Prelude.{◌≡◌, ◌<◌, length, map, All, IfOk, IsTrue};
+ghost use Rattle.proto_visibility.specs.Files.{IsSource};
+ghost use Rattle.scip_document.specs.Chosen.{HaveChoices};
+ghost use Rattle.scip_document.specs.Conditions.{AllResolve, HaveGoodPaths};
+ghost use Rattle.scip_document.specs.Texts.{HasText};
+ghost use Rattle.scip_document.specs.Uses.{UsesResolve};
+ghost use Rattle.scip_document_tests.specs.Reads.{IsFine, ResolveAt, linked_file, linked_files, counts};
 
-use crate::calls::{document_again, externals_again};
+use crate::listed::Listing;
 use crate::reading::Reading;
-use crate::resolving::all_resolve;
 use proto_lex::Encoding;
 use proto_link::{LinkFault, LinkFile, Linker, have_own_paths};
-use scip_document::{Choices, DocumentMaker};
-use scip_model::{Document, SymbolInformation};
+use scip_document::{Choices, DocumentMaker, document, externals};
 use scip_symbol::PackageId;
-use sequences::Sequence;
 use std::alloc::{AllocError, Global};
 
 fn linked_file<'a>(reading: &'a Reading<'_>) -> LinkFile<'a>
@@ -51,69 +53,102 @@ pub(crate) fn link<'a>(alloc: Global, files: &'a [LinkFile<'a>]) -> Result<Linke
     }
 }
 
-/// What `document` answers for the source with this number; `Broken` where that is included.
-fn document_at(
+/// Adds what `document` answers, and tells whether it is a document.
+fn add_made(listing: &mut Listing, maker: &DocumentMaker<'_, '_, '_>) -> Result<bool, AllocError>
+    requires source { IsSource maker.now.linker.now maker.now.source }
+    requires text { HasText maker.now.linker.now maker.now.source maker.now.text.now }
+    requires paths { HaveGoodPaths maker.now.linker.now }
+    requires choices { HaveChoices maker.now.linker.now maker.now.choices.now }
+    ensures { IfOk result (λ made. IsTrue made → UsesResolve maker.now.linker.now maker.now.source) }
+{
+    match document(maker) {
+        Ok(document) => {
+            listing.add_document(&document);
+            Ok(true)
+        }
+        Err(LinkFault::Memory) => Err(AllocError),
+        Err(fault) => {
+            listing.add_fault(fault);
+            Ok(false)
+        }
+    }
+}
+
+/// Adds the document of a file, if that is a source, and tells whether it isn't refused.
+fn add_file(
     alloc: Global,
+    listing: &mut Listing,
     linker: &Linker<'_>,
     readings: &[Reading<'_>],
-    source: usize,
     choices: &Choices,
-    id: &PackageId,
-    encoding: Encoding,
-) -> Result<Document, LinkFault>
-    requires within { source < length readings.now }
+    package: &PackageId,
+    file: usize,
+) -> Result<bool, AllocError>
+    requires within { file < length linker.now }
+    requires files { linker.now ≡ linked_files readings.now }
+    requires fine { All IsFine readings.now }
+    requires choices { map (λ list. length list) choices.now ≡ counts readings.now }
+    ensures { IfOk result (λ made. IsTrue made → ResolveAt linker.now file) }
+{
+    if linker.is_included(file) {
+        return Ok(true);
+    }
+    if file >= readings.len() {
+        return Err(AllocError);
+    }
+    let reading = &readings[file];
+    add_made(
+        listing,
+        &DocumentMaker {
+            alloc,
+            linker,
+            choices,
+            package,
+            encoding: Encoding::Utf8,
+            source: file,
+            text: &reading.text,
+        },
+    )
+}
+
+/// Adds the documents of all sources, up to the first refusal, and tells whether there is none.
+fn add_files(
+    alloc: Global,
+    listing: &mut Listing,
+    linker: &Linker<'_>,
+    readings: &[Reading<'_>],
+    choices: &Choices,
+    package: &PackageId,
+) -> Result<bool, AllocError>
+    requires files { linker.now ≡ linked_files readings.now }
+    requires fine { All IsFine readings.now }
+    requires choices { map (λ list. length list) choices.now ≡ counts readings.now }
+    ensures { IfOk result (λ made. IsTrue made → AllResolve linker.now) }
+{
+    for file in 0..linker.count() {
+        if !add_file(alloc, listing, linker, readings, choices, package, file)? {
+            return Ok(false);
+        }
+    }
+    Ok(true)
+}
+
+/// Adds the documents of all sources, and, where none is refused, the external entries.
+pub(crate) fn add_all(
+    alloc: Global,
+    listing: &mut Listing,
+    linker: &Linker<'_>,
+    readings: &[Reading<'_>],
+    choices: &Choices,
+    package: &PackageId,
+) -> Result<(), AllocError>
     requires files { linker.now ≡ linked_files readings.now }
     requires fine { All IsFine readings.now }
     requires choices { map (λ list. length list) choices.now ≡ counts readings.now }
 {
-    let reading = &readings[source];
-    if reading.is_included {
-        return Err(LinkFault::Broken(source));
+    if add_files(alloc, listing, linker, readings, choices, package)? {
+        let infos = externals(alloc, linker, choices, package)?;
+        listing.add_externals(infos.as_slice());
     }
-    document_again(&DocumentMaker {
-        alloc,
-        linker,
-        choices,
-        package: id,
-        encoding,
-        source,
-        text: &reading.text,
-    })
-}
-
-/// The same; `Broken` too where there is no such source.
-pub(crate) fn answer_of(
-    alloc: Global,
-    linker: &Linker<'_>,
-    readings: &[Reading<'_>],
-    source: usize,
-    choices: &Choices,
-    id: &PackageId,
-    encoding: Encoding,
-) -> Result<Document, LinkFault>
-    requires files { linker.now ≡ linked_files readings.now }
-    requires fine { All IsFine readings.now }
-    requires choices { map (λ list. length list) choices.now ≡ counts readings.now }
-{
-    if source >= readings.len() {
-        return Err(LinkFault::Broken(source));
-    }
-    document_at(alloc, linker, readings, source, choices, id, encoding)
-}
-
-/// What `externals` answers; nothing where a use of a source names no type.
-pub(crate) fn externals_of(
-    alloc: Global,
-    linker: &Linker<'_>,
-    readings: &[Reading<'_>],
-    choices: &Choices,
-    id: &PackageId,
-) -> Result<Option<Sequence<SymbolInformation>>, AllocError>
-    requires files { linker.now ≡ linked_files readings.now }
-    requires choices { map (λ list. length list) choices.now ≡ counts readings.now }
-{
-    if !all_resolve(alloc, linker)? {
-        return Ok(None);
-    }
-    Ok(Some(externals_again(alloc, linker, choices, id)?))
+    Ok(())
 }

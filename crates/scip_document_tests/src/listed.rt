@@ -1,90 +1,120 @@
-//! Occurrences and symbol entries, as tests list them.
+//! Documents, refusals and external entries, as texts.
+//!
+//! A document has a line with its path, its language and its encoding, and what occurs in it: the range,
+//! the role and the symbol. Another line has its symbol entries: the symbol, the display name, and each
+//! text of the documentation. Behind each stands `;`. A refusal has a line with the file and the place of
+//! a use. External entries have a line that begins with `+`. Symbols stand without the scheme and the
+//! empty package.
 
-use scip_model::{Occurrence, SymbolInformation};
+use proto_link::LinkFault;
+use scip_model::{Document, Occurrence, SymbolInformation};
 use sequences::OwnedText;
+use std::alloc::{AllocError, Global};
 
-fn is_symbol(symbol: &OwnedText, front: &str, rest: &str) -> bool {
-    symbol.as_str().strip_prefix(front) == Some(rest)
+/// A text in the making. Where memory runs out it takes no more, and is no text at its end.
+#[derive(Drop)]
+pub(crate) struct Listing {
+    alloc: Global,
+    text: String,
+    is_cut: bool,
 }
 
-/// The number with which a text begins, and what stands behind it and a space.
-pub(crate) fn numbered(text: &str) -> Option<(u32, &str)> {
-    let (digits, rest) = text.split_once(' ')?;
-    let number = digits.parse::<u32>().ok()?;
-    Some((number, rest))
-}
-
-/// What stands in a text behind this number and a space.
-pub(crate) fn behind(text: &str, number: u32) -> Option<&str> {
-    match numbered(text)? {
-        (found, rest) if found == number => Some(rest),
-        _ => None,
-    }
-}
-
-/// What stands in a row behind the range and the role, where they are those of this occurrence.
-fn behind_role<'a>(occurrence: &Occurrence, row: &'a str) -> Option<&'a str> {
-    let range = &occurrence.range;
-    let row = behind(row, range.start_line())?;
-    let row = behind(row, range.start_column())?;
-    let row = behind(row, range.end_line())?;
-    let row = behind(row, range.end_column())?;
-    behind(row, u32::try_from(occurrence.symbol_roles).ok()?)
-}
-
-fn is_row(occurrence: &Occurrence, front: &str, row: &str) -> bool {
-    match behind_role(occurrence, row) {
-        Some(symbol) => is_symbol(&occurrence.symbol, front, symbol),
-        None => false,
-    }
-}
-
-/// Whether these are the occurrences of a text, in order. Each has the numbers of the range, the role,
-/// and the symbol without its front, with spaces between them and `;` behind it.
-pub(crate) fn are_rows(occurrences: &[Occurrence], front: &str, rows: &str) -> bool {
-    let mut rest = occurrences;
-    for row in rows.split_terminator(';') {
-        match rest {
-            [occurrence, others @ ..] if is_row(occurrence, front, row) => rest = others,
-            _ => return false,
+impl Listing {
+    pub(crate) fn new(alloc: Global) -> Listing {
+        Listing {
+            alloc,
+            text: String::new(alloc),
+            is_cut: false,
         }
     }
-    rest.is_empty()
-}
 
-/// Whether these are the texts of a text, in order. Each has a `|` behind it.
-fn are_texts(texts: &[OwnedText], due: &str) -> bool {
-    let mut rest = texts;
-    for due in due.split_terminator('|') {
-        match rest {
-            [text, others @ ..] if text.as_str() == due => rest = others,
-            _ => return false,
+    fn add(&mut self, part: &str) {
+        if self.text.push_str(part).is_err() {
+            self.is_cut = true;
         }
     }
-    rest.is_empty()
-}
 
-fn is_entry(info: &SymbolInformation, front: &str, entry: &str) -> bool {
-    let Some((symbol, entry)) = entry.split_once('|') else {
-        return false;
-    };
-    let Some((display_name, documentation)) = entry.split_once('|') else {
-        return false;
-    };
-    is_symbol(&info.symbol, front, symbol)
-        && info.display_name.as_str() == display_name
-        && are_texts(info.documentation.as_slice(), documentation)
-}
-
-/// Whether these are the entries of a text, in order. Each has the symbol without its front, the
-/// display name, and each text of the documentation, with `|` behind each of them, and `;` behind all.
-pub(crate) fn are_entries(infos: &[SymbolInformation], front: &str, entries: &str) -> bool {
-    let mut rest = infos;
-    for entry in entries.split_terminator(';') {
-        match rest {
-            [info, others @ ..] if is_entry(info, front, entry) => rest = others,
-            _ => return false,
+    /// Adds a number and a space.
+    fn add_number(&mut self, number: i64) {
+        match format!(in self.alloc; "{number} ") {
+            Ok(digits) => self.add(digits.as_str()),
+            Err(_) => self.is_cut = true,
         }
     }
-    rest.is_empty()
+
+    fn add_symbol(&mut self, symbol: &OwnedText) {
+        let symbol = symbol.as_str();
+        let front = "scip-protobuf . . . ";
+        self.add(symbol.strip_prefix(front).unwrap_or(symbol));
+    }
+
+    fn add_occurrence(&mut self, occurrence: &Occurrence) {
+        let range = &occurrence.range;
+        self.add(" ");
+        self.add_number(i64::from(range.start_line()));
+        self.add_number(i64::from(range.start_column()));
+        self.add_number(i64::from(range.end_line()));
+        self.add_number(i64::from(range.end_column()));
+        self.add_number(i64::from(occurrence.symbol_roles));
+        self.add_symbol(&occurrence.symbol);
+        self.add(";");
+    }
+
+    fn add_entry(&mut self, info: &SymbolInformation) {
+        self.add(" ");
+        self.add_symbol(&info.symbol);
+        self.add(" ");
+        self.add(info.display_name.as_str());
+        for text in info.documentation.as_slice() {
+            self.add(" | ");
+            self.add(text.as_str());
+        }
+        self.add(";");
+    }
+
+    /// Adds the document of a source.
+    pub(crate) fn add_document(&mut self, document: &Document) {
+        self.add(document.relative_path.as_str());
+        self.add(" ");
+        self.add(document.language.as_str());
+        self.add(" ");
+        self.add_number(i64::from(document.position_encoding));
+        for occurrence in document.occurrences.as_slice() {
+            self.add_occurrence(occurrence);
+        }
+        self.add("\n");
+        for info in document.symbols.as_slice() {
+            self.add_entry(info);
+        }
+        self.add("\n");
+    }
+
+    /// Adds the refusal of a document.
+    pub(crate) fn add_fault(&mut self, fault: LinkFault) {
+        if let LinkFault::Unresolved(place) = fault {
+            self.add("unresolved ");
+            self.add_number(i64::try_from(place.file).unwrap_or(-1));
+            self.add_number(i64::try_from(place.span.start).unwrap_or(-1));
+            self.add_number(i64::try_from(place.span.end).unwrap_or(-1));
+        }
+        self.add("\n");
+    }
+
+    /// Adds external entries.
+    pub(crate) fn add_externals(&mut self, infos: &[SymbolInformation]) {
+        self.add("+");
+        for info in infos {
+            self.add_entry(info);
+        }
+        self.add("\n");
+    }
+
+    /// Whether it is this text.
+    pub(crate) fn is(&self, text: &str) -> Result<bool, AllocError> {
+        if self.is_cut {
+            Err(AllocError)
+        } else {
+            Ok(self.text.as_str() == text)
+        }
+    }
 }

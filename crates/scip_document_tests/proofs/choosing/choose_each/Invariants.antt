@@ -2,5 +2,5 @@
 use Rattle.std.proofs.Common.{◌≡◌, length, take}
 use Rattle.scip_document_tests.proofs.choosing.choose_each.Given as goal
 
-abbrev pub invariant-loop-declaration : goal.invariant-loop-declaration
-invariant-loop-declaration g l = length l.list.items ≡ length (take l.declaration-index l.declarations)
+abbrev pub invariant-loop : goal.invariant-loop
+invariant-loop l = length l.list.items ≡ length (take l.index l.declarations)

@@ -1,11 +1,11 @@
 use Rattle.std.proofs.Common.{arith}
 use Rattle.scip_document_tests.specs.Reads.{ResolveAt}
 use Rattle.scip_document_tests.proofs.ResolveLemmas.{all_resolve, one_more}
-use Rattle.scip_document_tests.proofs.resolving.all_resolve.Goals as goal
+use Rattle.scip_document_tests.proofs.linked.add_files.Goals as goal
 
 pub loop-file-preserved : goal.loop-file-preserved
 loop-file-preserved c =
-    one_more (ResolveAt c.args.linker.now) c.loop-file.file c.loop-file.invariant (c.in_ok-source_resolves.ensures c.if-not-branch.false)
+    one_more (ResolveAt c.args.linker.now) c.loop-file.file c.loop-file.invariant (c.in_ok-add_file.ensures c.if-not-branch.false)
 
 pub returns : goal.returns
 returns c _ =

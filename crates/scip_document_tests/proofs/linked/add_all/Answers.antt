@@ -2,8 +2,8 @@ use Rattle.std.proofs.Common.{List, sym, subst}
 use Rattle.proto_visibility.specs.Files.{File}
 use Rattle.scip_document.specs.Chosen.{HaveChoices}
 use Rattle.scip_document_tests.proofs.ReadingLemmas.{have_choices}
-use Rattle.scip_document_tests.proofs.linked.externals_of.Goals as goal
+use Rattle.scip_document_tests.proofs.linked.add_all.Goals as goal
 
-pub externals_again-requires-clause-choices : goal.externals_again-requires-clause-choices
-externals_again-requires-clause-choices c =
+pub externals-requires-clause-choices : goal.externals-requires-clause-choices
+externals-requires-clause-choices c =
     subst (λ (files : List File). HaveChoices files c.args.choices.now) (sym c.requires.files) (have_choices c.args.readings.now c.args.choices.now c.requires.choices)

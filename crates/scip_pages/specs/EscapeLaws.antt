@@ -1,0 +1,22 @@
+-- Laws of escapes.
+use Rattle.std.specs.Prelude.{ℕ, ◌≡◌, ◌≢◌, List, ◌∷◌, ◌++◌, IsSome}
+use Rattle.std.specs.List.{AllByRecursion}
+use Rattle.scip_pages.specs.Escapes.{escape}
+use Rattle.scip_pages.specs.Plain.{plain, reference_behind}
+
+-- What an escaped text shows is the text, whatever it is.
+abbrev pub ShowsTheText : Type 0
+ShowsTheText = (text : List ℕ) → plain (escape text) ≡ text
+
+-- What stands behind it is shown as it would be by itself.
+abbrev pub ShowsTheRest : Type 0
+ShowsTheRest = (text rest : List ℕ) → plain (escape text ++ rest) ≡ text ++ plain rest
+
+-- No `<`, `>`, `"`, `'` or `\r` is left in an escaped text,
+abbrev pub HasNoMarks : Type 0
+HasNoMarks = (text : List ℕ) → AllByRecursion (λ b. (b ≢ 60) × (b ≢ 62) × (b ≢ 34) × (b ≢ 39) × (b ≢ 13)) (escape text)
+
+-- and each `&` begins a reference.
+abbrev pub HasOnlyReferences : Type 0
+HasOnlyReferences =
+    (text before after : List ℕ) → escape text ≡ before ++ 38 ∷ after → IsSome (reference_behind after)

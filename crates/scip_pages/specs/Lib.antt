@@ -1,0 +1,4 @@
+pub mod Escapes
+pub mod Plain
+pub mod EscapeLaws
+pub mod Columns

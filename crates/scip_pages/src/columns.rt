@@ -1,0 +1,88 @@
+//! Columns of a line.
+
+ghost use Rattle.std.specs.Prelude.{◌≡◌, ◌≤◌, ◌==◌, ◌&&◌};
+ghost use Rattle.scip_pages.specs.Columns as spec;
+
+/// What columns count, from the line's start (`scip.proto`, `PositionEncoding`).
+#[derive(Clone, Copy, Debug, PartialEq, Eq)]
+pub enum ColumnUnit {
+    /// Bytes of the line in UTF-8.
+    Utf8,
+    /// Code units of the line in UTF-16: two for a character past U+FFFF, and one for each other.
+    Utf16,
+    /// Characters.
+    Utf32,
+}
+
+/// The unit of a document's position encoding: 1 is UTF-8, 2 UTF-16, 3 UTF-32. None of another
+/// number, nor of 0, by which a document doesn't say what its columns count.
+pub fn unit_of(position_encoding: i32) -> Option<ColumnUnit>
+    ensures { result ≡ spec.unit_of position_encoding }
+{
+    if position_encoding == 1 {
+        Some(ColumnUnit::Utf8)
+    } else if position_encoding == 2 {
+        Some(ColumnUnit::Utf16)
+    } else if position_encoding == 3 {
+        Some(ColumnUnit::Utf32)
+    } else {
+        None
+    }
+}
+
+/// Whether a byte of a text in UTF-8 is the first of a character.
+fn is_first_byte(byte: u8) -> bool
+    ensures { result ≡ spec.is_first_byte byte }
+{
+    byte < 128 || 192 <= byte
+}
+
+/// The units that a byte of a text in UTF-8 counts for.
+fn units_of(unit: ColumnUnit, byte: u8) -> u64
+    ensures units { result ≡ spec.units_of unit byte }
+    ensures few { result ≤ 2 }
+{
+    match unit {
+        ColumnUnit::Utf8 => 1,
+        ColumnUnit::Utf16 => {
+            if !is_first_byte(byte) {
+                0
+            } else if byte < 240 {
+                1
+            } else {
+                2
+            }
+        }
+        ColumnUnit::Utf32 => u64::from(is_first_byte(byte)),
+    }
+}
+
+/// Whether a byte with so many units before it is at a column.
+fn is_here(byte: u8, units: u64, column: u64) -> bool
+    ensures { result ≡ (spec.is_first_byte byte && (units == column)) }
+{
+    is_first_byte(byte) && units == column
+}
+
+/// The offset in bytes of a column of a line, from 0 to the line's length. None where the line has
+/// no such column, or where it is inside a character.
+pub fn offset_of(unit: ColumnUnit, line: &[u8], column: u32) -> Option<usize>
+    ensures { result ≡ spec.offset_of unit line.now column }
+{
+    let wanted = u64::from(column);
+    let mut units = 0;
+    for (at, byte) in line.iter().enumerate() {
+        if is_here(*byte, units, wanted) {
+            return Some(at);
+        }
+        units += units_of(unit, *byte);
+        if units > wanted {
+            return None;
+        }
+    }
+    if units == wanted {
+        Some(line.len())
+    } else {
+        None
+    }
+}

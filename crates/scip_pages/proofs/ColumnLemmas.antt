@@ -24,7 +24,7 @@ pub first_past : (p : ℕ → Bool) (most : ℕ) → first_from p most (most + 1
 first_past p most = let a : most + 1 - (most + 1) ≡ 0 = omega arith in rw a refl
 
 -- the units before an offset, and those before the next
-units_rise : (unit : ColumnUnit) (line : List ℕ) (a : ℕ) → units_in unit (take a line) ≤ units_in unit (take (a + 1) line)
+pub units_rise : (unit : ColumnUnit) (line : List ℕ) (a : ℕ) → units_in unit (take a line) ≤ units_in unit (take (a + 1) line)
 units_rise unit line a = by (cases_lt a (length line))
   where
     by : (a < length line) ⊎ (length line ≤ a) → units_in unit (take a line) ≤ units_in unit (take (a + 1) line)

@@ -40,7 +40,7 @@ pub shows_the_text : ShowsTheText
 shows_the_text [] = refl
 shows_the_text (byte ∷ text) = shows_byte (escape text) byte ∙ ap (λ shown. byte ∷ shown) (shows_the_text text)
 
-abbrev IsNoMark : ℕ → Type 0
+abbrev pub IsNoMark : ℕ → Type 0
 IsNoMark b = (b ≢ 60) × (b ≢ 62) × (b ≢ 34) × (b ≢ 39) × (b ≢ 13)
 
 other_than : (a b : ℕ) → (a == b) ≡ false → a ≢ b

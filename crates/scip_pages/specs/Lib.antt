@@ -2,3 +2,10 @@ pub mod Escapes
 pub mod Plain
 pub mod EscapeLaws
 pub mod Columns
+pub mod ColumnLaws
+pub mod Runs
+pub mod Code
+pub mod CodeLaws
+pub mod Paths
+pub mod PathLaws
+pub mod RunLaws

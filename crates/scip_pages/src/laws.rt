@@ -1,6 +1,10 @@
 //! Laws of the crate, each the contract of a function that does nothing.
 
 ghost use Rattle.scip_pages.specs.EscapeLaws.{ShowsTheText, ShowsTheRest, HasNoMarks, HasOnlyReferences};
+ghost use Rattle.scip_pages.specs.ColumnLaws.{AtOneOffset, IsAtItsOffset, CountsUtf8, CountsUtf16, CountsUtf32};
+ghost use Rattle.scip_pages.specs.RunLaws.{NoneCovers, NoneIsNarrower};
+ghost use Rattle.scip_pages.specs.PathLaws.{StaysBelow, HasItsOwnPlace};
+ghost use Rattle.scip_pages.specs.CodeLaws.{CodeShowsTheLines, CodeShowsTheSource, PiecesHaveTheText};
 
 /// What an escaped text shows is the text, and what stands behind it shows as it would by itself.
 pub fn escapes_show_the_text()
@@ -13,4 +17,38 @@ pub fn escapes_show_the_text()
 pub fn escapes_become_no_marks()
     ensures marks { HasNoMarks }
     ensures references { HasOnlyReferences }
+{}
+
+/// An offset is that of a column exactly where it cuts no character and so many units stand before
+/// it.
+pub fn columns_have_one_offset()
+    ensures only { AtOneOffset }
+    ensures found { IsAtItsOffset }
+{}
+
+/// The units of a text are those of its encoding in their form.
+pub fn units_are_those_of_their_encoding()
+    ensures utf8 { CountsUtf8 }
+    ensures utf16 { CountsUtf16 }
+    ensures utf32 { CountsUtf32 }
+{}
+
+/// What a page's code shows is the source, byte for byte, whatever its occurrences mark and its
+/// links hold.
+pub fn code_shows_the_source()
+    ensures lines { CodeShowsTheLines }
+    ensures source { CodeShowsTheSource }
+    ensures pieces { PiecesHaveTheText }
+{}
+
+/// A path of a page leads to a place below the folder of the pages, and no other such path does.
+pub fn paths_stay_below()
+    ensures below { StaysBelow }
+    ensures own { HasItsOwnPlace }
+{}
+
+/// What marks a byte covers it, and nothing narrower does; where nothing marks it, nothing covers it.
+pub fn the_narrowest_marks()
+    ensures none { NoneCovers }
+    ensures narrowest { NoneIsNarrower }
 {}

@@ -1,11 +1,20 @@
 //! Pages of an index's sources, for a person's eyes, and what is below them: texts that become no
-//! marks, columns in any position encoding, and what of a line an occurrence marks.
+//! marks, columns in any position encoding, what of a line an occurrence marks, and code with links.
 #![tactic(auto)]
 
+mod code;
 mod columns;
 mod escapes;
 mod laws;
+mod paths;
+mod runs;
 
+pub use code::{Link, push_line};
 pub use columns::{ColumnUnit, offset_of, unit_of};
 pub use escapes::{escape, push_escaped};
-pub use laws::{escapes_become_no_marks, escapes_show_the_text};
+pub use laws::{
+    code_shows_the_source, columns_have_one_offset, escapes_become_no_marks, escapes_show_the_text,
+    paths_stay_below, the_narrowest_marks, units_are_those_of_their_encoding,
+};
+pub use paths::{PathFault, path_fault};
+pub use runs::{Run, Span, line_runs, span_on};

@@ -1,0 +1,39 @@
+-- Paths of pages: those paths of documents that lead to one place each, below the folder of the pages.
+use Rattle.std.specs.Prelude.{ℕ, ◌==◌, Bool, cond, List, [], ◌∷◌, ◌++◌, length, take, ◌-◌, nat_eq, codes, Option, None, Some}
+use Rattle.std.specs.List.{list_any, slice_split, starts_with}
+use Rattle.std.specs.Str.{bytes_eq}
+use Rattle.scip_pages.specs.declared.paths.PathFault.{PathFault}
+use Rattle.scip_pages.specs.declared.paths.PathFault.TheVariants.{Absolute, Empty, Dot, Parent}
+
+-- what stands between the slashes of a path, and before and behind them
+abbrev pub components : List ℕ → List (List ℕ)
+components path = slice_split (λ b. b == 47) path
+
+-- whether one of them is a name
+abbrev pub has_name : List ℕ → List ℕ → Bool
+has_name name path = list_any (λ (other : List ℕ). bytes_eq other name) (components path)
+
+-- A document's path is that of a page if it doesn't begin with a slash, and if each component has a character and
+-- is neither `.` nor `..`.
+abbrev pub path_fault : List ℕ → Option PathFault
+path_fault path =
+    cond (starts_with nat_eq path (codes "/")) (Some Absolute)
+    (cond (has_name (codes "") path) (Some Empty)
+    (cond (has_name (codes ".") path) (Some Dot)
+    (cond (has_name (codes "..") path) (Some Parent) None)))
+
+-- Where a name leads from a folder, which is the list of the names from the root to it. The root is its own parent.
+-- (POSIX, XBD 4.16 "Pathname Resolution", where nothing on the way is a link)
+abbrev pub entered : List (List ℕ) → List ℕ → List (List ℕ)
+entered folder name =
+    cond (bytes_eq name (codes "")) folder
+    (cond (bytes_eq name (codes ".")) folder
+    (cond (bytes_eq name (codes "..")) (take (length folder - 1) folder) (folder ++ name ∷ [])))
+
+abbrev pub entered_all : List (List ℕ) → List (List ℕ) → List (List ℕ)
+entered_all folder [] = folder
+entered_all folder (name ∷ names) = entered_all (entered folder name) names
+
+-- where a path leads from a folder
+abbrev pub place_of : List (List ℕ) → List ℕ → List (List ℕ)
+place_of folder path = entered_all (cond (starts_with nat_eq path (codes "/")) [] folder) (components path)

@@ -1,0 +1,11 @@
+//! Tests of `scip_pages`, by its public calls.
+#![tactic(auto)]
+
+#[cfg(test)]
+mod columns;
+#[cfg(test)]
+mod lines;
+#[cfg(test)]
+mod paths;
+#[cfg(test)]
+mod see;

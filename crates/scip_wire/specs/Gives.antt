@@ -1,7 +1,7 @@
 -- What a result says of what the bytes hold.
-use Rattle.std.specs.Prelude.{◌≡◌, ◌⊎◌, Option, Some, None, Result, Ok, Err}
+use Rattle.std.specs.Prelude.{◌≡◌, ◌⊎◌, ℕ, Option, Some, None, Result, Ok, Err}
 use Rattle.scip_wire.specs.declared.wire_fault.WireFault.{WireFault}
-use Rattle.scip_wire.specs.declared.wire_fault.WireFault.TheVariants.{Memory}
+use Rattle.scip_wire.specs.declared.wire_fault.WireFault.TheVariants.{Truncated, Varint, FieldZero, Group, WireType, Memory}
 
 -- the fault is Memory, which says nothing of the bytes, or nothing is read
 abbrev pub Fails : {Y : Type 0} → WireFault → Option Y → Type 0
@@ -12,7 +12,11 @@ abbrev pub Gives : {X Y : Type 0} → (X → Y) → Result X WireFault → Optio
 Gives view (Ok x) read = read ≡ Some (view x)
 Gives view (Err fault) read = Fails fault read
 
--- the same of a result whose error isn't a fault yet
-abbrev pub Reads : {X Y E : Type 0} → (X → Y) → Result X E → Option Y → Type 0
-Reads view (Ok x) read = read ≡ Some (view x)
-Reads view (Err e) read = read ≡ None
+-- the faults that a record at `start` has of itself: of its tag, its length or a varint
+abbrev pub IsOfRecord : (start : ℕ) → WireFault → Type 0
+IsOfRecord start (Truncated at) = at ≡ start
+IsOfRecord start (Varint at) = at ≡ start
+IsOfRecord start (FieldZero at) = at ≡ start
+IsOfRecord start (Group at) = at ≡ start
+IsOfRecord start (WireType at) = at ≡ start
+IsOfRecord start other = ⊥

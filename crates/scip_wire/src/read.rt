@@ -13,7 +13,6 @@ mod message;
 mod metadata;
 mod occurrence;
 mod range;
-mod record_fault;
 mod symbol_information;
 mod text;
 mod tool_info;

@@ -1,11 +1,10 @@
 //! Records: a field's number and what it holds.
 
-ghost use Rattle.std.specs.Prelude.{◌≡◌};
-ghost use Rattle.scip_wire.specs.Gives.{Gives, Reads};
+ghost use Rattle.std.specs.Prelude.{◌≡◌, IfErr};
+ghost use Rattle.scip_wire.specs.Gives.{Gives, IsOfRecord};
 ghost use Rattle.scip_wire.specs.Reading.{piece_at, payload_at, field_at};
 ghost use Rattle.scip_wire.specs.Views.{payload_view, field_view};
 
-use crate::read::record_fault::RecordFault;
 use crate::read::varint::{MAX_VARINT_LEN, varint_of};
 use crate::wire_fault::WireFault;
 
@@ -25,73 +24,65 @@ pub struct Field<'a> {
     pub payload: Payload<'a>,
 }
 
-/// The first `size` bytes, and those behind them.
+/// The first `size` bytes, in a record at `start` in the input, and those behind them.
 #[tactic(auto, unfolding(crate::specs::Reading::piece_at))]
-fn piece_of(bytes: &[u8], size: u64) -> Result<(&[u8], &[u8]), RecordFault>
-    ensures { Reads (λ x. (x.0.now, x.1.now)) result (piece_at size bytes.now) }
+fn piece_of(bytes: &[u8], size: u64, start: usize) -> Result<(&[u8], &[u8]), WireFault>
+    ensures reads { Gives (λ x. (x.0.now, x.1.now)) result (piece_at size bytes.now) }
+    ensures fault { IfErr result (IsOfRecord start) }
 {
     if size > bytes.len() as u64 {
-        return Err(RecordFault::Truncated);
+        return Err(WireFault::Truncated(start));
     }
     Ok(bytes.split_at(size as usize))
 }
 
-/// The payload of a wire type that the bytes begin with, and the bytes behind it.
+/// The payload of a wire type that the bytes begin with, in a record at `start` in the input, and the bytes behind it.
 #[tactic(auto, unfolding(crate::specs::Reading::payload_at))]
-fn payload_of(bytes: &[u8], wire_type: u64) -> Result<(Payload<'_>, &[u8]), RecordFault>
-    ensures { Reads (λ x. (payload_view x.0, x.1.now)) result (payload_at wire_type bytes.now) }
+fn payload_of(bytes: &[u8], wire_type: u64, start: usize) -> Result<(Payload<'_>, &[u8]), WireFault>
+    ensures reads { Gives (λ x. (payload_view x.0, x.1.now)) result (payload_at wire_type bytes.now) }
+    ensures fault { IfErr result (IsOfRecord start) }
 {
     match wire_type {
         0 => {
-            let (value, rest) = varint_of(bytes, MAX_VARINT_LEN)?;
+            let (value, rest) = varint_of(bytes, MAX_VARINT_LEN, start)?;
             Ok((Payload::Varint(value), rest))
         }
         1 => {
-            let (inside, rest) = piece_of(bytes, 8)?;
+            let (inside, rest) = piece_of(bytes, 8, start)?;
             Ok((Payload::Fixed64(inside), rest))
         }
         2 => {
-            let (size, rest) = varint_of(bytes, MAX_VARINT_LEN)?;
-            let (inside, rest) = piece_of(rest, size)?;
+            let (size, rest) = varint_of(bytes, MAX_VARINT_LEN, start)?;
+            let (inside, rest) = piece_of(rest, size, start)?;
             Ok((Payload::Delimited(inside), rest))
         }
         5 => {
-            let (inside, rest) = piece_of(bytes, 4)?;
+            let (inside, rest) = piece_of(bytes, 4, start)?;
             Ok((Payload::Fixed32(inside), rest))
         }
-        3 | 4 => Err(RecordFault::Group),
-        _ => Err(RecordFault::WireType),
+        3 | 4 => Err(WireFault::Group(start)),
+        _ => Err(WireFault::WireType(start)),
     }
 }
 
-/// The record that the bytes begin with, and the bytes behind it (Protocol Buffers encoding,
-/// Message Structure).
+/// The record that the bytes begin with, which is at `start` in the input, and the bytes behind it (Protocol Buffers
+/// encoding, Message Structure).
 #[tactic(auto, unfolding(crate::specs::Reading::field_at))]
-fn field_of(bytes: &[u8]) -> Result<(Field<'_>, &[u8]), RecordFault>
-    ensures { Reads (λ x. (field_view x.0, x.1.now)) result (field_at bytes.now) }
+pub fn read_field(bytes: &[u8], start: usize) -> Result<(Field<'_>, &[u8]), WireFault>
+    ensures reads { Gives (λ x. (field_view x.0, x.1.now)) result (field_at bytes.now) }
+    ensures fault { IfErr result (IsOfRecord start) }
 {
-    let (tag, rest) = varint_of(bytes, MAX_VARINT_LEN)?;
+    let (tag, rest) = varint_of(bytes, MAX_VARINT_LEN, start)?;
     if tag >= 1 << 32 {
-        return Err(RecordFault::Varint);
+        return Err(WireFault::Varint(start));
     }
     if tag < 8 {
-        return Err(RecordFault::FieldZero);
+        return Err(WireFault::FieldZero(start));
     }
-    let (payload, rest) = payload_of(rest, tag % 8)?;
+    let (payload, rest) = payload_of(rest, tag % 8, start)?;
     let field = Field {
         number: (tag / 8) as u32,
         payload,
     };
     Ok((field, rest))
-}
-
-/// The record that the bytes begin with, which is at `start` in the input, and the bytes behind it.
-#[tactic(auto)]
-pub fn read_field(bytes: &[u8], start: usize) -> Result<(Field<'_>, &[u8]), WireFault>
-    ensures { Gives (λ x. (field_view x.0, x.1.now)) result (field_at bytes.now) }
-{
-    match field_of(bytes) {
-        Ok(read) => Ok(read),
-        Err(fault) => Err(fault.at(start)),
-    }
 }

@@ -10,18 +10,6 @@ use crate::read::varint::{MAX_VARINT_LEN, varint_of};
 use crate::wire_fault::WireFault;
 use scip_model::{Range, Sequence};
 
-/// The varint that the bytes begin with, in a record at `start` in the input, and the bytes behind
-/// it.
-#[tactic(auto)]
-fn read_varint(bytes: &[u8], start: usize) -> Result<(u64, &[u8]), WireFault>
-    ensures { Gives (λ x. (x.0, x.1.now)) result (varint_at max_varint_len bytes.now) }
-{
-    match varint_of(bytes, MAX_VARINT_LEN) {
-        Ok(read) => Ok(read),
-        Err(fault) => Err(fault.at(start)),
-    }
-}
-
 /// Adds the numbers of a packed field, whose record is at `start` in the input (Protocol Buffers
 /// encoding, Packed Repeated Fields). After an error the numbers are of no use.
 pub fn add_packed(numbers: &mut Sequence<u32>, bytes: &[u8], start: usize) -> Result<(), WireFault>
@@ -29,7 +17,7 @@ pub fn add_packed(numbers: &mut Sequence<u32>, bytes: &[u8], start: usize) -> Re
 {
     let mut rest = bytes;
     'varints: while !rest.is_empty() {
-        let (value, after) = read_varint(rest, start)?;
+        let (value, after) = varint_of(rest, MAX_VARINT_LEN, start)?;
         numbers.push(low_bits(value))?;
         rest = after;
     }

@@ -1,33 +1,34 @@
 //! Varints.
 
-ghost use Rattle.std.specs.Prelude.{◌<◌};
-ghost use Rattle.scip_wire.specs.Gives.{Reads};
+ghost use Rattle.std.specs.Prelude.{◌<◌, IfErr};
+ghost use Rattle.scip_wire.specs.Gives.{Gives, IsOfRecord};
 ghost use Rattle.scip_wire.specs.Reading.{varint_at};
 
-use crate::read::record_fault::RecordFault;
+use crate::wire_fault::WireFault;
 
 /// The most bytes that a varint has.
 pub const MAX_VARINT_LEN: usize = 10;
 
-/// The varint of at most `limit` bytes that the bytes begin with, and the bytes behind it
-/// (Protocol Buffers encoding, Base 128 Varints). It may be longer than its value needs.
+/// The varint of at most `limit` bytes that the bytes begin with, in a record at `start` in the input, and the bytes
+/// behind it (Protocol Buffers encoding, Base 128 Varints). It may be longer than its value needs.
 #[tactic(auto, unfolding(crate::specs::Reading::varint_at))]
-pub fn varint_of(bytes: &[u8], limit: usize) -> Result<(u64, &[u8]), RecordFault>
+pub fn varint_of(bytes: &[u8], limit: usize, start: usize) -> Result<(u64, &[u8]), WireFault>
     requires { 0 < limit }
-    ensures { Reads (λ x. (x.0, x.1.now)) result (varint_at limit bytes.now) }
+    ensures reads { Gives (λ x. (x.0, x.1.now)) result (varint_at limit bytes.now) }
+    ensures fault { IfErr result (IsOfRecord start) }
 {
     let [byte, rest @ ..] = bytes else {
-        return Err(RecordFault::Truncated);
+        return Err(WireFault::Truncated(start));
     };
     if *byte < 128 {
         return Ok((u64::from(*byte), rest));
     }
     if limit == 1 {
-        return Err(RecordFault::Varint);
+        return Err(WireFault::Varint(start));
     }
-    let (high, rest) = varint_of(rest, limit - 1)?;
+    let (high, rest) = varint_of(rest, limit - 1, start)?;
     if high >= 1 << 57 {
-        return Err(RecordFault::Varint);
+        return Err(WireFault::Varint(start));
     }
     Ok((u64::from(*byte - 128) + 128 * high, rest))
 }

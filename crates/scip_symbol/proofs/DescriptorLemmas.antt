@@ -5,8 +5,8 @@ use Rattle.scip_symbol.specs.Names.{is_identifier_character}
 use Rattle.scip_symbol.specs.SpellsSymbol.{SpellsName, descriptor, SpellsDescriptor, namespace, type_, term, meta, macro, method, type_parameter, parameter, SpellsDescriptors, last, more}
 use Rattle.scip_symbol.specs.Reading.{Read, ◌>>=◌, after, expect_at, run_at, name_at, closed_at, disambiguator_at, suffix_at, enclosed_at, descriptor_at, led, last_or_led, descriptors_within, descriptors_at}
 use Rattle.scip_symbol.specs.Gives.{Stops}
-use Rattle.scip_symbol.specs.declared.fault.Stop.{Stop}
-use Rattle.scip_symbol.specs.declared.fault.Stop.TheVariants.{Left, Memory}
+use Rattle.scip_symbol.specs.declared.fault.SymbolFault.{SymbolFault}
+use Rattle.scip_symbol.specs.declared.fault.SymbolFault.TheVariants.{BadSymbol, Memory}
 use Rattle.scip_symbol.specs.declared.symbol.Suffix.{Suffix}
 use Rattle.scip_symbol.specs.declared.symbol.Suffix.TheVariants as suffix
 use Rattle.scip_symbol.specs.declared.symbol.Descriptor.{Descriptor}
@@ -295,6 +295,6 @@ module _ (ds : List Descriptor) (rest : List ℕ) (whole : Read (List Descriptor
       ∙ ap (led-all ds) (sym (descriptors-step rest ∙ bind_of_ok (λ x. last_or_led x.0 x.1 (descriptors_at x.1)) e ∙ led-rest x.0 x.1 (descriptors_at x.1) h))
       ∙ kept
 
-  pub loop-stops : (stop : Stop) → Stops stop (descriptor_at rest) → Stops stop whole
-  loop-stops (Left left) e = sym kept ∙ ap (led-all ds) (descriptors-step rest ∙ bind_of_err (λ x. last_or_led x.0 x.1 (descriptors_at x.1)) e)
+  pub loop-stops : (fault : SymbolFault) → Stops fault (descriptor_at rest) → Stops fault whole
+  loop-stops (BadSymbol left) e = sym kept ∙ ap (led-all ds) (descriptors-step rest ∙ bind_of_err (λ x. last_or_led x.0 x.1 (descriptors_at x.1)) e)
   loop-stops Memory e = tt

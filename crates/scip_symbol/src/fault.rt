@@ -1,4 +1,4 @@
-//! Why a text is no symbol, and a part no part of a package.
+//! Why a text is no symbol.
 
 use std::alloc::{AllocError, AllocFailed};
 use thiserror::Error;
@@ -15,33 +15,24 @@ pub enum SymbolFault {
     Memory,
 }
 
-/// Why the reader stops.
-#[derive(Clone, Copy, Debug, Drop)]
-pub(crate) enum Stop {
-    /// No symbol goes on so: where so many bytes of the text are left.
-    Left(usize),
-    /// Memory ran out.
-    Memory,
-}
-
-impl From<AllocError> for Stop {
+impl From<AllocError> for SymbolFault {
     ghost use Rattle.std.specs.Prelude.{◌≡◌};
-    ghost use Rattle.scip_symbol.specs.declared.fault.Stop.TheVariants.{Memory};
+    ghost use Rattle.scip_symbol.specs.declared.fault.SymbolFault.TheVariants.{Memory};
 
     ghost from_gives = { λ _ e. e ≡ Memory };
 
-    fn from(_refused: AllocError) -> Stop {
-        Stop::Memory
+    fn from(_refused: AllocError) -> SymbolFault {
+        SymbolFault::Memory
     }
 }
 
-impl<T: Drop> From<AllocFailed<T>> for Stop {
+impl<T: Drop> From<AllocFailed<T>> for SymbolFault {
     ghost use Rattle.std.specs.Prelude.{◌≡◌};
-    ghost use Rattle.scip_symbol.specs.declared.fault.Stop.TheVariants.{Memory};
+    ghost use Rattle.scip_symbol.specs.declared.fault.SymbolFault.TheVariants.{Memory};
 
     ghost from_gives = { λ _ e. e ≡ Memory };
 
-    fn from(_refused: AllocFailed<T>) -> Stop {
-        Stop::Memory
+    fn from(_refused: AllocFailed<T>) -> SymbolFault {
+        SymbolFault::Memory
     }
 }

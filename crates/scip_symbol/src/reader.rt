@@ -1,4 +1,7 @@
 //! Symbols out of text.
+//!
+//! The private readers see the rest of a text alone, so their `BadSymbol` has the number of bytes that are left where no symbol
+//! goes on so; `read` makes the offset of it.
 
 ghost use Rattle.std.specs.Prelude.{◌≡◌, ◌<◌, false, length, IfOk, IfErr, MatchOption, MatchResult};
 ghost use Rattle.std.specs.Prelude.{take, drop};
@@ -10,7 +13,7 @@ ghost use Rattle.scip_symbol.specs.LongestFront.{IsFaultOf};
 ghost use Rattle.scip_symbol.specs.declared.symbol.SymbolParts.{SymbolParts};
 ghost use Rattle.scip_symbol.specs.declared.fault.SymbolFault.TheVariants as fault;
 
-use crate::fault::{Stop, SymbolFault};
+use crate::fault::SymbolFault;
 use crate::printer::is_identifier_character;
 use crate::symbol::{Descriptor, GlobalSymbol, Suffix, Symbol, SymbolParts};
 use sequences::{OwnedText, Sequence};
@@ -25,12 +28,12 @@ pub(crate) fn after<'a>(text: &'a str, front: &str) -> Option<&'a str>
 
 /// The text behind a front that has to be there.
 #[tactic(auto, unfolding(crate::specs::Reading::expect_at))]
-fn expect<'a>(text: &'a str, front: &str) -> Result<&'a str, Stop>
+fn expect<'a>(text: &'a str, front: &str) -> Result<&'a str, SymbolFault>
     ensures { Gives (λ rest. rest.now) result (expect_at front.now text.now) }
 {
     match after(text, front) {
         Some(rest) => Ok(rest),
-        None => Err(Stop::Left(text.len())),
+        None => Err(SymbolFault::BadSymbol(text.len())),
     }
 }
 
@@ -39,7 +42,7 @@ fn read_undoubled<'a>(
     alloc: Global,
     text: &'a str,
     mark: char,
-) -> Result<(OwnedText, &'a str), Stop>
+) -> Result<(OwnedText, &'a str), SymbolFault>
     requires { mark < 128 }
     ensures { Gives (λ x. (x.0, x.1.now)) result (undoubled_at mark false text.now) }
 {
@@ -55,7 +58,7 @@ fn read_undoubled<'a>(
             None => return Ok((OwnedText::from_string(word), behind)),
         }
     }
-    Err(Stop::Left(0))
+    Err(SymbolFault::BadSymbol(0))
 }
 
 /// How many identifier characters stand at the front.
@@ -79,26 +82,26 @@ fn split_run(text: &str) -> (&str, &str)
 
 /// A simple identifier, and the text behind it, as each of the readers below gives what it reads.
 #[tactic(auto, unfolding(crate::specs::Reading::simple_at))]
-fn read_simple<'a>(alloc: Global, text: &'a str) -> Result<(OwnedText, &'a str), Stop>
+fn read_simple<'a>(alloc: Global, text: &'a str) -> Result<(OwnedText, &'a str), SymbolFault>
     ensures { Gives (λ x. (x.0, x.1.now)) result (simple_at text.now) }
 {
     let (run, rest) = split_run(text);
     if run.is_empty() {
-        return Err(Stop::Left(rest.len()));
+        return Err(SymbolFault::BadSymbol(rest.len()));
     }
     Ok((OwnedText::copy_of(alloc, run)?, rest))
 }
 
 /// A name, with or without backticks.
 #[tactic(auto, unfolding(crate::specs::Reading::name_at))]
-fn read_name<'a>(alloc: Global, text: &'a str) -> Result<(OwnedText, &'a str), Stop>
+fn read_name<'a>(alloc: Global, text: &'a str) -> Result<(OwnedText, &'a str), SymbolFault>
     ensures { Gives (λ x. (x.0, x.1.now)) result (name_at text.now) }
 {
     match after(text, "`") {
         Some(inside) => {
             let (name, rest) = read_undoubled(alloc, inside, '`')?;
             if name.as_str().is_empty() {
-                return Err(Stop::Left(rest.len()));
+                return Err(SymbolFault::BadSymbol(rest.len()));
             }
             Ok((name, rest))
         }
@@ -108,7 +111,7 @@ fn read_name<'a>(alloc: Global, text: &'a str) -> Result<(OwnedText, &'a str), S
 
 /// A method's disambiguator and the signs behind it.
 #[tactic(auto, unfolding(crate::specs::Reading::disambiguator_at))]
-fn read_disambiguator<'a>(alloc: Global, text: &'a str) -> Result<(OwnedText, &'a str), Stop>
+fn read_disambiguator<'a>(alloc: Global, text: &'a str) -> Result<(OwnedText, &'a str), SymbolFault>
     ensures { Gives (λ x. (x.0, x.1.now)) result (disambiguator_at text.now) }
 {
     let (run, rest) = split_run(text);
@@ -119,7 +122,7 @@ fn read_disambiguator<'a>(alloc: Global, text: &'a str) -> Result<(OwnedText, &'
 
 /// What stands behind a name that no bracket encloses.
 #[tactic(auto, unfolding(crate::specs::Reading::suffix_at))]
-fn read_suffix<'a>(alloc: Global, text: &'a str) -> Result<(Suffix, &'a str), Stop>
+fn read_suffix<'a>(alloc: Global, text: &'a str) -> Result<(Suffix, &'a str), SymbolFault>
     ensures { Gives (λ x. (x.0, x.1.now)) result (suffix_at text.now) }
 {
     if let Some(rest) = after(text, "/") {
@@ -149,7 +152,7 @@ fn read_enclosed<'a>(
     text: &'a str,
     suffix: Suffix,
     closing: &str,
-) -> Result<(Descriptor, &'a str), Stop>
+) -> Result<(Descriptor, &'a str), SymbolFault>
     ensures { Gives (λ x. (x.0, x.1.now)) result (enclosed_at suffix closing.now text.now) }
 {
     let (name, rest) = read_name(alloc, text)?;
@@ -158,7 +161,7 @@ fn read_enclosed<'a>(
 }
 
 #[tactic(auto, unfolding(crate::specs::Reading::descriptor_at))]
-fn read_descriptor<'a>(alloc: Global, text: &'a str) -> Result<(Descriptor, &'a str), Stop>
+fn read_descriptor<'a>(alloc: Global, text: &'a str) -> Result<(Descriptor, &'a str), SymbolFault>
     ensures { Gives (λ x. (x.0, x.1.now)) result (descriptor_at text.now) }
 {
     if let Some(inside) = after(text, "[") {
@@ -173,7 +176,7 @@ fn read_descriptor<'a>(alloc: Global, text: &'a str) -> Result<(Descriptor, &'a 
 }
 
 /// One descriptor or more, up to the end.
-fn read_descriptors(alloc: Global, text: &str) -> Result<Sequence<Descriptor>, Stop>
+fn read_descriptors(alloc: Global, text: &str) -> Result<Sequence<Descriptor>, SymbolFault>
     ensures { Gives (λ ds. ds) result (descriptors_at text.now) }
 {
     let mut descriptors = Vec::new(alloc);
@@ -190,18 +193,18 @@ fn read_descriptors(alloc: Global, text: &str) -> Result<Sequence<Descriptor>, S
 
 /// A text that doesn't begin with a space, up to a space that isn't doubled.
 #[tactic(auto, unfolding(crate::specs::Reading::spaced_at))]
-fn read_spaced<'a>(alloc: Global, text: &'a str) -> Result<(OwnedText, &'a str), Stop>
+fn read_spaced<'a>(alloc: Global, text: &'a str) -> Result<(OwnedText, &'a str), SymbolFault>
     ensures { Gives (λ x. (x.0, x.1.now)) result (spaced_at text.now) }
 {
     match after(text, " ") {
-        Some(_) => Err(Stop::Left(text.len())),
+        Some(_) => Err(SymbolFault::BadSymbol(text.len())),
         None => read_undoubled(alloc, text, ' '),
     }
 }
 
 /// A manager, a name or a version.
 #[tactic(auto, unfolding(crate::specs::Reading::part_at))]
-fn read_part<'a>(alloc: Global, text: &'a str) -> Result<(OwnedText, &'a str), Stop>
+fn read_part<'a>(alloc: Global, text: &'a str) -> Result<(OwnedText, &'a str), SymbolFault>
     ensures { Gives (λ x. (x.0, x.1.now)) result (part_at text.now) }
 {
     let (word, rest) = read_spaced(alloc, text)?;
@@ -212,7 +215,7 @@ fn read_part<'a>(alloc: Global, text: &'a str) -> Result<(OwnedText, &'a str), S
 }
 
 #[tactic(auto, unfolding(crate::specs::Reading::global_at))]
-fn read_global(alloc: Global, text: &str) -> Result<SymbolParts, Stop>
+fn read_global(alloc: Global, text: &str) -> Result<SymbolParts, SymbolFault>
     ensures { Gives (λ s. s) result (global_at text.now) }
 {
     let (scheme, rest) = read_spaced(alloc, text)?;
@@ -231,7 +234,7 @@ fn read_global(alloc: Global, text: &str) -> Result<SymbolParts, Stop>
 
 /// What stands behind `local`.
 #[tactic(auto, unfolding(crate::specs::Reading::local_at))]
-fn read_local(alloc: Global, text: &str) -> Result<SymbolParts, Stop>
+fn read_local(alloc: Global, text: &str) -> Result<SymbolParts, SymbolFault>
     ensures { Gives (λ s. s) result (local_at text.now) }
 {
     let rest = expect(text, " ")?;
@@ -239,12 +242,12 @@ fn read_local(alloc: Global, text: &str) -> Result<SymbolParts, Stop>
     if rest.is_empty() {
         Ok(SymbolParts::Local(name))
     } else {
-        Err(Stop::Left(rest.len()))
+        Err(SymbolFault::BadSymbol(rest.len()))
     }
 }
 
 #[tactic(auto, unfolding(crate::specs::Reading::symbol_at))]
-fn read_parts(alloc: Global, text: &str) -> Result<SymbolParts, Stop>
+fn read_parts(alloc: Global, text: &str) -> Result<SymbolParts, SymbolFault>
     ensures { Gives (λ s. s) result (symbol_at text.now) }
 {
     match after(text, "local") {
@@ -266,7 +269,9 @@ pub fn read(alloc: Global, text: &str) -> Result<Symbol, SymbolFault>
 {
     match read_parts(alloc, text) {
         Ok(parts) => Ok(Symbol::from_parts(parts)),
-        Err(Stop::Left(left)) => Err(SymbolFault::BadSymbol(text.len().saturating_sub(left))),
-        Err(Stop::Memory) => Err(SymbolFault::Memory),
+        Err(SymbolFault::BadSymbol(left)) => Err(SymbolFault::BadSymbol(
+            text.len().saturating_sub(left),
+        )),
+        Err(SymbolFault::Memory) => Err(SymbolFault::Memory),
     }
 }

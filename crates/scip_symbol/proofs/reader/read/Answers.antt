@@ -20,11 +20,11 @@ pub returns-in-Ok-clause-only : goal.returns-in-Ok-clause-only
 returns-in-Ok-clause-only c =
     λ symbol spells. c.from_parts.ensures ∙ same_ok (symbol_at c.args.text.now) c.in-Ok.ensures (symbol-exact c.args.text.now symbol spells)
 
-pub returns-in-Err-Left-clause-only : goal.returns-in-Err-Left-clause-only
-returns-in-Err-Left-clause-only c = λ symbol spells. unspelled c.args.text.now c.in-Err-Left.left symbol
-    (subst (λ stop. Stops stop (symbol_at c.args.text.now)) c.in-Err-Left.field-0-is c.in-Err-Left.ensures) spells
+pub returns-in-Err-BadSymbol-clause-only : goal.returns-in-Err-BadSymbol-clause-only
+returns-in-Err-BadSymbol-clause-only c = λ symbol spells. unspelled c.args.text.now c.in-Err-BadSymbol.left symbol
+    (subst (λ stop. Stops stop (symbol_at c.args.text.now)) c.in-Err-BadSymbol.field-0-is c.in-Err-BadSymbol.ensures) spells
 
-pub returns-in-Err-Left-clause-fault : goal.returns-in-Err-Left-clause-fault
-returns-in-Err-Left-clause-fault c =
-    let stopped = subst (λ stop. Stops stop (symbol_at c.args.text.now)) c.in-Err-Left.field-0-is c.in-Err-Left.ensures in
-    subst (IsLongestFront c.args.text.now) (sym c.saturating_sub.ensures) (longest-front c.args.text.now c.in-Err-Left.left stopped)
+pub returns-in-Err-BadSymbol-clause-fault : goal.returns-in-Err-BadSymbol-clause-fault
+returns-in-Err-BadSymbol-clause-fault c =
+    let stopped = subst (λ stop. Stops stop (symbol_at c.args.text.now)) c.in-Err-BadSymbol.field-0-is c.in-Err-BadSymbol.ensures in
+    subst (IsLongestFront c.args.text.now) (sym c.saturating_sub.ensures) (longest-front c.args.text.now c.in-Err-BadSymbol.left stopped)

@@ -14,6 +14,7 @@ pub mod DecodesLemmas
 pub mod SpelledVarintLemmas
 pub mod SaturatedLemmas
 pub mod EncodeLemmas
+pub mod PieceLemmas
 -- And back: spelled fields are the fields of their bytes, and a spelled index is what its bytes decode to.
 pub mod SpelledFieldLemmas
 pub mod SpelledPayloadLemmas

@@ -5,7 +5,7 @@ use Rattle.std.proofs.lemmas.List.{take_all}
 use Rattle.std.proofs.lemmas.List.Elements.{All-more, All-same}
 use Rattle.std.specs.List.{All}
 use Rattle.scip_wire.specs.Fields.{Field}
-use Rattle.scip_wire.specs.Spelling.{field_bytes, bytes_of, bytes_field, varint, repeated_message_fields, max_index_len}
+use Rattle.scip_wire.specs.Spelling.{field_bytes, bytes_of, bytes_field, varint, repeated_message_fields}
 use Rattle.scip_wire.specs.Saturated.{saturated, fields_len}
 
 pub fields_len_more : (f : Field) (fs : List Field) → fields_len (f ∷ fs) ≡ fields_len (f ∷ []) + fields_len fs
@@ -54,7 +54,7 @@ messages_le fields k (x ∷ xs) (suc i) d inside =
     omega (arith, fields_len_more (bytes_field k (bytes_of (fields x))) (repeated_message_fields k fields xs), messages_le fields k xs i d (omega arith))
 
 pub message_short : {X : Type 0} (fields : X → List Field) (k : ℕ) (xs : List X) (i : ℕ) (x : X) → i < length xs → x ≡ get_or xs i x
-    → fields_len (repeated_message_fields k fields xs) ≤ max_index_len → fields_len (fields x) ≤ max_index_len
+    → fields_len (repeated_message_fields k fields xs) < 2 ^ 64 → fields_len (fields x) < 2 ^ 64
 message_short fields k xs i x inside is short =
     let bound = messages_le fields k xs i x inside in
     let here : fields_len (fields x) ≡ fields_len (fields (get_or xs i x)) = ap (λ y. fields_len (fields y)) is in

@@ -2,6 +2,7 @@
 #![tactic(auto)]
 
 mod laws;
+mod pieces;
 mod read;
 mod spell;
 mod wire_fault;
@@ -10,8 +11,11 @@ mod write_fault;
 
 pub use laws::{
     bytes_decode_to_one_index, bytes_have_one_field_list, spelling_decodes_to_its_index,
+    spelling_is_of_pieces,
 };
+pub use pieces::write_pieces;
 pub use read::read_index;
+pub use spell::spell_document;
 pub use wire_fault::WireFault;
 pub use write::{MAX_INDEX_LEN, encoded_len, spell_index, write_index};
 pub use write_fault::{SpellFault, TooLarge, WriteFault};

@@ -1,16 +1,18 @@
 //! Writing an index.
 
-ghost use Rattle.std.specs.Prelude.{◌≡◌, ◌<◌, ◌≤◌, ◌↔◌, length, IfOk, IfErr, OnOk, OkIff, Err};
+ghost use Rattle.std.specs.Prelude.{◌≡◌, ◌<◌, ◌≤◌, ◌↔◌, length, map, IfOk, IfErr, OnOk, OkIff, Err};
 ghost use Rattle.streams.specs.WholeWrites.{IsWritten};
-ghost use Rattle.scip_wire.specs.Spelling.{spelling_of, max_index_len};
+ghost use Rattle.scip_wire.specs.Spelling.{document_record, spelling_of, max_index_len};
 ghost use Rattle.scip_wire.specs.WellFormed.{IsWellFormed};
 ghost use Rattle.scip_wire.specs.Writing.{Leaves};
 
-use crate::spell::Encode;
+use crate::laws::spelling_is_of_pieces;
+use crate::pieces::write_pieces;
+use crate::spell::{Encode, spell_document};
 use crate::write_fault::{SpellFault, TooLarge, WriteFault};
-use scip_model::Index;
+use scip_model::{Index, Sequence};
 use std::alloc::Global;
-use streams::{Sink, write_all};
+use streams::Sink;
 
 /// The most bytes that an index may have: the Protocol Buffers libraries' own limit.
 pub const MAX_INDEX_LEN: u32 = 2147483647;
@@ -39,6 +41,21 @@ pub fn spell_index(alloc: Global, index: &Index) -> Result<Vec<u8>, SpellFault>
     Ok(bytes)
 }
 
+/// The record of each document of an index, in order.
+fn spell_documents(alloc: Global, index: &Index) -> Result<Vec<Sequence<u8>>, SpellFault>
+    ensures records { IfOk result (λ records. records.items ≡ map document_record index.now.documents) }
+    ensures too_large { (result ≡ Err SpellFault.TooLarge) ↔ (max_index_len < length (spelling_of index.now)) }
+    ensures known { IsWellFormed index.now }
+{
+    encoded_len(index)?;
+    let documents = index.documents.as_slice();
+    let mut records = Vec::with_capacity(alloc, documents.len())?;
+    'documents: for document in documents {
+        records.push(spell_document(alloc, document)?)?;
+    }
+    Ok(records)
+}
+
 /// Writes the spelling of an index.
 pub fn write_index<W: Sink>(alloc: Global, index: &Index, sink: &mut W) -> Result<(), WriteFault>
     ensures ok { OnOk result (IsWritten W.contents W.failures sink.old sink.new (spelling_of index.now)) }
@@ -46,9 +63,13 @@ pub fn write_index<W: Sink>(alloc: Global, index: &Index, sink: &mut W) -> Resul
     ensures refused { IfErr result (Leaves W.contents W.failures sink.old sink.new (spelling_of index.now)) }
     ensures known { IsWellFormed index.now }
 {
-    let bytes = spell_index(alloc, index)?;
-    match write_all(sink, &bytes) {
-        Ok(()) => Ok(()),
-        Err(cut_off) => Err(WriteFault::Write(cut_off.written)),
-    }
+    spelling_is_of_pieces();
+    let documents = spell_documents(alloc, index)?;
+    write_pieces(
+        alloc,
+        &index.metadata,
+        &documents,
+        &index.external_symbols,
+        sink,
+    )
 }

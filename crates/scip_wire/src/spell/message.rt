@@ -1,8 +1,8 @@
 //! Messages inside messages.
 
-ghost use Rattle.std.specs.Prelude.{◌≡◌, ◌++◌, ◌≤◌, List, [], ◌∷◌, All, IfSome, OnOk};
+ghost use Rattle.std.specs.Prelude.{◌≡◌, ◌++◌, ◌^◌, ◌<◌, ◌≤◌, List, [], ◌∷◌, All, IfSome, OnOk};
 ghost use Rattle.scip_wire.specs.Fields.{Field, max_field_number};
-ghost use Rattle.scip_wire.specs.Spelling.{bytes_of, bytes_field, optional_message_fields, repeated_message_fields, max_index_len};
+ghost use Rattle.scip_wire.specs.Spelling.{bytes_of, bytes_field, optional_message_fields, repeated_message_fields};
 ghost use Rattle.scip_wire.specs.Saturated.{saturated, fields_len};
 
 use super::fields::record_len;
@@ -25,12 +25,12 @@ pub(crate) trait Encode {
 
     /// Appends its spelling.
     fn encode(&self, out: &mut Vec<u8>) -> Result<(), AllocError>
-        requires { fields_len (fields self.now) ≤ max_index_len }
+        requires { fields_len (fields self.now) < 2 ^ 64 }
         ensures { OnOk result (out.new.items ≡ out.old.items ++ bytes_of (fields self.now)) };
 }
 
 /// The length of a message's record.
-fn message_len<M: Encode>(number: u64, message: &M) -> u64
+pub(super) fn message_len<M: Encode>(number: u64, message: &M) -> u64
     requires { number ≤ max_field_number }
     ensures value { result ≡ saturated (fields_len (bytes_field number (bytes_of (M.fields message.now)) ∷ [])) }
     ensures fit { M.is_fit message.now }
@@ -39,9 +39,13 @@ fn message_len<M: Encode>(number: u64, message: &M) -> u64
 }
 
 /// Appends a message's record.
-fn encode_message<M: Encode>(out: &mut Vec<u8>, number: u64, message: &M) -> Result<(), AllocError>
+pub(super) fn encode_message<M: Encode>(
+    out: &mut Vec<u8>,
+    number: u64,
+    message: &M,
+) -> Result<(), AllocError>
     requires number { number ≤ max_field_number }
-    requires short { fields_len (M.fields message.now) ≤ max_index_len }
+    requires short { fields_len (M.fields message.now) < 2 ^ 64 }
     ensures { OnOk result (out.new.items ≡ out.old.items ++ bytes_of (bytes_field number (bytes_of (M.fields message.now)) ∷ [])) }
 {
     encode_varint(out, 8 * number + 2)?;
@@ -68,7 +72,7 @@ pub(super) fn encode_optional_message<M: Encode>(
     message: &Option<M>,
 ) -> Result<(), AllocError>
     requires number { number ≤ max_field_number }
-    requires short { fields_len (optional_message_fields number M.fields message.now) ≤ max_index_len }
+    requires short { fields_len (optional_message_fields number M.fields message.now) < 2 ^ 64 }
     ensures { OnOk result (out.new.items ≡ out.old.items ++ bytes_of (optional_message_fields number M.fields message.now)) }
 {
     if let Some(message) = message {
@@ -106,7 +110,7 @@ pub(super) fn encode_messages<M: Encode>(
     messages: &Sequence<M>,
 ) -> Result<(), AllocError>
     requires number { number ≤ max_field_number }
-    requires short { fields_len (repeated_message_fields number M.fields messages.now) ≤ max_index_len }
+    requires short { fields_len (repeated_message_fields number M.fields messages.now) < 2 ^ 64 }
     ensures { OnOk result (out.new.items ≡ out.old.items ++ bytes_of (repeated_message_fields number M.fields messages.now)) }
 {
     encode_slice(out, number, messages.as_slice())
@@ -115,7 +119,7 @@ pub(super) fn encode_messages<M: Encode>(
 /// Appends the records of messages.
 fn encode_slice<M: Encode>(out: &mut Vec<u8>, number: u64, messages: &[M]) -> Result<(), AllocError>
     requires number { number ≤ max_field_number }
-    requires short { fields_len (repeated_message_fields number M.fields messages.now) ≤ max_index_len }
+    requires short { fields_len (repeated_message_fields number M.fields messages.now) < 2 ^ 64 }
     ensures { OnOk result (out.new.items ≡ out.old.items ++ bytes_of (repeated_message_fields number M.fields messages.now)) }
 {
     'messages: for message in messages {

@@ -24,14 +24,14 @@ never_both a b (inr h) (inr k) = omega (arith, h.1, k.1)
 one_Item : (a b : Item) → Some a ≡ Some b → a ≡ b
 one_Item a b e = cc
 
-contained_at : (items : List Item) (item : Item) → Contains items item → (k : ℕ) × (slice_get items k ≡ Some item)
+pub contained_at : (items : List Item) (item : Item) → Contains items item → (k : ℕ) × (slice_get items k ≡ Some item)
 contained_at items item there = (there.0, slice_get-get_or items there.0 item there.1 ∙ ap Some there.2)
 
-contains_at : (items : List Item) (k : ℕ) (item : Item) → slice_get items k ≡ Some item → Contains items item
+pub contains_at : (items : List Item) (k : ℕ) (item : Item) → slice_get items k ≡ Some item → Contains items item
 contains_at items k item stands = (k, slice_get_within items k item stands, get_or_from_slice_get items k item item stands)
 
 module _ (items : List Item) (placed : AreInPlace items) where
-  in_order : (j k : ℕ) (a b : Item) → slice_get items j ≡ Some a → slice_get items k ≡ Some b → Before a.place b.place → j < k
+  pub in_order : (j k : ℕ) (a b : Item) → slice_get items j ≡ Some a → slice_get items k ≡ Some b → Before a.place b.place → j < k
   in_order j k a b at there before = elim (cases_order j k) [
     | inl same ↦ (
         let equal : a ≡ b = one_Item a b (sym at ∙ (ap (slice_get items) same ∙ there)) in
@@ -40,7 +40,7 @@ module _ (items : List Item) (placed : AreInPlace items) where
     | inr apart ↦ elim apart [ inl less ↦ less | inr more ↦ absurd (never_both a.place b.place before (placed k j b a more there at)) ]
   ]
 
-  one_index : (j k : ℕ) (a b : Item) → slice_get items j ≡ Some a → slice_get items k ≡ Some b → a.place ≡ b.place → j ≡ k
+  pub one_index : (j k : ℕ) (a b : Item) → slice_get items j ≡ Some a → slice_get items k ≡ Some b → a.place ≡ b.place → j ≡ k
   one_index j k a b at there same = elim (cases_order j k) [
     | inl is ↦ is
     | inr apart ↦ elim apart [

@@ -14,3 +14,5 @@ pub mod EntityLemmas
 pub mod NameLemmas
 pub mod ListedLemmas
 pub mod OriginLemmas
+pub mod KeptLemmas
+pub mod PassLemmas

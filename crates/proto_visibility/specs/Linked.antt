@@ -9,7 +9,12 @@ use Rattle.proto_visibility.specs.Tables.ImportTables.{AreRowsBy}
 use Rattle.proto_visibility.specs.declared.names.Names.{Names}
 use Rattle.proto_visibility.specs.Tables.GivenNames.{AreNames}
 
--- the files that count have facts, no clash of names, and each import that has to be there
+-- What names are looked up in: the files that count have facts, and no names clash.
+pub record HaveClearNames (files : List File) : Type 0 where
+  pub read : absences.NoneBroken files
+  pub clear : NoClash files
+
+-- the same, and each import that has to be there is
 pub record CanBeLinked (files : List File) : Type 0 where
   pub read : absences.NoneBroken files
   pub clear : NoClash files

@@ -4,3 +4,4 @@ pub mod NameTables
 pub mod ImportTables
 pub mod Visits
 pub mod GivenNames
+pub mod Passes

@@ -65,7 +65,7 @@ pub(crate) fn first_named<'a>(
 }
 
 // The place of the first item with a name, where it or the later one is a declaration.
-fn clash_with(items: &[Item], first: Option<usize>, item: &Item) -> Option<FilePlace>
+pub(crate) fn clash_with(items: &[Item], first: Option<usize>, item: &Item) -> Option<FilePlace>
     ensures { result ≡ clash_with items.now first item.now }
 {
     let earlier = items.get(first?)?;

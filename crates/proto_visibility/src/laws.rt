@@ -1,0 +1,18 @@
+//! Laws of what is left out of a tree with faults, each the contract of an empty function.
+
+ghost use Rattle.proto_visibility.specs.Kept.{OneKept, NothingIsLeftOutOfGoodFiles, KeptFilesAreClear};
+
+/// Of files one list is kept.
+pub fn one_kept()
+    ensures { OneKept }
+{}
+
+/// Nothing is left out just where the files that count have facts and no names clash.
+pub fn nothing_is_left_out_of_good_files()
+    ensures { NothingIsLeftOutOfGoodFiles }
+{}
+
+/// The files that are kept can stand together.
+pub fn kept_files_are_clear()
+    ensures { KeptFilesAreClear }
+{}

@@ -1,0 +1,161 @@
+//! Which files of a tree with faults are left out.
+
+ghost use Rattle.std.specs.Prelude.{ℕ, ◌≡◌, ◌<◌, ◌+◌, ◌↔◌, None, Some, IsTrue, IfOk, OnOk, MatchOption, Contains, length, slice_set};
+ghost use Rattle.proto_visibility.specs.declared.fault.LinkFault.TheVariants.{Broken, Duplicate};
+ghost use Rattle.proto_visibility.specs.Files.{HaveOwnPaths};
+ghost use Rattle.proto_visibility.specs.Sees.{Counts};
+ghost use Rattle.proto_visibility.specs.Kept.{Omissions, IsKept, AreOmissions};
+ghost use Rattle.proto_visibility.specs.Tables.NameTables.{AreInPlace, clash_with};
+ghost use Rattle.proto_visibility.specs.Tables.ImportTables.{number_in};
+ghost use Rattle.proto_visibility.specs.Tables.Passes.{AreUnreadOf, AreClashesOmitted, ArePassed, IsOpenAt};
+
+use crate::all_items::{all_items, all_prefixes};
+use crate::clash::{Item, clash_with};
+use crate::counting::counted_files;
+use crate::fault::LinkFault;
+use crate::file_row::FileRow;
+use crate::import_table::numbers_of;
+use crate::link_file::LinkFile;
+use crate::seeing::seen_files;
+use std::alloc::{AllocError, Global};
+use std::collections::HashMap;
+
+/// For each file, by its number, why it is left out of a tree with faults; `None` of a file that is
+/// kept. No two of the files have one path.
+///
+/// `Broken` is told of a file without facts, by its number, and `Duplicate` of one of which a name
+/// clashes with another of its own, or with one of a file kept before it: of these clashes that with
+/// the least second place, and then the least first. Only files that count are left out: sources, and
+/// what some source sees. No other fault comes.
+pub fn left_out(alloc: Global, files: &[LinkFile]) -> Result<Vec<Option<LinkFault>>, AllocError>
+    requires { HaveOwnPaths files.now }
+    ensures { IfOk result (λ omissions. AreOmissions files.now omissions.items) }
+{
+    let numbers = numbers_of(alloc, files)?;
+    let rows = seen_files(alloc, files, &numbers)?;
+    let counted = counted_files(alloc, files, rows.as_slice())?;
+    let prefixes = all_prefixes(alloc, files)?;
+    let items = all_items(alloc, files, prefixes.as_slice(), &counted)?;
+    let mut omissions = unread_files(alloc, files, &counted)?;
+    omit_clashes(alloc, &mut omissions, items.as_slice())?;
+    Ok(omissions)
+}
+
+// Of each file, whether it is left out for want of facts.
+fn unread_files(
+    alloc: Global,
+    files: &[LinkFile],
+    counted: &FileRow,
+) -> Result<Vec<Option<LinkFault>>, AllocError>
+    requires { (number : ℕ) → Contains counted.now number ↔ Counts files.now number }
+    ensures { IfOk result (λ omissions. AreUnreadOf files.now (length files.now) omissions.items) }
+{
+    let mut omissions = Vec::with_capacity(alloc, files.len())?;
+    for (number, file) in files.iter().enumerate() {
+        omissions.push_reserved(unread_at(number, file, counted));
+    }
+    Ok(omissions)
+}
+
+// The same of one file.
+fn unread_at(number: usize, file: &LinkFile, counted: &FileRow) -> Option<LinkFault>
+    ensures { MatchOption result
+        (file.now.facts ≡ None → Contains counted.now number → ⊥)
+        (λ fault. (fault ≡ Broken number) × (file.now.facts ≡ None) × Contains counted.now number) }
+{
+    if file.is_unread() && counted.has(number) {
+        Some(LinkFault::Broken(number))
+    } else {
+        None
+    }
+}
+
+// Leaves out the files with a clash, by their items in order of place.
+#[tactic(auto, using(crate::proofs::PassLemmas::none_passed))]
+fn omit_clashes(
+    alloc: Global,
+    omissions: &mut Vec<Option<LinkFault>>,
+    items: &[Item],
+) -> Result<(), AllocError>
+    requires { AreInPlace items.now }
+    ensures { OnOk result (AreClashesOmitted items.now omissions.old.items omissions.new.items) }
+{
+    let mut names = HashMap::new(alloc);
+    for index in 0..items.len() {
+        pass_item(omissions, &mut names, items, index)?;
+    }
+    Ok(())
+}
+
+// Takes one more item: its name is kept where none of an open file has it, and where that one clashes
+// with it, its file is left out.
+fn pass_item<'a>(
+    omissions: &mut Vec<Option<LinkFault>>,
+    names: &mut HashMap<&'a str, usize>,
+    items: &[Item<'a>],
+    index: usize,
+) -> Result<(), AllocError>
+    requires placed { AreInPlace items.now }
+    requires within { index < length items.now }
+    ensures { OnOk result ((start : Omissions) → ArePassed items.now start index omissions.old.items names.old
+        → ArePassed items.now start (index + 1) omissions.new.items names.new) }
+{
+    let item = &items[index];
+    if !is_kept(omissions.as_slice(), item.place.file) {
+        return Ok(());
+    }
+    let name = item.full_name;
+    match open_with(omissions.as_slice(), names, items, name) {
+        Some(first) => {
+            omit_if_clash(omissions, items, first, item);
+            Ok(())
+        }
+        None => {
+            names.insert(name, index)?;
+            Ok(())
+        }
+    }
+}
+
+// Whether the file with this number is kept so far.
+fn is_kept(omissions: &[Option<LinkFault>], number: usize) -> bool
+    ensures { IsTrue result ↔ IsKept omissions.now number }
+{
+    match omissions.get(number).copied() {
+        Some(omission) => omission.is_none(),
+        None => false,
+    }
+}
+
+// The index of the item that the map has at a name, where its file is kept so far.
+fn open_with(
+    omissions: &[Option<LinkFault>],
+    names: &HashMap<&str, usize>,
+    items: &[Item],
+    name: &str,
+) -> Option<usize>
+    ensures { MatchOption result
+        ((index : ℕ) → number_in names.now name.now ≡ Some index → IsOpenAt items.now omissions.now index → ⊥)
+        (λ index. (number_in names.now name.now ≡ Some index) × IsOpenAt items.now omissions.now index) }
+{
+    let first = names.get(name).copied()?;
+    let item = items.get(first)?;
+    if is_kept(omissions, item.place.file) {
+        Some(first)
+    } else {
+        None
+    }
+}
+
+// Leaves out the file of an item, where the item clashes with the one at this index.
+fn omit_if_clash(omissions: &mut Vec<Option<LinkFault>>, items: &[Item], first: usize, item: &Item)
+    requires { item.now.place.file < length omissions.old.items }
+    ensures { MatchOption (clash_with items.now (Some first) item.now)
+        (omissions.new.items ≡ omissions.old.items)
+        (λ place. omissions.new.items
+        ≡ slice_set omissions.old.items item.now.place.file (Some (Duplicate place item.now.place))) }
+{
+    if let Some(place) = clash_with(items, Some(first), item) {
+        omissions[item.place.file] = Some(LinkFault::Duplicate(place, item.place));
+    }
+}

@@ -4,3 +4,4 @@ pub mod ResolveLemmas
 pub mod TargetLemmas
 pub mod OneItemLemmas
 pub mod OneTargetLemmas
+pub mod OmissionLemmas

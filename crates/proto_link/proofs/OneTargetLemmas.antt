@@ -19,7 +19,7 @@ use Rattle.proto_visibility.specs.Files.{File, HasFacts, HaveOrigins, IsSource}
 use Rattle.proto_visibility.specs.Sees.{Sees, Counts}
 use Rattle.proto_visibility.specs.Sees.Counts.{seen as counts_seen}
 use Rattle.proto_visibility.specs.Items.{Before, Item, IsItem}
-use Rattle.proto_visibility.specs.Clashes.{Clash, NoClash}
+use Rattle.proto_visibility.specs.Clashes.{Clash, ClashBy, NoClash}
 use Rattle.proto_visibility.specs.Absences.{IsNeeded, Absent}
 use Rattle.proto_visibility.specs.Absences.IsNeeded.{of_source, of_included}
 use Rattle.proto_visibility.specs.Knows.{NameKind, Knows}
@@ -87,22 +87,25 @@ module _ (files : List File) (origins : HaveOrigins files)
 
   -- ---- clashes
 
-  pub one_clash : (first second other its : FilePlace) → Clash files first second → Clash files other its → (first ≡ other) × (second ≡ its)
-  one_clash first second other its a b =
+  pub one_clash_of : (I : Item → Type 0) → ((item : Item) → I item → IsItem files item) → (first second other its : FilePlace) → ClashBy I first second → ClashBy I other its → (first ≡ other) × (second ≡ its)
+  one_clash_of I items first second other its a b =
       let seconds = neither second its
       (λ before. b.least_second a.earlier a.later a.exclude (subst (λ p. Before p its) (sym a.second_is) before))
       (λ before. a.least_second b.earlier b.later b.exclude (subst (λ p. Before p second) (sym b.second_is) before)) in
-      let second_is : second ≡ its = place_of a.later b.later second its a.second_is b.second_is a.exclude.second_is b.exclude.second_is seconds in
+      let second_is : second ≡ its = place_of a.later b.later second its a.second_is b.second_is (items a.later a.exclude.second_is) (items b.later b.exclude.second_is) seconds in
       let firsts = neither first other
       (λ before. b.least_first a.earlier a.later a.exclude (a.second_is ∙ second_is) (subst (λ p. Before p other) (sym a.first_is) before))
       (λ before. a.least_first b.earlier b.later b.exclude (b.second_is ∙ sym second_is) (subst (λ p. Before p first) (sym b.first_is) before)) in
-      (place_of a.earlier b.earlier first other a.first_is b.first_is a.exclude.first_is b.exclude.first_is firsts, second_is)
+      (place_of a.earlier b.earlier first other a.first_is b.first_is (items a.earlier a.exclude.first_is) (items b.earlier b.exclude.first_is) firsts, second_is)
     where
       place_of : (x y : Item) (p q : FilePlace) → x.place ≡ p → y.place ≡ q → IsItem files x → IsItem files y → (p.file ≡ q.file) × (p.span.start ≡ q.span.start) → p ≡ q
       place_of x y p q is its_is item other_item same =
           let file : x.place.file ≡ y.place.file = ap (λ (r : FilePlace). r.file) is ∙ (same.0 ∙ ap (λ (r : FilePlace). r.file) (sym its_is)) in
           let start : x.place.span.start ≡ y.place.span.start = ap (λ (r : FilePlace). r.span.start) is ∙ (same.1 ∙ ap (λ (r : FilePlace). r.span.start) (sym its_is)) in
           sym is ∙ (one_place files origins names packages item other_item file start ∙ its_is)
+
+  pub one_clash : (first second other its : FilePlace) → Clash files first second → Clash files other its → (first ≡ other) × (second ≡ its)
+  one_clash = one_clash_of (IsItem files) (λ item is. is)
 
 -- ---- imports
 

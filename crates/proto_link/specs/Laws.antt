@@ -17,6 +17,7 @@ use Rattle.proto_visibility.specs.Absences.{Absent, Broken}
 use Rattle.proto_link.specs.Resolves.{Resolves}
 use Rattle.proto_link.specs.Targets.{IsNamed, IsTarget}
 use Rattle.proto_visibility.specs.Linked.{MayRefuse}
+use Rattle.proto_visibility.specs.Kept.{Omissions, AreOmissions}
 
 -- a use names one type at most
 abbrev pub OneNameAUse : Type 0
@@ -69,6 +70,10 @@ OneClash = (files : List File) → HaveOrigins files → (first second other its
 
 abbrev pub OneAbsence : Type 0
 OneAbsence = (files : List File) → HaveOrigins files → (place other : FilePlace) → Absent files place → Absent files other → place ≡ other
+
+-- what is left out of files with faults is one list, each for one reason
+abbrev pub OneOmissionList : Type 0
+OneOmissionList = (files : List File) → HaveOrigins files → (omissions others : Omissions) → AreOmissions files omissions → AreOmissions files others → omissions ≡ others
 
 -- so files that can't be linked are refused for one reason, but for memory
 abbrev pub OneRefusal : Type 0

@@ -1,6 +1,6 @@
 //! Laws about linking, each the contract of an empty function.
 
-ghost use Rattle.proto_link.specs.Laws.{OneNameAUse, OneBrokenFile, OneDeclarationAName, NoPackageIsDeclared, OneEntityAName, OneTargetAUse, OneClash, OneAbsence, OneRefusal};
+ghost use Rattle.proto_link.specs.Laws.{OneNameAUse, OneBrokenFile, OneDeclarationAName, NoPackageIsDeclared, OneEntityAName, OneTargetAUse, OneClash, OneAbsence, OneRefusal, OneOmissionList};
 
 use proto_decl::facts_in_order;
 
@@ -37,6 +37,13 @@ pub fn one_refusal()
     ensures clash { OneClash }
     ensures absence { OneAbsence }
     ensures refusal { OneRefusal }
+{
+    facts_in_order();
+}
+
+/// Of files with faults one list is left out, each file for one reason.
+pub fn one_omission_list()
+    ensures { OneOmissionList }
 {
     facts_in_order();
 }

@@ -11,8 +11,12 @@ mod resolve;
 mod target;
 
 pub use laws::{
-    one_broken_file, one_declaration_a_name, one_name_a_use, one_refusal, one_target_a_use,
+    one_broken_file, one_declaration_a_name, one_name_a_use, one_omission_list, one_refusal,
+    one_target_a_use,
 };
 pub use linker::Linker;
-pub use proto_visibility::{Entity, FilePlace, LinkFault, LinkFile, have_own_paths};
+pub use proto_visibility::{
+    Entity, FilePlace, LinkFault, LinkFile, have_own_paths, kept_files_are_clear, left_out,
+    nothing_is_left_out_of_good_files, one_kept,
+};
 pub use target::Target;

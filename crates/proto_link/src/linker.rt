@@ -2,20 +2,20 @@
 
 ghost use Rattle.std.specs.Prelude.{ℕ, ◌≡◌, ◌<◌, ◌↔◌, IsTrue, IfOk, IfErr, MatchOption, length};
 ghost use Rattle.proto_decl.specs.Facts.{Facts};
-ghost use Rattle.proto_visibility.specs.Files.{HaveOwnPaths, HaveOrigins, HasFacts, HasPathAt, IsIncludedAt};
+ghost use Rattle.proto_visibility.specs.Files.{HaveOwnPaths, HaveOrigins, HasFacts, HasPath, HasPathAt, IsIncludedAt};
 ghost use Rattle.proto_visibility.specs.Sees.{Sees};
-ghost use Rattle.proto_visibility.specs.Linked.{CanBeLinked, MayRefuse};
+ghost use Rattle.proto_visibility.specs.Linked.{HaveClearNames, CanBeLinked, MayRefuse};
 ghost use Rattle.proto_link.specs.Targets.{IsTarget, MayRefuseUse};
 
 use crate::resolve::target_of;
 use crate::target::Target;
 use proto_decl::{FileFacts, Use};
 use proto_visibility::{LinkFault, LinkFile, Namespace};
-use std::alloc::Global;
+use std::alloc::{AllocError, Global};
 use std::marker::Model;
 
-/// Files in which each import that has to be there is, and no full name is declared twice: all
-/// sources, and the included files that they see, are one namespace.
+/// Files in which no full name is declared twice: all sources, and the included files that they see,
+/// are one namespace.
 ///
 /// Contracts see the list of the files.
 #[derive(Drop)]
@@ -47,6 +47,24 @@ impl<'a> Linker<'a> {
         Ok(Linker { namespace })
     }
 
+    /// Links the files that are kept of a tree with faults, by their numbers in the list: an import may
+    /// name none of them.
+    pub fn of_kept(alloc: Global, files: &'a [LinkFile<'a>]) -> Result<Linker<'a>, AllocError>
+        requires own { HaveOwnPaths files.now }
+        requires clear { HaveClearNames files.now }
+        ensures { IfOk result (λ linker. linker ≡ files.now) }
+    {
+        let namespace = Namespace::of_kept(alloc, files)?;
+        Ok(Linker { namespace })
+    }
+
+    /// Whether some file has a path. Takes no memory.
+    pub fn has_path(&self, path: &str) -> bool
+        ensures { IsTrue result ↔ HasPath self.now path.now }
+    {
+        self.namespace.has_path(path)
+    }
+
     /// Whether a file sees another: itself, what it imports, and what public imports lead to from
     /// there. Takes no memory.
     pub fn visible(&self, file: usize, other: usize) -> bool
@@ -57,10 +75,10 @@ impl<'a> Linker<'a> {
         self.namespace.visible(file, other)
     }
 
-    /// The files can be linked, and the facts of each are those of some text: what the laws ask
-    /// for. Takes no memory.
+    /// The files that count have facts, no names clash, and the facts of each file are those of some
+    /// text: what the laws ask for. Takes no memory.
     pub fn linked(&self)
-        ensures can_be { CanBeLinked self.now }
+        ensures clear { HaveClearNames self.now }
         ensures origins { HaveOrigins self.now }
     {
         self.namespace.linked();

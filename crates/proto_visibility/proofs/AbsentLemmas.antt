@@ -1,5 +1,5 @@
 -- The first import that isn't there.
-use Rattle.std.proofs.Common.{◌≡◌, ◌↔◌, ◌⊎◌, inl, inr, ℕ, ◌+◌, ◌<◌, ◌≤◌, Bool, true, false, not, ◌||◌, ◌&&◌, zero, suc, List, [], ◌∷◌, length, get_or, map, Option, Some, None, refl, ap, sym, ◌∙◌, subst, arith}
+use Rattle.std.proofs.Common.{◌≡◌, ◌↔◌, ◌⊎◌, inl, inr, ℕ, ◌+◌, ◌<◌, ◌≤◌, Bool, true, false, IsTrue, not, ◌||◌, ◌&&◌, zero, suc, List, [], ◌∷◌, length, get_or, map, Option, Some, None, refl, ap, sym, ◌∙◌, subst, arith}
 use Rattle.std.specs.List.{Contains, slice_get}
 use Rattle.std.specs.List.Sorted.{IsStrictlyIncreasing}
 use Rattle.std.specs.Option.{is_none}
@@ -97,6 +97,16 @@ module _ (files : List File) (number : List ℕ → Option ℕ) (numbered : (pat
           option_map_path : Option File → Option (List ℕ)
           option_map_path None = None
           option_map_path (Some f) = Some f.path
+
+  pub path_iff : (path : List ℕ) (found : Bool) → found ≡ not (is_none (number path)) → IsTrue found ↔ HasPath files path
+  path_iff path found is = (
+    λ t. path_if path (not_true (is_none (number path)) (sym is ∙ t)),
+    λ there. is ∙ ap not (has_path path there),
+  )
+    where
+      not_true : (b : Bool) → not b ≡ true → b ≡ false
+      not_true true e = sym e
+      not_true false e = refl
 
   -- the needed imports that miss a file are the absent ones of the files that count
   needed_from : (file : File) (k : ℕ) (facts : Facts) (import : Imported) → Counts files k → slice_get files k ≡ Some file → file.facts ≡ Some facts → Contains facts.imports import

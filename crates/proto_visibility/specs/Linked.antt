@@ -1,11 +1,13 @@
 -- Which files can be linked, and why others can't.
 use Rattle.std.specs.Prelude.{ℕ, ⊤, List, length}
+use Rattle.std.specs.HashMap.{HashMap}
+use denote.Ref.{Bor}
 use Rattle.proto_visibility.specs.declared.fault.LinkFault.{LinkFault}
 use Rattle.proto_visibility.specs.declared.fault.LinkFault.TheVariants.{Broken, Duplicate, MissingImport, Unresolved, Memory}
 use Rattle.proto_visibility.specs.Files.{File, Imports, HaveOrigins}
 use Rattle.proto_visibility.specs.Clashes.{Clash, NoClash}
 use Rattle.proto_visibility.specs.Absences as absences
-use Rattle.proto_visibility.specs.Tables.ImportTables.{AreRowsBy}
+use Rattle.proto_visibility.specs.Tables.ImportTables.{AreRowsBy, AreNumbered}
 use Rattle.proto_visibility.specs.declared.names.Names.{Names}
 use Rattle.proto_visibility.specs.Tables.GivenNames.{AreNames}
 
@@ -29,8 +31,9 @@ MayRefuse files (Unresolved place) = ⊥
 MayRefuse files Memory = ⊤
 
 -- what a namespace keeps of its files
-pub record IsLinked (files : List File) (rows : List (List ℕ)) (names : Names) : Type 0 where
-  pub can_be : CanBeLinked files
+pub record IsLinked {S : Type 0} (files : List File) (numbers : HashMap (Bor (List ℕ)) ℕ S) (rows : List (List ℕ)) (names : Names) : Type 0 where
+  pub clear_names : HaveClearNames files
   pub origins : HaveOrigins files
+  pub numbers_are : AreNumbered files numbers
   pub rows_are : AreRowsBy (Imports files) (length files) rows
   pub names_are : AreNames files names

@@ -1,6 +1,7 @@
 //! Imports of files that aren't there.
 
-ghost use Rattle.std.specs.Prelude.{ℕ, ◌≡◌, ◌↔◌, MatchOption, Contains};
+ghost use Rattle.std.specs.Prelude.{ℕ, ◌≡◌, ◌↔◌, not, MatchOption, Contains};
+ghost use Rattle.std.specs.Option.{is_none};
 ghost use Rattle.proto_decl.specs.Facts.{ImportsInOrder};
 ghost use Rattle.proto_visibility.specs.Sees.{Counts};
 ghost use Rattle.proto_visibility.specs.Absences.{Absent, NoAbsent};
@@ -75,4 +76,11 @@ fn is_absent(import: &Imported, included: bool, numbers: &HashMap<&str, usize>) 
         ImportKind::Plain | ImportKind::Weak => false,
     };
     (!included || public) && numbers.get(import.path.as_str()).copied().is_none()
+}
+
+// Whether a file has the path.
+pub(crate) fn is_numbered(path: &str, numbers: &HashMap<&str, usize>) -> bool
+    ensures { result ≡ not (is_none (number_in numbers.now path.now)) }
+{
+    !numbers.get(path).copied().is_none()
 }

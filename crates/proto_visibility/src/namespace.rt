@@ -4,15 +4,15 @@ ghost use Rattle.std.specs.Prelude.{ℕ, ◌≡◌, ◌<◌, ◌↔◌, IsTrue, 
 ghost use Rattle.proto_decl.specs.Facts.{Facts};
 ghost use Rattle.proto_decl.specs.Laws.{IsEntity};
 ghost use Rattle.proto_visibility.specs.Entities.{IsEntityOf};
-ghost use Rattle.proto_visibility.specs.Files.{HaveOwnPaths, HaveOrigins, HasFacts, HasPathAt, IsIncludedAt};
+ghost use Rattle.proto_visibility.specs.Files.{HaveOwnPaths, HaveOrigins, HasFacts, HasPath, HasPathAt, IsIncludedAt};
 ghost use Rattle.proto_visibility.specs.Sees.{Sees, Counts};
 ghost use Rattle.proto_visibility.specs.Clashes.{Clash, NoClash};
 ghost use Rattle.proto_visibility.specs.Tables.FileItems.{AreAllPrefixes};
-ghost use Rattle.proto_visibility.specs.Linked.{CanBeLinked, MayRefuse};
+ghost use Rattle.proto_visibility.specs.Linked.{HaveClearNames, CanBeLinked, MayRefuse};
 ghost use Rattle.proto_visibility.specs.Knows.{KnowsAs};
 ghost use Rattle.proto_visibility.specs.FileNames.{admits, SeesGiving};
 
-use crate::absent::first_absent;
+use crate::absent::{first_absent, is_numbered};
 use crate::all_items::{all_items, all_prefixes};
 use crate::clash::first_clash;
 use crate::counting::{counted_files, first_unread};
@@ -30,15 +30,17 @@ use crate::seeing::seen_files;
 use proto_decl::FileFacts;
 use sequences::{OwnedText, Sequence};
 use std::alloc::{AllocError, Global};
+use std::collections::HashMap;
 use std::marker::Model;
 
-/// Files in which each import that has to be there is, and no full name is declared twice: all
-/// sources, and the included files that they see, are one namespace.
+/// Files in which no full name is declared twice: all sources, and the included files that they see,
+/// are one namespace.
 ///
 /// Contracts see the list of the files.
 #[derive(Drop)]
 pub struct Namespace<'a> {
     files: &'a [LinkFile<'a>],
+    numbers: HashMap<&'a str, usize>,
     rows: Vec<FileRow>,
     names: Names<'a>,
 }
@@ -52,7 +54,7 @@ impl<'a> Model for Namespace<'a> {
 
     ghost view = { λ namespace. namespace.files.now };
 
-    ghost invariant = { λ namespace. IsLinked namespace.files.now namespace.rows.items namespace.names };
+    ghost invariant = { λ namespace. IsLinked namespace.files.now namespace.numbers namespace.rows.items namespace.names };
 }
 
 impl<'a> Namespace<'a> {
@@ -82,7 +84,38 @@ impl<'a> Namespace<'a> {
         }
         have_origins(files);
         let names = Names::of(alloc, files, prefixes.as_slice())?;
-        Ok(Namespace { files, rows, names })
+        Ok(Namespace {
+            files,
+            numbers,
+            rows,
+            names,
+        })
+    }
+
+    /// The namespace of the files that are kept of a tree with faults: an import may name none of them.
+    pub fn of_kept(alloc: Global, files: &'a [LinkFile<'a>]) -> Result<Namespace<'a>, AllocError>
+        requires own { HaveOwnPaths files.now }
+        requires clear { HaveClearNames files.now }
+        ensures { IfOk result (λ namespace. namespace ≡ files.now) }
+    {
+        let numbers = numbers_of(alloc, files)?;
+        let rows = seen_files(alloc, files, &numbers)?;
+        let prefixes = all_prefixes(alloc, files)?;
+        have_origins(files);
+        let names = Names::of(alloc, files, prefixes.as_slice())?;
+        Ok(Namespace {
+            files,
+            numbers,
+            rows,
+            names,
+        })
+    }
+
+    /// Whether some file has a path. Takes no memory.
+    pub fn has_path(&self, path: &str) -> bool
+        ensures { IsTrue result ↔ HasPath self.now path.now }
+    {
+        is_numbered(path, &self.numbers)
     }
 
     /// Whether a file sees another: itself, what it imports, and what public imports lead to from
@@ -103,10 +136,10 @@ impl<'a> Namespace<'a> {
         first_giving(&self.names, &self.rows[file], name, role)
     }
 
-    /// The files can be linked, and the facts of each are those of some text: what the laws ask
-    /// for. Takes no memory.
+    /// The files that count have facts, no names clash, and the facts of each file are those of some
+    /// text: what the laws ask for. Takes no memory.
     pub fn linked(&self)
-        ensures can_be { CanBeLinked self.now }
+        ensures clear { HaveClearNames self.now }
         ensures origins { HaveOrigins self.now }
     {
         let _files = self.files;

@@ -137,7 +137,7 @@ module _ (files : List File) (linked : CanBeLinked files) (origins : HaveOrigins
     -- what an occurrence of a source names is an entity of the files,
     pub entity_is : IsSource files source → (o : Occurrence) (occurs : Occurs files chosen id encoding source text o) → IsEntityOf files (entity_of occurs)
     entity_is is _ (rule.of_file numbered) = of_file (source-counts files source is) numbered
-    entity_is is _ (rule.of_import {facts = facts} {imported = imported} has listed) = imported_is source is facts imported has listed
+    entity_is is _ (rule.of_import {facts = facts} {imported = imported} has listed there) = imported_is source is facts imported has listed
     entity_is is _ (rule.of_package {facts = facts} index {component = component} has stands) =
         of_package (source-counts files source is) has (omega arith) (omega (arith, slice_get_within facts.package_name index component stands))
     entity_is is _ (rule.of_declaration index has kept) = of_declaration (source-counts files source is) has
@@ -146,7 +146,7 @@ module _ (files : List File) (linked : CanBeLinked files) (origins : HaveOrigins
     -- and its symbol is that of the entity
     pub symbol_is : (o : Occurrence) (occurs : Occurs files chosen id encoding source text o) → o.symbol ≡ text_of id (entity_of occurs)
     symbol_is _ (rule.of_file numbered) = refl
-    symbol_is _ (rule.of_import has listed) = refl
+    symbol_is _ (rule.of_import has listed there) = refl
     symbol_is _ (rule.of_package index has stands) = refl
     symbol_is _ (rule.of_declaration index has kept) = refl
     symbol_is _ (rule.of_component names shown) = refl

@@ -43,7 +43,7 @@ not_local id entity = refl
 role_is : {files : List File} {chosen : Chosen} {id : Package} {encoding : Encoding} {source : ℕ} {text : List ℕ} {o : Occurrence}
     → (occurs : Occurs files chosen id encoding source text o) → is_definition o ≡ defines occurs
 role_is (rule.of_file numbered) = refl
-role_is (rule.of_import has listed) = refl
+role_is (rule.of_import has listed there) = refl
 role_is (rule.of_package index has stands) = refl
 role_is (rule.of_declaration index has kept) = refl
 role_is (rule.of_component names shown) = refl

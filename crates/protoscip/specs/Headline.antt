@@ -52,7 +52,7 @@ pub data IsEntityOf (files : List File) : Entity → Type 0 where
 abbrev pub entity_of : {files : List File} {chosen : Chosen} {id : Package} {encoding : Encoding} {source : ℕ} {text : List ℕ} {occurrence : Occurrence}
     → Occurs files chosen id encoding source text occurrence → Entity
 entity_of (rule.of_file {file = file} numbered) = OfFile file.path
-entity_of (rule.of_import {imported = imported} has listed) = OfFile imported.path
+entity_of (rule.of_import {imported = imported} has listed there) = OfFile imported.path
 entity_of (rule.of_package {facts = facts} index has stands) = package_at facts (index + 1)
 entity_of (rule.of_declaration {facts = facts} index {declared = declared} has kept) = declaration_at facts declared
 entity_of (rule.of_component {entity = entity} names shown) = entity
@@ -61,7 +61,7 @@ entity_of (rule.of_component {entity = entity} names shown) = entity
 abbrev pub defines : {files : List File} {chosen : Chosen} {id : Package} {encoding : Encoding} {source : ℕ} {text : List ℕ} {occurrence : Occurrence}
     → Occurs files chosen id encoding source text occurrence → Bool
 defines (rule.of_file numbered) = true
-defines (rule.of_import has listed) = false
+defines (rule.of_import has listed there) = false
 defines (rule.of_package index has stands) = true
 defines (rule.of_declaration index has kept) = true
 defines (rule.of_component names shown) = false

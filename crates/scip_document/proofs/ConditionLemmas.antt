@@ -1,25 +1,24 @@
 -- What the facts of a source give to the functions that list its occurrences.
-use Rattle.std.proofs.Common.{◌≡◌, ◌∙◌, sym, refl, subst, ◌⊎◌, inl, inr, ℕ, zero, suc, ◌<◌, true, false, Some, List, [], ◌∷◌, ◌++◌, length, map}
+use Rattle.std.proofs.Common.{◌≡◌, ◌↔◌, sym, refl, subst, ℕ, zero, suc, ◌<◌, Bool, true, false, IsTrue, Some, List, [], ◌∷◌, ◌++◌, length, map}
 use Rattle.std.specs.List.{All, Contains, slice_get}
-use Rattle.std.specs.Str.{bytes_eq}
-use Rattle.std.proofs.lemmas.Bool.{cases_Bool}
+use Rattle.std.proofs.lemmas.Bool.{false_from_ne_true, false≢true}
+use Rattle.std.proofs.lemmas.Cmp.{nat_list_eq_equiv}
 use Rattle.std.proofs.lemmas.Slice.Eq.{bytes_eq-Decides}
-use Rattle.std.proofs.lemmas.List.Elements.{All-nil, All-cons, All-head, All-tail, Contains-get_or}
+use Rattle.std.proofs.lemmas.Map.Views.{list_any-from_Contains, Contains-from_any}
+use Rattle.std.proofs.lemmas.List.Elements.{All-nil, All-cons, All-head, All-tail}
 use Rattle.proto_lex.specs.Lexed.{IsPart}
 use Rattle.proto_decl.specs.Facts.{Facts, component_spans, use_spans}
 use Rattle.proto_decl.specs.Laws.{StandInText, FactsStandInText}
-use Rattle.proto_decl.specs.declared.imported.Imported.{Imported}
 use Rattle.proto_decl.specs.declared.type_use.Component.{Component}
 use Rattle.proto_decl.specs.declared.type_use.Use.{Use}
 use Rattle.scip_symbol.specs.Path.{IsGoodPath}
-use Rattle.proto_visibility.specs.Files.{File, HasFacts, IsSource, HasPath}
-use Rattle.proto_visibility.specs.Absences.{NoAbsent}
-use Rattle.proto_visibility.specs.Absences.IsNeeded.{of_source}
+use Rattle.proto_visibility.specs.Files.{File, HasFacts, HasPath}
 use Rattle.scip_document.specs.Chosen.{Chosen, HasChoice, HaveChoices}
 use Rattle.scip_document.specs.Conditions.{HaveGoodPaths}
 use Rattle.scip_document.specs.Texts.{AreOfText}
 use Rattle.scip_model.specs.declared.records.Occurrence.{Occurrence}
 use Rattle.scip_document.specs.OccurrenceOrder.{occurrence_cmp}
+use Rattle.scip_document.specs.Tables.Listing.{has_path}
 use Rattle.scip_document.specs.Tables.Merges.{IsMerged, AreUntied}
 use Rattle.scip_document.proofs.MergeLemmas.{either, at_head, in_tail, head_or_tail, not_in_none}
 use Rattle.scip_document.proofs.EntryLemmas.{at-index}
@@ -59,17 +58,18 @@ choices_there files chosen source facts have known index within =
     let declared = at-index facts.declarations index within in
     have source index facts declared.0 (record { has_facts = known; numbered = declared.1 })
 
--- an import of a source is of a file that is there
+-- paths of files
 
-decide_path : (paths : List (List ℕ)) (p : List ℕ) → Contains paths p ⊎ (Contains paths p → ⊥)
-decide_path [] p = inr (not_in_none p)
-decide_path (q ∷ qs) p = elim (cases_Bool (bytes_eq q p)) [
-  | inl e ↦ inl (at_head p q qs ((bytes_eq-Decides q p).0 e))
-  | inr e ↦ elim (decide_path qs p) [
-    | inl there ↦ inl (in_tail p q qs there)
-    | inr none ↦ inr (λ h. either (λ same. let bad : true ≡ false = sym ((bytes_eq-Decides q p).1 same) ∙ e in cc) none (head_or_tail p q qs h))
-  ]
-]
+pub path_from : (files : List File) (path : List ℕ) → has_path files path ≡ true → HasPath files path
+path_from files path e = Contains-from_any (λ x y. (bytes_eq-Decides x y).0) path (map (λ (file : File). file.path) files) e
+
+pub path_to : (files : List File) (path : List ℕ) → HasPath files path → has_path files path ≡ true
+path_to files path there = list_any-from_Contains nat_list_eq_equiv path (map (λ (file : File). file.path) files) there
+
+-- what says whether the path is there is the test
+pub found_is : (files : List File) (path : List ℕ) (found : Bool) → IsTrue found ↔ HasPath files path → found ≡ has_path files path
+found_is files path true is = sym (path_to files path (is.0 refl))
+found_is files path false is = sym (false_from_ne_true (has_path files path) (λ e. false≢true (is.1 (path_from files path e))))
 
 record IsAtPath (files : List File) (p : List ℕ) : Type 0 where
   number : ℕ
@@ -84,16 +84,8 @@ at_path (f ∷ fs) p h = either (λ same. record { number = zero; file = f; numb
     next : IsAtPath fs p → IsAtPath (f ∷ fs) p
     next r = record { number = suc r.number; file = r.file; numbered = r.numbered; path = r.path }
 
-good_import : (files : List File) (source : ℕ) (facts : Facts) → IsSource files source → HasFacts files source facts → NoAbsent files → HaveGoodPaths files
-    → (imported : Imported) → Contains facts.imports imported → IsGoodPath imported.path
-good_import files source facts is known complete good imported listed = elim (decide_path (map (λ (file : File). file.path) files) imported.path) [
-  | inl there ↦ let r = at_path files imported.path there in subst IsGoodPath r.path (good r.number r.file r.numbered)
-  | inr missing ↦ absurd (complete (record { file = source; span = imported.span }) (record { import = imported; needed = of_source is known listed; stands = refl; missing = missing }))
-]
-
-pub good_imports : (files : List File) (source : ℕ) (facts : Facts) → IsSource files source → HasFacts files source facts → NoAbsent files → HaveGoodPaths files
-    → All (λ (imported : Imported). IsGoodPath imported.path) facts.imports
-good_imports files source facts is known complete good = λ k d h. good_import files source facts is known complete good _ (Contains-get_or facts.imports k d h)
+pub good_path : (files : List File) (path : List ℕ) → HaveGoodPaths files → HasPath files path → IsGoodPath path
+good_path files path good there = let r = at_path files path there in subst IsGoodPath r.path (good r.number r.file r.numbered)
 
 -- what is merged where nothing is tied is so by other names of the lists
 abbrev pub Merges : (first second both : List Occurrence) → Type 0

@@ -26,7 +26,7 @@ use Rattle.scip_document.specs.Occurs.{Occurs}
 use Rattle.scip_document.specs.Indexes.{IsAscendingListOf}
 use Rattle.scip_document.specs.OccurrenceOrder.{occurrence_cmp}
 use Rattle.scip_document.specs.Tables.Merges.{IsMerged, AreUntied}
-use Rattle.scip_document.specs.Tables.Listing.{own_occurrence, each_from, keeps, is_shown, entity_of, at_import, at_package, at_declaration, at_entity, at_part, at_component, at_target, at_use}
+use Rattle.scip_document.specs.Tables.Listing.{own_occurrence, each_from, has_path, keeps, is_shown, entity_of, at_import, at_package, at_declaration, at_entity, at_part, at_component, at_target, at_use}
 use Rattle.scip_document.proofs.MergeLemmas.{either}
 use Rattle.scip_document.proofs.ListingLemmas.{StandAt, each_stand, ascends}
 use Rattle.scip_document.proofs.ListingLemmas.StandAt.{none as stands_none, skip as stands_skip, here as stands_here}
@@ -61,15 +61,16 @@ module _ (id : Package) (encoding : Encoding) (text : List ℕ) where
   each_single : {A : Type 0} (gives : ℕ → A → List Occurrence) (f : A → Span) → ((index : ℕ) (x : A) → Stands (f x ∷ []) (gives index x)) → (xs : List A) → Stands (map f xs) (each_from gives 0 xs)
   each_single gives f stands xs = subst (λ (spans : List Span). Stands spans (each_from gives 0 xs)) (single f xs) (each_stand encoding text gives (λ x. f x ∷ []) stands 0 xs)
 
-  imports_stand : (imports : List Imported) → Stands (map (λ (imported : Imported). imported.span) imports) (each_from (at_import id encoding text) 0 imports)
-  imports_stand imports = each_single (at_import id encoding text) (λ (imported : Imported). imported.span) (λ index x. stands_here refl stands_none) imports
-
   package_stands : (facts : Facts) → Stands (component_spans facts.package_name) (each_from (at_package id encoding text facts) 0 facts.package_name)
   package_stands facts = each_single (at_package id encoding text facts) (λ (component : Component). component.span) (λ index x. stands_here refl stands_none) facts.package_name
 
   stands_if : (b : Bool) (span : Span) (os : List Occurrence) → Stands (span ∷ []) os → Stands (span ∷ []) (if b then os else [])
   stands_if true span os h = h
   stands_if false span os h = stands_skip stands_none
+
+  imports_stand : (files : List File) (imports : List Imported) → Stands (map (λ (imported : Imported). imported.span) imports) (each_from (at_import id encoding text files) 0 imports)
+  imports_stand files imports =
+      each_single (at_import id encoding text files) (λ (imported : Imported). imported.span) (λ index x. stands_if (has_path files x.path) x.span _ (stands_here refl stands_none)) imports
 
   names_stand : (chosen : Chosen) (source : ℕ) (facts : Facts) → Stands (name_spans facts.declarations) (each_from (at_declaration id encoding text chosen source facts) 0 facts.declarations)
   names_stand chosen source facts =
@@ -112,7 +113,7 @@ module _ (id : Package) (encoding : Encoding) (text : List ℕ) where
     own_list = own_occurrence id file.path ∷ []
 
     abbrev import_list : List Occurrence
-    import_list = each_from (at_import id encoding text) 0 facts.imports
+    import_list = each_from (at_import id encoding text files) 0 facts.imports
 
     abbrev package_list : List Occurrence
     package_list = each_from (at_package id encoding text facts) 0 facts.package_name
@@ -161,7 +162,7 @@ module _ (id : Package) (encoding : Encoding) (text : List ℕ) where
                   (occurs_listed files chosen id encoding source text file at facts known targets are_targets one_target x wanted)),
             );
             ascends =
-                let by_imports = ascends encoding text rise 0 (map (λ (imported : Imported). imported.span) facts.imports) import_list imports stands.imports (imports_stand facts.imports) in
+                let by_imports = ascends encoding text rise 0 (map (λ (imported : Imported). imported.span) facts.imports) import_list imports stands.imports (imports_stand files facts.imports) in
                 let by_package = ascends encoding text rise 0 (component_spans facts.package_name) package_list (package_order facts package_name) stands.package_name (package_stands facts) in
                 let by_names = ascends encoding text rise 0 (name_spans facts.declarations) name_list names stands.names (names_stand chosen source facts) in
                 let by_uses = ascends encoding text rise 0 (use_spans facts.uses) use_list uses stands.uses (uses_stand files chosen targets facts.uses) in

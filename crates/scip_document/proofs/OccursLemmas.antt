@@ -11,6 +11,7 @@ use Rattle.proto_decl.specs.Facts.{Facts}
 use Rattle.proto_decl.specs.declared.declaration.Declaration.{Declaration}
 use Rattle.proto_decl.specs.declared.type_use.Component.{Component}
 use Rattle.proto_decl.specs.declared.type_use.Use.{Use}
+use Rattle.scip_symbol.specs.Entities.{OfFile}
 use Rattle.scip_symbol.specs.Entities as symbols
 use Rattle.scip_symbol.specs.Package.{Package}
 use Rattle.proto_visibility.specs.Files.{File, HasFacts}
@@ -20,11 +21,12 @@ use Rattle.proto_visibility.specs.declared.entities.Entity.{Entity}
 use Rattle.proto_visibility.specs.declared.entities.Entity.TheVariants as link
 use Rattle.scip_document.specs.Chosen.{Chosen, IsKept}
 use Rattle.scip_document.specs.Named.{IsDeclaredAs, IsNamedAs, NamesIn, package_at, declaration_at}
-use Rattle.scip_document.specs.Occurs.{Occurs, IsShown, no_role, definition_role, occurrence_over}
+use Rattle.scip_document.specs.Occurs.{Occurs, IsShown, no_role, definition_role, import_role, occurrence_over}
 use Rattle.scip_document.specs.Occurs.Occurs.{of_file, of_import, of_package, of_declaration, of_component}
-use Rattle.scip_document.specs.Tables.Listing.{own_occurrence, each_from, keeps_by, keeps, is_shown, declared_in, entity_of, at_import, at_package, at_declaration, at_entity, at_part, at_component, at_target, at_use}
+use Rattle.scip_document.specs.Tables.Listing.{own_occurrence, each_from, has_path, keeps_by, keeps, is_shown, declared_in, entity_of, at_import, at_package, at_declaration, at_entity, at_part, at_component, at_target, at_use}
 use Rattle.scip_document.proofs.MergeLemmas.{head_or_tail, at_head, not_in_none, either}
 use Rattle.scip_document.proofs.ListingLemmas.{given_by, gives_it}
+use Rattle.scip_document.proofs.ConditionLemmas.{path_from, path_to}
 use Rattle.scip_document.proofs.NamedLemmas.{same_facts, is_listed, declared_is}
 
 never : {A : Type 0} → false ≡ true → A
@@ -134,10 +136,11 @@ module _ (files : List File) (chosen : Chosen) (id : Package) (encoding : Encodi
     own_occurs : (o : Occurrence) → Contains (own_occurrence id file.path ∷ []) o → Wanted o
     own_occurs o h = subst Wanted (only (own_occurrence id file.path) o h) (of_file at)
 
-    imports_occur : (o : Occurrence) → Contains (each_from (at_import id encoding text) 0 facts.imports) o → Wanted o
+    imports_occur : (o : Occurrence) → Contains (each_from (at_import id encoding text files) 0 facts.imports) o → Wanted o
     imports_occur o h =
-        let g = given_at (at_import id encoding text) facts.imports o h in
-        subst Wanted (only _ o g.given) (of_import {imported = g.item} known (is_listed facts.imports g.at g.item g.item_is))
+        let g = given_at (at_import id encoding text files) facts.imports o h in
+        let there = if_so (has_path files g.item.path) (occurrence_over encoding text id g.item.span (OfFile g.item.path) import_role ∷ []) o g.given in
+        subst Wanted (only _ o there.1) (of_import {imported = g.item} known (is_listed facts.imports g.at g.item g.item_is) (path_from files g.item.path there.0))
 
     packages_occur : (o : Occurrence) → Contains (each_from (at_package id encoding text facts) 0 facts.package_name) o → Wanted o
     packages_occur o h =
@@ -188,7 +191,7 @@ module _ (files : List File) (chosen : Chosen) (id : Package) (encoding : Encodi
     -- in one of the lists
     abbrev pub InLists : Occurrence → Type 0
     InLists o =
-        (((Contains (own_occurrence id file.path ∷ []) o ⊎ Contains (each_from (at_import id encoding text) 0 facts.imports) o)
+        (((Contains (own_occurrence id file.path ∷ []) o ⊎ Contains (each_from (at_import id encoding text files) 0 facts.imports) o)
         ⊎ Contains (each_from (at_package id encoding text facts) 0 facts.package_name) o)
         ⊎ Contains (each_from (at_declaration id encoding text chosen source facts) 0 facts.declarations) o)
         ⊎ Contains (each_from (at_use id encoding text files chosen targets) 0 facts.uses) o
@@ -218,9 +221,9 @@ module _ (files : List File) (chosen : Chosen) (id : Package) (encoding : Encodi
     pub occurs_listed : (o : Occurrence) → Wanted o → InLists o
     occurs_listed _ (of_file {file = other} there) =
         let same = same_some (sym at ∙ there) in inl (inl (inl (inl (at_head (own_occurrence id other.path) (own_occurrence id file.path) [] (ap (λ (f : File). own_occurrence id f.path) same)))))
-    occurs_listed _ (of_import {facts = other} {imported = imported} has listed) =
+    occurs_listed _ (of_import {facts = other} {imported = imported} has listed there) =
         let k = contains_at facts.imports imported (subst (λ (f : Facts). Contains f.imports imported) (same_facts files source other facts has known) listed) in
-        inl (inl (inl (inr (gives_at (at_import id encoding text) facts.imports _ k.0 imported k.1 (here _)))))
+        inl (inl (inl (inr (gives_at (at_import id encoding text files) facts.imports _ k.0 imported k.1 (so (has_path files imported.path) _ _ (path_to files imported.path there) (here _))))))
     occurs_listed _ (of_package {facts = other} index {component = component} has e) =
         let same = same_facts files source other facts has known in
         let there = ap (λ (f : Facts). slice_get f.package_name index) (sym same) ∙ e in

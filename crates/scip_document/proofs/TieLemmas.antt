@@ -123,7 +123,7 @@ module _ (rise : CharactersRise) (encoding : Encoding) (text : List ℕ) where
     module _ (files : List File) (chosen : Chosen) (id : Package) (source : ℕ) (known : HasFacts files source facts) where
       stands : (o : Occurrence) → Occurs files chosen id encoding source text o → Stands o
       stands _ (of_file there) = at_start refl refl
-      stands _ (of_import {facts = other} {imported = imported} has listed) =
+      stands _ (of_import {facts = other} {imported = imported} has listed there) =
           at_import imported (subst (λ (f : Facts). Contains f.imports imported) (same_facts files source other facts has known) listed) refl refl
       stands _ (of_package {facts = other} index {component = component} has e) =
           let there = ap (λ (f : Facts). slice_get f.package_name index) (sym (same_facts files source other facts has known)) ∙ e in
@@ -151,7 +151,7 @@ module _ (files : List File) (chosen : Chosen) (id : Package) (encoding : Encodi
 
   own_or_known : (o : Occurrence) → Occurs files chosen id encoding source text o → (o.symbol_roles ≡ definition_role) ⊎ IsKnown
   own_or_known _ (of_file there) = inl refl
-  own_or_known _ (of_import {facts = facts} has listed) = inr (facts, has)
+  own_or_known _ (of_import {facts = facts} has listed there) = inr (facts, has)
   own_or_known _ (of_package {facts = facts} index has e) = inr (facts, has)
   own_or_known _ (of_declaration {facts = facts} index has kept) = inr (facts, has.has_facts)
   own_or_known _ (of_component names shown) = inr (names.facts, names.has_facts)

@@ -14,7 +14,7 @@ use Rattle.proto_decl.specs.declared.type_use.Component.{Component}
 use Rattle.scip_symbol.specs.Entities.{OfFile}
 use Rattle.scip_symbol.specs.Entities as symbols
 use Rattle.scip_symbol.specs.Package.{Package}
-use Rattle.proto_visibility.specs.Files.{File, HasFacts}
+use Rattle.proto_visibility.specs.Files.{File, HasFacts, HasPath}
 use Rattle.proto_visibility.specs.declared.entities.Entity.{Entity}
 use Rattle.proto_visibility.specs.declared.entities.Entity.TheVariants as link
 use Rattle.scip_document.specs.Chosen.{Chosen, IsKept}
@@ -56,8 +56,8 @@ pub data Occurs (files : List File) (chosen : Chosen) (id : Package) (encoding :
   -- the file itself
   of_file : {file : File} → slice_get files source ≡ Some file
       → Occurs files chosen id encoding source text (record { range = start_of_text; symbol = text_of id (OfFile file.path); symbol_roles = definition_role })
-  -- each file that it imports, over the literals
-  of_import : {facts : Facts} {imported : Imported} → HasFacts files source facts → Contains facts.imports imported
+  -- each file that it imports, over the literals, where it is there
+  of_import : {facts : Facts} {imported : Imported} → HasFacts files source facts → Contains facts.imports imported → HasPath files imported.path
       → Occurs files chosen id encoding source text (occurrence_over encoding text id imported.span (OfFile imported.path) import_role)
   -- each component of its package's name: the package up to it
   of_package : {facts : Facts} (index : ℕ) {component : Component} → HasFacts files source facts → slice_get facts.package_name index ≡ Some component

@@ -3,7 +3,7 @@
 ghost use Rattle.proto_decl.specs.Laws.{FactsStandInText};
 ghost use Rattle.proto_lex.specs.PositionLaws.{CharactersRise};
 ghost use Rattle.proto_visibility.specs.Files.{HaveOrigins};
-ghost use Rattle.proto_visibility.specs.Linked.{CanBeLinked};
+ghost use Rattle.proto_visibility.specs.Linked.{HaveClearNames};
 ghost use Rattle.proto_link.specs.Laws.{OneDeclarationAName, OneTargetAUse};
 ghost use Rattle.scip_symbol.specs.Package.{IsPackage};
 ghost use Rattle.scip_document.specs.Laws.{NoTies};
@@ -18,7 +18,7 @@ use scip_symbol::{PackageId, files_are_without_clash, symbols_name_one_entity};
 /// The places of facts are in order and in the text, a use has one target, and no two occurrences
 /// of a document tie.
 pub(crate) fn facts_occur_in_order(linker: &Linker<'_>)
-    ensures linked { CanBeLinked linker.now }
+    ensures clear { HaveClearNames linker.now }
     ensures origins { HaveOrigins linker.now }
     ensures order { InOrder }
     ensures placed { FactsStandInText }
@@ -38,7 +38,7 @@ pub(crate) fn facts_occur_in_order(linker: &Linker<'_>)
 
 /// The symbols of linked files are those of one entity each.
 pub(crate) fn symbols_stand_apart(linker: &Linker<'_>, id: &PackageId)
-    ensures linked { CanBeLinked linker.now }
+    ensures clear { HaveClearNames linker.now }
     ensures origins { HaveOrigins linker.now }
     ensures declarations { OneDeclarationAName }
     ensures spelled { AreIdentifiers }

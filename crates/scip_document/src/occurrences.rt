@@ -1,19 +1,21 @@
 //! The occurrences of a document that don't come of its uses.
 
-ghost use Rattle.std.specs.Prelude.{◌≡◌, ◌<◌, ◌++◌, ℕ, length, All, Contains, IfOk, OnOk};
+ghost use Rattle.std.specs.Prelude.{◌≡◌, ◌<◌, ◌++◌, ℕ, length, All, Contains, IsTrue, IfOk, OnOk};
 ghost use Rattle.proto_lex.specs.Lexed.{IsPart};
 ghost use Rattle.proto_decl.specs.declared.type_use.Component.{Component};
 ghost use Rattle.proto_decl.specs.declared.declaration.Declaration.{Declaration};
 ghost use Rattle.proto_decl.specs.declared.imported.Imported.{Imported};
 ghost use Rattle.scip_symbol.specs.Path.{IsGoodPath};
 ghost use Rattle.scip_document.specs.Chosen.{HasChoice};
+ghost use Rattle.scip_document.specs.Conditions.{HaveGoodPaths};
 ghost use Rattle.scip_document.specs.Occurs.{range_over};
-ghost use Rattle.scip_document.specs.Tables.Listing.{own_occurrence, each_from, at_import, at_package, at_declaration};
+ghost use Rattle.scip_document.specs.Tables.Listing.{own_occurrence, each_from, has_path, at_import, at_package, at_declaration};
 
 use crate::document_maker::DocumentMaker;
 use crate::symbol_texts::{declaration_text, file_text, package_text};
 use proto_decl::{Declaration, FileFacts, Imported};
 use proto_lex::{Encoding, Span, Text, positions_fit};
+use proto_link::Linker;
 use scip_model::{Occurrence, Range};
 use scip_symbol::PackageId;
 use sequences::OwnedText;
@@ -74,20 +76,47 @@ pub(crate) fn file_occurrence(
     })
 }
 
-/// Each import, over its literals.
+/// Whether some file has the path of an import. Such a path is good.
+fn has_file(linker: &Linker<'_>, imported: &Imported) -> bool
+    requires { HaveGoodPaths linker.now }
+    ensures found { result ≡ has_path linker.now imported.now.path }
+    ensures good { IsTrue result → IsGoodPath imported.now.path }
+{
+    linker.has_path(imported.path.as_str())
+}
+
+/// Adds the occurrence of an import, over its literals, where some file has its path.
+fn add_import(
+    list: &mut Vec<Occurrence>,
+    maker: &DocumentMaker<'_, '_, '_>,
+    imported: &Imported,
+) -> Result<(), AllocError>
+    requires part { IsPart maker.now.text.now imported.now.span }
+    requires paths { HaveGoodPaths maker.now.linker.now }
+    ensures { OnOk result (list.new.items ≡ list.old.items
+        ++ at_import maker.now.package.now maker.now.encoding maker.now.text.now maker.now.linker.now 0 imported.now) }
+{
+    if has_file(maker.linker, imported) {
+        let symbol = file_text(maker.alloc, maker.package, imported.path.as_str())?;
+        list.push(occurrence_over(maker, imported.span, symbol, IMPORT))?;
+    }
+    Ok(())
+}
+
+/// Each import of a file that is there, over its literals.
 pub(crate) fn import_occurrences(
     maker: &DocumentMaker<'_, '_, '_>,
     imports: &[Imported],
 ) -> Result<Vec<Occurrence>, AllocError>
     requires parts { All (λ (imported : Imported). IsPart maker.now.text.now imported.span) imports.now }
-    requires paths { All (λ (imported : Imported). IsGoodPath imported.path) imports.now }
-    ensures { IfOk result (λ list.
-        list.items ≡ each_from (at_import maker.now.package.now maker.now.encoding maker.now.text.now) 0 imports.now) }
+    requires paths { HaveGoodPaths maker.now.linker.now }
+    ensures { IfOk result (λ list. list.items ≡ each_from
+        (at_import maker.now.package.now maker.now.encoding maker.now.text.now maker.now.linker.now)
+        0 imports.now) }
 {
     let mut list = Vec::new(maker.alloc);
     for imported in imports {
-        let symbol = file_text(maker.alloc, maker.package, imported.path.as_str())?;
-        list.push(occurrence_over(maker, imported.span, symbol, IMPORT))?;
+        add_import(&mut list, maker, imported)?;
     }
     Ok(list)
 }

@@ -1,6 +1,7 @@
 -- The occurrences of a document, list by list: each list is in order of place.
-use Rattle.std.specs.Prelude.{◌≡◌, ℕ, ◌+◌, Bool, true, false, if◌then◌else◌, Option, Some, None, List, [], ◌∷◌, ◌++◌, take}
-use Rattle.std.specs.List.{slice_get}
+use Rattle.std.specs.Prelude.{◌≡◌, ℕ, ◌+◌, Bool, true, false, if◌then◌else◌, Option, Some, None, List, [], ◌∷◌, ◌++◌, map, take}
+use Rattle.std.specs.List.{slice_get, list_any}
+use Rattle.std.specs.Str.{bytes_eq}
 use Rattle.std.specs.Option.{option_and_then, option_map}
 use Rattle.proto_lex.specs.declared.span.Span.{Span}
 use Rattle.proto_lex.specs.declared.position.Encoding.{Encoding}
@@ -27,6 +28,10 @@ use Rattle.scip_document.specs.Occurs.{occurrence_over, start_of_text, no_role, 
 abbrev pub each_from : {A B : Type 0} → (ℕ → A → List B) → (index : ℕ) → List A → List B
 each_from gives index [] = []
 each_from gives index (x ∷ xs) = gives index x ++ each_from gives (index + 1) xs
+
+-- whether some file has this path
+abbrev pub has_path : List File → List ℕ → Bool
+has_path files path = list_any (bytes_eq path) (map (λ file. file.path) files)
 
 -- whether the choice keeps a declaration
 abbrev pub keeps_by : Option Choice → Bool
@@ -64,8 +69,9 @@ abbrev pub own_occurrence : Package → (path : List ℕ) → Occurrence
 own_occurrence id path = record { range = start_of_text; symbol = text_of id (OfFile path); symbol_roles = definition_role }
 
 module _ (id : Package) (encoding : Encoding) (text : List ℕ) where
-  abbrev pub at_import : ℕ → Imported → List Occurrence
-  at_import index imported = occurrence_over encoding text id imported.span (OfFile imported.path) import_role ∷ []
+  abbrev pub at_import : List File → ℕ → Imported → List Occurrence
+  at_import files index imported =
+      if has_path files imported.path then occurrence_over encoding text id imported.span (OfFile imported.path) import_role ∷ [] else []
 
   abbrev pub at_package : Facts → ℕ → Component → List Occurrence
   at_package facts index component = occurrence_over encoding text id component.span (package_at facts (index + 1)) definition_role ∷ []

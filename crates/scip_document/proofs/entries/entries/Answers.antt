@@ -16,7 +16,7 @@ use Rattle.scip_document.proofs.entries.entries.Goals as goal
 pub unwrap-facts-requires : goal.unwrap-facts-requires
 unwrap-facts-requires c =
     let files = c.args.maker.now.linker.now in
-    let facts = source-facts files c.args.maker.now.source c.symbols_stand_apart.ensures.linked.read c.requires.source in
+    let facts = source-facts files c.args.maker.now.source c.symbols_stand_apart.ensures.clear.read c.requires.source in
     some_facts (λ facts. HasFacts files c.args.maker.now.source facts.now) files c.args.maker.now.source facts.0 c.facts_of.result facts.1 c.facts_of.ensures
 
 pub listed_entries-requires-clause-path : goal.listed_entries-requires-clause-path
@@ -39,7 +39,7 @@ returns c =
     let known = MatchOption-at_some ((other : Facts) → HasFacts files source other → ⊥) (λ facts. HasFacts files source facts.now) c.unwrap-facts.result c.unwrap-facts.ensures c.facts_of.ensures in
     let path = c.path_of-path.ensures in
     rw c.from_vec.ensures
-    (source-list files c.symbols_stand_apart.ensures.origins c.symbols_stand_apart.ensures.linked.clear c.symbols_stand_apart.ensures.declarations c.symbols_stand_apart.ensures.spelled
+    (source-list files c.symbols_stand_apart.ensures.origins c.symbols_stand_apart.ensures.clear.clear c.symbols_stand_apart.ensures.declarations c.symbols_stand_apart.ensures.spelled
     c.symbols_stand_apart.ensures.symbols c.symbols_stand_apart.ensures.unclashed c.args.maker.now.package.now c.symbols_stand_apart.ensures.package source path.0 facts path.1
     (record { counts = source-counts files source c.requires.source; known = known }) (c.requires.paths source path.0 path.1) c.args.maker.now.choices.now c.in_ok-entries.entries.items _
     (c.in_ok-entries.ensures ∙ ap (λ (p : List ℕ). source_entries c.args.maker.now.package.now p facts (choices_for c.args.maker.now.choices.now source)) (sym path.2))

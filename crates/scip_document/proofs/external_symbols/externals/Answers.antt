@@ -27,7 +27,7 @@ returns c =
     let once = c.in_ok-once.once.items in
     let exact = all-added (IsExternal files chosen (length files)) c.in_ok-named.named.items once c.in_ok-named.ensures c.in_ok-once.ensures.same in
     rw c.from_vec.ensures
-    (external-list files c.symbols_stand_apart.ensures.origins c.symbols_stand_apart.ensures.linked.clear c.symbols_stand_apart.ensures.declarations c.symbols_stand_apart.ensures.spelled
+    (external-list files c.symbols_stand_apart.ensures.origins c.symbols_stand_apart.ensures.clear.clear c.symbols_stand_apart.ensures.declarations c.symbols_stand_apart.ensures.spelled
     c.symbols_stand_apart.ensures.symbols c.symbols_stand_apart.ensures.unclashed id c.symbols_stand_apart.ensures.package chosen once exact c.in_ok-once.ensures.rising c.in_ok-entries.entries.items c.sort_by.new.self.items
     (subst (λ (pairs : List Pair). AllZip (IsEntryOf files chosen id) pairs c.in_ok-entries.entries.items) c.as_slice.ensures.value c.in_ok-entries.ensures)
     c.in_ok-sort_by.ensures.permutation

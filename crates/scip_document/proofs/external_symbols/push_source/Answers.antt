@@ -19,7 +19,7 @@ unwrap-facts-requires c =
     let source = c.args.source in
     let of = c.is_included.ensures in
     let is : IsSource files source = record { file = of.0; numbered = of.1; source = sym of.2 ∙ c.if-is_included.false } in
-    let facts = source-facts files source c.linked.ensures.can_be.read is in
+    let facts = source-facts files source c.linked.ensures.clear.read is in
     some_facts (λ facts. HasFacts files source facts.now) files source facts.0 c.facts_of.result facts.1 c.facts_of.ensures
 
 pub push_uses-requires-clause-resolved : goal.push_uses-requires-clause-resolved

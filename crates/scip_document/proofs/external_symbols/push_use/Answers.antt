@@ -18,6 +18,6 @@ returns-in-Ok c =
     let old = c.args.named.now.items in
     let new = c.push_parts.new.named.items in
     on_ok_weaker c.push_parts.result
-    (λ adds. of-use files chosen c.one_target_a_use.ensures.targets c.linked.ensures.origins c.linked.ensures.can_be.clear c.args.source c.args.type_use.now c.in-Ok.target old new c.requires.source c.in-Ok.ensures.target
+    (λ adds. of-use files chosen c.one_target_a_use.ensures.targets c.linked.ensures.origins c.linked.ensures.clear.clear c.args.source c.args.type_use.now c.in-Ok.target old new c.requires.source c.in-Ok.ensures.target
     (subst (λ (parts : List Entity). Adds (FromFront (IsOfPart files chosen) parts (length parts)) old new) c.as_slice.ensures adds))
     c.push_parts.ensures

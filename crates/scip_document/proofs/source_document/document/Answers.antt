@@ -4,7 +4,7 @@ use Rattle.scip_document.proofs.source_document.document.Goals as goal
 
 pub unwrap-facts-requires : goal.unwrap-facts-requires
 unwrap-facts-requires c =
-    let facts = source-facts c.args.maker.now.linker.now c.args.maker.now.source c.linked.ensures.can_be.read c.requires.source in
+    let facts = source-facts c.args.maker.now.linker.now c.args.maker.now.source c.linked.ensures.clear.read c.requires.source in
     some_facts c.args.maker.now.linker.now c.args.maker.now.source facts.0 c.facts_of.result facts.1 c.facts_of.ensures
 
 pub occurrences-requires-clause-text : goal.occurrences-requires-clause-text

@@ -9,7 +9,7 @@ use Rattle.scip_symbol.specs.Path.{IsGoodPath}
 use Rattle.scip_document.specs.Tables.Listing.{own_occurrence, each_from, at_import, at_use}
 use Rattle.scip_document.proofs.TargetLemmas.{zip_length}
 use Rattle.scip_document.proofs.NameableLemmas.{targets_nameable}
-use Rattle.scip_document.proofs.ConditionLemmas.{all_of_map, uses_stand_there, stand_there, choices_there, good_imports, merged_of}
+use Rattle.scip_document.proofs.ConditionLemmas.{all_of_map, uses_stand_there, stand_there, choices_there, merged_of}
 use Rattle.scip_document.proofs.DocumentLemmas.{merged_lists}
 use Rattle.scip_document.proofs.NamedLemmas.{same_facts}
 use Rattle.scip_document.proofs.OrderLemmas.{tied}
@@ -30,11 +30,6 @@ import_occurrences-requires-clause-parts c =
     let facts = c.args.facts.now in
     subst (λ (imports : List Imported). All (λ (imported : Imported). IsPart text imported.span) imports) (sym c.imports.ensures)
     (all_of_map (IsPart text) (λ (imported : Imported). imported.span) facts.imports (stand_there text facts c.requires.text c.facts_occur_in_order.ensures.placed).imports)
-
-pub import_occurrences-requires-clause-paths : goal.import_occurrences-requires-clause-paths
-import_occurrences-requires-clause-paths c =
-    subst (λ (imports : List Imported). All (λ (imported : Imported). IsGoodPath imported.path) imports) (sym c.imports.ensures)
-    (good_imports c.args.maker.now.linker.now c.args.maker.now.source c.args.facts.now c.requires.source c.requires.known c.facts_occur_in_order.ensures.linked.complete c.requires.paths)
 
 pub package_occurrences-requires : goal.package_occurrences-requires
 package_occurrences-requires c =
@@ -80,7 +75,7 @@ returns c =
     let path = c.path_of.ensures in
     let origin = c.requires.text.origin in
     let own = c.in_ok-own.ensures ∙ ap (λ (p : List ℕ). own_occurrence id p ∷ []) (sym path.2) in
-    let imports = c.in_ok-imports.ensures ∙ ap (λ (xs : List Imported). each_from (at_import id encoding text) 0 xs) c.imports.ensures in
+    let imports = c.in_ok-imports.ensures ∙ ap (λ (xs : List Imported). each_from (at_import id encoding text files) 0 xs) c.imports.ensures in
     let untied : (x y : Occurrence) → Occurs files chosen id encoding source text x → Occurs files chosen id encoding source text y → occurrence_cmp x y ≡ Equal → x ≡ y =
     λ x y first second e. c.facts_occur_in_order.ensures.untied files chosen id encoding source text
     (λ other known. subst (AreOfText text) (same_facts files source facts other c.requires.known known) c.requires.text) x y first second (tied x y e).0 (tied x y e).1 in
@@ -88,7 +83,7 @@ returns c =
     merged_lists id encoding text c.facts_occur_in_order.ensures.characters files chosen source path.0 path.1 facts c.requires.known
     (stand_there text facts c.requires.text c.facts_occur_in_order.ensures.placed) (c.facts_occur_in_order.ensures.order.names facts origin) (c.facts_occur_in_order.ensures.order.uses facts origin)
     (c.facts_occur_in_order.ensures.order.imports facts origin) (c.facts_occur_in_order.ensures.order.package_name facts origin) targets c.requires.targets
-    (c.facts_occur_in_order.ensures.targets files c.facts_occur_in_order.ensures.origins c.facts_occur_in_order.ensures.linked.clear source c.requires.source) untied
+    (c.facts_occur_in_order.ensures.targets files c.facts_occur_in_order.ensures.origins c.facts_occur_in_order.ensures.clear.clear source c.requires.source) untied
     c.in_ok-with_imports.with_imports.items c.in_ok-with_packages.with_packages.items c.in_ok-with_names.with_names.items c.in_ok-list.list.items
     (merged_of own imports c.in_ok-with_imports.ensures)
     (merged_of refl c.in_ok-packages.ensures c.in_ok-with_packages.ensures)

@@ -1,0 +1,10 @@
+use Rattle.std.proofs.Common.{◌↔◌, IsTrue, List, subst}
+use Rattle.proto_visibility.specs.Files.{File, HasPath}
+use Rattle.proto_visibility.specs.Tables.ImportTables.{number_in}
+use Rattle.proto_visibility.proofs.AbsentLemmas.{path_iff}
+use Rattle.proto_visibility.proofs.namespace.Namespace.has_path.Goals as goal
+
+pub returns : goal.returns
+returns c =
+    subst (λ (fs : List File). IsTrue c.is_numbered.result ↔ HasPath fs c.args.path.now) c.self.view_is
+    (path_iff c.self.inside.files.now (number_in c.self.inside.numbers) c.self.invariant.numbers_are c.args.path.now c.is_numbered.result c.is_numbered.ensures)

@@ -2,12 +2,9 @@
 
 ghost use Rattle.std.specs.Prelude.{◌≡◌, IfOk};
 
-use sequences::OwnedText;
-use std::alloc::{AllocError, Global};
 use std::io;
 use std::io::{ErrorKind, Read, Write};
 use std::process::Abort;
-use std::test::Fail;
 use streams::{CutOff, Failed, Feed, Sink, Std, write_all};
 
 /// Sees that what a case says holds.
@@ -63,42 +60,4 @@ fn failures_are_passed_on(rt: HostRuntime) {
     let mut buffer = [0; 3];
     see(&rt, feed.read(&mut buffer) == Ok(1), "one byte");
     see(&rt, feed.read(&mut buffer) == Err(Failed), "read");
-}
-
-/// A writer that takes all, and counts its calls and bytes.
-#[derive(Drop)]
-struct Counting {
-    calls: u32,
-    bytes: usize,
-}
-
-impl Write for Counting {
-    fn write(&mut self, bytes: &[u8]) -> io::Result<usize> {
-        self.calls = self.calls.wrapping_add(1);
-        self.bytes = self.bytes.wrapping_add(bytes.len());
-        Ok(bytes.len())
-    }
-
-    fn flush(&mut self) -> io::Result<()> {
-        Ok(())
-    }
-}
-
-/// A text of 100,000 bytes.
-fn long_text(alloc: Global) -> Result<OwnedText, AllocError> {
-    let mut text = String::new(alloc);
-    for _ in 0..100_000 {
-        text.push('x')?;
-    }
-    OwnedText::copy_of(alloc, text.as_str())
-}
-
-#[test]
-fn a_long_text_is_written_at_once(rt: HostRuntime) -> Result<(), Fail> {
-    let text = long_text(rt.alloc())?;
-    let mut sink = Std::new(Counting { calls: 0, bytes: 0 });
-    write_all(&mut sink, text.as_str().as_bytes())?;
-    let writer = sink.into_inner();
-    see(&rt, writer.calls == 1 && writer.bytes == 100_000, "a write");
-    Ok(())
 }

@@ -1,10 +1,9 @@
 //! What a registry asks, in which order and how often.
 
-use crate::shared::{chooses, counting_filter, counting_rule, message, no_calls, see, see_added};
-use index_hooks::{Chooses, DocChoice, Registry};
+use crate::shared::{chooses, counting_filter, counting_rule, no_calls, see, see_added};
+use index_hooks::{DocChoice, Registry};
 use std::sync::atomic::Ordering;
 use std::test::Fail;
-use std::thread::join;
 
 // Answers of filters, and what a call of each adds.
 const FILTERED: [(bool, u64); 3] = [(true, 1), (false, 0x10), (true, 0x100)];
@@ -59,24 +58,5 @@ fn the_first_answer_of_a_rule_counts_also_for_what_is_dropped(rt: HostRuntime) -
         calls.load(Ordering::SeqCst) == 0x4044,
         "once for each choice that comes to it",
     );
-    Ok(())
-}
-
-#[test]
-fn threads_share_a_registry(rt: HostRuntime) -> Result<(), Fail> {
-    let alloc = rt.alloc();
-    let calls = no_calls(alloc)?;
-    let filter = counting_filter(alloc, false, 1, &calls)?;
-    let mut registry = Registry::new(alloc);
-    if let Err((filter, _)) = registry.add_filter(filter) {
-        see_added(&rt, registry.add_filter(filter));
-    }
-    let (one, other) = join(
-        &rt,
-        || registry.choose(&message()).keep,
-        || registry.choose(&message()).keep,
-    );
-    see(&rt, !one && !other, "both asked");
-    see(&rt, calls.load(Ordering::SeqCst) == 2, "once each");
     Ok(())
 }

@@ -1,18 +1,16 @@
 //! What linking answers to files, as a text.
 //!
 //! Files that can be linked have a line each: its path, behind a `+` where it is included; for each file
-//! a digit, which is 1 where the one sees the other; and for each use a `;` and what it names. That is
-//! the full name of a type and what each component names: the number of a package's words, or a file and
-//! a declaration of it as `FILE/NUMBER`. Where it names no type, it is `?` and the use's place.
+//! a digit, which is 1 where the one sees the other; and for each use of a source a `;` and what it names.
+//! That is the full name of a type and what each component names: the number of a package's words, or a
+//! file and a declaration of it as `FILE/NUMBER`. Where it names no type, it is `?` and the use's place.
 //!
 //! Other files have a line with the fault.
 
-ghost use Rattle.std.specs.Prelude.{◌≡◌, ◌<◌, IfOk, length};
+ghost use Rattle.std.specs.Prelude.{◌<◌, length};
 ghost use Rattle.proto_visibility.specs.Files.{HaveOwnPaths};
 
 use crate::drafts::Draft;
-use crate::meanings::mean_as_scanned;
-use crate::scans;
 use proto_decl::{FileFacts, Use};
 use proto_link::{Entity, FilePlace, LinkFault, LinkFile, Linker, Target};
 use std::alloc::{AllocError, Global};
@@ -26,7 +24,8 @@ fn add_place(draft: &mut Draft, place: FilePlace) {
     draft.add_number(place.span.end);
 }
 
-fn add_fault(draft: &mut Draft, fault: LinkFault) {
+/// Adds a fault; a use that names no type is one.
+pub(crate) fn add_fault(draft: &mut Draft, fault: LinkFault) {
     match fault {
         LinkFault::Broken(file) => {
             draft.add("broken ");
@@ -49,7 +48,8 @@ fn add_fault(draft: &mut Draft, fault: LinkFault) {
     }
 }
 
-fn add_part(draft: &mut Draft, part: Entity) {
+/// Adds what a component names.
+pub(crate) fn add_part(draft: &mut Draft, part: Entity) {
     draft.add(" ");
     match part {
         Entity::Package(words) => draft.add_number(words),
@@ -121,12 +121,15 @@ fn add_file(
 ) -> Result<(), AllocError>
     requires { file < length linker.now }
 {
-    draft.add(if linker.is_included(file) { "+" } else { "" });
+    let is_included = linker.is_included(file);
+    draft.add(if is_included { "+" } else { "" });
     draft.add(linker.path_of(file));
     draft.add(" ");
     add_sights(draft, linker, file);
     if let Some(facts) = linker.facts_of(file) {
-        add_uses(alloc, draft, linker, file, facts)?;
+        if !is_included {
+            add_uses(alloc, draft, linker, file, facts)?;
+        }
     }
     draft.add("\n");
     Ok(())
@@ -141,72 +144,27 @@ fn add_files(alloc: Global, draft: &mut Draft, linker: &Linker) -> Result<(), Al
 
 /// What a linker answers.
 fn listing_of(alloc: Global, linker: &Linker) -> Result<String, AllocError> {
+    linker.linked();
     let mut draft = Draft::new(alloc);
     add_files(alloc, &mut draft, linker)?;
     draft.finish()
 }
 
 /// The line of a fault.
-fn line_of(alloc: Global, fault: LinkFault) -> Result<String, AllocError> {
+pub(crate) fn line_of(alloc: Global, fault: LinkFault) -> Result<String, AllocError> {
     let mut draft = Draft::new(alloc);
     add_fault(&mut draft, fault);
     draft.add("\n");
     draft.finish()
 }
 
-/// Whether a linker lists what is due, if that is told.
-fn is_listed(alloc: Global, linker: &Linker, due: Option<&str>) -> Result<bool, AllocError> {
-    let listing = listing_of(alloc, linker)?;
-    Ok(due.is_none() || due == Some(listing.as_str()))
-}
-
-fn is_linked_as_due(
-    alloc: Global,
-    linker: &Linker,
-    files: &[LinkFile],
-    due: Option<&str>,
-) -> Result<bool, AllocError>
-    requires { length linker.now ≡ length files.now }
-{
-    linker.linked();
-    Ok(
-        is_listed(alloc, linker, due)?
-            && scans::fault_of(alloc, files)?.is_none()
-            && mean_as_scanned(alloc, linker, files)?,
-    )
-}
-
-fn is_refused_as_due(
-    alloc: Global,
-    fault: LinkFault,
-    files: &[LinkFile],
-    due: Option<&str>,
-) -> Result<bool, AllocError> {
-    let is_scanned = scans::fault_of(alloc, files)? == Some(fault);
-    let line = line_of(alloc, fault)?;
-    Ok(is_scanned && (due.is_none() || due == Some(line.as_str())))
-}
-
-/// Links files.
-fn link<'a>(alloc: Global, files: &'a [LinkFile<'a>]) -> Result<Linker<'a>, LinkFault>
-    requires { HaveOwnPaths files.now }
-    ensures { IfOk result (λ linker. linker ≡ files.now) }
-{
-    Linker::new(alloc, files)
-}
-
-/// Whether linking answers to files, no two of which have one path, what scans tell, and what is due,
-/// if that is told.
-pub(crate) fn are_answered<'a>(
-    alloc: Global,
-    files: &'a [LinkFile<'a>],
-    due: Option<&str>,
-) -> Result<bool, AllocError>
+/// What linking answers to files, no two of which have one path.
+pub(crate) fn answer_of<'a>(alloc: Global, files: &'a [LinkFile<'a>]) -> Result<String, AllocError>
     requires { HaveOwnPaths files.now }
 {
-    match link(alloc, files) {
-        Ok(linker) => is_linked_as_due(alloc, &linker, files, due),
+    match Linker::new(alloc, files) {
+        Ok(linker) => listing_of(alloc, &linker),
         Err(LinkFault::Memory) => Err(AllocError),
-        Err(fault) => is_refused_as_due(alloc, fault, files, due),
+        Err(fault) => line_of(alloc, fault),
     }
 }

@@ -1,12 +1,12 @@
-//! What uses name, found by looking at each name that a file knows.
+//! What scans of all files tell, in the form of `answers`: what a use names is found by looking at each name
+//! that its file knows.
 
-ghost use Rattle.std.specs.Prelude.{◌≡◌, ◌<◌, length};
-
+use crate::answers::{add_fault, add_part, line_of};
 use crate::drafts::Draft;
 use crate::items::{Item, items_of};
-use crate::scans::seen_by;
+use crate::scans::{fault_of, seen_by};
 use proto_decl::{Component, DeclarationKind, Use};
-use proto_link::{Entity, FilePlace, LinkFault, LinkFile, Linker, Target};
+use proto_link::{FilePlace, LinkFault, LinkFile};
 use std::alloc::{AllocError, Global};
 
 /// Whether a name of this kind is one of a type, or, where those are asked for, of another aggregate.
@@ -21,15 +21,6 @@ fn is_sought(kind: Option<DeclarationKind>, aggregates: bool) -> bool {
 fn is_known(known: &[Item], name: &str, aggregates: bool) -> bool {
     for item in known {
         if item.full_name.as_str() == name && is_sought(item.kind, aggregates) {
-            return true;
-        }
-    }
-    false
-}
-
-fn is_known_as(known: &[Item], name: &str, entity: Entity) -> bool {
-    for item in known {
-        if item.full_name.as_str() == name && item.entity == entity {
             return true;
         }
     }
@@ -117,160 +108,131 @@ fn name_of(alloc: Global, known: &[Item], type_use: &Use) -> Result<Option<Strin
     }
 }
 
-fn is_part(
+/// Adds what a full name names: it is that of one declaration, or of packages, which count as one.
+fn add_entity(draft: &mut Draft, known: &[Item], name: &str) {
+    for item in known {
+        if item.full_name.as_str() == name {
+            add_part(draft, item.entity);
+            return;
+        }
+    }
+}
+
+fn add_front(
     alloc: Global,
+    draft: &mut Draft,
     known: &[Item],
     name: &str,
     count: usize,
-    part: Entity,
-) -> Result<bool, AllocError> {
+) -> Result<(), AllocError> {
     let front = name_in(alloc, name, count, &[])?;
-    Ok(is_known_as(known, front.as_str(), part))
+    add_entity(draft, known, front.as_str());
+    Ok(())
 }
 
-/// Whether a target has this name and so many parts, each known by the words of the name up to it.
-fn is_target(
+/// Adds a full name, and what it names up to each of its last words, of which so many count.
+fn add_name(
     alloc: Global,
+    draft: &mut Draft,
     known: &[Item],
-    target: &Target,
     name: &str,
     count: usize,
-) -> Result<bool, AllocError> {
-    let parts = target.parts.as_slice();
-    if parts.len() != count || target.name.as_str() != name {
-        return Ok(false);
-    }
+) -> Result<(), AllocError> {
+    draft.add(name);
     let before = words_of(name).saturating_sub(count);
-    for (index, part) in parts.iter().enumerate() {
-        if !is_part(alloc, known, name, before.saturating_add(index + 1), *part)? {
-            return Ok(false);
-        }
+    for number in 0..count {
+        let words = before.saturating_add(number).saturating_add(1);
+        add_front(alloc, draft, known, name, words)?;
     }
-    Ok(true)
+    Ok(())
 }
 
-/// Whether a use of a file that names a type with this name, or none, has this answer.
-fn is_due_of(
+fn add_use(
     alloc: Global,
+    draft: &mut Draft,
     known: &[Item],
     file: usize,
     type_use: &Use,
-    answer: &Result<Target, LinkFault>,
-    name: Option<&String>,
-) -> Result<bool, AllocError> {
-    match (answer, name) {
-        (Ok(target), Some(name)) => {
+) -> Result<(), AllocError> {
+    draft.add("; ");
+    match name_of(alloc, known, type_use)? {
+        Some(name) => {
             let count = type_use.components.as_slice().len();
-            is_target(alloc, known, target, name.as_str(), count)
+            add_name(alloc, draft, known, name.as_str(), count)
         }
-        (Err(LinkFault::Memory), _) => Err(AllocError),
-        (Err(fault), None) => {
+        None => {
             let span = type_use.span;
-            Ok(*fault == LinkFault::Unresolved(FilePlace { file, span }))
+            add_fault(draft, LinkFault::Unresolved(FilePlace { file, span }));
+            Ok(())
         }
-        _ => Ok(false),
     }
 }
 
-fn is_due(
+fn add_uses(
     alloc: Global,
-    known: &[Item],
-    file: usize,
-    type_use: &Use,
-    answer: &Result<Target, LinkFault>,
-) -> Result<bool, AllocError> {
-    let name = name_of(alloc, known, type_use)?;
-    is_due_of(alloc, known, file, type_use, answer, name.as_ref())
-}
-
-fn is_resolved_as_due(
-    alloc: Global,
-    linker: &Linker,
-    known: &[Item],
-    file: usize,
-    type_use: &Use,
-) -> Result<bool, AllocError>
-    requires { file < length linker.now }
-{
-    let answer = linker.resolve(alloc, file, type_use);
-    is_due(alloc, known, file, type_use, &answer)
-}
-
-fn are_resolved_as_due(
-    alloc: Global,
-    linker: &Linker,
+    draft: &mut Draft,
     known: &[Item],
     file: usize,
     uses: &[Use],
-) -> Result<bool, AllocError>
-    requires { file < length linker.now }
-{
+) -> Result<(), AllocError> {
     for type_use in uses {
-        if !is_resolved_as_due(alloc, linker, known, file, type_use)? {
-            return Ok(false);
-        }
+        add_use(alloc, draft, known, file, type_use)?;
     }
-    Ok(true)
+    Ok(())
 }
 
-/// Whether a file sees the files with these numbers, and no others.
-fn sees(linker: &Linker, file: usize, seen: &[usize]) -> bool
-    requires { file < length linker.now }
-{
-    for other in 0..linker.count() {
-        if linker.visible(file, other) != seen.contains(&other) {
-            return false;
-        }
-    }
-    true
-}
-
-fn uses_are_due(
+/// Adds a file, which sees the files with these numbers, and no others.
+fn add_seeing(
     alloc: Global,
-    linker: &Linker,
+    draft: &mut Draft,
     files: &[LinkFile],
-    file: usize,
+    number: usize,
+    file: &LinkFile,
     seen: &[usize],
-    uses: &[Use],
-) -> Result<bool, AllocError>
-    requires { file < length linker.now }
-{
+) -> Result<(), AllocError> {
+    draft.add(if file.included { "+" } else { "" });
+    draft.add(file.path);
+    draft.add(" ");
+    for other in 0..files.len() {
+        draft.add(if seen.contains(&other) { "1" } else { "0" });
+    }
+    let uses = match file.facts {
+        Some(facts) if !file.included => facts.uses(),
+        _ => &[],
+    };
     let known = items_of(alloc, files, seen)?;
-    are_resolved_as_due(alloc, linker, known.as_slice(), file, uses)
+    add_uses(alloc, draft, known.as_slice(), number, uses)
 }
 
-fn is_file_due(
+fn add_file(
     alloc: Global,
-    linker: &Linker,
+    draft: &mut Draft,
     files: &[LinkFile],
-    file: usize,
-    uses: &[Use],
-) -> Result<bool, AllocError>
-    requires { file < length linker.now }
-{
-    let seen = seen_by(alloc, files, file)?;
-    if !sees(linker, file, seen.as_slice()) {
-        return Ok(false);
-    }
-    uses_are_due(alloc, linker, files, file, seen.as_slice(), uses)
+    number: usize,
+    file: &LinkFile,
+) -> Result<(), AllocError> {
+    let seen = seen_by(alloc, files, &[number])?;
+    add_seeing(alloc, draft, files, number, file, seen.as_slice())
 }
 
-/// Whether each file sees the files, and the uses of each name the types, that scans tell.
-pub(crate) fn mean_as_scanned(
-    alloc: Global,
-    linker: &Linker,
-    files: &[LinkFile],
-) -> Result<bool, AllocError>
-    requires { length linker.now ≡ length files.now }
-{
+fn add_files(alloc: Global, draft: &mut Draft, files: &[LinkFile]) -> Result<(), AllocError> {
     for (number, file) in files.iter().enumerate() {
-        let uses = match file.facts {
-            Some(facts) => facts.uses(),
-            None => &[],
-        };
-        if !is_file_due(alloc, linker, files, number, uses)? {
-            return Ok(false);
-        }
+        add_file(alloc, draft, files, number, file)?;
+        draft.add("\n");
     }
-    Ok(true)
+    Ok(())
+}
+
+fn listing_of(alloc: Global, files: &[LinkFile]) -> Result<String, AllocError> {
+    let mut draft = Draft::new(alloc);
+    add_files(alloc, &mut draft, files)?;
+    draft.finish()
+}
+
+/// What scans tell of files.
+pub(crate) fn scan_of(alloc: Global, files: &[LinkFile]) -> Result<String, AllocError> {
+    match fault_of(alloc, files)? {
+        Some(fault) => line_of(alloc, fault),
+        None => listing_of(alloc, files),
+    }
 }

@@ -89,7 +89,7 @@ m.proto\nsyntax = \"proto3\";\nimport \"a\"\n\"b.proto\";\n|",
         tree: "a.proto\nsyntax = \"proto3\";\nimport \"t.proto\";\nmessage M { lib.T t = 1; }\n|\
 +t.proto\nsyntax = \"proto3\";\npackage lib;\n// A thing.\nmessage T { Gone n = 1; }\nimport \"gone.proto\";\n|\
 +u.proto\nsyntax = \"proto2\";\n|",
-        answer: "a.proto 110; lib.T 1 1/0\n+t.proto 010; ? 1 56..60\n+u.proto 001\n",
+        answer: "a.proto 110; lib.T 1 1/0\n+t.proto 010\n+u.proto 001\n",
     },
     Row {
         tree: "a.proto\nsyntax = \"proto3\";\nimport \"t.proto\";\nmessage M {}\n|\

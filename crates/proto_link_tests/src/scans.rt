@@ -21,42 +21,42 @@ fn imports(files: &[LinkFile], file: usize, path: &str, publicly: bool) -> bool 
     false
 }
 
-fn is_publicly_imported(files: &[LinkFile], by: &[usize], path: &str) -> bool {
+fn is_imported(files: &[LinkFile], by: &[usize], path: &str, publicly: bool) -> bool {
     for file in by {
-        if imports(files, *file, path, true) {
+        if imports(files, *file, path, publicly) {
             return true;
         }
     }
     false
 }
 
-/// Adds the files that this one imports, or, of one that isn't asked for, those that the files seen
-/// publicly import.
+/// Adds the files that these import, or, where none are told, those that the files seen publicly import.
 fn add_imported(
     files: &[LinkFile],
-    of: Option<usize>,
+    by: Option<&[usize]>,
     seen: &mut Vec<usize>,
 ) -> Result<(), AllocError> {
     for (other, imported) in files.iter().enumerate() {
-        let is_imported = match of {
-            Some(file) => imports(files, file, imported.path, false),
-            None => is_publicly_imported(files, seen.as_slice(), imported.path),
+        let is = match by {
+            Some(numbers) => is_imported(files, numbers, imported.path, false),
+            None => is_imported(files, seen.as_slice(), imported.path, true),
         };
-        if is_imported && !seen.contains(&other) {
+        if is && !seen.contains(&other) {
             seen.push(other)?;
         }
     }
     Ok(())
 }
 
-/// What a file sees: itself, what it imports, and, until there is no more, what those publicly import.
+/// What some of these files see: themselves, what they import, and, until there is no more, what those
+/// publicly import.
 pub(crate) fn seen_by(
     alloc: Global,
     files: &[LinkFile],
-    file: usize,
+    numbers: &[usize],
 ) -> Result<Vec<usize>, AllocError> {
     let mut seen = Vec::new(alloc);
-    add_imported(files, Some(file), &mut seen)?;
+    add_imported(files, Some(numbers), &mut seen)?;
     for _ in files {
         let count = seen.len();
         add_imported(files, None, &mut seen)?;
@@ -64,36 +64,19 @@ pub(crate) fn seen_by(
             break;
         }
     }
-    seen.push(file)?;
+    seen.extend_from_slice(numbers)?;
     Ok(seen)
-}
-
-fn add_all(counted: &mut Vec<usize>, seen: &[usize]) -> Result<(), AllocError> {
-    for file in seen {
-        counted.push(*file)?;
-    }
-    Ok(())
-}
-
-fn add_seen(
-    alloc: Global,
-    files: &[LinkFile],
-    source: usize,
-    counted: &mut Vec<usize>,
-) -> Result<(), AllocError> {
-    let seen = seen_by(alloc, files, source)?;
-    add_all(counted, seen.as_slice())
 }
 
 /// The files that some source sees.
 fn counted_of(alloc: Global, files: &[LinkFile]) -> Result<Vec<usize>, AllocError> {
-    let mut counted = Vec::new(alloc);
-    for (source, file) in files.iter().enumerate() {
+    let mut sources = Vec::new(alloc);
+    for (number, file) in files.iter().enumerate() {
         if !file.included {
-            add_seen(alloc, files, source, &mut counted)?;
+            sources.push(number)?;
         }
     }
-    Ok(counted)
+    seen_by(alloc, files, sources.as_slice())
 }
 
 fn first_unread(files: &[LinkFile], counted: &[usize]) -> Option<usize> {

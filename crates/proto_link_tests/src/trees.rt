@@ -3,8 +3,9 @@
 //! Each file of a tree has a line with its path, which has a `+` in front where the file is included,
 //! and then its text; behind each file stands `|`.
 
-use crate::answers::are_answered;
+use crate::answers::answer_of;
 use crate::facts::facts_of;
+use crate::meanings::scan_of;
 use proto_decl::FileFacts;
 use proto_link::{LinkFile, have_own_paths};
 use std::alloc::{AllocError, Global};
@@ -77,16 +78,26 @@ fn files_of<'a>(
     Ok(files)
 }
 
+fn is_as_scanned(
+    alloc: Global,
+    files: &[LinkFile],
+    answer: &str,
+    due: Option<&str>,
+) -> Result<bool, AllocError> {
+    let scan = scan_of(alloc, files)?;
+    Ok(scan.as_str() == answer && (due.is_none() || due == Some(answer)))
+}
+
 fn are_files_answered<'a>(
     alloc: Global,
     files: &'a [LinkFile<'a>],
     due: Option<&str>,
 ) -> Result<bool, AllocError> {
-    if have_own_paths(alloc, files)? {
-        are_answered(alloc, files, due)
-    } else {
-        Ok(due == Some("a path twice\n"))
+    if !have_own_paths(alloc, files)? {
+        return Ok(due == Some("a path twice\n"));
     }
+    let answer = answer_of(alloc, files)?;
+    is_as_scanned(alloc, files, answer.as_str(), due)
 }
 
 fn is_answered_with(

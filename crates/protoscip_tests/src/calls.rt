@@ -97,6 +97,17 @@ pub(crate) fn given_of(
     Ok(Given { tree, settings })
 }
 
+/// The status of want of memory and of a thread.
+const WANT: u8 = 4;
+
+/// Whether memory or a thread was wanting.
+pub(crate) fn is_want(answer: &Option<Fault>) -> bool {
+    match answer {
+        Some(fault) => fault.status() == WANT,
+        None => false,
+    }
+}
+
 /// The line and the status of a fault, but for want of memory or of a thread.
 pub(crate) fn said(
     alloc: Global,
@@ -105,13 +116,12 @@ pub(crate) fn said(
 ) -> Result<Option<(String, u8)>, AllocError>
     requires files { HasFilesOf tree.now fault.now }
 {
-    match fault {
-        Fault::Memory | Fault::Spawn => Err(AllocError),
-        fault => {
-            let line = fault_line(alloc, tree, fault)?;
-            Ok(Some((line, fault.status())))
-        }
+    let status = fault.status();
+    if status == WANT {
+        return Err(AllocError);
     }
+    let line = fault_line(alloc, tree, fault)?;
+    Ok(Some((line, status)))
 }
 
 /// Whether this line is said, with status 1.

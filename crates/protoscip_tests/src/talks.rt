@@ -1,6 +1,6 @@
 //! Sessions: commands about the index of a tree, and their answers.
 
-use crate::calls::{COUNTS, Given, given_of, see, workers, writer};
+use crate::calls::{COUNTS, Given, given_of, is_want, see, workers, writer};
 use crate::faulty_streams::Dripping;
 use index_hooks::{DocAlways, DocChoice, Registry};
 use index_pool::{NoGate, Workers};
@@ -59,13 +59,10 @@ fn is_served<R: Threads + Wait>(
     talk: &Talk<'_>,
 ) -> Result<Option<bool>, AllocError> {
     let (answer, written) = served_once(rt, alloc, registry, given, workers, talk)?;
-    match answer {
-        Some(Fault::Memory) | Some(Fault::Spawn) => Ok(None),
-        answer => {
-            let is_written = written.as_slice() == talk.answers.as_bytes();
-            Ok(Some(answer == talk.fault && is_written))
-        }
+    if is_want(&answer) {
+        return Ok(None);
     }
+    Ok(Some(answer == talk.fault && written.as_slice() == talk.answers.as_bytes()))
 }
 
 /// Sees that a session answers as is due, by so many workers. After want of memory or of a thread it is

@@ -5,7 +5,8 @@ use crate::built::{Site, is_told, site_of};
 use crate::calls::{see, workers};
 use index_hooks::Registry;
 use index_pool::{Gate, Workers};
-use std::alloc::Global;
+use std::alloc::{AllocError, Global};
+use std::process::Abort;
 use std::sync::Wait;
 use std::sync::atomic::{AtomicU64, Ordering};
 use std::test::Fail;
@@ -83,7 +84,7 @@ fn is_met<R: Threads + Wait + Clock + Sync>(
         left: AtomicU64::new(0),
         run_outs: AtomicU64::new(0),
     };
-    let chooser = Asking::new(registry, false);
+    let chooser = Asking::new(registry);
     is_told(rt, alloc, site, &chooser, workers, &gate, DUE)
         && chooser.count() == 4
         && gate.first.load(Ordering::SeqCst) == 2
@@ -92,13 +93,20 @@ fn is_met<R: Threads + Wait + Clock + Sync>(
         && gate.run_outs.load(Ordering::SeqCst) == 0
 }
 
+fn see_met<R: Threads + Wait + Clock + Sync + Abort>(
+    rt: &R,
+    alloc: Global,
+    registry: &Registry,
+) -> Result<(), AllocError> {
+    let two = workers(rt, 2);
+    let site = site_of(rt, alloc, EACH_OTHER)?;
+    let met = is_met(rt, alloc, &site, registry, two) || is_met(rt, alloc, &site, registry, two);
+    see(rt, met, "two met");
+    Ok(())
+}
+
 #[test]
 fn two_workers_meet_in_each_phase(rt: HostRuntime) -> Result<(), Fail> {
     let registry = Registry::new(rt.alloc());
-    let site = site_of(&rt, rt.alloc(), EACH_OTHER)?;
-    let two = workers(&rt, 2);
-    let met = is_met(&rt, rt.alloc(), &site, &registry, two)
-        || is_met(&rt, rt.alloc(), &site, &registry, two);
-    see(&rt, met, "two met");
-    Ok(())
+    Ok(see_met(&rt, rt.alloc(), &registry)?)
 }

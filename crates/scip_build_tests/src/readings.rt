@@ -74,7 +74,7 @@ fn are_read_once<R: Threads + Wait>(
     registry: &Registry,
     workers: Workers,
 ) -> Result<bool, AllocError> {
-    let (chooser, gate) = (Asking::new(registry, false), &NoGate);
+    let (chooser, gate) = (Asking::new(registry), &NoGate);
     let run = Run {
         rt,
         alloc,
@@ -122,7 +122,7 @@ fn is_unasked<R: Threads + Wait>(
     registry: &Registry,
     workers: Workers,
 ) -> bool {
-    let (chooser, gate) = (Asking::new(registry, false), &NoGate);
+    let (chooser, gate) = (Asking::new(registry), &NoGate);
     let run = Run {
         rt,
         alloc,

@@ -1,6 +1,5 @@
 -- The headline, of the tree of the files that options name.
-use Rattle.std.specs.Prelude.{ℕ, List, Result}
-use Rattle.source_files.specs.declared.file_fault.FileFault.{FileFault}
+use Rattle.std.specs.Prelude.{ℕ, List, Option}
 use Rattle.protoscip.specs.NameLaws.{LawsOfNames}
 use Rattle.protoscip.proofs.HeadlineLemmas.{headline}
 use Rattle.protoscip.proofs.TreeLemmas.{tree_of_files}
@@ -8,6 +7,6 @@ use Rattle.command_line.specs.declared.options.IndexOptions.{IndexOptions}
 use Rattle.programs.specs.OptionLaws.{HeadlineOfFiles}
 use Rattle.programs.specs.Settings.{allowed_by, settings_in}
 
-pub headline_of_files : (lists : List ℕ → Result (List (List ℕ)) FileFault → Type 0) (gives : List ℕ → Result (List ℕ) FileFault → Type 0) (options : IndexOptions) → LawsOfNames → HeadlineOfFiles lists gives options
+pub headline_of_files : (lists : List ℕ → Option (List (List ℕ)) → Type 0) (gives : List ℕ → Option (List ℕ) → Type 0) (options : IndexOptions) → LawsOfNames → HeadlineOfFiles lists gives options
 headline_of_files lists gives options laws tree below is_package =
     headline (allowed_by options) laws (settings_in options) tree (tree_of_files below.sources below.included tree below.holds) is_package

@@ -1,11 +1,10 @@
 -- What the program `query` answers of an index's bytes.
-use Rattle.std.proofs.Common.{◌≡◌, ℕ, List, Ok, Err, inl, inr}
+use Rattle.std.proofs.Common.{◌≡◌, ℕ, List, Option, Some, Ok, Err, inl, inr}
 use Rattle.std.specs.Prelude.{Result}
 use Rattle.scip_model.specs.declared.records.Index.{Index}
 use Rattle.scip_wire.specs.Decodes.{Decodes}
 use Rattle.scip_wire.specs.declared.wire_fault.WireFault.{WireFault}
 use Rattle.scip_wire.specs.declared.wire_fault.WireFault.TheVariants as wire
-use Rattle.source_files.specs.declared.file_fault.FileFault.{FileFault}
 use Rattle.programs.specs.QueryFaults.{fault_of_wire}
 use Rattle.scip_query.specs.declared.answer_fault.AnswerFault.{AnswerFault}
 use Rattle.scip_query.specs.declared.answer_fault.AnswerFault.TheVariants as answer
@@ -21,7 +20,7 @@ outcome_of (Ok done) = Ok done
 outcome_of (Err fault) = Err (query.Answers fault)
 
 -- bytes that are refused, and not for want of memory, decode to no index
-pub refused_bytes : (gives : Result (List ℕ) FileFault → Type 0) (bytes : List ℕ) (fault : WireFault) → gives (Ok bytes)
+pub refused_bytes : (gives : Option (List ℕ) → Type 0) (bytes : List ℕ) (fault : WireFault) → gives (Some bytes)
     → ((index : Index) → Decodes bytes index → fault ≡ wire.Memory) → IsReadFrom gives (Err (fault_of_wire fault))
 refused_bytes gives bytes (wire.Truncated at) given only = (bytes, given, λ index d. let same = only index d in cc, λ same. cc)
 refused_bytes gives bytes (wire.Varint at) given only = (bytes, given, λ index d. let same = only index d in cc, λ same. cc)
@@ -33,7 +32,7 @@ refused_bytes gives bytes (wire.Utf8 at) given only = (bytes, given, λ index d.
 refused_bytes gives bytes (wire.BadRange at) given only = (bytes, given, λ index d. let same = only index d in cc, λ same. cc)
 refused_bytes gives bytes wire.Memory given only = tt
 
-module _ {R W : Type 0} (gives : Result (List ℕ) FileFault → Type 0) (commands : Reader R) (answers : Writer W) where
+module _ {R W : Type 0} (gives : Option (List ℕ) → Type 0) (commands : Reader R) (answers : Writer W) where
   -- there is no index
   pub unread : (fault : QueryFault) → IsReadFrom gives (Err fault) → AreUnused commands answers → Queried gives commands answers (Err fault)
   unread query.Unreadable why unused = (why, unused)

@@ -1,7 +1,6 @@
 -- What the program `index` does.
 -- `lists` and `gives` are what the system of files gives; `out` is the file that the index goes to.
-use Rattle.std.specs.Prelude.{◌≡◌, ℕ, List, Result}
-use Rattle.source_files.specs.declared.file_fault.FileFault.{FileFault}
+use Rattle.std.specs.Prelude.{◌≡◌, ℕ, List, Option}
 use Rattle.protoscip.specs.Indexes.{Indexes}
 use Rattle.command_line.specs.declared.options.IndexOptions.{IndexOptions}
 use Rattle.programs.specs.Settings.{allowed_by, settings_in}
@@ -9,7 +8,7 @@ use Rattle.programs.specs.Streams.{Writer}
 use Rattle.programs.specs.TreeRuns.{IsRun}
 
 -- it doesn't start, and nothing is written; or the tree of the files is indexed into the file, as the options say
-abbrev pub Indexed : {W M : Type 0} → (lists : List ℕ → Result (List (List ℕ)) FileFault → Type 0) → (gives : List ℕ → Result (List ℕ) FileFault → Type 0)
+abbrev pub Indexed : {W M : Type 0} → (lists : List ℕ → Option (List (List ℕ)) → Type 0) → (gives : List ℕ → Option (List ℕ) → Type 0)
     → IndexOptions → Writer W → Writer M → (status : ℕ) → Type 0
 Indexed lists gives options out messages status = IsRun lists gives messages.contents messages.failures options (out.after ≡ out.before)
     (λ tree done. Indexes out.contents out.failures (allowed_by options) (settings_in options) tree options.workers out.before out.after done) messages.before messages.after status

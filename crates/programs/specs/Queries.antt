@@ -1,28 +1,26 @@
 -- What the program `query` answers of an index that a file holds.
 -- `gives` is what reading the file may give.
-use Rattle.std.specs.Prelude.{◌≢◌, ◌⊎◌, ℕ, List, Result, Ok, Err}
+use Rattle.std.specs.Prelude.{◌≢◌, ◌⊎◌, ℕ, List, Option, Some, None, Result, Ok, Err}
 use Rattle.scip_model.specs.declared.records.Index.{Index}
 use Rattle.scip_wire.specs.Decodes.{Decodes}
 use Rattle.scip_wire.specs.declared.wire_fault.WireFault.TheVariants as wire
 use Rattle.scip_query.specs.declared.answer_fault.AnswerFault.{AnswerFault}
 use Rattle.scip_query.specs.declared.answer_fault.AnswerFault.TheVariants as answer
 use Rattle.protoscip.specs.Sessions.{AreAnswered, AreUntouched}
-use Rattle.source_files.specs.declared.file_fault.FileFault.{FileFault}
-use Rattle.source_files.specs.declared.file_fault.FileFault.TheVariants as file
 use Rattle.programs.specs.declared.query_fault.QueryFault.{QueryFault}
 use Rattle.programs.specs.declared.query_fault.QueryFault.TheVariants.{Unreadable, Wire, Answers}
 use Rattle.programs.specs.Streams.{Reader, Writer}
 
 -- the index that the file's bytes decode to; or that it can't be read, or that they decode to none; or memory ran out
-abbrev pub IsReadFrom : (Result (List ℕ) FileFault → Type 0) → Result Index QueryFault → Type 0
-IsReadFrom gives (Ok index) = (bytes : List ℕ) × gives (Ok bytes) × Decodes bytes index
+abbrev pub IsReadFrom : (Option (List ℕ) → Type 0) → Result Index QueryFault → Type 0
+IsReadFrom gives (Ok index) = (bytes : List ℕ) × gives (Some bytes) × Decodes bytes index
 IsReadFrom gives (Err (Answers answer.Memory)) = Unit {0}
-IsReadFrom gives (Err Unreadable) = gives (Err file.Unreadable)
-IsReadFrom gives (Err (Wire fault)) = (bytes : List ℕ) × gives (Ok bytes) × ((index : Index) → Decodes bytes index → ⊥) × (fault ≢ wire.Memory)
+IsReadFrom gives (Err Unreadable) = gives None
+IsReadFrom gives (Err (Wire fault)) = (bytes : List ℕ) × gives (Some bytes) × ((index : Index) → Decodes bytes index → ⊥) × (fault ≢ wire.Memory)
 IsReadFrom gives (Err other) = ⊥
 
 -- the index is read, and answers go out to commands about it
-pub record IsAnswered {R W : Type 0} (gives : Result (List ℕ) FileFault → Type 0) (commands : Reader R) (answers : Writer W) (answered : Result (Unit {0}) AnswerFault) : Type 0 where
+pub record IsAnswered {R W : Type 0} (gives : Option (List ℕ) → Type 0) (commands : Reader R) (answers : Writer W) (answered : Result (Unit {0}) AnswerFault) : Type 0 where
   pub index : Index
   pub is : IsReadFrom gives (Ok index)
   pub are : AreAnswered commands.remaining commands.failures commands.reads commands.ends answers.contents answers.failures index commands.before commands.after answers.before answers.after answered
@@ -33,7 +31,7 @@ AreUnused commands answers = AreUntouched commands.before commands.after answers
 
 -- all commands are answered; or reading them or writing answers stops; or memory ran out before an answer, or before the first; or there
 -- is no index
-abbrev pub Queried : {R W : Type 0} → (Result (List ℕ) FileFault → Type 0) → Reader R → Writer W → Result (Unit {0}) QueryFault → Type 0
+abbrev pub Queried : {R W : Type 0} → (Option (List ℕ) → Type 0) → Reader R → Writer W → Result (Unit {0}) QueryFault → Type 0
 Queried gives commands answers (Ok done) = IsAnswered gives commands answers (Ok done)
 Queried gives commands answers (Err (Answers answer.Memory)) = AreUnused commands answers ⊎ IsAnswered gives commands answers (Err answer.Memory)
 Queried gives commands answers (Err (Answers fault)) = IsAnswered gives commands answers (Err fault)

@@ -7,8 +7,6 @@ use Rattle.scip_query.specs.declared.answer_fault.AnswerFault.TheVariants as ans
 use Rattle.scip_wire.specs.WireFaults.{name_of as wire_name, offset_of as wire_offset}
 use Rattle.scip_wire.specs.declared.wire_fault.WireFault.{WireFault}
 use Rattle.scip_wire.specs.declared.wire_fault.WireFault.TheVariants as wire
-use Rattle.source_files.specs.declared.file_fault.FileFault.{FileFault}
-use Rattle.source_files.specs.declared.file_fault.FileFault.TheVariants as file
 use Rattle.protoscip.specs.Lines.{path_line, placed_line, plain_line}
 use Rattle.protoscip.specs.declared.statuses.TheConstants.{MEMORY_STATUS, STREAM_STATUS}
 use Rattle.programs.specs.declared.query_fault.QueryFault.{QueryFault}
@@ -41,10 +39,6 @@ status_of (Wire fault) = wire_status fault
 status_of (Answers fault) = answer_status fault
 
 -- want of memory is one fault, whichever step it comes in
-abbrev pub fault_of_file : FileFault → QueryFault
-fault_of_file file.Unreadable = Unreadable
-fault_of_file file.Memory = Answers answer.Memory
-
 abbrev pub fault_of_wire : WireFault → QueryFault
 fault_of_wire wire.Memory = Answers answer.Memory
 fault_of_wire fault = Wire fault

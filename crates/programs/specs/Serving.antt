@@ -1,7 +1,6 @@
 -- What the program `shell` does.
 -- `lists` and `gives` are what the system of files gives.
-use Rattle.std.specs.Prelude.{ℕ, List, Result}
-use Rattle.source_files.specs.declared.file_fault.FileFault.{FileFault}
+use Rattle.std.specs.Prelude.{ℕ, List, Option}
 use Rattle.protoscip.specs.Sessions.{AreUntouched, Serves}
 use Rattle.command_line.specs.declared.options.IndexOptions.{IndexOptions}
 use Rattle.programs.specs.Settings.{allowed_by, settings_in}
@@ -9,7 +8,7 @@ use Rattle.programs.specs.Streams.{Reader, Writer}
 use Rattle.programs.specs.TreeRuns.{IsRun}
 
 -- it doesn't start, and nothing is read or written; or commands are answered from the index of the tree of the files, as the options say
-abbrev pub Served : {R W M : Type 0} → (lists : List ℕ → Result (List (List ℕ)) FileFault → Type 0) → (gives : List ℕ → Result (List ℕ) FileFault → Type 0)
+abbrev pub Served : {R W M : Type 0} → (lists : List ℕ → Option (List (List ℕ)) → Type 0) → (gives : List ℕ → Option (List ℕ) → Type 0)
     → IndexOptions → Reader R → Writer W → Writer M → (status : ℕ) → Type 0
 Served lists gives options commands answers messages status =
     IsRun lists gives messages.contents messages.failures options (AreUntouched commands.before commands.after answers.before answers.after)

@@ -3,7 +3,6 @@
 -- `before` and `after` are that stream around the call.
 use Rattle.std.specs.Prelude.{ℕ, List, Option, Result, Ok, Err, map, string_bytes}
 use Rattle.source_tree.specs.Files.{TreeFile}
-use Rattle.source_files.specs.declared.file_fault.FileFault.{FileFault}
 use Rattle.source_files.specs.Loads.{IsTreeBelow}
 use Rattle.scip_symbol.specs.Package.{IsPackage}
 use Rattle.scip_document.specs.Chosen.{Chosen}
@@ -24,7 +23,7 @@ Ends said unsaid tree (Err fault) before after status = Tells said unsaid (line_
 
 -- The program doesn't start, with all but the stream of messages `untouched`, and says why; or there is a tree of the files, and the
 -- run over it ends, of which `runs` says what it answers.
-pub data IsRun {M : Type 0} (lists : List ℕ → Result (List (List ℕ)) FileFault → Type 0) (gives : List ℕ → Result (List ℕ) FileFault → Type 0)
+pub data IsRun {M : Type 0} (lists : List ℕ → Option (List (List ℕ)) → Type 0) (gives : List ℕ → Option (List ℕ) → Type 0)
     (said : M → Option (List ℕ)) (unsaid : M → ℕ) (options : IndexOptions) (untouched : Type 0) (runs : List TreeFile → Result Chosen Fault → Type 0)
     (before after : M) (status : ℕ) : Type 0 where
   not_started : (fault : StartFault) → MayNotStart lists gives options fault → untouched

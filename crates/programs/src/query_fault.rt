@@ -7,7 +7,6 @@ use crate::statuses::INDEX_STATUS;
 use protoscip::{MEMORY_STATUS, STREAM_STATUS, path_line, placed_line, plain_line};
 use scip_query::AnswerFault;
 use scip_wire::WireFault;
-use source_files::FileFault;
 use std::alloc::{AllocError, Global};
 use std::error::Error;
 use std::fmt;
@@ -33,16 +32,14 @@ impl fmt::Display for QueryFault {
 
 impl Error for QueryFault {}
 
-impl From<FileFault> for QueryFault {
-    ghost use Rattle.programs.specs.QueryFaults.{fault_of_file};
+impl From<AllocError> for QueryFault {
+    ghost use Rattle.scip_query.specs.declared.answer_fault.AnswerFault.TheVariants.{Memory};
+    ghost use Rattle.programs.specs.declared.query_fault.QueryFault.TheVariants.{Answers};
 
-    ghost from_gives = { λ fault e. e ≡ fault_of_file fault };
+    ghost from_gives = { λ _ e. e ≡ Answers Memory };
 
-    fn from(fault: FileFault) -> QueryFault {
-        match fault {
-            FileFault::Unreadable => QueryFault::Unreadable,
-            FileFault::Memory => QueryFault::Answers(AnswerFault::Memory),
-        }
+    fn from(_refused: AllocError) -> QueryFault {
+        QueryFault::Answers(AnswerFault::Memory)
     }
 }
 

@@ -15,7 +15,10 @@ use streams::{Feed, Sink};
 fn index_of_file<F: ReadFiles>(alloc: Global, files: &F, path: &str) -> Result<Index, QueryFault>
     ensures { IsReadFrom (F.gives files.now path.now) result }
 {
-    let bytes = files.read_file(alloc, path)?;
+    let bytes = match files.read_file(alloc, path)? {
+        Some(bytes) => bytes,
+        None => return Err(QueryFault::Unreadable),
+    };
     let index = read_index(alloc, &bytes)?;
     Ok(index)
 }

@@ -1,6 +1,6 @@
 //! Files in memory.
 
-use source_files::{FileFault, ReadFiles};
+use source_files::ReadFiles;
 use source_tree::read_source;
 use std::alloc::{AllocError, Global};
 use streams::Std;
@@ -105,26 +105,28 @@ impl ReadFiles for Files {
 
     ghost gives = { λ _ _ _. ⊤ };
 
-    fn list_sources(&self, alloc: Global, root: &str) -> Result<Vec<String>, FileFault> {
+    fn list_sources(&self, alloc: Global, root: &str) -> Result<Option<Vec<String>>, AllocError> {
         let paths = listed(alloc, root)?;
         if paths.is_empty() {
-            return Err(FileFault::Unreadable);
+            return Ok(None);
         }
-        Ok(paths)
+        Ok(Some(paths))
     }
 
-    fn read_file(&self, alloc: Global, path: &str) -> Result<Vec<u8>, FileFault> {
+    fn read_file(&self, alloc: Global, path: &str) -> Result<Option<Vec<u8>>, AllocError> {
         let bytes = match path {
             "a.scip" =>
                 b"\x12\x0f\x0a\x01a\x12\x0a\x0a\x03\x01\x08\x09\x12\x01x\x18\x01".as_slice(),
             "cut.scip" => b"\x0a".as_slice(),
-            _ => return Err(FileFault::Unreadable),
+            _ => return Ok(None),
         };
-        Ok(Vec::from_slice(alloc, bytes)?)
+        Ok(Some(Vec::from_slice(alloc, bytes)?))
     }
 
-    fn read_source(&self, alloc: Global, path: &str) -> Result<Vec<u8>, FileFault> {
-        let text = text_at(path).ok_or(FileFault::Unreadable)?;
-        Ok(read_source(alloc, &mut Std::new(text.as_bytes()))?)
+    fn read_source(&self, alloc: Global, path: &str) -> Result<Option<Vec<u8>>, AllocError> {
+        match text_at(path) {
+            Some(text) => read_source(alloc, &mut Std::new(text.as_bytes())),
+            None => Ok(None),
+        }
     }
 }

@@ -1,6 +1,6 @@
 -- What a dump answers, by where it stops.
 use Rattle.std.proofs.Common.{◌≡◌, ◌∙◌, ◌⊎◌, inl, inr, ℕ, zero, suc, ◌<◌, ◌≤◌, List, [], ◌∷◌, length, Some, Option, Result, Ok, Err, refl, ap, sym, subst, arith}
-use Rattle.std.specs.Prelude.{true, false, IfErr}
+use Rattle.std.specs.Prelude.{true, false, IfErr, IfSome}
 use Rattle.std.specs.List.{slice_get}
 use Rattle.std.proofs.lemmas.Option.{same_Some, none-some}
 use Rattle.std.proofs.lemmas.List.{take_all, length-take}
@@ -13,8 +13,6 @@ use Rattle.proto_decl.specs.Seen.{Seen}
 use Rattle.index_hooks.specs.declared.choice.Choice.{Choice}
 use Rattle.source_tree.specs.Files.{TreeFile}
 use Rattle.source_tree.specs.Reading.{kept_bytes, max_kept_length}
-use Rattle.source_tree.specs.declared.reading.SourceFault.{SourceFault}
-use Rattle.source_tree.specs.declared.reading.SourceFault.TheVariants as source
 use Rattle.scip_model.specs.declared.records.Index.{Index}
 use Rattle.scip_build.specs.Builds.{IsBuilt, IsBuildFault, OfReadings}
 use Rattle.proto_visibility.specs.Linked.{CanBeLinked}
@@ -30,7 +28,7 @@ use Rattle.scip_build.specs.declared.fault.BuildFault.TheVariants as build
 use Rattle.scip_build.specs.declared.fault.FileFault.{FileFault}
 use Rattle.scip_build.specs.declared.fault.FileFault.TheVariants as file
 use Rattle.scip_wire.specs.Spelling.{spelling_of}
-use Rattle.protoscip.specs.Faults.{fault_of_build, fault_of_source}
+use Rattle.protoscip.specs.Faults.{fault_of_build}
 use Rattle.protoscip.specs.FaultLines.{HasFilesOf}
 use Rattle.protoscip.specs.Indexes.{IsRefused}
 use Rattle.protoscip.specs.Writing.{IsReadBack}
@@ -208,8 +206,14 @@ module _ (W : Type 0) (contents : W → Option (List ℕ)) (failures : W → ℕ
       let P : Fault → Type 0 = λ f. LeavesWriter contents failures before after due (Err f) in
       subst P (sym wrote.1) wrote.2
 
+-- what is said of what is read, if it is
+pub said_of_read : {A : Type 0} (P : A → Type 0) (read : Option A) (bytes : A) → read ≡ Some bytes → IfSome read P → P bytes
+said_of_read P read bytes is said = subst (λ o. IfSome o P) is said
+
 -- where the source isn't read nothing is due, of any bytes
-pub unread_dumped : {R W : Type 0} (remaining : R → Option (List ℕ)) (contents : W → Option (List ℕ)) (failures : W → ℕ) (custom : CustomOptions) (reader : R) (out : W) (e : SourceFault)
-    → IsDumped remaining contents failures custom reader out out (Err (fault_of_source e))
-unread_dumped remaining contents failures custom reader out source.Read = record { due = []; writer = refl; some = ([], tt); told = λ bytes known. tt }
-unread_dumped remaining contents failures custom reader out source.Memory = record { due = []; writer = refl; some = ([], tt); told = λ bytes known. tt }
+module _ {R W : Type 0} (remaining : R → Option (List ℕ)) (contents : W → Option (List ℕ)) (failures : W → ℕ) (custom : CustomOptions) (reader : R) (out : W) where
+  pub unread_dumped : IsDumped remaining contents failures custom reader out out (Err fault.Read)
+  unread_dumped = record { due = []; writer = refl; some = ([], tt); told = λ bytes known. tt }
+
+  pub starved_dumped : IsDumped remaining contents failures custom reader out out (Err fault.Memory)
+  starved_dumped = record { due = []; writer = refl; some = ([], tt); told = λ bytes known. tt }

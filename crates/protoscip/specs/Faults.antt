@@ -10,8 +10,6 @@ use Rattle.scip_wire.specs.declared.write_fault.SpellFault.{SpellFault}
 use Rattle.scip_wire.specs.declared.write_fault.SpellFault.TheVariants as spelling
 use Rattle.scip_wire.specs.declared.write_fault.WriteFault.{WriteFault}
 use Rattle.scip_wire.specs.declared.write_fault.WriteFault.TheVariants as writing
-use Rattle.source_tree.specs.declared.reading.SourceFault.{SourceFault}
-use Rattle.source_tree.specs.declared.reading.SourceFault.TheVariants as source
 use Rattle.protoscip.specs.declared.fault.Fault.{Fault}
 use Rattle.protoscip.specs.declared.fault.Fault.TheVariants.{Spawn, Memory, Lex, Syntax, Duplicate, MissingImport, Unresolved, TooLarge, Write, Read, Answer}
 
@@ -36,10 +34,6 @@ abbrev pub fault_of_writing : WriteFault → Fault
 fault_of_writing writing.TooLarge = TooLarge
 fault_of_writing (writing.Write count) = Write count
 fault_of_writing writing.Memory = Memory
-
-abbrev pub fault_of_source : SourceFault → Fault
-fault_of_source source.Read = Read
-fault_of_source source.Memory = Memory
 
 -- a failed write of answers isn't one of an index
 abbrev pub fault_of_answering : AnswerFault → Fault

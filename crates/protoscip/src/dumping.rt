@@ -124,7 +124,10 @@ pub fn dump<R: Threads + Wait, F: Feed, W: Sink>(
     ensures reader { LeavesReader F.failures F.reads F.ends source.old source.new result }
     ensures briefly { IsReadBriefly F.reads source.old source.new }
 {
-    let bytes = read_source(alloc, source)?;
+    let bytes = match read_source(alloc, source)? {
+        Some(bytes) => bytes,
+        None => return Err(Fault::Read),
+    };
     let listing = listing_of(rt, alloc, custom, bytes)?;
     write_text(out, listing.as_str())
 }

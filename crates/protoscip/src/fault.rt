@@ -11,7 +11,6 @@ use proto_parse::SyntaxFault;
 use scip_build::{BuildFault, FileFault};
 use scip_query::AnswerFault;
 use scip_wire::{SpellFault, WriteFault};
-use source_tree::SourceFault;
 use std::alloc::AllocError;
 use std::error::Error;
 use std::fmt;
@@ -108,19 +107,6 @@ impl From<WriteFault> for Fault {
             WriteFault::TooLarge => Fault::TooLarge,
             WriteFault::Write(count) => Fault::Write(count as u64),
             WriteFault::Memory => Fault::Memory,
-        }
-    }
-}
-
-impl From<SourceFault> for Fault {
-    ghost use Rattle.protoscip.specs.Faults.{fault_of_source};
-
-    ghost from_gives = { λ fault e. e ≡ fault_of_source fault };
-
-    fn from(fault: SourceFault) -> Fault {
-        match fault {
-            SourceFault::Read => Fault::Read,
-            SourceFault::Memory => Fault::Memory,
         }
     }
 }

@@ -1,5 +1,5 @@
 -- The files below several roots, root by root, and the paths that are named.
-use Rattle.std.proofs.Common.{◌≡◌, ◌<◌, ◌+◌, ℕ, List, [], ◌∷◌, ◌++◌, map, length, take, drop, get_or, Some, Result, refl, ap, ap₂, sym, add-one, drop-cons, ◌∙◌, subst, string_bytes, append_assoc, arith}
+use Rattle.std.proofs.Common.{◌≡◌, ◌<◌, ◌+◌, ℕ, List, [], ◌∷◌, ◌++◌, map, length, take, drop, get_or, Option, Some, refl, ap, ap₂, sym, add-one, drop-cons, ◌∙◌, subst, string_bytes, append_assoc, arith}
 use Rattle.std.specs.List.{slice_get}
 use Rattle.std.specs.Option.{option_map}
 use Rattle.std.proofs.lemmas.List.{append-nil, length-append, map-append, take-append-drop}
@@ -7,7 +7,6 @@ use Rattle.std.proofs.lemmas.Option.{same_Some, slice_get_within}
 use Rattle.source_tree.specs.Files.{SourceFile, IsByPath}
 use Rattle.source_tree.specs.Laws.{OneSortingByPath}
 use Rattle.source_tree.specs.Refusals.{HaveBadPath, HaveSamePath}
-use Rattle.source_files.specs.declared.file_fault.FileFault.{FileFault}
 use Rattle.source_files.specs.Roots.{AreBelow, AreBelowEach, no_root, next_root, IsUnreadableBelow}
 use Rattle.source_files.specs.RootFaults.{MayStop}
 use Rattle.source_files.specs.declared.load_fault.LoadFault.{LoadFault}
@@ -22,7 +21,7 @@ parted_at f xs number x below is =
     ap (map f) (sym (take-append-drop number xs)) ∙ map-append f (take number xs) (drop number xs)
     ∙ ap (λ l. map f (take number xs) ++ map f l) (drop-cons xs number x below ∙ ap₂ (λ y l. y ∷ l) (sym is) (ap (λ n. drop n xs) (sym (add-one number))))
 
-module _ (lists : List ℕ → Result (List (List ℕ)) FileFault → Type 0) (gives : List ℕ → Result (List ℕ) FileFault → Type 0) where
+module _ (lists : List ℕ → Option (List (List ℕ)) → Type 0) (gives : List ℕ → Option (List ℕ) → Type 0) where
   -- one root more
   pub below_more : {roots : List (List ℕ)} {sources : List SourceFile} (root : List ℕ) (here : List SourceFile) → AreBelowEach lists gives roots sources
       → AreBelow lists gives root here → AreBelowEach lists gives (roots ++ root ∷ []) (sources ++ here)
@@ -83,7 +82,7 @@ same_path one sources included back number path same by at =
     subst (λ (l : List SourceFile). slice_get l number ≡ Some same.first.repeats.second) (one sources same.sorted back same.by_path by) same.first.repeats.numbered_second in
     same_Some path same.first.repeats.second.path (sym at ∙ ap (option_map (λ (file : SourceFile). file.path)) here)
 
-module _ (lists : List ℕ → Result (List (List ℕ)) FileFault → Type 0) (gives : List ℕ → Result (List ℕ) FileFault → Type 0) (root : List ℕ) (roots : List (List ℕ)) where
+module _ (lists : List ℕ → Option (List (List ℕ)) → Type 0) (gives : List ℕ → Option (List ℕ) → Type 0) (root : List ℕ) (roots : List (List ℕ)) where
   -- what can't be read below the first root isn't loaded
   pub refused_root : (fault : LoadFault) → MayStop lists gives root fault → MayNotLoad lists gives root roots fault
   refused_root (load.Unreadable name) stop = record {

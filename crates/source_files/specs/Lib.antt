@@ -1,6 +1,6 @@
 -- what may be kept of a source
 pub mod Source
-pub mod FileFaults
+pub mod SystemFiles
 -- what the sources below a root are, and which can't be read
 pub mod Roots
 pub mod RootFaults

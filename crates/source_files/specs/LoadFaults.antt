@@ -1,15 +1,14 @@
 -- The steps to a tree: what each answers.
-use Rattle.std.specs.Prelude.{ℕ, ⊤, List, Result, string_bytes}
+use Rattle.std.specs.Prelude.{ℕ, ⊤, List, Option, string_bytes}
 use Rattle.source_tree.specs.Files.{SourceFile}
 use Rattle.source_tree.specs.Refusals.{AreTooMany}
-use Rattle.source_files.specs.declared.file_fault.FileFault.{FileFault}
 use Rattle.source_files.specs.declared.load_fault.LoadFault.{LoadFault}
 use Rattle.source_files.specs.declared.load_fault.LoadFault.TheVariants.{Unreadable, TooMany, BadPath, SamePath, Memory}
 use Rattle.source_files.specs.Roots.{IsUnreadableBelow}
 use Rattle.source_files.specs.Loads.{HasBadPath, HasSamePath}
 
 -- why files below several roots can't be read
-abbrev pub MayStopBelow : (List ℕ → Result (List (List ℕ)) FileFault → Type 0) → (List ℕ → Result (List ℕ) FileFault → Type 0) → (roots : List (List ℕ)) → LoadFault → Type 0
+abbrev pub MayStopBelow : (List ℕ → Option (List (List ℕ)) → Type 0) → (List ℕ → Option (List ℕ) → Type 0) → (roots : List (List ℕ)) → LoadFault → Type 0
 MayStopBelow lists gives roots (Unreadable name) = IsUnreadableBelow lists gives roots (string_bytes name)
 MayStopBelow lists gives roots Memory = ⊤
 MayStopBelow lists gives roots other = ⊥

@@ -1,9 +1,8 @@
 -- What the tree below a root and included roots is, and why there is none.
-use Rattle.std.specs.Prelude.{◌≡◌, ℕ, ⊤, List, ◌∷◌, Result, string_bytes}
+use Rattle.std.specs.Prelude.{◌≡◌, ℕ, ⊤, List, ◌∷◌, Option, string_bytes}
 use Rattle.source_tree.specs.Files.{SourceFile, TreeFile}
 use Rattle.source_tree.specs.Trees.{IsTreeOf}
 use Rattle.source_tree.specs.Refusals.{AreTooMany, HaveBadPath, HaveSamePath}
-use Rattle.source_files.specs.declared.file_fault.FileFault.{FileFault}
 use Rattle.source_files.specs.declared.load_fault.LoadFault.{LoadFault}
 use Rattle.source_files.specs.declared.load_fault.LoadFault.TheVariants.{Unreadable, TooMany, BadPath, SamePath, Memory}
 use Rattle.source_files.specs.Roots.{AreBelow, AreBelowEach, IsUnreadableBelow}
@@ -16,7 +15,7 @@ HasBadPath path sources included = (number : ℕ) × (bad : HaveBadPath sources 
 abbrev pub HasSamePath : (path : List ℕ) → (sources included : List SourceFile) → Type 0
 HasSamePath path sources included = (number : ℕ) × (same : HaveSamePath sources included number) × (path ≡ same.first.repeats.second.path)
 
-module _ (lists : List ℕ → Result (List (List ℕ)) FileFault → Type 0) (gives : List ℕ → Result (List ℕ) FileFault → Type 0) (root : List ℕ) (roots : List (List ℕ)) where
+module _ (lists : List ℕ → Option (List (List ℕ)) → Type 0) (gives : List ℕ → Option (List ℕ) → Type 0) (root : List ℕ) (roots : List (List ℕ)) where
   -- this holds of the sources below the root and the files below the included roots, all of which can be read
   pub record OfFiles (Holds : (sources included : List SourceFile) → Type 0) : Type 0 where
     pub sources : List SourceFile

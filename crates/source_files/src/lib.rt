@@ -2,7 +2,6 @@
 //! index is written to.
 #![tactic(auto)]
 
-mod file_fault;
 mod load;
 mod load_fault;
 mod out_file;
@@ -11,7 +10,6 @@ mod root;
 mod system_files;
 mod walk;
 
-pub use file_fault::FileFault;
 pub use load::load_tree;
 pub use load_fault::LoadFault;
 pub use out_file::OutFile;

@@ -1,31 +1,32 @@
 //! What files are read by.
 
-ghost use Rattle.std.specs.Prelude.{ℕ, List, Result, map, string_bytes};
-ghost use Rattle.std.specs.Result.{result_map_both};
+ghost use Rattle.std.specs.Prelude.{ℕ, List, Option, IfOk, map, string_bytes};
+ghost use Rattle.std.specs.Option.{option_map};
 ghost use Rattle.source_files.specs.Source.{MayKeep};
 
-use crate::file_fault::FileFault;
-use std::alloc::Global;
+use std::alloc::{AllocError, Global};
 
 /// Lists the sources below roots, and reads files.
+///
+/// A file or a folder can't be read where there is none, or the system doesn't open it, or a read of it fails, or an
+/// entry of the folder has a name that isn't UTF-8.
 pub trait ReadFiles {
-    ghost use Rattle.source_files.specs.declared.file_fault.FileFault.{FileFault};
+    // What listing a root may give: the paths below it, or none.
+    ghost lists: { Self → List ℕ → Option (List (List ℕ)) → Type 0 };
 
-    // What listing a root may give: the paths below it.
-    ghost lists: { Self → List ℕ → Result (List (List ℕ)) FileFault → Type 0 };
+    // What reading the file with a path may give: its bytes, or none.
+    ghost gives: { Self → List ℕ → Option (List ℕ) → Type 0 };
 
-    // What reading the file with a path may give.
-    ghost gives: { Self → List ℕ → Result (List ℕ) FileFault → Type 0 };
+    /// The paths below a root of the regular files there whose names end in `.proto`, by their bytes. None where the
+    /// root, or a folder below it, can't be read.
+    fn list_sources(&self, alloc: Global, root: &str) -> Result<Option<Vec<String>>, AllocError>
+        ensures { IfOk result (λ listed. lists self.now root.now (option_map (λ paths. map string_bytes paths.items) listed)) };
 
-    /// The paths below a root of the regular files there whose names end in `.proto`, by their bytes.
-    fn list_sources(&self, alloc: Global, root: &str) -> Result<Vec<String>, FileFault>
-        ensures { lists self.now root.now (result_map_both (λ paths. map string_bytes paths.items) (λ fault. fault) result) };
+    /// The bytes of the file with a path. None where it can't be read.
+    fn read_file(&self, alloc: Global, path: &str) -> Result<Option<Vec<u8>>, AllocError>
+        ensures { IfOk result (λ read. gives self.now path.now (option_map (λ bytes. bytes.items) read)) };
 
-    /// The bytes of the file with a path.
-    fn read_file(&self, alloc: Global, path: &str) -> Result<Vec<u8>, FileFault>
-        ensures { gives self.now path.now (result_map_both (λ bytes. bytes.items) (λ fault. fault) result) };
-
-    /// The bytes of the source with a path, up to one more than a text may have.
-    fn read_source(&self, alloc: Global, path: &str) -> Result<Vec<u8>, FileFault>
-        ensures { MayKeep (gives self.now path.now) (result_map_both (λ bytes. bytes.items) (λ fault. fault) result) };
+    /// The bytes of the source with a path, up to one more than a text may have. None where it can't be read.
+    fn read_source(&self, alloc: Global, path: &str) -> Result<Option<Vec<u8>>, AllocError>
+        ensures { IfOk result (λ read. MayKeep (gives self.now path.now) (option_map (λ bytes. bytes.items) read)) };
 }

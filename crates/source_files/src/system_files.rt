@@ -1,13 +1,15 @@
 //! The system's files.
 
-use crate::file_fault::FileFault;
+ghost use Rattle.source_files.specs.SystemFiles.{IsGiven};
+
 use crate::read_files::ReadFiles;
 use crate::walk;
 use source_tree::read_source;
-use std::alloc::Global;
-use std::fs;
+use std::alloc::{AllocError, Global};
 use std::fs::File;
+use std::io::ErrorKind;
 use std::rt::Files;
+use std::{fs, io};
 use streams::Std;
 
 /// The system's files. Nothing is known of what they hold.
@@ -23,6 +25,22 @@ impl<'a, S: Files + AllocGlobal + Clone + Drop> SystemFiles<'a, S> {
     }
 }
 
+/// What the system gave, or none where it refused for another reason than want of memory.
+fn given<T: Drop>(answer: io::Result<T>) -> Result<Option<T>, AllocError>
+    ensures { IsGiven answer result }
+{
+    match answer {
+        Ok(value) => Ok(Some(value)),
+        Err(error) => {
+            if error.kind() == ErrorKind::OutOfMemory {
+                Err(AllocError)
+            } else {
+                Ok(None)
+            }
+        }
+    }
+}
+
 impl<'a, S: Files + AllocGlobal + Clone + Drop> ReadFiles for SystemFiles<'a, S> {
     ghost use Rattle.std.specs.Prelude.{⊤};
 
@@ -30,16 +48,18 @@ impl<'a, S: Files + AllocGlobal + Clone + Drop> ReadFiles for SystemFiles<'a, S>
 
     ghost gives = { λ _ _ _. ⊤ };
 
-    fn list_sources(&self, _alloc: Global, root: &str) -> Result<Vec<String>, FileFault> {
-        walk::list_sources(self.system, root)
+    fn list_sources(&self, _alloc: Global, root: &str) -> Result<Option<Vec<String>>, AllocError> {
+        given(walk::list_sources(self.system, root))
     }
 
-    fn read_file(&self, _alloc: Global, path: &str) -> Result<Vec<u8>, FileFault> {
-        Ok(fs::read(self.system, path)?)
+    fn read_file(&self, _alloc: Global, path: &str) -> Result<Option<Vec<u8>>, AllocError> {
+        given(fs::read(self.system, path))
     }
 
-    fn read_source(&self, alloc: Global, path: &str) -> Result<Vec<u8>, FileFault> {
-        let mut source = Std::new(File::open(self.system, path)?);
-        Ok(read_source(alloc, &mut source)?)
+    fn read_source(&self, alloc: Global, path: &str) -> Result<Option<Vec<u8>>, AllocError> {
+        match given(File::open(self.system, path))? {
+            Some(file) => read_source(alloc, &mut Std::new(file)),
+            None => Ok(None),
+        }
     }
 }

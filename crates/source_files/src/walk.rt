@@ -1,10 +1,9 @@
 //! The sources below a root.
 
-use crate::file_fault::FileFault;
 use std::alloc::{AllocError, Global};
-use std::fs;
 use std::fs::DirEntry;
 use std::rt::Files;
+use std::{fs, io};
 
 // What the names of sources end in.
 const ENDING: &str = ".proto";
@@ -31,13 +30,13 @@ fn joined(alloc: Global, front: &str, name: &str) -> Result<String, AllocError> 
 }
 
 impl Walk {
-    fn from_root(alloc: Global, root: &str) -> Result<Walk, FileFault> {
+    fn from_root(alloc: Global, root: &str) -> io::Result<Walk> {
         let mut folders = Vec::new(alloc);
         let root = Folder {
             path: String::from_str(alloc, root)?,
             front: String::new(alloc),
         };
-        folders.push(root).map_err(AllocError::from)?;
+        folders.push(root)?;
         Ok(Walk {
             folders,
             paths: Vec::new(alloc),
@@ -50,7 +49,7 @@ impl Walk {
         &mut self,
         system: &S,
         folder: &Folder,
-    ) -> Result<(), FileFault> {
+    ) -> io::Result<()> {
         for entry in fs::read_dir(system, folder.path.as_str())? {
             self.add_entry(system.alloc(), folder, &entry?)?;
         }
@@ -62,7 +61,7 @@ impl Walk {
         alloc: Global,
         folder: &Folder,
         entry: &DirEntry<S>,
-    ) -> Result<(), FileFault> {
+    ) -> io::Result<()> {
         let kind = entry.file_type()?;
         let name = entry.file_name();
         if kind.is_dir() {
@@ -70,10 +69,10 @@ impl Walk {
             let mut front = joined(alloc, folder.front.as_str(), name)?;
             front.push('/')?;
             let folder = Folder { path, front };
-            self.folders.push(folder).map_err(AllocError::from)?;
+            self.folders.push(folder)?;
         } else if kind.is_file() && name.ends_with(ENDING) {
             let path = joined(alloc, folder.front.as_str(), name)?;
-            self.paths.push(path).map_err(AllocError::from)?;
+            self.paths.push(path)?;
         }
         Ok(())
     }
@@ -84,7 +83,7 @@ impl Walk {
 pub(crate) fn list_sources<S: Files + AllocGlobal + Clone + Drop>(
     system: &S,
     root: &str,
-) -> Result<Vec<String>, FileFault> {
+) -> io::Result<Vec<String>> {
     let mut walk = Walk::from_root(system.alloc(), root)?;
     // A bound for the proof: the walk ends where no folder is left.
     for _ in 0..usize::MAX {

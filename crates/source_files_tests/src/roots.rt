@@ -1,6 +1,6 @@
 //! The sources below a root.
 
-use source_files::{FileFault, LoadFault, ReadFiles, SystemFiles, read_root};
+use source_files::{LoadFault, ReadFiles, SystemFiles, read_root};
 use source_tree::Source;
 use std::alloc::{AllocError, Global};
 use std::process::Abort;
@@ -23,22 +23,22 @@ fn listing(alloc: Global, paths: &[String]) -> Result<String, AllocError> {
     Ok(text)
 }
 
-fn text_of(alloc: Global, answer: Result<Vec<String>, FileFault>) -> Result<String, AllocError> {
+fn text_of(alloc: Global, answer: Option<Vec<String>>) -> Result<String, AllocError> {
     match answer {
-        Ok(paths) => listing(alloc, &paths),
-        Err(fault) => format!(in alloc; "{fault:?}"),
+        Some(paths) => listing(alloc, &paths),
+        None => String::from_str(alloc, "Unreadable"),
     }
 }
 
-/// The paths of the sources below a root. After `Memory` it is called again, and the second answer
+/// The paths of the sources below a root. Where memory ran out it is called again, and the second answer
 /// counts; so it is with the call below.
 fn list_again<F: ReadFiles>(
     alloc: Global,
     files: &F,
     root: &str,
-) -> Result<Vec<String>, FileFault> {
+) -> Result<Option<Vec<String>>, AllocError> {
     match files.list_sources(alloc, root) {
-        Err(FileFault::Memory) => files.list_sources(alloc, root),
+        Err(AllocError) => files.list_sources(alloc, root),
         answer => answer,
     }
 }
@@ -88,7 +88,7 @@ fn regular_files_by_path(rt: HostRuntime) -> Result<(), Fail> {
     rt.symlink("walk", "root")?;
     let files = SystemFiles::new(&rt);
     for root in ["walk", "walk/", "./walk", "root"] {
-        let found = text_of(rt.alloc(), list_again(rt.alloc(), &files, root))?;
+        let found = text_of(rt.alloc(), list_again(rt.alloc(), &files, root)?)?;
         see_text(
             &rt,
             found.as_str(),
@@ -96,7 +96,7 @@ fn regular_files_by_path(rt: HostRuntime) -> Result<(), Fail> {
         );
     }
     for root in ["walk/a.proto", "nowhere", "", "walk/link.proto"] {
-        let found = text_of(rt.alloc(), list_again(rt.alloc(), &files, root))?;
+        let found = text_of(rt.alloc(), list_again(rt.alloc(), &files, root)?)?;
         see_text(&rt, found.as_str(), "Unreadable");
     }
     match read_again(rt.alloc(), &files, "walk") {

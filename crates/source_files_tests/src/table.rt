@@ -1,6 +1,6 @@
 //! Files in memory, listed below roots.
 
-use source_files::{FileFault, ReadFiles};
+use source_files::ReadFiles;
 use source_tree::read_source;
 use std::alloc::{AllocError, Global};
 use streams::Std;
@@ -53,18 +53,24 @@ impl ReadFiles for Table {
 
     ghost gives = { λ _ _ _. ⊤ };
 
-    fn list_sources(&self, alloc: Global, root: &str) -> Result<Vec<String>, FileFault> {
-        let files = self.files(root).ok_or(FileFault::Unreadable)?;
-        Ok(listed(alloc, files)?)
+    fn list_sources(&self, alloc: Global, root: &str) -> Result<Option<Vec<String>>, AllocError> {
+        match self.files(root) {
+            Some(files) => Ok(Some(listed(alloc, files)?)),
+            None => Ok(None),
+        }
     }
 
-    fn read_file(&self, alloc: Global, path: &str) -> Result<Vec<u8>, FileFault> {
-        let text = self.text(path).ok_or(FileFault::Unreadable)?;
-        Ok(Vec::from_slice(alloc, text.as_bytes())?)
+    fn read_file(&self, alloc: Global, path: &str) -> Result<Option<Vec<u8>>, AllocError> {
+        match self.text(path) {
+            Some(text) => Ok(Some(Vec::from_slice(alloc, text.as_bytes())?)),
+            None => Ok(None),
+        }
     }
 
-    fn read_source(&self, alloc: Global, path: &str) -> Result<Vec<u8>, FileFault> {
-        let text = self.text(path).ok_or(FileFault::Unreadable)?;
-        Ok(read_source(alloc, &mut Std::new(text.as_bytes()))?)
+    fn read_source(&self, alloc: Global, path: &str) -> Result<Option<Vec<u8>>, AllocError> {
+        match self.text(path) {
+            Some(text) => read_source(alloc, &mut Std::new(text.as_bytes())),
+            None => Ok(None),
+        }
     }
 }

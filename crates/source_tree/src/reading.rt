@@ -1,6 +1,6 @@
 //! Reading a source to its end.
 
-ghost use Rattle.std.specs.Prelude.{◌≡◌, ◌≤◌, ◌+◌, ◌-◌, ◌++◌, ℕ, List, Some, take, length, min, IfOk, IfErr, OnOk};
+ghost use Rattle.std.specs.Prelude.{◌≡◌, ◌≤◌, ◌+◌, ◌-◌, ◌++◌, ℕ, List, Some, None, Ok, take, length, min, IfOk, IfErr, IfSome, OnOk};
 ghost use Rattle.streams.specs.WholeReads.{IsReadThrough, IsReadFault, IsReadBriefly};
 ghost use Rattle.source_tree.specs.Reading.{kept_bytes, max_kept_length};
 
@@ -13,26 +13,6 @@ const BUFFER_LENGTH: usize = 16_384;
 
 // A source of the greatest length can be read to its end, and one that is longer is found to be so.
 const _: () = prove!(BUFFER_LENGTH as u64 * MAX_READS as u64 > MAX_TEXT_LENGTH as u64);
-
-/// Why a source isn't read to its end.
-#[derive(Clone, Copy, Debug, PartialEq, Eq)]
-pub enum SourceFault {
-    /// A read failed, or `MAX_READS` reads gave no end.
-    Read,
-    /// Memory ran out.
-    Memory,
-}
-
-impl From<AllocError> for SourceFault {
-    ghost use Rattle.std.specs.Prelude.{◌≡◌};
-    ghost use Rattle.source_tree.specs.declared.reading.SourceFault.TheVariants.{Memory};
-
-    ghost from_gives = { λ _ e. e ≡ Memory };
-
-    fn from(_refused: AllocError) -> SourceFault {
-        SourceFault::Memory
-    }
-}
 
 /// Appends bytes, as far as they are kept: up to one more than a text may have.
 fn append_kept(bytes: &mut Vec<u8>, part: &[u8]) -> Result<(), AllocError>
@@ -50,13 +30,13 @@ fn append_kept(bytes: &mut Vec<u8>, part: &[u8]) -> Result<(), AllocError>
 /// The bytes of a source, up to one more than a text may have; what lies behind them is read too,
 /// and not kept.
 ///
-/// - `Read`: a read failed, or `MAX_READS` reads gave no end.
-pub fn read_source<R: Feed>(alloc: Global, source: &mut R) -> Result<Vec<u8>, SourceFault>
-    ensures bytes { IfOk result (λ bytes. (all : List ℕ) → R.remaining source.old ≡ Some all → bytes.items ≡ kept_bytes all) }
-    ensures few { IfOk result (λ bytes. length bytes.items ≤ max_kept_length) }
-    ensures through { OnOk result (IsReadThrough R.failures R.ends source.old source.new) }
-    ensures read { result ≡ Err SourceFault.Read → IsReadFault R.failures R.reads R.ends source.old source.new }
-    ensures memory { result ≡ Err SourceFault.Memory → R.failures source.new ≡ R.failures source.old }
+/// None where a read failed, or `MAX_READS` reads gave no end.
+pub fn read_source<R: Feed>(alloc: Global, source: &mut R) -> Result<Option<Vec<u8>>, AllocError>
+    ensures bytes { IfOk result (λ read. IfSome read (λ bytes. (all : List ℕ) → R.remaining source.old ≡ Some all → bytes.items ≡ kept_bytes all)) }
+    ensures few { IfOk result (λ read. IfSome read (λ bytes. length bytes.items ≤ max_kept_length)) }
+    ensures through { IfOk result (λ read. IfSome read (λ _. IsReadThrough R.failures R.ends source.old source.new)) }
+    ensures read { result ≡ Ok None → IsReadFault R.failures R.reads R.ends source.old source.new }
+    ensures memory { IfErr result (λ _. R.failures source.new ≡ R.failures source.old) }
     ensures briefly { IsReadBriefly R.reads source.old source.new }
 {
     let mut buffer = [0u8; BUFFER_LENGTH];
@@ -64,12 +44,12 @@ pub fn read_source<R: Feed>(alloc: Global, source: &mut R) -> Result<Vec<u8>, So
     'reads: for _read in 0..MAX_READS {
         let count = match source.read(&mut buffer) {
             Ok(count) => count,
-            Err(Failed) => return Err(SourceFault::Read),
+            Err(Failed) => return Ok(None),
         };
         if count == 0 {
-            return Ok(bytes);
+            return Ok(Some(bytes));
         }
         append_kept(&mut bytes, &buffer[..count])?;
     }
-    Err(SourceFault::Read)
+    Ok(None)
 }

@@ -1,11 +1,22 @@
-use Rattle.std.proofs.Common.{subst, List, ℕ, Ok, sym}
+use Rattle.std.proofs.Common.{subst, List, ℕ, Some, sym}
 use Rattle.std.proofs.lemmas.Result.{err_from_is_err_and}
+use Rattle.source_files.proofs.KeptLemmas.{read_some, read_none}
 use Rattle.programs.proofs.QueryLemmas.{refused_bytes}
 use Rattle.programs.proofs.querying.index_of_file.Goals as goal
+
+pub returns-in-None : goal.returns-in-None
+returns-in-None g c = read_none (g.F.ReadFiles.gives c.args.files.now c.args.path.now) _ c.in_ok-bytes.field-0 c.in-None.is c.in_ok-bytes.ensures
 
 pub returns-in_err-index : goal.returns-in_err-index
 returns-in_err-index g c =
     let gives = g.F.ReadFiles.gives c.args.files.now c.args.path.now in
     let p = err_from_is_err_and c.from_residual-in_err-index.result c.from_residual-in_err-index.ensures.1 in
+    let given = read_some gives _ c.in_ok-bytes.field-0 c.in-Some.bytes c.in-Some.is c.in_ok-bytes.ensures in
     rw (p.1, p.2) (refused_bytes gives c.deref.result.now c.in_err-index.field-0.0
-    (subst (λ (b : List ℕ). gives (Ok b)) (sym c.deref.ensures.value) c.in_ok-bytes.ensures) c.in_err-index.ensures.only)
+    (subst (λ (b : List ℕ). gives (Some b)) (sym c.deref.ensures.value) given) c.in_err-index.ensures.only)
+
+pub returns : goal.returns
+returns g c =
+    let gives = g.F.ReadFiles.gives c.args.files.now c.args.path.now in
+    let given = read_some gives _ c.in_ok-bytes.field-0 c.in-Some.bytes c.in-Some.is c.in_ok-bytes.ensures in
+    (c.deref.result.now, subst (λ (b : List ℕ). gives (Some b)) (sym c.deref.ensures.value) given, c.in_ok-index.ensures.found)

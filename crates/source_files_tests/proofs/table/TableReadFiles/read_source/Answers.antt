@@ -1,7 +1,5 @@
-use Rattle.std.proofs.Common.{sym}
-use Rattle.std.proofs.lemmas.List.{take_all}
-use Rattle.source_tree.specs.Reading.{max_kept_length}
+use Rattle.source_files.proofs.KeptLemmas.{kept_whole}
 use Rattle.source_files_tests.proofs.table.TableReadFiles.read_source.Goals as goal
 
-pub returns : goal.returns
-returns c = let bytes = c.in_ok-read_source.field-0.items in (bytes, tt, sym (take_all max_kept_length bytes c.in_ok-read_source.ensures.few))
+pub returns-in-Some : goal.returns-in-Some
+returns-in-Some c = kept_whole (λ bytes. bytes.items) c.read_source.result c.read_source.ensures.few

@@ -10,6 +10,7 @@ mod ReadingLemmas
 mod PlaceLemmas
 mod ReadyLemmas
 mod DocumentLemmas
+mod KeptLemmas
 -- a refusal of a stage is one of the whole
 mod RefusalLemmas
 -- the laws of what is built

@@ -14,6 +14,8 @@ pub mod Documents
 pub mod Builds
 -- the same of files that were read
 pub mod Making
+-- an index in a form
+pub mod Forms
 -- the laws
 pub mod Laws
 pub mod BuildLaws

@@ -6,15 +6,18 @@ ghost use Rattle.proto_visibility.specs.Files.{HaveOwnPaths};
 ghost use Rattle.scip_document.specs.Indexes.{metadata_of};
 ghost use Rattle.scip_build.specs.Linking.{linked_files};
 ghost use Rattle.scip_build.specs.Documents.{AreReady, MayRefuseDocuments};
-ghost use Rattle.scip_build.specs.Making.{IsMade, IsLinkedAndMade, MayRefuseMaking};
+ghost use Rattle.scip_build.specs.Making.{MayRefuseMaking};
+ghost use Rattle.scip_build.specs.Forms.{index_of, IsMadeInForm, IsLinkedInForm, IsBuiltInForm};
 ghost use Rattle.scip_build.specs.Builds.{IsBuilt, IsBuildFault};
 
 use crate::built::Built;
 use crate::chosen::chosen_lists;
+use crate::document_form::{AsRecords, DocumentForm};
 use crate::fault::BuildFault;
 use crate::laws::readings_have_own_paths;
 use crate::linked_sources::LinkedSources;
 use crate::linking::{link, linked_files};
+use crate::parts::{BuiltParts, Parts};
 use crate::phase_one::read_files;
 use crate::phase_two::make_documents;
 use crate::reading::Reading;
@@ -23,7 +26,7 @@ use crate::settings::Settings;
 use index_hooks::Chooses;
 use index_pool::{Gate, Workers};
 use scip_document::{Choices, externals};
-use scip_model::{Index, Metadata, ToolInfo};
+use scip_model::{Document, Index, Metadata, ToolInfo};
 use sequences::{OwnedText, Sequence};
 use source_tree::Tree;
 use std::alloc::{AllocError, Global};
@@ -48,20 +51,21 @@ fn metadata(alloc: Global, project_root: &OwnedText) -> Result<Metadata, AllocEr
     })
 }
 
-/// The index of linked files: the documents come by path, so none is looked for.
-fn make_index<R: Threads + Wait, G: Gate>(
+/// The parts of the index of linked files: the documents come by path, so none is looked for.
+fn make_parts<R: Threads + Wait, G: Gate, F: DocumentForm + Sync>(
     run: &Run<'_, R, G>,
     sources: &LinkedSources<'_, '_, '_>,
-) -> Result<Index, BuildFault>
+    form: &F,
+) -> Result<Parts<F::Kept>, BuildFault>
     requires few { sources.now.count ≤ MAX_INPUTS }
     requires ready { AreReady
         sources.now.readings.now sources.now.linker.now sources.now.choices.now sources.now.count }
     ensures { MatchResult result
-        (IsMade sources.now.readings.now sources.now.linker.now sources.now.choices.now sources.now.settings.now)
+        (IsMadeInForm F.is_kept sources.now.readings.now sources.now.linker.now sources.now.choices.now sources.now.settings.now)
         (MayRefuseDocuments sources.now.linker.now run.now.workers) }
 {
     let settings = sources.settings;
-    let documents = make_documents(run, sources)?;
+    let documents = make_documents(run, sources, form)?;
     let external_symbols = externals(
         run.alloc,
         sources.linker,
@@ -69,26 +73,27 @@ fn make_index<R: Threads + Wait, G: Gate>(
         &settings.package,
     )?;
     let metadata = metadata(run.alloc, &settings.project_root)?;
-    Ok(Index {
+    Ok(Parts {
         metadata: Some(metadata),
         documents: Sequence::from_vec(documents),
         external_symbols,
     })
 }
 
-/// The index of files that were read, of which so many are sources.
-fn link_and_make<R: Threads + Wait, G: Gate>(
+/// The parts of the index of files that were read, of which so many are sources.
+fn link_and_make<R: Threads + Wait, G: Gate, F: DocumentForm + Sync>(
     run: &Run<'_, R, G>,
     readings: &[Reading<'_>],
     choices: &Choices,
     settings: &Settings,
     count: usize,
-) -> Result<Index, BuildFault>
+    form: &F,
+) -> Result<Parts<F::Kept>, BuildFault>
     requires few { count ≤ MAX_INPUTS }
     requires own { HaveOwnPaths (linked_files readings.now) }
     requires ready { AreReady readings.now (linked_files readings.now) choices.now count }
     ensures { MatchResult result
-        (IsLinkedAndMade readings.now choices.now settings.now)
+        (IsLinkedInForm F.is_kept readings.now choices.now settings.now)
         (MayRefuseMaking readings.now run.now.workers) }
 {
     let alloc = run.alloc;
@@ -102,7 +107,43 @@ fn link_and_make<R: Threads + Wait, G: Gate>(
         settings,
         count,
     };
-    make_index(run, &sources)
+    make_parts(run, &sources, form)
+}
+
+/// Builds the index of a tree's sources, as `build` does, but keeps of each document only what the form
+/// says, and lets go of it at once.
+pub fn build_in_form<'a, R: Threads + Wait, C: Chooses + Sync, G: Gate, F: DocumentForm + Sync>(
+    run: &Run<'_, R, G>,
+    tree: &'a Tree,
+    chooser: &C,
+    settings: &Settings,
+    form: &F,
+) -> Result<BuiltParts<'a, F::Kept>, BuildFault>
+    ensures built { IfOk result (λ built. IsBuiltInForm F.is_kept (C.allows chooser.now) settings.now tree.now built.choices built.parts) }
+    ensures refused { IfErr result (IsBuildFault (C.allows chooser.now) settings.now.custom_options tree.now run.now.workers) }
+{
+    readings_have_own_paths(chooser);
+    tree.file_count();
+    let readings = read_files(run, tree, chooser, settings.custom_options)?;
+    let choices = Choices::new(chosen_lists(run.alloc, readings.as_slice())?);
+    let count = tree.source_count();
+    let parts = link_and_make(run, readings.as_slice(), &choices, settings, count, form)?;
+    Ok(BuiltParts {
+        parts,
+        choices,
+        readings,
+    })
+}
+
+/// The index of parts of which the documents are kept as they are.
+fn index_of(parts: Parts<Document>) -> Index
+    ensures { result ≡ index_of parts }
+{
+    Index {
+        metadata: parts.metadata,
+        documents: parts.documents,
+        external_symbols: parts.external_symbols,
+    }
 }
 
 /// Builds the index of a tree's sources, by what the chooser chooses for each declaration and by the
@@ -125,17 +166,16 @@ pub fn build<R: Threads + Wait, C: Chooses + Sync, G: Gate>(
     ensures built { IfOk result (IsBuilt (C.allows chooser.now) settings.now tree.now) }
     ensures refused { IfErr result (IsBuildFault (C.allows chooser.now) settings.now.custom_options tree.now workers) }
 {
-    readings_have_own_paths(chooser);
-    tree.file_count();
     let run = Run {
         rt,
         alloc,
         workers,
         gate,
     };
-    let readings = read_files(&run, tree, chooser, settings.custom_options)?;
-    let choices = Choices::new(chosen_lists(alloc, readings.as_slice())?);
-    let count = tree.source_count();
-    let index = link_and_make(&run, readings.as_slice(), &choices, settings, count)?;
-    Ok(Built { index, choices })
+    let built = build_in_form(&run, tree, chooser, settings, &AsRecords)?;
+    let index = index_of(built.parts);
+    Ok(Built {
+        index,
+        choices: built.choices,
+    })
 }

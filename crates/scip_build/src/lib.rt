@@ -6,11 +6,13 @@ mod building;
 mod built;
 mod choosing;
 mod chosen;
+mod document_form;
 mod fault;
 mod file_reading;
 mod laws;
 mod linked_sources;
 mod linking;
+mod parts;
 mod phase_one;
 mod phase_two;
 mod reading;
@@ -18,9 +20,10 @@ mod run;
 mod settings;
 mod source_document;
 
-pub use building::build;
+pub use building::{build, build_in_form};
 pub use built::Built;
 pub use chosen::chosen_lists;
+pub use document_form::{AsRecords, DocumentForm};
 pub use fault::{BuildFault, FileFault};
 pub use laws::{
     built_has_no_fault, faults_are_alike, faults_exclude_facts, file_faults_are_alike,
@@ -28,6 +31,7 @@ pub use laws::{
     readings_exclude_faults, readings_have_own_paths,
 };
 pub use linking::{link, linked_files};
+pub use parts::{BuiltParts, Parts};
 pub use phase_one::read_files;
 pub use reading::{Contents, Reading};
 pub use run::Run;

@@ -1,27 +1,29 @@
-//! The second phase: the documents of the sources are made, on workers.
+//! The second phase: the documents of the sources are made, on workers, and what is wanted of each is kept.
 
 ghost use Rattle.std.specs.Prelude.{◌≤◌, MatchResult};
 ghost use Rattle.index_pool.specs.declared.workers.TheConstants.{MAX_INPUTS};
-ghost use Rattle.scip_build.specs.Documents.{AreReady, AreDocuments, MayRefuseDocuments};
+ghost use Rattle.scip_build.specs.Documents.{AreReady, MayRefuseDocuments};
+ghost use Rattle.scip_build.specs.Forms.{AreKept};
 
+use crate::document_form::DocumentForm;
 use crate::fault::BuildFault;
 use crate::linked_sources::LinkedSources;
 use crate::run::Run;
 use crate::source_document::make_document;
 use index_pool::{Gate, Job, PoolFault, run_phase};
 use scip_document::one_document_a_source;
-use scip_model::Document;
 use std::marker::Model;
 use std::sync::Wait;
 use std::thread::Threads;
 
-/// The document of each source.
+/// The document of each source, in a form.
 #[derive(Drop)]
-struct PhaseTwo<'a, 'b, 'l, 'r> {
+struct PhaseTwo<'a, 'b, 'l, 'r, F: DocumentForm + Sync> {
     sources: &'a LinkedSources<'b, 'l, 'r>,
+    form: &'a F,
 }
 
-impl<'a, 'b, 'l, 'r> Model for PhaseTwo<'a, 'b, 'l, 'r> {
+impl<'a, 'b, 'l, 'r, F: DocumentForm + Sync> Model for PhaseTwo<'a, 'b, 'l, 'r, F> {
     ghost use Rattle.scip_build.specs.Documents.{AreReady, SourceWork};
 
     ghost Value = { SourceWork };
@@ -38,41 +40,44 @@ impl<'a, 'b, 'l, 'r> Model for PhaseTwo<'a, 'b, 'l, 'r> {
         job.sources.now.readings.now job.sources.now.linker.now job.sources.now.choices.now job.sources.now.count };
 }
 
-impl<'a, 'b, 'l, 'r> Job for PhaseTwo<'a, 'b, 'l, 'r> {
-    ghost use Rattle.scip_build.specs.Documents.{GivesDocument};
+impl<'a, 'b, 'l, 'r, F: DocumentForm + Sync> Job for PhaseTwo<'a, 'b, 'l, 'r, F> {
+    ghost use Rattle.scip_build.specs.Forms.{GivesKept};
 
-    type Out = Document;
+    type Out = F::Kept;
 
     type Fault = BuildFault;
 
     ghost inputs = { λ work. work.count };
 
     ghost gives = { λ work number result.
-        GivesDocument work.readings work.files work.chosen work.settings.package work.settings.encoding number result };
+        GivesKept F.is_kept work.readings work.files work.chosen work.settings.package work.settings.encoding number result };
 
-    fn run(&self, number: usize) -> Result<Document, BuildFault> {
-        make_document(self.sources, number)
+    fn run(&self, number: usize) -> Result<F::Kept, BuildFault> {
+        let document = make_document(self.sources, number)?;
+        Ok(self.form.keep(self.sources.alloc, document)?)
     }
 }
 
-/// Makes the documents of the sources, by path, on workers, with the gate's calls round each.
+/// Makes the documents of the sources, by path, on workers, with the gate's calls round each, and keeps of
+/// each what the form says.
 ///
 /// Of the refusals `Spawn` comes before `Memory`, and `Memory` before `Unresolved`, which is of the
 /// first source; but where the least source that has no document lacks memory, it is `Memory`.
-pub(crate) fn make_documents<R: Threads + Wait, G: Gate>(
+pub(crate) fn make_documents<R: Threads + Wait, G: Gate, F: DocumentForm + Sync>(
     run: &Run<'_, R, G>,
     sources: &LinkedSources<'_, '_, '_>,
-) -> Result<Vec<Document>, BuildFault>
+    form: &F,
+) -> Result<Vec<F::Kept>, BuildFault>
     requires few { sources.now.count ≤ MAX_INPUTS }
     requires ready { AreReady
         sources.now.readings.now sources.now.linker.now sources.now.choices.now sources.now.count }
     ensures { MatchResult result
-        (λ documents. AreDocuments sources.now.readings.now sources.now.linker.now sources.now.choices.now
-        sources.now.settings.now.package sources.now.settings.now.encoding documents.items)
+        (λ kept. AreKept F.is_kept sources.now.readings.now sources.now.linker.now sources.now.choices.now
+        sources.now.settings.now.package sources.now.settings.now.encoding kept.items)
         (MayRefuseDocuments sources.now.linker.now run.now.workers) }
 {
     one_document_a_source();
-    let job = PhaseTwo { sources };
+    let job = PhaseTwo { sources, form };
     match run_phase(
         run.rt,
         run.alloc,
@@ -81,7 +86,7 @@ pub(crate) fn make_documents<R: Threads + Wait, G: Gate>(
         run.workers,
         run.gate,
     ) {
-        Ok(documents) => Ok(documents),
+        Ok(kept) => Ok(kept),
         Err(PoolFault::Spawn) => Err(BuildFault::Spawn),
         Err(PoolFault::Memory) => Err(BuildFault::Memory),
         Err(PoolFault::Job(_, fault)) => Err(fault),

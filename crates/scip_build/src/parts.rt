@@ -1,0 +1,25 @@
+//! The parts of an index.
+
+use crate::reading::Reading;
+use scip_document::Choices;
+use scip_model::{Metadata, SymbolInformation};
+use sequences::Sequence;
+
+/// The parts of an index, of whose documents something is kept: one of each, in their order.
+#[derive(Drop)]
+pub struct Parts<T> {
+    pub metadata: Option<Metadata>,
+    pub documents: Sequence<T>,
+    pub external_symbols: Sequence<SymbolInformation>,
+}
+
+/// The parts of the index of a tree, and what was chosen for each declaration of its files.
+#[derive(Drop)]
+pub struct BuiltParts<'a, T> {
+    pub parts: Parts<T>,
+    /// For each file, by its number, the choice for each of its declarations.
+    pub choices: Choices,
+    /// What is known of the files. It is of no further use, but letting it go takes time, which a program
+    /// that ends can save.
+    pub readings: Vec<Reading<'a>>,
+}

@@ -158,12 +158,31 @@ pub(crate) fn line_of(alloc: Global, fault: LinkFault) -> Result<String, AllocEr
     draft.finish()
 }
 
+/// Whether a linker has the path of each of its files, and not one that none has.
+fn has_its_paths(linker: &Linker) -> bool {
+    for file in 0..linker.count() {
+        if !linker.has_path(linker.path_of(file)) {
+            return false;
+        }
+    }
+    !linker.has_path("none.proto")
+}
+
+/// What a linker answers; nothing where it lacks the path of a file, or has one of none.
+fn listing_with_paths(alloc: Global, linker: &Linker) -> Result<String, AllocError> {
+    if has_its_paths(linker) {
+        listing_of(alloc, linker)
+    } else {
+        Ok(String::new(alloc))
+    }
+}
+
 /// What linking answers to files, no two of which have one path.
 pub(crate) fn answer_of<'a>(alloc: Global, files: &'a [LinkFile<'a>]) -> Result<String, AllocError>
     requires { HaveOwnPaths files.now }
 {
     match Linker::new(alloc, files) {
-        Ok(linker) => listing_of(alloc, &linker),
+        Ok(linker) => listing_with_paths(alloc, &linker),
         Err(LinkFault::Memory) => Err(AllocError),
         Err(fault) => line_of(alloc, fault),
     }

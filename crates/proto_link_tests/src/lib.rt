@@ -12,6 +12,8 @@ mod generated;
 #[cfg(test)]
 mod items;
 #[cfg(test)]
+mod left_out;
+#[cfg(test)]
 mod meanings;
 #[cfg(test)]
 mod rows;

@@ -3,7 +3,9 @@
 use crate::drafts::Draft;
 use crate::trees::see_tree;
 use proto_link::{
-    one_broken_file, one_declaration_a_name, one_name_a_use, one_refusal, one_target_a_use,
+    kept_files_are_clear, nothing_is_left_out_of_good_files, one_broken_file,
+    one_declaration_a_name, one_kept, one_name_a_use, one_omission_list, one_refusal,
+    one_target_a_use,
 };
 use std::alloc::{AllocError, Global};
 use std::test::Fail;
@@ -174,4 +176,8 @@ fn laws(_rt: HostRuntime) {
     one_declaration_a_name();
     one_target_a_use();
     one_refusal();
+    one_kept();
+    one_omission_list();
+    nothing_is_left_out_of_good_files();
+    kept_files_are_clear();
 }

@@ -150,6 +150,46 @@ fn fault_of_counted(
     })
 }
 
+/// Why a file that counts is left out, if it is: it has no facts, or a name clashes with one of the files
+/// that are kept so far, or with another of its own. One that isn't left out is kept, too.
+fn omission_of(
+    alloc: Global,
+    files: &[LinkFile],
+    kept: &mut Vec<usize>,
+    number: usize,
+    file: &LinkFile,
+) -> Result<Option<LinkFault>, AllocError> {
+    if file.facts.is_none() {
+        return Ok(Some(LinkFault::Broken(number)));
+    }
+    kept.push(number)?;
+    let items = items_of(alloc, files, kept.as_slice())?;
+    let Some((first, second)) = first_clash(items.as_slice()) else {
+        return Ok(None);
+    };
+    kept.pop();
+    Ok(Some(LinkFault::Duplicate(first, second)))
+}
+
+/// For each file why it is left out, if it is.
+pub(crate) fn omissions_of(
+    alloc: Global,
+    files: &[LinkFile],
+) -> Result<Vec<Option<LinkFault>>, AllocError> {
+    let counted = counted_of(alloc, files)?;
+    let mut kept = Vec::new(alloc);
+    let mut omissions = Vec::new(alloc);
+    for (number, file) in files.iter().enumerate() {
+        let omission = if counted.contains(&number) {
+            omission_of(alloc, files, &mut kept, number, file)?
+        } else {
+            None
+        };
+        omissions.push(omission)?;
+    }
+    Ok(omissions)
+}
+
 /// Why files can't be linked, if they can't.
 pub(crate) fn fault_of(alloc: Global, files: &[LinkFile]) -> Result<Option<LinkFault>, AllocError> {
     let counted = counted_of(alloc, files)?;

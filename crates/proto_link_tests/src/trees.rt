@@ -5,6 +5,7 @@
 
 use crate::answers::answer_of;
 use crate::facts::facts_of;
+use crate::left_out::are_left_out_as_scanned;
 use crate::meanings::scan_of;
 use proto_decl::FileFacts;
 use proto_link::{LinkFile, have_own_paths};
@@ -28,7 +29,7 @@ fn source_of(file: &str) -> Source<'_> {
     }
 }
 
-fn sources_of<'a>(alloc: Global, tree: &'a str) -> Result<Vec<Source<'a>>, AllocError> {
+pub(crate) fn sources_of<'a>(alloc: Global, tree: &'a str) -> Result<Vec<Source<'a>>, AllocError> {
     let mut sources = Vec::new(alloc);
     for file in tree.split_terminator('|') {
         sources.push(source_of(file))?;
@@ -47,7 +48,10 @@ fn add_facts(
     Ok(())
 }
 
-fn facts_of_all(alloc: Global, sources: &[Source]) -> Result<Vec<Option<FileFacts>>, AllocError> {
+pub(crate) fn facts_of_all(
+    alloc: Global,
+    sources: &[Source],
+) -> Result<Vec<Option<FileFacts>>, AllocError> {
     let mut all = Vec::with_capacity(alloc, sources.len())?;
     for (number, source) in sources.iter().enumerate() {
         add_facts(alloc, &mut all, number, source.text)?;
@@ -62,7 +66,7 @@ fn facts_at<'a>(facts: &'a [Option<FileFacts>], number: usize) -> Option<&'a Fil
     }
 }
 
-fn files_of<'a>(
+pub(crate) fn files_of<'a>(
     alloc: Global,
     sources: &'a [Source<'a>],
     facts: &'a [Option<FileFacts>],
@@ -97,7 +101,7 @@ fn are_files_answered<'a>(
         return Ok(due == Some("a path twice\n"));
     }
     let answer = answer_of(alloc, files)?;
-    is_as_scanned(alloc, files, answer.as_str(), due)
+    Ok(is_as_scanned(alloc, files, answer.as_str(), due)? && are_left_out_as_scanned(alloc, files)?)
 }
 
 fn is_answered_with(
@@ -133,6 +137,11 @@ fn is_answered(alloc: Global, tree: &str, due: Option<&str>) -> Result<bool, All
     }
 }
 
+/// Ends the test, with this number, where something isn't right.
+pub(crate) fn see(rt: &impl Abort, number: usize, is_right: bool) {
+    assert!(rt; is_right, "wrong at {number}");
+}
+
 /// Ends the test, with this number, where linking doesn't answer to a tree what is due.
 pub(crate) fn see_tree(
     rt: &impl Abort,
@@ -141,7 +150,6 @@ pub(crate) fn see_tree(
     tree: &str,
     due: Option<&str>,
 ) -> Result<(), AllocError> {
-    let is_right = is_answered(alloc, tree, due)?;
-    assert!(rt; is_right, "wrong at {number}");
+    see(rt, number, is_answered(alloc, tree, due)?);
     Ok(())
 }

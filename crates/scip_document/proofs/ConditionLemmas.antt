@@ -1,6 +1,6 @@
 -- What the facts of a source give to the functions that list its occurrences.
 use Rattle.std.proofs.Common.{◌≡◌, ◌↔◌, sym, refl, subst, ℕ, zero, suc, ◌<◌, Bool, true, false, IsTrue, Some, List, [], ◌∷◌, ◌++◌, length, map}
-use Rattle.std.specs.List.{All, Contains, slice_get}
+use Rattle.std.specs.List.{All, slice_get}
 use Rattle.std.proofs.lemmas.Bool.{false_from_ne_true, false≢true}
 use Rattle.std.proofs.lemmas.Cmp.{nat_list_eq_equiv}
 use Rattle.std.proofs.lemmas.Slice.Eq.{bytes_eq-Decides}
@@ -20,7 +20,7 @@ use Rattle.scip_model.specs.declared.records.Occurrence.{Occurrence}
 use Rattle.scip_document.specs.OccurrenceOrder.{occurrence_cmp}
 use Rattle.scip_document.specs.Tables.Listing.{has_path}
 use Rattle.scip_document.specs.Tables.Merges.{IsMerged, AreUntied}
-use Rattle.scip_document.proofs.MergeLemmas.{either, at_head, in_tail, head_or_tail, not_in_none}
+use Rattle.scip_document.proofs.MergeLemmas.{either, head_or_tail, not_in_none}
 use Rattle.scip_document.proofs.EntryLemmas.{at-index}
 
 pub all_of_map : {X Y : Type 0} (P : Y → Type 0) (f : X → Y) (xs : List X) → All P (map f xs) → All (λ x. P (f x)) xs

@@ -22,11 +22,12 @@ use Rattle.proto_link.specs.Targets.{IsTarget}
 use Rattle.proto_link.specs.declared.target.Target.{Target}
 use Rattle.proto_visibility.specs.declared.entities.Entity.{Entity}
 use Rattle.scip_document.specs.Chosen.{Chosen}
+use Rattle.scip_document.specs.Gaps.{IsFound}
 use Rattle.scip_document.specs.Occurs.{Occurs}
 use Rattle.scip_document.specs.Indexes.{IsAscendingListOf}
 use Rattle.scip_document.specs.OccurrenceOrder.{occurrence_cmp}
 use Rattle.scip_document.specs.Tables.Merges.{IsMerged, AreUntied}
-use Rattle.scip_document.specs.Tables.Listing.{own_occurrence, each_from, has_path, keeps, is_shown, entity_of, at_import, at_package, at_declaration, at_entity, at_part, at_component, at_target, at_use}
+use Rattle.scip_document.specs.Tables.Listing.{own_occurrence, each_from, has_path, found_at, keeps, is_shown, entity_of, at_import, at_package, at_declaration, at_entity, at_part, at_component, at_target, at_use}
 use Rattle.scip_document.proofs.MergeLemmas.{either}
 use Rattle.scip_document.proofs.ListingLemmas.{StandAt, each_stand, ascends}
 use Rattle.scip_document.proofs.ListingLemmas.StandAt.{none as stands_none, skip as stands_skip, here as stands_here}
@@ -94,9 +95,9 @@ module _ (id : Package) (encoding : Encoding) (text : List ℕ) where
       each_single (at_component id encoding text files chosen target) (λ (component : Component). component.span)
       (λ index x. part_stands files chosen target.name x.span (slice_get target.parts index)) type_use.components
 
-  uses_stand : (files : List File) (chosen : Chosen) (targets : List Target) (uses : List Use) → Stands (use_spans uses) (each_from (at_use id encoding text files chosen targets) 0 uses)
-  uses_stand files chosen targets uses =
-      each_stand encoding text (at_use id encoding text files chosen targets) (λ (used : Use). component_spans used.components) (λ index x. target_stands files chosen (slice_get targets index) x) 0 uses
+  uses_stand : (files : List File) (chosen : Chosen) (found : List (Option Target)) (uses : List Use) → Stands (use_spans uses) (each_from (at_use id encoding text files chosen found) 0 uses)
+  uses_stand files chosen found uses =
+      each_stand encoding text (at_use id encoding text files chosen found) (λ (used : Use). component_spans used.components) (λ index x. target_stands files chosen (found_at (slice_get found index)) x) 0 uses
 
   one_ascends : (o : Occurrence) → IsStrictlySortedBy occurrence_cmp (o ∷ [])
   unfolding IsStrictlySortedBy
@@ -104,7 +105,7 @@ module _ (id : Package) (encoding : Encoding) (text : List ℕ) where
 
   module _ (rise : CharactersRise) (files : List File) (chosen : Chosen) (source : ℕ) (file : File) (at : slice_get files source ≡ Some file) (facts : Facts)
       (known : HasFacts files source facts) (stands : StandInText text facts) (names : NamesInOrder facts.declarations) (uses : UsesInOrder facts.uses) (imports : ImportsInOrder facts.imports)
-      (package_name : PackageInOrder facts) (targets : List Target) (are_targets : AllZip (IsTarget files source) facts.uses targets)
+      (package_name : PackageInOrder facts) (found : List (Option Target)) (are_found : AllZip (IsFound files source) facts.uses found)
       (one_target : (type_use : Use) (a b : Target) → IsTarget files source type_use a → IsTarget files source type_use b → a ≡ b) where
     abbrev Wanted : Occurrence → Type 0
     Wanted o = Occurs files chosen id encoding source text o
@@ -122,13 +123,13 @@ module _ (id : Package) (encoding : Encoding) (text : List ℕ) where
     name_list = each_from (at_declaration id encoding text chosen source facts) 0 facts.declarations
 
     abbrev use_list : List Occurrence
-    use_list = each_from (at_use id encoding text files chosen targets) 0 facts.uses
+    use_list = each_from (at_use id encoding text files chosen found) 0 facts.uses
 
     abbrev Merges : (first second both : List Occurrence) → Type 0
     Merges first second both = AreUntied occurrence_cmp first second → IsMerged occurrence_cmp first second both
 
-    listed : (o : Occurrence) → InLists files chosen id encoding source text file at facts known targets are_targets one_target o → Wanted o
-    listed o h = lists_occur files chosen id encoding source text file at facts known targets are_targets one_target o h
+    listed : (o : Occurrence) → InLists files chosen id encoding source text file at facts known found are_found one_target o → Wanted o
+    listed o h = lists_occur files chosen id encoding source text file at facts known found are_found one_target o h
 
     -- of what occurs, only what is equal is tied
     module _ (untied : (x y : Occurrence) → Wanted x → Wanted y → occurrence_cmp x y ≡ Equal → x ≡ y) where
@@ -159,12 +160,12 @@ module _ (id : Package) (encoding : Encoding) (text : List ℕ) where
               both c use_list d fourth of_c of_uses x,
               λ wanted. (fourth.all x).1
                   (either (λ l. inl ((third.all x).1 (either (λ k. inl ((second.all x).1 (either (λ j. inl ((first.all x).1 j)) inr k))) inr l))) inr
-                  (occurs_listed files chosen id encoding source text file at facts known targets are_targets one_target x wanted)),
+                  (occurs_listed files chosen id encoding source text file at facts known found are_found one_target x wanted)),
             );
             ascends =
                 let by_imports = ascends encoding text rise 0 (map (λ (imported : Imported). imported.span) facts.imports) import_list imports stands.imports (imports_stand files facts.imports) in
                 let by_package = ascends encoding text rise 0 (component_spans facts.package_name) package_list (package_order facts package_name) stands.package_name (package_stands facts) in
                 let by_names = ascends encoding text rise 0 (name_spans facts.declarations) name_list names stands.names (names_stand chosen source facts) in
-                let by_uses = ascends encoding text rise 0 (use_spans facts.uses) use_list uses stands.uses (uses_stand files chosen targets facts.uses) in
+                let by_uses = ascends encoding text rise 0 (use_spans facts.uses) use_list uses stands.uses (uses_stand files chosen found facts.uses) in
                 fourth.ascends (third.ascends (second.ascends (first.ascends (one_ascends _) by_imports) by_package) by_names) by_uses;
           }

@@ -8,7 +8,7 @@ use Rattle.proto_decl.specs.declared.type_use.Use.{Use}
 use Rattle.proto_visibility.specs.Files.{File, HasFacts, IsSource, HaveOrigins}
 use Rattle.proto_visibility.specs.Clashes.{NoClash}
 use Rattle.proto_link.specs.Laws.{OneTargetAUse}
-use Rattle.proto_link.specs.Targets.{IsNamed, IsTarget}
+use Rattle.proto_link.specs.Targets.{IsNamed, IsTarget, IsUnresolved}
 use Rattle.proto_link.specs.Targets.IsNamed.{packaged, declared}
 use Rattle.proto_visibility.specs.declared.entities.Entity.{Entity}
 use Rattle.proto_link.specs.declared.target.Target.{Target}
@@ -79,6 +79,10 @@ module _ (files : List File) (chosen : Chosen) where
       adds-same (FromFront (IsOfPart files chosen) target.parts (length target.parts)) (IsOfUse files chosen source type_use) old new
       (λ x front. record { target = target; is_target = is; of_parts = front })
       (λ x used. subst (λ (t : Target). FromFront (IsOfPart files chosen) t.parts (length t.parts) x) (one files origins clear source is_source type_use used.target target used.is_target is) used.of_parts)
+
+  -- a use that names no type names none of them
+  pub of-none : (source : ℕ) (type_use : Use) (old : List Pair) → IsUnresolved files source type_use → Adds (IsOfUse files chosen source type_use) old old
+  of-none source type_use old unresolved = λ x. (λ there. inl there, λ either. elim either [ inl there ↦ there | inr used ↦ absurd (unresolved used.target.name used.is_target.resolves) ])
 
   -- by the source's only facts
   pub of-source : (source : ℕ) (facts : Facts) (old new : List Pair) → IsSource files source → HasFacts files source facts

@@ -6,7 +6,7 @@ pub mod NamedLemmas
 pub mod OccursLemmas
 pub mod DocumentLemmas
 pub mod TieLemmas
-pub mod UseLemmas
+pub mod GapLemmas
 pub mod TargetLemmas
 pub mod NameableLemmas
 pub mod ConditionLemmas

@@ -20,10 +20,11 @@ use Rattle.proto_link.specs.declared.target.Target.{Target}
 use Rattle.proto_visibility.specs.declared.entities.Entity.{Entity}
 use Rattle.proto_visibility.specs.declared.entities.Entity.TheVariants as link
 use Rattle.scip_document.specs.Chosen.{Chosen, IsKept}
+use Rattle.scip_document.specs.Gaps.{IsFound}
 use Rattle.scip_document.specs.Named.{IsDeclaredAs, IsNamedAs, NamesIn, package_at, declaration_at}
 use Rattle.scip_document.specs.Occurs.{Occurs, IsShown, no_role, definition_role, import_role, occurrence_over}
 use Rattle.scip_document.specs.Occurs.Occurs.{of_file, of_import, of_package, of_declaration, of_component}
-use Rattle.scip_document.specs.Tables.Listing.{own_occurrence, each_from, has_path, keeps_by, keeps, is_shown, declared_in, entity_of, at_import, at_package, at_declaration, at_entity, at_part, at_component, at_target, at_use}
+use Rattle.scip_document.specs.Tables.Listing.{own_occurrence, each_from, has_path, found_at, keeps_by, keeps, is_shown, declared_in, entity_of, at_import, at_package, at_declaration, at_entity, at_part, at_component, at_target, at_use}
 use Rattle.scip_document.proofs.MergeLemmas.{head_or_tail, at_head, not_in_none, either}
 use Rattle.scip_document.proofs.ListingLemmas.{given_by, gives_it}
 use Rattle.scip_document.proofs.ConditionLemmas.{path_from, path_to}
@@ -62,7 +63,7 @@ gives_at gives xs o at item e h =
     let same : at ≡ 0 + at = omega arith in
     gives_it gives 0 xs o at item e (subst (λ (n : ℕ). Contains (gives n item) o) same h)
 
-zip_at : {X Y : Type 0} (R : X → Y → Type 0) (xs : List X) (ys : List Y) → AllZip R xs ys → (k : ℕ) (x : X) → slice_get xs k ≡ Some x → (y : Y) × (slice_get ys k ≡ Some y) × R x y
+pub zip_at : {X Y : Type 0} (R : X → Y → Type 0) (xs : List X) (ys : List Y) → AllZip R xs ys → (k : ℕ) (x : X) → slice_get xs k ≡ Some x → (y : Y) × (slice_get ys k ≡ Some y) × R x y
 zip_at R [] ys all k x e = absurd (none_is_some e)
 zip_at R (a ∷ xs) [] all k x e = absurd all
 zip_at R (a ∷ xs) (b ∷ ys) all zero x e = let same : a ≡ x = same_some e in (b, refl, subst (λ (z : _). R z b) same all.0)
@@ -130,8 +131,8 @@ module _ (files : List File) (chosen : Chosen) (id : Package) (encoding : Encodi
   abbrev Wanted : Occurrence → Type 0
   Wanted o = Occurs files chosen id encoding source text o
 
-  module _ (file : File) (at : slice_get files source ≡ Some file) (facts : Facts) (known : HasFacts files source facts) (targets : List Target)
-      (are_targets : AllZip (IsTarget files source) facts.uses targets)
+  module _ (file : File) (at : slice_get files source ≡ Some file) (facts : Facts) (known : HasFacts files source facts) (found : List (Option Target))
+      (are_found : AllZip (IsFound files source) facts.uses found)
       (one_target : (type_use : Use) (a b : Target) → IsTarget files source type_use a → IsTarget files source type_use b → a ≡ b) where
     own_occurs : (o : Occurrence) → Contains (own_occurrence id file.path ∷ []) o → Wanted o
     own_occurs o h = subst Wanted (only (own_occurrence id file.path) o h) (of_file at)
@@ -180,13 +181,19 @@ module _ (files : List File) (chosen : Chosen) (id : Package) (encoding : Encodi
         let shown = if_so (is_shown chosen part) (at_entity id encoding text component.span (entity_of files target.name part)) o h in
         entity_occurs o type_use target index component part listed is c p shown.0 (entity_of files target.name part) refl shown.1
 
-    uses_occur : (o : Occurrence) → Contains (each_from (at_use id encoding text files chosen targets) 0 facts.uses) o → Wanted o
+    found_occurs : (o : Occurrence) (type_use : Use) → Contains facts.uses type_use → (its : Option Target) → IsFound files source type_use its
+        → Contains (at_target id encoding text files chosen its type_use) o → Wanted o
+    found_occurs o type_use listed None is h = absurd (not_in_none o h)
+    found_occurs o type_use listed (Some target) is h =
+        let k = given_at (at_component id encoding text files chosen target) type_use.components o h in
+        part_occurs o type_use target k.at k.item listed is k.item_is (slice_get target.parts k.at) refl k.given
+
+    uses_occur : (o : Occurrence) → Contains (each_from (at_use id encoding text files chosen found) 0 facts.uses) o → Wanted o
     uses_occur o h =
-        let g = given_at (at_use id encoding text files chosen targets) facts.uses o h in
-        let t = zip_at (IsTarget files source) facts.uses targets are_targets g.at g.item g.item_is in
-        let within = subst (λ (known_target : Option Target). Contains (at_target id encoding text files chosen known_target g.item) o) t.1 g.given in
-        let k = given_at (at_component id encoding text files chosen t.0) g.item.components o within in
-        part_occurs o g.item t.0 k.at k.item (is_listed facts.uses g.at g.item g.item_is) t.2 k.item_is (slice_get t.0.parts k.at) refl k.given
+        let g = given_at (at_use id encoding text files chosen found) facts.uses o h in
+        let t = zip_at (IsFound files source) facts.uses found are_found g.at g.item g.item_is in
+        let within = subst (λ (its : Option (Option Target)). Contains (at_target id encoding text files chosen (found_at its) g.item) o) t.1 g.given in
+        found_occurs o g.item (is_listed facts.uses g.at g.item g.item_is) t.0 t.2 within
 
     -- in one of the lists
     abbrev pub InLists : Occurrence → Type 0
@@ -194,7 +201,7 @@ module _ (files : List File) (chosen : Chosen) (id : Package) (encoding : Encodi
         (((Contains (own_occurrence id file.path ∷ []) o ⊎ Contains (each_from (at_import id encoding text files) 0 facts.imports) o)
         ⊎ Contains (each_from (at_package id encoding text facts) 0 facts.package_name) o)
         ⊎ Contains (each_from (at_declaration id encoding text chosen source facts) 0 facts.declarations) o)
-        ⊎ Contains (each_from (at_use id encoding text files chosen targets) 0 facts.uses) o
+        ⊎ Contains (each_from (at_use id encoding text files chosen found) 0 facts.uses) o
 
     pub lists_occur : (o : Occurrence) → InLists o → Wanted o
     lists_occur o h = either (either (either (either (own_occurs o) (imports_occur o)) (packages_occur o)) (declared_occur o)) (uses_occur o) h
@@ -202,21 +209,24 @@ module _ (files : List File) (chosen : Chosen) (id : Package) (encoding : Encodi
     here : (x : Occurrence) → Contains (x ∷ []) x
     here x = at_head x x [] refl
 
+    is_found : (type_use : Use) (target : Target) → IsTarget files source type_use target → (its : Option Target) → IsFound files source type_use its → its ≡ Some target
+    is_found type_use target is None unresolved = absurd (unresolved target.name is.resolves)
+    is_found type_use target is (Some other) too = ap Some (one_target type_use other target too is)
+
     component_listed : (component : Component) (part : Entity) (entity : symbols.Entity) → NamesIn files source component part entity → IsShown chosen part
-        → Contains (each_from (at_use id encoding text files chosen targets) 0 facts.uses) (occurrence_over encoding text id component.span entity no_role)
+        → Contains (each_from (at_use id encoding text files chosen found) 0 facts.uses) (occurrence_over encoding text id component.span entity no_role)
     component_listed component part entity names shown =
         let o = occurrence_over encoding text id component.span entity no_role in
         let used = subst (λ (f : Facts). Contains f.uses names.type_use) (same_facts files source names.facts facts names.has_facts known) names.listed in
         let k = contains_at facts.uses names.type_use used in
-        let t = zip_at (IsTarget files source) facts.uses targets are_targets k.0 names.type_use k.1 in
-        let same = one_target names.type_use names.target t.0 names.is_target t.2 in
-        let there = t.1 ∙ ap Some (sym same) in
+        let t = zip_at (IsFound files source) facts.uses found are_found k.0 names.type_use k.1 in
+        let there = ap found_at t.1 ∙ is_found names.type_use names.target names.is_target t.0 t.2 in
         let entity_there : Contains (at_entity id encoding text component.span (entity_of files names.target.name part)) o = rw (named_to files names.target.name part entity names.entity_is) (here o) in
         let part_there : Contains (at_part id encoding text files chosen names.target.name component.span (slice_get names.target.parts names.index)) o =
         rw names.part_is (so (is_shown chosen part) _ o (shown_to chosen part shown) entity_there) in
         let inside = gives_at (at_component id encoding text files chosen names.target) names.type_use.components o names.index component names.component_is part_there in
-        gives_at (at_use id encoding text files chosen targets) facts.uses o k.0 names.type_use k.1
-        (subst (λ (known_target : Option Target). Contains (at_target id encoding text files chosen known_target names.type_use) o) (sym there) inside)
+        gives_at (at_use id encoding text files chosen found) facts.uses o k.0 names.type_use k.1
+        (subst (λ (its : Option Target). Contains (at_target id encoding text files chosen its names.type_use) o) (sym there) inside)
 
     pub occurs_listed : (o : Occurrence) → Wanted o → InLists o
     occurs_listed _ (of_file {file = other} there) =

@@ -10,6 +10,8 @@ pub mod Entries
 pub mod Conditions
 pub mod Texts
 pub mod Uses
+-- what has no target
+pub mod Gaps
 -- documents, external entries, and the index of a tree
 pub mod Indexes
 -- documents put together

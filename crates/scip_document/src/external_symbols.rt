@@ -6,7 +6,6 @@ ghost use Rattle.std.specs.List.Sorted.{IsStrictlySortedBy};
 ghost use Rattle.proto_visibility.specs.Files.{IsSource};
 ghost use Rattle.proto_visibility.specs.declared.entities.Entity.TheVariants.{Declared};
 ghost use Rattle.scip_document.specs.Chosen.{HasChoice, HaveChoices};
-ghost use Rattle.scip_document.specs.Conditions.{IsResolved, AllResolve};
 ghost use Rattle.scip_document.specs.Entries.{IsKeptEntry};
 ghost use Rattle.scip_document.specs.Tables.ExternalLists.{Pair, pair_cmp, IsEntryAt, IsEntryOf, Adds, FromFront};
 ghost use Rattle.scip_document.specs.Tables.ExternalLists.{IsKnownPart, IsOfPart, IsOfUse, IsOfSource, IsExternal};
@@ -90,15 +89,14 @@ fn push_use(
 ) -> Result<(), AllocError>
     requires source { IsSource linker.now source }
     requires choices { HaveChoices linker.now choices.now }
-    requires resolved { IsResolved linker.now source type_use.now }
     ensures { OnOk result (Adds (IsOfUse linker.now choices.now source type_use.now) named.old.items named.new.items) }
 {
     linker.linked();
     one_target_a_use();
     match linker.resolve(alloc, source, type_use) {
         Ok(target) => push_parts(named, linker, choices, target.parts.as_slice()),
-        Err(LinkFault::Memory) => Err(AllocError),
-        Err(_) => unreachable!(),
+        Err(LinkFault::Unresolved(_)) => Ok(()),
+        Err(_) => Err(AllocError),
     }
 }
 
@@ -112,7 +110,6 @@ fn push_uses(
 ) -> Result<(), AllocError>
     requires source { IsSource linker.now source }
     requires choices { HaveChoices linker.now choices.now }
-    requires resolved { All (IsResolved linker.now source) uses.now }
     ensures { OnOk result (Adds
         (FromFront (IsOfUse linker.now choices.now source) uses.now (length uses.now)) named.old.items named.new.items) }
 {
@@ -132,7 +129,6 @@ fn push_source(
 ) -> Result<(), AllocError>
     requires within { source < length linker.now }
     requires choices { HaveChoices linker.now choices.now }
-    requires resolve { AllResolve linker.now }
     ensures { OnOk result (Adds (IsOfSource linker.now choices.now source) named.old.items named.new.items) }
 {
     linker.linked();
@@ -150,7 +146,6 @@ fn named_externals(
     choices: &Choices,
 ) -> Result<Vec<(usize, usize)>, AllocError>
     requires choices { HaveChoices linker.now choices.now }
-    requires resolve { AllResolve linker.now }
     ensures { IfOk result (λ named. Adds (IsExternal linker.now choices.now (length linker.now)) [] named.items) }
 {
     let mut named = Vec::new(alloc);
@@ -241,8 +236,8 @@ fn has_included(linker: &Linker<'_>) -> bool
 /// The external symbol entries of linked files, by symbol: one for each declaration of an included
 /// file that is kept by these choices and that a component of a use in a source names.
 ///
-/// Each use of each source has to name a type. Where no file is included, no use is looked at, and
-/// no memory is taken.
+/// A use that names no type names none of them. Where no file is included, no use is looked at, and no
+/// memory is taken.
 pub fn externals(
     alloc: Global,
     linker: &Linker<'_>,
@@ -250,7 +245,6 @@ pub fn externals(
     id: &PackageId,
 ) -> Result<Sequence<SymbolInformation>, AllocError>
     requires choices { HaveChoices linker.now choices.now }
-    requires resolve { AllResolve linker.now }
     ensures { IfOk result (AreExternals linker.now choices.now id.now) }
 {
     if !has_included(linker) {

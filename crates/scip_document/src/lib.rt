@@ -26,4 +26,4 @@ pub use laws::{
 };
 pub use merge_fault::{MergeFault, Unmerged};
 pub use pieces::merge;
-pub use source_document::document;
+pub use source_document::{SourceDocument, document, document_and_gaps};

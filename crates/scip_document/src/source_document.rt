@@ -1,9 +1,10 @@
 //! The document of a source.
 
 ghost use Rattle.std.specs.Prelude.{◌≡◌, ◌∷◌, [], IfOk, IfErr};
-ghost use Rattle.std.specs.List.{AllZip};
+ghost use Rattle.std.specs.List.{AllZip, slice_get};
 ghost use Rattle.proto_visibility.specs.Files.{HasFacts, IsSource};
-ghost use Rattle.proto_link.specs.Targets.{IsTarget};
+ghost use Rattle.proto_visibility.specs.declared.fault.LinkFault.TheVariants.{Memory};
+ghost use Rattle.scip_document.specs.Gaps.{AreGaps, IsFound};
 ghost use Rattle.scip_symbol.specs.Path.{IsGoodPath};
 ghost use Rattle.scip_document.specs.Chosen.{HaveChoices};
 ghost use Rattle.scip_document.specs.Conditions.{HaveGoodPaths};
@@ -21,11 +22,11 @@ use crate::merging::merged;
 use crate::occurrences::{
     declaration_occurrences, file_occurrence, import_occurrences, package_occurrences,
 };
-use crate::targets::targets_of;
+use crate::targets::{find_targets, unresolved_uses};
 use crate::use_occurrences::use_occurrences;
 use proto_decl::FileFacts;
-use proto_lex::Encoding;
-use proto_link::{LinkFault, Target};
+use proto_lex::{Encoding, Span};
+use proto_link::{FilePlace, LinkFault, Target};
 use scip_model::{Document, Occurrence};
 use scip_symbol::PackageId;
 use sequences::{OwnedText, Sequence};
@@ -51,15 +52,15 @@ fn own_occurrences(alloc: Global, id: &PackageId, path: &str) -> Result<Vec<Occu
     Ok(list)
 }
 
-/// What occurs in the source, of which the uses have these targets, in order.
+/// What occurs in the source, of which this was found for the uses, in order.
 fn occurrences(
     maker: &DocumentMaker<'_, '_, '_>,
     facts: &FileFacts,
-    targets: &[Target],
+    found: &[Option<Target>],
 ) -> Result<Vec<Occurrence>, AllocError>
     requires source { IsSource maker.now.linker.now maker.now.source }
     requires known { HasFacts maker.now.linker.now maker.now.source facts.now }
-    requires targets { AllZip (IsTarget maker.now.linker.now maker.now.source) facts.now.uses targets.now }
+    requires found { AllZip (IsFound maker.now.linker.now maker.now.source) facts.now.uses found.now }
     requires text { AreOfText maker.now.text.now facts.now }
     requires paths { HaveGoodPaths maker.now.linker.now }
     requires choices { HaveChoices maker.now.linker.now maker.now.choices.now }
@@ -73,7 +74,7 @@ fn occurrences(
     let imports = import_occurrences(maker, facts.imports())?;
     let packages = package_occurrences(maker, facts)?;
     let names = declaration_occurrences(maker, facts)?;
-    let uses = use_occurrences(maker, targets, facts.uses())?;
+    let uses = use_occurrences(maker, found, facts.uses())?;
     let with_imports = merged(alloc, own, imports)?;
     let with_packages = merged(alloc, with_imports, packages)?;
     let with_names = merged(alloc, with_packages, names)?;
@@ -81,18 +82,58 @@ fn occurrences(
     Ok(list)
 }
 
-/// Where each use of the source has a target, each names a type.
-fn uses_resolve(maker: &DocumentMaker<'_, '_, '_>, facts: &FileFacts, targets: &[Target])
-    requires known { HasFacts maker.now.linker.now maker.now.source facts.now }
-    requires targets { AllZip (IsTarget maker.now.linker.now maker.now.source) facts.now.uses targets.now }
-    ensures { UsesResolve maker.now.linker.now maker.now.source }
-{}
+/// The document of a source, and the places of its uses that name no type, in order.
+#[derive(Debug, Drop)]
+pub struct SourceDocument {
+    pub document: Document,
+    pub unresolved: Sequence<Span>,
+}
 
 /// The document of a source of linked files, which has this text, by what was chosen for each
-/// declaration: what occurs in it and its symbol entries, in order.
-///
-/// `Unresolved` at the first use that names no type, kept or not: there is a document only where all
-/// do.
+/// declaration: what occurs in it and its symbol entries, in order. A use that names no type doesn't
+/// occur; its place is told beside the document. `Memory` is the only fault.
+pub fn document_and_gaps(maker: &DocumentMaker<'_, '_, '_>) -> Result<SourceDocument, LinkFault>
+    requires source { IsSource maker.now.linker.now maker.now.source }
+    requires text { HasText maker.now.linker.now maker.now.source maker.now.text.now }
+    requires paths { HaveGoodPaths maker.now.linker.now }
+    requires choices { HaveChoices maker.now.linker.now maker.now.choices.now }
+    ensures document { IfOk result (λ made. IsDocumentOf
+        maker.now.linker.now maker.now.choices.now maker.now.package.now maker.now.encoding maker.now.source
+        maker.now.text.now made.document) }
+    ensures gaps { IfOk result (λ made. AreGaps maker.now.linker.now maker.now.source made.unresolved) }
+    ensures refused { IfErr result (λ fault. fault ≡ Memory) }
+{
+    maker.linker.linked();
+    let alloc = maker.alloc;
+    let facts = maker.linker.facts_of(maker.source).unwrap();
+    let found = find_targets(alloc, maker.linker, maker.source, facts)?;
+    let unresolved = unresolved_uses(alloc, facts.uses(), found.as_slice())?;
+    let occurrences = occurrences(maker, facts, found.as_slice())?;
+    let symbols = entries(maker)?;
+    let relative_path = OwnedText::copy_of(alloc, maker.linker.path_of(maker.source))?;
+    let language = OwnedText::copy_of(alloc, "Protobuf")?;
+    let document = Document {
+        relative_path,
+        occurrences: Sequence::from_vec(occurrences),
+        symbols,
+        language,
+        position_encoding: encoding_number(maker.encoding),
+    };
+    Ok(SourceDocument {
+        document,
+        unresolved: Sequence::from_vec(unresolved),
+    })
+}
+
+/// The first of some spans.
+fn first_of(spans: &[Span]) -> Option<Span>
+    ensures { result ≡ slice_get spans.now 0 }
+{
+    spans.get(0).copied()
+}
+
+/// The document of a source, where each use names a type. `Unresolved` at the first that doesn't, kept
+/// or not: there is a document only where all do.
 pub fn document(maker: &DocumentMaker<'_, '_, '_>) -> Result<Document, LinkFault>
     requires source { IsSource maker.now.linker.now maker.now.source }
     requires text { HasText maker.now.linker.now maker.now.source maker.now.text.now }
@@ -104,20 +145,15 @@ pub fn document(maker: &DocumentMaker<'_, '_, '_>) -> Result<Document, LinkFault
     ensures resolved { IfOk result (λ _. UsesResolve maker.now.linker.now maker.now.source) }
     ensures refused { IfErr result (MayRefuseDocument maker.now.linker.now maker.now.source) }
 {
-    maker.linker.linked();
-    let alloc = maker.alloc;
-    let facts = maker.linker.facts_of(maker.source).unwrap();
-    let targets = targets_of(alloc, maker.linker, maker.source, facts)?;
-    uses_resolve(maker, facts, targets.as_slice());
-    let occurrences = occurrences(maker, facts, targets.as_slice())?;
-    let symbols = entries(maker)?;
-    let relative_path = OwnedText::copy_of(alloc, maker.linker.path_of(maker.source))?;
-    let language = OwnedText::copy_of(alloc, "Protobuf")?;
-    Ok(Document {
-        relative_path,
-        occurrences: Sequence::from_vec(occurrences),
-        symbols,
-        language,
-        position_encoding: encoding_number(maker.encoding),
-    })
+    let SourceDocument {
+        document,
+        unresolved,
+    } = document_and_gaps(maker)?;
+    match first_of(unresolved.as_slice()) {
+        None => Ok(document),
+        Some(span) => Err(LinkFault::Unresolved(FilePlace {
+            file: maker.source,
+            span,
+        })),
+    }
 }

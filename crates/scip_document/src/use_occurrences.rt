@@ -176,27 +176,47 @@ fn add_target(
     Ok(())
 }
 
-/// Each component of a use that names a package, or a declaration that is kept; the uses have these
-/// targets.
+/// Adds the occurrences of a use, where it names a type.
+fn add_found(
+    list: &mut Vec<Occurrence>,
+    maker: &DocumentMaker<'_, '_, '_>,
+    found: &Option<Target>,
+    type_use: &Use,
+) -> Result<(), AllocError>
+    requires stand { All (λ (component : Component). IsPart maker.now.text.now component.span) type_use.now.components }
+    requires chosen { HaveChoices maker.now.linker.now maker.now.choices.now }
+    requires nameable { (target : Target) → found.now ≡ Some target → AreNameable maker.now.linker.now target }
+    ensures { OnOk result (list.new.items ≡ list.old.items
+        ++ at_target maker.now.package.now maker.now.encoding maker.now.text.now
+        maker.now.linker.now maker.now.choices.now found.now type_use.now) }
+{
+    match found {
+        Some(target) => add_target(list, maker, target, type_use),
+        None => Ok(()),
+    }
+}
+
+/// Each component of a use that names a package, or a declaration that is kept; of the uses this was
+/// found.
 pub(crate) fn use_occurrences(
     maker: &DocumentMaker<'_, '_, '_>,
-    targets: &[Target],
+    found: &[Option<Target>],
     uses: &[Use],
 ) -> Result<Vec<Occurrence>, AllocError>
     requires stand { All (λ (used : Use).
         All (λ (component : Component). IsPart maker.now.text.now component.span) used.components) uses.now }
     requires chosen { HaveChoices maker.now.linker.now maker.now.choices.now }
-    requires one_each { length targets.now ≡ length uses.now }
-    requires nameable { All (AreNameable maker.now.linker.now) targets.now }
+    requires one_each { length found.now ≡ length uses.now }
+    requires nameable { (index : ℕ) (target : Target) → slice_get found.now index ≡ Some (Some target)
+        → AreNameable maker.now.linker.now target }
     ensures { IfOk result (λ list. list.items ≡ each_from
         (at_use maker.now.package.now maker.now.encoding maker.now.text.now
-        maker.now.linker.now maker.now.choices.now targets.now)
+        maker.now.linker.now maker.now.choices.now found.now)
         0 uses.now) }
 {
     let mut list = Vec::new(maker.alloc);
     for (index, type_use) in uses.iter().enumerate() {
-        let target = &targets[index];
-        add_target(&mut list, maker, target, type_use)?;
+        add_found(&mut list, maker, &found[index], type_use)?;
     }
     Ok(list)
 }

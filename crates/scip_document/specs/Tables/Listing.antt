@@ -29,9 +29,22 @@ abbrev pub each_from : {A B : Type 0} → (ℕ → A → List B) → (index : �
 each_from gives index [] = []
 each_from gives index (x ∷ xs) = gives index x ++ each_from gives (index + 1) xs
 
+-- the target that was found for a use
+abbrev pub found_at : Option (Option Target) → Option Target
+found_at None = None
+found_at (Some found) = found
+
 -- whether some file has this path
 abbrev pub has_path : List File → List ℕ → Bool
 has_path files path = list_any (bytes_eq path) (map (λ file. file.path) files)
+
+-- the place of a use for which nothing was found
+abbrev pub unless_found : Option Target → Span → List Span
+unless_found None span = span ∷ []
+unless_found (Some target) span = []
+
+abbrev pub gap_at : List (Option Target) → ℕ → Use → List Span
+gap_at found index type_use = unless_found (found_at (slice_get found index)) type_use.span
 
 -- whether the choice keeps a declaration
 abbrev pub keeps_by : Option Choice → Bool
@@ -96,5 +109,5 @@ module _ (id : Package) (encoding : Encoding) (text : List ℕ) where
     at_target None type_use = []
     at_target (Some target) type_use = each_from (at_component target) 0 type_use.components
 
-    abbrev pub at_use : List Target → ℕ → Use → List Occurrence
-    at_use targets index type_use = at_target (slice_get targets index) type_use
+    abbrev pub at_use : List (Option Target) → ℕ → Use → List Occurrence
+    at_use found index type_use = at_target (found_at (slice_get found index)) type_use

@@ -1,13 +1,10 @@
-use Rattle.std.proofs.Common.{◌∙◌, List, length, get_or, sym, subst}
-use Rattle.std.specs.List.{All}
+use Rattle.std.proofs.Common.{◌∙◌, List, length, sym, subst}
 use Rattle.std.proofs.lemmas.Option.{MatchOption-at_some}
-use Rattle.std.proofs.lemmas.List.Elements.{Contains-get_or}
 use Rattle.std.proofs.lemmas.Result.{on_ok_weaker}
 use Rattle.proto_decl.specs.Facts.{Facts}
 use Rattle.proto_decl.specs.declared.type_use.Use.{Use}
 use Rattle.proto_visibility.specs.Files.{HasFacts, IsSource}
 use Rattle.proto_link.proofs.TargetLemmas.{some_facts}
-use Rattle.scip_document.specs.Conditions.{IsResolved}
 use Rattle.scip_document.specs.Tables.ExternalLists.{Adds, FromFront, IsOfUse}
 use Rattle.scip_document.proofs.LinkedLemmas.{source-facts}
 use Rattle.scip_document.proofs.ExternalLemmas.{of-source}
@@ -21,17 +18,6 @@ unwrap-facts-requires c =
     let is : IsSource files source = record { file = of.0; numbered = of.1; source = sym of.2 ∙ c.if-is_included.false } in
     let facts = source-facts files source c.linked.ensures.clear.read is in
     some_facts (λ facts. HasFacts files source facts.now) files source facts.0 c.facts_of.result facts.1 c.facts_of.ensures
-
-pub push_uses-requires-clause-resolved : goal.push_uses-requires-clause-resolved
-push_uses-requires-clause-resolved c =
-    let files = c.args.linker.now in
-    let source = c.args.source in
-    let of = c.is_included.ensures in
-    let is : IsSource files source = record { file = of.0; numbered = of.1; source = sym of.2 ∙ c.if-is_included.false } in
-    let facts = c.unwrap-facts.result.now in
-    let known = MatchOption-at_some ((other : Facts) → HasFacts files source other → ⊥) (λ facts. HasFacts files source facts.now) c.unwrap-facts.result c.unwrap-facts.ensures c.facts_of.ensures in
-    subst (λ (uses : List Use). All (IsResolved files source) uses) (sym c.uses.ensures)
-    (λ k d within. c.requires.resolve source facts (get_or facts.uses k d) is known (Contains-get_or facts.uses k d within))
 
 pub returns : goal.returns
 returns c =

@@ -1,13 +1,8 @@
-use Rattle.std.proofs.Common.{length, refl, sym, subst}
+use Rattle.std.proofs.Common.{length, refl}
 use Rattle.std.proofs.lemmas.Option.{slice_get_read}
-use Rattle.scip_document.specs.Conditions.{IsResolved}
 use Rattle.scip_document.specs.Tables.ExternalLists.{IsOfUse}
 use Rattle.scip_document.proofs.ExternalLemmas.{adds-more, adds-all}
 use Rattle.scip_document.proofs.external_symbols.push_uses.Goals as goal
-
-pub push_use-requires-clause-resolved : goal.push_use-requires-clause-resolved
-push_use-requires-clause-resolved c =
-    subst (IsResolved c.args.linker.now c.args.source) (sym c.type_use-item.is) (c.requires.resolved c.loop-type_use.type_use-index c.type_use-item.result c.loop-type_use-test.true)
 
 pub loop-type_use-preserved : goal.loop-type_use-preserved
 loop-type_use-preserved c =

@@ -1,4 +1,4 @@
-use Rattle.std.proofs.Common.{◌≡◌, ◌↔◌, IsTrue, List, ℕ, subst}
+use Rattle.std.proofs.Common.{◌↔◌, IsTrue, List, ℕ, subst}
 use Rattle.proto_visibility.specs.Files.{HasPath}
 use Rattle.scip_document.proofs.ConditionLemmas.{found_is, good_path}
 use Rattle.scip_document.proofs.occurrences.has_file.Goals as goal

@@ -1,13 +1,17 @@
-use Rattle.scip_document.proofs.LinkedLemmas.{source-facts}
-use Rattle.scip_document.proofs.NamedLemmas.{some_facts, given_facts}
+use Rattle.std.proofs.Common.{◌∙◌, ap, sym, refl, List}
+use Rattle.std.specs.List.{slice_get}
+use Rattle.proto_lex.specs.declared.span.Span.{Span}
+use Rattle.scip_document.proofs.GapLemmas.{all_resolve, first_unresolved}
 use Rattle.scip_document.proofs.source_document.document.Goals as goal
 
-pub unwrap-facts-requires : goal.unwrap-facts-requires
-unwrap-facts-requires c =
-    let facts = source-facts c.args.maker.now.linker.now c.args.maker.now.source c.linked.ensures.clear.read c.requires.source in
-    some_facts c.args.maker.now.linker.now c.args.maker.now.source facts.0 c.facts_of.result facts.1 c.facts_of.ensures
+pub returns-in-None-clause-resolved : goal.returns-in-None-clause-resolved
+returns-in-None-clause-resolved c =
+    all_resolve c.args.maker.now.linker.now c.args.maker.now.source c.in_ok-document.field-0.unresolved c.in_ok-document.ensures.gaps
+    (ap (λ (list : List Span). slice_get list 0) (sym c.as_slice.ensures) ∙ sym c.in-None.ensures)
 
-pub occurrences-requires-clause-text : goal.occurrences-requires-clause-text
-occurrences-requires-clause-text c =
-    let facts = c.unwrap-facts.result.now in
-    c.requires.text facts (given_facts c.args.maker.now.linker.now c.args.maker.now.source c.facts_of.result c.unwrap-facts.result c.unwrap-facts.ensures c.facts_of.ensures)
+pub returns-in-Some-clause-refused : goal.returns-in-Some-clause-refused
+returns-in-Some-clause-refused c = (
+  refl,
+  first_unresolved c.args.maker.now.linker.now c.args.maker.now.source c.in_ok-document.field-0.unresolved c.in-Some.span c.in_ok-document.ensures.gaps
+      (ap (λ (list : List Span). slice_get list 0) (sym c.as_slice.ensures) ∙ sym c.in-Some.ensures),
+)

@@ -8,7 +8,7 @@ use Rattle.proto_decl.specs.declared.type_use.Use.{Use}
 use Rattle.scip_symbol.specs.Path.{IsGoodPath}
 use Rattle.scip_document.specs.Tables.Listing.{own_occurrence, each_from, at_import, at_use}
 use Rattle.scip_document.proofs.TargetLemmas.{zip_length}
-use Rattle.scip_document.proofs.NameableLemmas.{targets_nameable}
+use Rattle.scip_document.proofs.NameableLemmas.{found_nameable}
 use Rattle.scip_document.proofs.ConditionLemmas.{all_of_map, uses_stand_there, stand_there, choices_there, merged_of}
 use Rattle.scip_document.proofs.DocumentLemmas.{merged_lists}
 use Rattle.scip_document.proofs.NamedLemmas.{same_facts}
@@ -18,7 +18,7 @@ use Rattle.scip_document.specs.Occurs.{Occurs}
 use Rattle.scip_document.specs.Texts.{AreOfText}
 use Rattle.scip_model.specs.declared.records.Occurrence.{Occurrence}
 use Rattle.std.specs.declared.cmp.Ordering.TheVariants.{Equal}
-use Rattle.proto_link.specs.Targets.{IsTarget}
+use Rattle.scip_document.specs.Gaps.{IsFound}
 use Rattle.scip_document.proofs.source_document.occurrences.Goals as goal
 
 pub own_occurrences-requires : goal.own_occurrences-requires
@@ -55,12 +55,12 @@ use_occurrences-requires-clause-stand c =
 
 pub use_occurrences-requires-clause-one_each : goal.use_occurrences-requires-clause-one_each
 use_occurrences-requires-clause-one_each c =
-    zip_length (IsTarget c.args.maker.now.linker.now c.args.maker.now.source) c.uses.result.now c.args.targets.now
-    (subst (λ (uses : List Use). AllZip (IsTarget c.args.maker.now.linker.now c.args.maker.now.source) uses c.args.targets.now) (sym c.uses.ensures) c.requires.targets)
+    zip_length (IsFound c.args.maker.now.linker.now c.args.maker.now.source) c.uses.result.now c.args.found.now
+    (subst (λ (uses : List Use). AllZip (IsFound c.args.maker.now.linker.now c.args.maker.now.source) uses c.args.found.now) (sym c.uses.ensures) c.requires.found)
 
 pub use_occurrences-requires-clause-nameable : goal.use_occurrences-requires-clause-nameable
 use_occurrences-requires-clause-nameable c =
-    targets_nameable c.args.maker.now.linker.now c.args.maker.now.source c.facts_occur_in_order.ensures.origins c.facts_occur_in_order.ensures.spelled c.args.facts.now.uses c.args.targets.now c.requires.targets
+    found_nameable c.args.maker.now.linker.now c.args.maker.now.source c.facts_occur_in_order.ensures.origins c.facts_occur_in_order.ensures.spelled c.args.facts.now.uses c.args.found.now c.requires.found
 
 pub returns : goal.returns
 returns c =
@@ -71,7 +71,7 @@ returns c =
     let source = c.args.maker.now.source in
     let text = c.args.maker.now.text.now in
     let facts = c.args.facts.now in
-    let targets = c.args.targets.now in
+    let found = c.args.found.now in
     let path = c.path_of.ensures in
     let origin = c.requires.text.origin in
     let own = c.in_ok-own.ensures ∙ ap (λ (p : List ℕ). own_occurrence id p ∷ []) (sym path.2) in
@@ -79,10 +79,10 @@ returns c =
     let untied : (x y : Occurrence) → Occurs files chosen id encoding source text x → Occurs files chosen id encoding source text y → occurrence_cmp x y ≡ Equal → x ≡ y =
     λ x y first second e. c.facts_occur_in_order.ensures.untied files chosen id encoding source text
     (λ other known. subst (AreOfText text) (same_facts files source facts other c.requires.known known) c.requires.text) x y first second (tied x y e).0 (tied x y e).1 in
-    let uses = c.in_ok-uses.ensures ∙ ap (λ (xs : List Use). each_from (at_use id encoding text files chosen targets) 0 xs) c.uses.ensures in
+    let uses = c.in_ok-uses.ensures ∙ ap (λ (xs : List Use). each_from (at_use id encoding text files chosen found) 0 xs) c.uses.ensures in
     merged_lists id encoding text c.facts_occur_in_order.ensures.characters files chosen source path.0 path.1 facts c.requires.known
     (stand_there text facts c.requires.text c.facts_occur_in_order.ensures.placed) (c.facts_occur_in_order.ensures.order.names facts origin) (c.facts_occur_in_order.ensures.order.uses facts origin)
-    (c.facts_occur_in_order.ensures.order.imports facts origin) (c.facts_occur_in_order.ensures.order.package_name facts origin) targets c.requires.targets
+    (c.facts_occur_in_order.ensures.order.imports facts origin) (c.facts_occur_in_order.ensures.order.package_name facts origin) found c.requires.found
     (c.facts_occur_in_order.ensures.targets files c.facts_occur_in_order.ensures.origins c.facts_occur_in_order.ensures.clear.clear source c.requires.source) untied
     c.in_ok-with_imports.with_imports.items c.in_ok-with_packages.with_packages.items c.in_ok-with_names.with_names.items c.in_ok-list.list.items
     (merged_of own imports c.in_ok-with_imports.ensures)

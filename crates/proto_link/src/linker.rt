@@ -4,13 +4,14 @@ ghost use Rattle.std.specs.Prelude.{ℕ, ◌≡◌, ◌<◌, ◌↔◌, IsTrue, 
 ghost use Rattle.proto_decl.specs.Facts.{Facts};
 ghost use Rattle.proto_visibility.specs.Files.{HaveOwnPaths, HaveOrigins, HasFacts, HasPath, HasPathAt, IsIncludedAt};
 ghost use Rattle.proto_visibility.specs.Sees.{Sees};
+ghost use Rattle.proto_visibility.specs.Absences.{AreMissing};
 ghost use Rattle.proto_visibility.specs.Linked.{HaveClearNames, CanBeLinked, MayRefuse};
 ghost use Rattle.proto_link.specs.Targets.{IsTarget, MayRefuseUse};
 
 use crate::resolve::target_of;
 use crate::target::Target;
 use proto_decl::{FileFacts, Use};
-use proto_visibility::{LinkFault, LinkFile, Namespace};
+use proto_visibility::{FilePlace, LinkFault, LinkFile, Namespace};
 use std::alloc::{AllocError, Global};
 use std::marker::Model;
 
@@ -63,6 +64,14 @@ impl<'a> Linker<'a> {
         ensures { IsTrue result ↔ HasPath self.now path.now }
     {
         self.namespace.has_path(path)
+    }
+
+    /// The places of the imports that have to be there and name no file: those of sources, and the public
+    /// ones of included files that some source sees.
+    pub fn missing_imports(&self, alloc: Global) -> Result<Vec<FilePlace>, AllocError>
+        ensures { IfOk result (λ places. AreMissing self.now places.items) }
+    {
+        self.namespace.missing_imports(alloc)
     }
 
     /// Whether a file sees another: itself, what it imports, and what public imports lead to from

@@ -1,12 +1,12 @@
 -- The first import that isn't there.
-use Rattle.std.proofs.Common.{◌≡◌, ◌↔◌, ◌⊎◌, inl, inr, ℕ, ◌+◌, ◌<◌, ◌≤◌, Bool, true, false, IsTrue, not, ◌||◌, ◌&&◌, zero, suc, List, [], ◌∷◌, length, get_or, map, Option, Some, None, refl, ap, sym, ◌∙◌, subst, arith}
-use Rattle.std.specs.List.{Contains, slice_get}
+use Rattle.std.proofs.Common.{◌≡◌, ◌↔◌, ◌⊎◌, inl, inr, ℕ, ◌+◌, ◌<◌, ◌≤◌, Bool, true, false, IsTrue, not, ◌||◌, ◌&&◌, zero, suc, List, [], ◌∷◌, ◌++◌, if◌then◌else◌, length, get_or, map, take, Option, Some, None, refl, ap, sym, ◌∙◌, subst, arith}
+use Rattle.std.specs.List.{Contains, slice_get, flat_map}
 use Rattle.std.specs.List.Sorted.{IsStrictlyIncreasing}
 use Rattle.std.specs.Option.{is_none}
 use Rattle.std.proofs.lemmas.Bool.{cases_lt, cases_Bool, false≢true, and_parts, or_cases}
 use Rattle.std.proofs.lemmas.Option.{slice_get_within, slice_get-get_or, slice_get-map, get_or_from_slice_get}
-use Rattle.std.proofs.lemmas.List.{get_or_default}
-use Rattle.std.proofs.lemmas.List.Elements.{Contains-get_or}
+use Rattle.std.proofs.lemmas.List.{get_or_default, take_all, flat_map_more}
+use Rattle.std.proofs.lemmas.List.Elements.{Contains-get_or, Contains-append_left, Contains-append_right, Contains-append_cases}
 use Rattle.proto_lex.specs.declared.span.Span.{Span}
 use Rattle.proto_lex.specs.Lexed.{AreInOrder}
 use Rattle.proto_decl.specs.Facts.{Facts, ImportsInOrder}
@@ -17,9 +17,9 @@ use Rattle.proto_visibility.specs.Sees.{Counts}
 use Rattle.proto_visibility.specs.Sees.Counts.{seen}
 use Rattle.proto_visibility.specs.Sees.SeesBy.{itself}
 use Rattle.proto_visibility.specs.Items.{Before}
-use Rattle.proto_visibility.specs.Absences.{IsNeeded, IsMissing, Absent, NoAbsent}
+use Rattle.proto_visibility.specs.Absences.{IsNeeded, IsMissing, Absent, NoAbsent, AreMissing}
 use Rattle.proto_visibility.specs.Absences.IsNeeded.{of_source, of_included}
-use Rattle.proto_visibility.specs.Tables.ImportTables.{imports_in, imports_of, is_absent, NoneIsAbsent, IsFirstAbsent}
+use Rattle.proto_visibility.specs.Tables.ImportTables.{imports_in, imports_of, is_absent, absent_at, absents_of, absents_at, NoneIsAbsent, IsFirstAbsent}
 use Rattle.proto_visibility.proofs.FileRowLemmas.{not_falling}
 
 -- ---- imports in order
@@ -52,6 +52,63 @@ starts_rise (one ∷ imports) place zero (suc k) a b order at there h =
     both x y e = cc
 starts_rise (one ∷ imports) place (suc j) zero a b order at there h = absurd (omega arith)
 starts_rise (one ∷ imports) place (suc j) (suc k) a b order at there h = starts_rise imports one.span.end j k a b order.2 at there (omega arith)
+
+-- ---- lists of lists
+
+pub contained : {X : Type 0} (xs : List X) (j : ℕ) (x : X) → slice_get xs j ≡ Some x → Contains xs x
+contained xs j x e = (j, slice_get_within xs j x e, get_or_from_slice_get xs j x x e)
+
+at_contained : {X : Type 0} (xs : List X) (x : X) → (there : Contains xs x) → slice_get xs there.0 ≡ Some x
+at_contained xs x there = slice_get-get_or xs there.0 x there.1 ∙ ap Some there.2
+
+only : {X : Type 0} (x y : X) → Contains (x ∷ []) y → x ≡ y
+only x y there = by there.0 there.1 there.2
+  where
+    by : (k : ℕ) → k < length (x ∷ []) → get_or (x ∷ []) k y ≡ y → x ≡ y
+    by zero h e = e
+    by (suc k) h e = absurd (omega (arith, h))
+
+record IsGivenBy {X A : Type 0} (f : X → List A) (xs : List X) (y : A) : Type 0 where
+  x : X
+  index : ℕ
+  stands : slice_get xs index ≡ Some x
+  given : Contains (f x) y
+
+given_by : {X A : Type 0} (f : X → List A) (xs : List X) (y : A) → Contains (flat_map f xs) y → IsGivenBy f xs y
+given_by f [] y there = absurd (omega (arith, there.1))
+given_by f (x ∷ xs) y there = elim (Contains-append_cases (f x) (flat_map f xs) y there) [
+  | inl here ↦ record { x = x; index = zero; stands = refl; given = here }
+  | inr later ↦ (let by = given_by f xs y later in record { x = by.x; index = suc by.index; stands = by.stands; given = by.given })
+]
+
+gives : {X A : Type 0} (f : X → List A) (xs : List X) (k : ℕ) (x : X) (y : A) → slice_get xs k ≡ Some x → Contains (f x) y → Contains (flat_map f xs) y
+gives f [] k x y e given = absurd (cc)
+gives f (z ∷ zs) zero x y e given = Contains-append_left (f z) (flat_map f zs) y (subst (λ w. Contains (f w) y) (sym (one z x e)) given)
+  where
+    one : {Z : Type 0} (a b : Z) → Some a ≡ Some b → a ≡ b
+    one a b h = cc
+gives f (z ∷ zs) (suc k) x y e given = Contains-append_right (f z) (flat_map f zs) y (gives f zs k x y e given)
+
+take_next : {X : Type 0} (xs : List X) (k : ℕ) (x : X) → slice_get xs k ≡ Some x → take (k + 1) xs ≡ take k xs ++ x ∷ []
+take_next [] k x e = absurd (cc)
+take_next (y ∷ ys) zero x e = let same : y ≡ x = one y x e in ap (λ z. z ∷ []) same
+  where
+    one : {Z : Type 0} (a b : Z) → Some a ≡ Some b → a ≡ b
+    one a b h = cc
+take_next (y ∷ ys) (suc k) x e = let next : suc k + 1 ≡ suc (k + 1) = omega arith in rw next (ap (λ zs. y ∷ zs) (take_next ys k x e))
+
+-- what one more gives
+pub given_next : {X A : Type 0} (f : X → List A) (xs : List X) (k : ℕ) (x : X) (old new : List A) → slice_get xs k ≡ Some x → old ≡ flat_map f (take k xs) → new ≡ old ++ f x → new ≡ flat_map f (take (k + 1) xs)
+given_next f xs k x old new stands before now =
+    now ∙ (ap (λ ys. ys ++ f x) before ∙ (flat_map_more f [] (take k xs) x ∙ ap (flat_map f) (sym (take_next xs k x stands))))
+
+if_so : {X : Type 0} (b : Bool) (x y : X) → Contains (if b then x ∷ [] else []) y → (b ≡ true) × (x ≡ y)
+if_so true x y there = (refl, only x y there)
+if_so false x y there = absurd (omega (arith, there.1))
+
+so : {X : Type 0} (b : Bool) (x y : X) → b ≡ true → x ≡ y → Contains (if b then x ∷ [] else []) y
+so true x y e same = subst (Contains (x ∷ [])) same (contained (x ∷ []) 0 x refl)
+so false x y e same = absurd (false≢true e)
 
 -- ---- what an import misses
 
@@ -174,6 +231,24 @@ module _ (files : List File) (number : List ℕ → Option ℕ) (numbered : (pat
       none_if : (n : IsMissing files place) → is_none (number n.import.path) ≡ true
       none_if n = elim (cases_Bool (is_none (number n.import.path))) [ inl t ↦ t | inr f ↦ absurd (n.missing (path_if n.import.path f)) ]
 
+  facts_at : (f : File) (import : Imported) → Contains (imports_of f) import → (facts : Facts) × (f.facts ≡ Some facts) × Contains facts.imports import
+  facts_at f import there = elim (cases f.facts) [
+    | inl absent ↦ absurd (omega (arith, (subst (λ g. Contains (imports_in g) import) absent there).1))
+    | inr some ↦ (some.0, some.1, subst (λ g. Contains (imports_in g) import) some.1 there)
+  ]
+    where
+      cases : (o : Option Facts) → (o ≡ None) ⊎ ((x : Facts) × (o ≡ Some x))
+      cases None = inl refl
+      cases (Some x) = inr (x, refl)
+
+  -- an import that is absent misses a file
+  missing_at : (file : File) (k : ℕ) (import : Imported) → Counts files k → slice_get files k ≡ Some file → Contains (imports_of file) import → is_absent number file.is_included import ≡ true
+      → IsMissing files (record { file = k; span = import.span })
+  missing_at file k import counts stands listed absent =
+      let parts = and_parts (not file.is_included || is_public import.kind) (is_none (number import.path)) absent in
+      let facts = facts_at file import listed in
+      record { import = import; needed = needed_from file k facts.0 import counts stands facts.1 facts.2 parts.0; stands = refl; missing = no_path import.path parts.1 }
+
   -- ---- the search along the row of those that count
 
   module _ (row : List ℕ) (counted : (k : ℕ) → Contains row k ↔ Counts files k) where
@@ -217,19 +292,6 @@ module _ (files : List File) (number : List ℕ → Option ℕ) (numbered : (pat
           least = λ other m before. least other m before;
         }
       where
-        contained : {X : Type 0} (xs : List X) (j : ℕ) (x : X) → slice_get xs j ≡ Some x → Contains xs x
-        contained xs j x e = (j, slice_get_within xs j x e, get_or_from_slice_get xs j x x e)
-
-        facts_at : (f : File) (import : Imported) → Contains (imports_of f) import → (facts : Facts) × (f.facts ≡ Some facts) × Contains facts.imports import
-        facts_at f import there = elim (cases f.facts) [
-          | inl absent ↦ absurd (omega (arith, (subst (λ g. Contains (imports_in g) import) absent there).1))
-          | inr some ↦ (some.0, some.1, subst (λ g. Contains (imports_in g) import) some.1 there)
-        ]
-          where
-            cases : (o : Option Facts) → (o ≡ None) ⊎ ((x : Facts) × (o ≡ Some x))
-            cases None = inl refl
-            cases (Some x) = inr (x, refl)
-
         same_file : (other : FilePlace) → (m : IsMissing files other) → other.file ≡ k → other.span.start < span.start → ⊥
         same_file other m here less =
             let at = index_of other m in
@@ -254,3 +316,30 @@ module _ (files : List File) (number : List ℕ → Option ℕ) (numbered : (pat
               | inr behind ↦ (let rise = not_falling row rises count i.0 behind i.1 in omega (arith, i.2))
             ]
         least other m (inr same) = same_file other m same.0 same.1
+
+    -- ---- all of them
+
+    pub are_missing : AreMissing files (flat_map (absents_at files number) row)
+    are_missing place = (
+      λ there. (
+          let by = given_by (absents_at files number) row place there in
+          of_file by.x ((counted by.x).0 (contained row by.index by.x by.stands)) (slice_get files by.x) refl by.given),
+      λ m.
+          let at = index_of place m in
+          let in_row = (counted place.file).1 at.2 in
+          gives (absents_at files number) row in_row.0 place.file place (at_contained row place.file in_row)
+          (subst (λ o. Contains (absents_of number place.file o) place) (sym at.1)
+          (gives (absent_at number at.0.is_included place.file) (imports_of at.0) at.3.0 m.import place at.3.1
+          (so (is_absent number at.0.is_included m.import) (record { file = place.file; span = m.import.span }) place at.3.2 (λ i. record { file = place.file; span = m.stands i })))),
+    )
+      where
+        of_file : (k : ℕ) → Counts files k → (of : Option File) → slice_get files k ≡ of → Contains (absents_of number k of) place → IsMissing files place
+        of_file k counts None stands there = absurd (omega (arith, there.1))
+        of_file k counts (Some file) stands there =
+            let by = given_by (absent_at number file.is_included k) (imports_of file) place there in
+            let is = if_so (is_absent number file.is_included by.x) (record { file = k; span = by.x.span }) place by.given in
+            subst (IsMissing files) is.1 (missing_at file k by.x counts stands (contained (imports_of file) by.index by.x by.stands) is.0)
+
+    pub all_missing : (count : ℕ) (places : List FilePlace) → length row ≤ count → places ≡ flat_map (absents_at files number) (take count row) → AreMissing files places
+    all_missing count places all is =
+        subst (AreMissing files) (sym (is ∙ ap (flat_map (absents_at files number)) (take_all count row all))) are_missing

@@ -1,5 +1,5 @@
 -- Imports of files that aren't there, and included files that can't be read.
-use Rattle.std.specs.Prelude.{◌≡◌, ◌<◌, ℕ, true, Some, None, List, Contains}
+use Rattle.std.specs.Prelude.{◌≡◌, ◌<◌, ◌↔◌, ℕ, true, Some, None, List, Contains}
 use Rattle.std.specs.List.{slice_get}
 use Rattle.proto_decl.specs.Facts.{Facts}
 use Rattle.proto_decl.specs.declared.imported.Imported.{Imported}
@@ -21,6 +21,10 @@ pub record IsMissing (files : List File) (place : FilePlace) : Type 0 where
   pub needed : IsNeeded files place.file import
   pub stands : import.span ≡ place.span
   pub missing : HasPath files import.path → ⊥
+
+-- the places of all such imports
+abbrev pub AreMissing : List File → List FilePlace → Type 0
+AreMissing files places = (place : FilePlace) → Contains places place ↔ IsMissing files place
 
 -- the least such place
 pub record Absent (files : List File) (place : FilePlace) : Type 0 where

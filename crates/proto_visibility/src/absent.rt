@@ -1,11 +1,12 @@
 //! Imports of files that aren't there.
 
-ghost use Rattle.std.specs.Prelude.{ℕ, ◌≡◌, ◌↔◌, not, MatchOption, Contains};
+ghost use Rattle.std.specs.Prelude.{ℕ, ◌≡◌, ◌↔◌, ◌++◌, Some, not, MatchOption, IfOk, OnOk, Contains};
+ghost use Rattle.std.specs.List.{flat_map};
 ghost use Rattle.std.specs.Option.{is_none};
 ghost use Rattle.proto_decl.specs.Facts.{ImportsInOrder};
 ghost use Rattle.proto_visibility.specs.Sees.{Counts};
-ghost use Rattle.proto_visibility.specs.Absences.{Absent, NoAbsent};
-ghost use Rattle.proto_visibility.specs.Tables.ImportTables.{AreNumbered, imports_of, number_in, is_absent, NoneIsAbsent, IsFirstAbsent};
+ghost use Rattle.proto_visibility.specs.Absences.{Absent, NoAbsent, AreMissing};
+ghost use Rattle.proto_visibility.specs.Tables.ImportTables.{AreNumbered, imports_of, number_in, is_absent, absent_at, absents_of, NoneIsAbsent, IsFirstAbsent};
 
 use crate::file_row::FileRow;
 use crate::link_file::LinkFile;
@@ -13,6 +14,7 @@ use crate::place::FilePlace;
 use proto_decl::{Imported, facts_in_order};
 use proto_lex::Span;
 use proto_parse::ImportKind;
+use std::alloc::{AllocError, Global};
 use std::collections::HashMap;
 
 // The first import, in order of place, that has to be there and names no file.
@@ -83,4 +85,73 @@ pub(crate) fn is_numbered(path: &str, numbers: &HashMap<&str, usize>) -> bool
     ensures { result ≡ not (is_none (number_in numbers.now path.now)) }
 {
     !numbers.get(path).copied().is_none()
+}
+
+// All imports that have to be there and name no file.
+pub(crate) fn all_absent(
+    alloc: Global,
+    files: &[LinkFile],
+    numbers: &HashMap<&str, usize>,
+    counted: &FileRow,
+) -> Result<Vec<FilePlace>, AllocError>
+    requires numbers { AreNumbered files.now numbers.now }
+    requires counted { (number : ℕ) → Contains counted.now number ↔ Counts files.now number }
+    ensures { IfOk result (λ places. AreMissing files.now places.items) }
+{
+    let mut places = Vec::new(alloc);
+    for number in counted.as_slice() {
+        add_absent(&mut places, *number, &files[*number], numbers)?;
+    }
+    Ok(places)
+}
+
+// Adds those of one file.
+fn add_absent(
+    places: &mut Vec<FilePlace>,
+    number: usize,
+    file: &LinkFile,
+    numbers: &HashMap<&str, usize>,
+) -> Result<(), AllocError>
+    ensures { OnOk result
+        (places.new.items ≡ places.old.items ++ absents_of (number_in numbers.now) number (Some file.now)) }
+{
+    match file.facts {
+        Some(facts) => add_along(places, number, file.is_included(), facts.imports(), numbers),
+        None => Ok(()),
+    }
+}
+
+fn add_along(
+    places: &mut Vec<FilePlace>,
+    number: usize,
+    included: bool,
+    imports: &[Imported],
+    numbers: &HashMap<&str, usize>,
+) -> Result<(), AllocError>
+    ensures { OnOk result (places.new.items
+        ≡ places.old.items ++ flat_map (absent_at (number_in numbers.now) included number) imports.now) }
+{
+    for import in imports {
+        add_if_absent(places, number, included, import, numbers)?;
+    }
+    Ok(())
+}
+
+fn add_if_absent(
+    places: &mut Vec<FilePlace>,
+    number: usize,
+    included: bool,
+    import: &Imported,
+    numbers: &HashMap<&str, usize>,
+) -> Result<(), AllocError>
+    ensures { OnOk result (places.new.items
+        ≡ places.old.items ++ absent_at (number_in numbers.now) included number import.now) }
+{
+    if is_absent(import, included, numbers) {
+        places.push(FilePlace {
+            file: number,
+            span: import.span,
+        })?;
+    }
+    Ok(())
 }

@@ -6,13 +6,14 @@ ghost use Rattle.proto_decl.specs.Laws.{IsEntity};
 ghost use Rattle.proto_visibility.specs.Entities.{IsEntityOf};
 ghost use Rattle.proto_visibility.specs.Files.{HaveOwnPaths, HaveOrigins, HasFacts, HasPath, HasPathAt, IsIncludedAt};
 ghost use Rattle.proto_visibility.specs.Sees.{Sees, Counts};
+ghost use Rattle.proto_visibility.specs.Absences.{AreMissing};
 ghost use Rattle.proto_visibility.specs.Clashes.{Clash, NoClash};
 ghost use Rattle.proto_visibility.specs.Tables.FileItems.{AreAllPrefixes};
 ghost use Rattle.proto_visibility.specs.Linked.{HaveClearNames, CanBeLinked, MayRefuse};
 ghost use Rattle.proto_visibility.specs.Knows.{KnowsAs};
 ghost use Rattle.proto_visibility.specs.FileNames.{admits, SeesGiving};
 
-use crate::absent::{first_absent, is_numbered};
+use crate::absent::{all_absent, first_absent, is_numbered};
 use crate::all_items::{all_items, all_prefixes};
 use crate::clash::first_clash;
 use crate::counting::{counted_files, first_unread};
@@ -116,6 +117,15 @@ impl<'a> Namespace<'a> {
         ensures { IsTrue result ↔ HasPath self.now path.now }
     {
         is_numbered(path, &self.numbers)
+    }
+
+    /// The places of the imports that have to be there and name no file: those of sources, and the public
+    /// ones of included files that some source sees.
+    pub fn missing_imports(&self, alloc: Global) -> Result<Vec<FilePlace>, AllocError>
+        ensures { IfOk result (λ places. AreMissing self.now places.items) }
+    {
+        let counted = counted_files(alloc, self.files, self.rows.as_slice())?;
+        all_absent(alloc, self.files, &self.numbers, &counted)
     }
 
     /// Whether a file sees another: itself, what it imports, and what public imports lead to from

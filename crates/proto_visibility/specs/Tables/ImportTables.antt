@@ -1,6 +1,6 @@
 -- What a table of steps says, how it comes from the files, and the rows of the files that are seen by it.
-use Rattle.std.specs.Prelude.{ℕ, ◌≡◌, ◌<◌, ◌↔◌, Bool, true, false, Option, Some, None, List, [], length, All, Contains, if◌then◌else◌, not, ◌||◌, ◌&&◌}
-use Rattle.std.specs.List.{slice_get}
+use Rattle.std.specs.Prelude.{ℕ, ◌≡◌, ◌<◌, ◌↔◌, Bool, true, false, Option, Some, None, List, [], ◌∷◌, length, All, Contains, if◌then◌else◌, not, ◌||◌, ◌&&◌}
+use Rattle.std.specs.List.{slice_get, flat_map}
 use Rattle.std.specs.Option.{is_none}
 use Rattle.std.specs.Str.{bytes_eq}
 use Rattle.std.specs.HashMap.{HashMap, get_by}
@@ -9,6 +9,7 @@ use Rattle.proto_lex.specs.declared.span.Span.{Span}
 use Rattle.proto_decl.specs.Facts.{Facts}
 use Rattle.proto_decl.specs.declared.imported.Imported.{Imported}
 use Rattle.proto_visibility.specs.declared.import_table.Steps.{Steps}
+use Rattle.proto_visibility.specs.declared.place.FilePlace.{FilePlace}
 use Rattle.proto_visibility.specs.Files.{File, HasPathAt, Imports, is_public}
 use Rattle.proto_visibility.specs.Sees.{SeesBy}
 
@@ -62,6 +63,18 @@ target number false import = if is_public import.kind then None else number impo
 -- an import, of an included file or of a source, has to be there and names no file
 abbrev pub is_absent : (List ℕ → Option ℕ) → (included : Bool) → Imported → Bool
 is_absent number included import = (not included || is_public import.kind) && is_none (number import.path)
+
+-- the place of such an import, of the file with this number
+abbrev pub absent_at : (List ℕ → Option ℕ) → (included : Bool) → (file : ℕ) → Imported → List FilePlace
+absent_at names included file import = if is_absent names included import then record { file = file; span = import.span } ∷ [] else []
+
+-- those of a file
+abbrev pub absents_of : (List ℕ → Option ℕ) → (number : ℕ) → Option File → List FilePlace
+absents_of names number None = []
+absents_of names number (Some file) = flat_map (absent_at names file.is_included number) (imports_of file)
+
+abbrev pub absents_at : List File → (List ℕ → Option ℕ) → (number : ℕ) → List FilePlace
+absents_at files names number = absents_of names number (slice_get files number)
 
 -- none of the first so many imports is one
 abbrev pub NoneIsAbsentUpTo : (List ℕ → Option ℕ) → Bool → List Imported → (count : ℕ) → Type 0

@@ -4,7 +4,8 @@
 use crate::calls::{decoded, is_long, is_spelled, see};
 use crate::indexes::{EVERYTHING, MESSAGE, NO_DOCUMENT, UNPACKED};
 use crate::writers::{ALL_AT_ONCE, see_first};
-use scip_model::{Index, Occurrence};
+use scip_model::{Document, Index, Occurrence};
+use scip_wire::spell_document;
 use std::alloc::Global;
 use std::process::Abort;
 
@@ -98,6 +99,34 @@ fn is_unpacked(index: &Index) -> bool {
 fn a_range_one_number_a_record(rt: HostRuntime) {
     match decoded(rt.alloc(), UNPACKED) {
         Ok(index) => see(&rt, is_unpacked(&index), "values"),
+        Err(_) => see(&rt, false, "read"),
+    }
+}
+
+/// Whether a document's record is these bytes. It is spelled again after want of memory.
+fn is_record(alloc: Global, document: &Document, want: &[u8]) -> bool {
+    let first = spell_document(alloc, document);
+    let record = match first {
+        Ok(record) => Ok(record),
+        Err(_) => spell_document(alloc, document),
+    };
+    match record {
+        Ok(record) => *record.as_slice() == *want,
+        Err(_) => false,
+    }
+}
+
+/// The record of `MESSAGE`'s one document is what is behind its metadata.
+#[test]
+fn a_document_is_spelled_as_its_record(rt: HostRuntime) {
+    match decoded(rt.alloc(), MESSAGE) {
+        Ok(index) => match index.documents.as_slice().first() {
+            Some(document) => {
+                let record = MESSAGE.split_at(30).1;
+                see(&rt, is_record(rt.alloc(), document, record), "record");
+            }
+            None => see(&rt, false, "a document"),
+        },
         Err(_) => see(&rt, false, "read"),
     }
 }

@@ -1,26 +1,33 @@
 -- What a run answers, by where it stops.
-use Rattle.std.proofs.Common.{◌≡◌, ◌↔◌, ℕ, suc, ◌<◌, ◌≤◌, List, length, Option, Result, Ok, Err, refl, sym, subst, arith}
+use Rattle.std.proofs.Common.{◌≡◌, ◌↔◌, ◌∙◌, ℕ, suc, ◌<◌, ◌≤◌, List, [], ◌∷◌, length, map, Option, IfSome, Result, Ok, Err, refl, sym, subst, arith}
+use Rattle.std.specs.List.{All, AllZip}
+use Rattle.std.proofs.lemmas.List.Elements.{All-nil, All-cons}
 use Rattle.std.proofs.Math.Nat.{lt_of_not-le}
 use Rattle.proto_decl.specs.Seen.{Seen}
 use Rattle.index_hooks.specs.declared.choice.Choice.{Choice}
 use Rattle.source_tree.specs.Files.{TreeFile}
 use Rattle.scip_model.specs.declared.records.Index.{Index}
+use Rattle.scip_model.specs.declared.records.Document.{Document}
+use Rattle.scip_model.specs.declared.records.Metadata.{Metadata}
+use Rattle.scip_model.specs.declared.records.SymbolInformation.{SymbolInformation}
 use Rattle.streams.specs.WholeWrites.{IsWritten}
 use Rattle.scip_build.specs.Builds.{IsBuilt, IsBuildFault}
+use Rattle.scip_build.specs.Forms.{ArePartsOf}
+use Rattle.scip_build.specs.declared.parts.Parts.{Parts}
 use Rattle.scip_build.specs.declared.built.Built.{Built}
 use Rattle.scip_build.specs.declared.settings.Settings.{Settings}
 use Rattle.scip_build.specs.declared.fault.BuildFault.{BuildFault}
 use Rattle.scip_build.specs.declared.fault.BuildFault.TheVariants as build
 use Rattle.scip_build.specs.declared.fault.FileFault.TheVariants as file
 use Rattle.scip_wire.specs.Decodes.{Decodes}
-use Rattle.scip_wire.specs.Spelling.{spelling_of, max_index_len}
-use Rattle.scip_wire.specs.WellFormed.{IsWellFormed}
+use Rattle.scip_wire.specs.Spelling.{document_record, joined_pieces, spelling_of, max_index_len}
+use Rattle.scip_wire.specs.WellFormed.{IsFitDocument, IsFitInfo, IsFitMetadata, IsWellFormed}
 use Rattle.scip_wire.specs.Writing.{Leaves}
 use Rattle.scip_wire.specs.declared.write_fault.WriteFault.{WriteFault}
 use Rattle.scip_wire.specs.declared.write_fault.WriteFault.TheVariants as writing
 use Rattle.protoscip.specs.Faults.{fault_of_build, fault_of_writing}
 use Rattle.protoscip.specs.Indexes.{IsSpelled, IsIndexed, IsRefused, Indexes}
-use Rattle.protoscip.specs.Writing.{WritesIndex}
+use Rattle.protoscip.specs.Writing.{IsRecordOf, WritesIndex}
 use Rattle.protoscip.specs.FaultLines.{HasFilesOf}
 use Rattle.protoscip.specs.declared.fault.Fault.{Fault}
 use Rattle.protoscip.specs.declared.fault.Fault.TheVariants as fault
@@ -55,6 +62,41 @@ module _ (decodes : SpellingDecodes) (one : OneDecoding) (index : Index) (known 
     not_written writing.TooLarge large leaves = (large.0 refl, leaves)
     not_written (writing.Write count) large leaves = (spelled_unless (stopped (writing.Write count) ≡ stopped writing.TooLarge) large (λ same. cc), leaves)
     not_written writing.Memory large leaves = leaves
+
+-- ---- the parts of an index, of whose documents the records are kept
+
+abbrev pub JoinsPieces : Type 0
+JoinsPieces = (i : Index) → spelling_of i ≡ joined_pieces i.metadata (map document_record i.documents) i.external_symbols
+
+records_are : (documents : List Document) (records : List (List ℕ)) → AllZip IsRecordOf documents records → records ≡ map document_record documents
+records_are [] [] are = refl
+records_are [] (r ∷ rs) are = absurd are
+records_are (d ∷ ds) [] are = absurd are
+records_are (d ∷ ds) (r ∷ rs) are =
+    let here : r ≡ document_record d = are.0.record_is in
+    let more = records_are ds rs are.1 in
+    λ i. here i ∷ more i
+
+documents_fit : (documents : List Document) (records : List (List ℕ)) → AllZip IsRecordOf documents records → All IsFitDocument documents
+documents_fit [] [] are = All-nil IsFitDocument
+documents_fit [] (r ∷ rs) are = absurd are
+documents_fit (d ∷ ds) [] are = absurd are
+documents_fit (d ∷ ds) (r ∷ rs) are = All-cons IsFitDocument d ds are.0.fit (documents_fit ds rs are.1)
+
+module _ (index : Index) (parts : Parts (List ℕ)) (are : ArePartsOf IsRecordOf index parts) where
+  -- one after another they are its spelling
+  pub pieces_are : JoinsPieces → joined_pieces parts.metadata parts.documents parts.external_symbols ≡ spelling_of index
+  pieces_are joins =
+      let records = records_are index.documents parts.documents are.documents in
+      (λ i. joined_pieces (are.metadata i) (records i) (are.external_symbols i)) ∙ sym (joins index)
+
+  -- and what is known of them is known of it
+  pub known_whole : IfSome parts.metadata IsFitMetadata → All IsFitInfo parts.external_symbols → IsWellFormed index
+  known_whole metadata external_symbols = record {
+    metadata = subst (λ (m : Option Metadata). IfSome m IsFitMetadata) are.metadata metadata;
+    documents = documents_fit index.documents parts.documents are.documents;
+    external_symbols = subst (λ (es : List SymbolInformation). All IsFitInfo es) are.external_symbols external_symbols;
+  }
 
 module _ (W : Type 0) (contents : W → Option (List ℕ)) (failures : W → ℕ) (allows : Seen → Choice → Type 0) (settings : Settings) (tree : List TreeFile) (workers : ℕ) (before after : W) where
   -- a tree isn't built

@@ -1,11 +1,18 @@
 -- What the writing of an index answers, and what it leaves of the writer.
 use Rattle.std.specs.Prelude.{◌≡◌, ℕ, ◌<◌, List, length, Option, Result, Ok, Err}
 use Rattle.streams.specs.WholeWrites.{IsWritten, IsCutOff}
+use Rattle.scip_model.specs.declared.records.Document.{Document}
 use Rattle.scip_model.specs.declared.records.Index.{Index}
-use Rattle.scip_wire.specs.Spelling.{spelling_of, max_index_len}
+use Rattle.scip_wire.specs.Spelling.{document_record, spelling_of, max_index_len}
+use Rattle.scip_wire.specs.WellFormed.{IsFitDocument}
 use Rattle.protoscip.specs.Indexes.{IsSpelled}
 use Rattle.protoscip.specs.declared.fault.Fault.{Fault}
 use Rattle.protoscip.specs.declared.fault.Fault.TheVariants.{Memory, TooLarge, Write}
+
+-- these bytes are a document's record in an index
+pub record IsRecordOf (document : Document) (bytes : List ℕ) : Type 0 where
+  pub record_is : bytes ≡ document_record document
+  pub fit : IsFitDocument document
 
 -- its bytes are written, all or the first `count`; or it has too many, or memory ran out, and the writer is as it was
 abbrev pub WritesIndex : {W : Type 0} → (contents : W → Option (List ℕ)) → (failures : W → ℕ) → Index → W → W → Result (Unit {0}) Fault → Type 0

@@ -3,6 +3,7 @@
 #![tactic(auto)]
 
 // The index of a tree.
+mod as_bytes;
 mod indexing;
 mod laws;
 
@@ -26,7 +27,7 @@ pub use answering::answer_commands;
 pub use dumping::{SOURCE_PATH, dump, dump_tree};
 pub use fault::Fault;
 pub use fault_lines::fault_line;
-pub use indexing::index_tree;
+pub use indexing::{index_and_keep, index_tree};
 pub use laws::{
     each_use_has_a_target, headline, indexed_has_no_fault, laws_of_names, listed_unless_memory,
     one_file_fault, one_indexing, one_listing, one_reason,

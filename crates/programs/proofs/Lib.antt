@@ -1,4 +1,5 @@
 mod MoveLemmas
 mod MessageLemmas
+mod TreeRunLemmas
 mod QueryLemmas
 mod LawLemmas

@@ -6,16 +6,15 @@ ghost use Rattle.programs.specs.TreeRuns.{Ends};
 
 use crate::messages::report;
 use protoscip::{Fault, fault_line};
-use scip_document::Choices;
 use source_tree::Tree;
 use std::alloc::Global;
 use streams::Sink;
 
 /// Gives the exit status of a run over a tree. Why it stopped, if it did, is said.
-pub(crate) fn end<M: Sink>(
+pub(crate) fn end<A, M: Sink>(
     alloc: Global,
     tree: &Tree,
-    done: &Result<Choices, Fault>,
+    done: &Result<A, Fault>,
     messages: &mut M,
 ) -> u8
     requires { IfErr done.now (HasFilesOf tree.now) }

@@ -9,15 +9,18 @@ use crate::messages::report;
 use crate::starting::start;
 use command_line::IndexOptions;
 use index_pool::NoGate;
-use protoscip::index_tree;
+use protoscip::index_and_keep;
+use scip_build::Run;
 use source_files::ReadFiles;
+use std::mem::forget;
 use std::sync::Wait;
 use std::thread::Threads;
 use streams::Sink;
 
 /// Reads the sources below the root of the options and the files below their included roots, builds
 /// the index of the sources, writes it to `out`, and gives the exit status. Why it stops, if it does,
-/// is said; before a failed write nothing was written then.
+/// is said; before a failed write nothing was written then. The memory of the tree and of what was made of
+/// it isn't given back: the program ends.
 ///
 /// Of the faults the first is said: a bad part of the package; what can't be read; that the files make
 /// no tree; and those of `index_tree`. Want of memory may come at any step.
@@ -33,15 +36,16 @@ pub(crate) fn index<R: Threads + Wait, F: ReadFiles, W: Sink, M: Sink>(
         Ok(start) => start,
         Err(fault) => return report(fault.line(host.alloc), fault.status(), messages),
     };
-    let done = index_tree(
-        host.rt,
-        host.alloc,
-        &run.tree,
-        &run.choices,
-        run.workers,
-        &run.settings,
-        &NoGate,
-        out,
-    );
-    end(host.alloc, &run.tree, &done, messages)
+    let work = Run {
+        rt: host.rt,
+        alloc: host.alloc,
+        workers: run.workers,
+        gate: &NoGate,
+    };
+    let done = index_and_keep(&work, &run.tree, &run.choices, &run.settings, out);
+    let status = end(host.alloc, &run.tree, &done, messages);
+    // What was made goes with the process.
+    forget(done);
+    forget(run);
+    status
 }

@@ -3,6 +3,7 @@ pub mod Sites
 pub mod OccurrenceAt
 pub mod References
 pub mod Documentation
+pub mod BySymbol
 pub mod Commands
 pub mod CommandReading
 pub mod CommandViews

@@ -1,13 +1,15 @@
 //! Definitions, references, documentation and symbols.
 
-ghost use Rattle.std.specs.Prelude.{◌≡◌, ℕ, List, Some, IfOk, map, filter, option_copied};
+ghost use Rattle.std.specs.Prelude.{◌≡◌, ℕ, List, Some, IfOk, IfSome, map, filter, option_copied};
 ghost use Rattle.std.specs.Borrow.{Bor};
 ghost use Rattle.std.specs.List.{find, slice_get};
+ghost use Rattle.std.specs.Option.{option_map};
 ghost use Rattle.std.specs.Str.{bytes_eq};
 ghost use Rattle.scip_model.specs.declared.records.SymbolInformation.{SymbolInformation};
 ghost use Rattle.scip_query.specs.Sites.{Site};
 ghost use Rattle.scip_query.specs.References.{references_at, definitions_of, definitions_at, site_places};
 ghost use Rattle.scip_query.specs.Documentation.{entries_for, texts_of, documentation_at, symbols_of};
+ghost use Rattle.scip_query.specs.BySymbol.{subject_in, references_in, definitions_in, documentation_in};
 ghost use Rattle.scip_query.specs.Outcomes.{Gives};
 ghost use Rattle.scip_query.specs.Tables.{defines_listed};
 ghost use Rattle.scip_query.specs.Views.{subject_view};
@@ -15,7 +17,7 @@ ghost use Rattle.scip_query.specs.Views.{subject_view};
 use crate::listed::occurrence_listed;
 use crate::place::Place;
 use crate::position::Position;
-use crate::queries::{Queries, Subject, is_local};
+use crate::queries::{Named, Queries, Subject, is_local};
 use crate::query_fault::{QueryFault, fault_of};
 use crate::search::entry_places_in;
 use scip_model::{Document, OwnedText, SymbolInformation};
@@ -166,6 +168,67 @@ impl Queries {
         match self.named(path) {
             Some(named) => Ok(entries_of(alloc, named.document)?),
             None => Err(QueryFault::NoDocument),
+        }
+    }
+
+    /// A symbol as it is asked for in the document with a number, where there is one.
+    fn subject_in<'a>(&'a self, document: usize, symbol: &'a str) -> Option<Subject<'a>>
+        ensures is { option_map subject_view result ≡ subject_in self.now document symbol.now }
+        ensures listed { IfSome result (λ subject. slice_get self.now.documents subject.asked.number ≡ Some subject.asked.document.now) }
+    {
+        match self.documents().get(document) {
+            Some(found) => Some(Subject {
+                asked: Named {
+                    number: document,
+                    document: found,
+                },
+                symbol,
+            }),
+            None => None,
+        }
+    }
+
+    /// The places of all occurrences of a symbol that is asked for in the document with a number,
+    /// in the index's order. Of a local symbol those in that document alone; none where the index
+    /// has no such document.
+    pub fn references_in(&self, document: usize, symbol: &str) -> &[Place]
+        ensures { result.now ≡ references_in self.now document symbol.now }
+    {
+        match self.subject_in(document, symbol) {
+            Some(subject) => self.places_about(&subject),
+            None => &[],
+        }
+    }
+
+    /// The places where a symbol is defined that is asked for in the document with a number: of its
+    /// references those whose role has the bit of a definition.
+    pub fn definitions_in(
+        &self,
+        alloc: Global,
+        document: usize,
+        symbol: &str,
+    ) -> Result<Vec<Place>, AllocError>
+        ensures { IfOk result (λ places. places.items ≡ definitions_in self.now document symbol.now) }
+    {
+        match self.subject_in(document, symbol) {
+            Some(subject) => self.definitions_of(alloc, &subject),
+            None => Ok(Vec::new(alloc)),
+        }
+    }
+
+    /// The documentation of a symbol that is asked for in the document with a number: the texts of
+    /// its first entry, and none where it has no entry or the index has no such document.
+    pub fn documentation_in(
+        &self,
+        alloc: Global,
+        document: usize,
+        symbol: &str,
+    ) -> Result<Vec<&str>, AllocError>
+        ensures { IfOk result (λ texts. map (λ (text : Bor (List ℕ)). text.now) texts.items ≡ documentation_in self.now document symbol.now) }
+    {
+        match self.subject_in(document, symbol) {
+            Some(subject) => texts_of(alloc, self.entry_of(&subject)),
+            None => Ok(Vec::new(alloc)),
         }
     }
 }

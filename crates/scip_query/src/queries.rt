@@ -103,8 +103,8 @@ impl Queries {
         }
     }
 
-    /// The documents of the index.
-    pub(crate) fn documents(&self) -> &[Document]
+    /// The documents of the index, in its order.
+    pub fn documents(&self) -> &[Document]
         ensures { result.now ≡ self.now.documents }
     {
         self.index.documents.as_slice()

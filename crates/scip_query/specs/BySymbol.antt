@@ -1,0 +1,30 @@
+-- What is asked about a symbol by itself, in a document: of a local symbol there alone, of another everywhere.
+use Rattle.std.specs.Prelude.{ℕ, List, [], Option, map}
+use Rattle.std.specs.List.{slice_get}
+use Rattle.std.specs.Option.{option_map, unwrap_or}
+use Rattle.scip_model.specs.declared.records.Index.{Index}
+use Rattle.scip_model.specs.declared.records.Document.{Document}
+use Rattle.scip_query.specs.Sites.{Site}
+use Rattle.scip_query.specs.OccurrenceAt.{Subject}
+use Rattle.scip_query.specs.References.{references_of, definitions_of}
+use Rattle.scip_query.specs.Documentation.{documentation_of}
+use Rattle.scip_query.specs.declared.place.Place.{Place}
+
+-- a symbol, asked for in the document with a number, where there is one
+abbrev pub subject_in : Index → ℕ → List ℕ → Option Subject
+subject_in index number symbol =
+    option_map (λ (d : Document). record { asked = record { number = number; document = d }; symbol = symbol }) (slice_get index.documents number)
+
+-- where its occurrences are listed, its definitions among them
+abbrev pub references_in : Index → ℕ → List ℕ → List Place
+references_in index number symbol =
+    unwrap_or (option_map (λ (s : Subject). map (λ (site : Site). site.place) (references_of index s)) (subject_in index number symbol)) []
+
+-- those that define it
+abbrev pub definitions_in : Index → ℕ → List ℕ → List Place
+definitions_in index number symbol =
+    unwrap_or (option_map (λ (s : Subject). map (λ (site : Site). site.place) (definitions_of index s)) (subject_in index number symbol)) []
+
+-- its documentation
+abbrev pub documentation_in : Index → ℕ → List ℕ → List (List ℕ)
+documentation_in index number symbol = unwrap_or (option_map (documentation_of index) (subject_in index number symbol)) []

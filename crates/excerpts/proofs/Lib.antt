@@ -1,0 +1,2 @@
+mod CharacterLemmas
+mod ShownLemmas

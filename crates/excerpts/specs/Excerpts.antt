@@ -1,0 +1,79 @@
+-- A line of a source, with a part of it marked.
+use Rattle.std.specs.Prelude.{ℕ, ◌+◌, ◌-◌, Bool, nat_lt, List, [], ◌∷◌, ◌++◌, length, take, drop, codes, if◌then◌else◌}
+use Rattle.std.specs.Fmt.{decimal}
+use Rattle.std.specs.List.{flat_map}
+use Rattle.excerpts.specs.Characters.{characters}
+use Rattle.excerpts.specs.Places.{line_number, line_after}
+use Rattle.excerpts.specs.Shown.{shown, mark}
+use Rattle.proto_lex.specs.Position.{line_before}
+
+-- the characters of a line before its marked part, of this part, and behind it
+pub record Parts : Type 0 where
+  pub before : List (List ℕ)
+  pub marked : List (List ℕ)
+  pub behind : List (List ℕ)
+
+abbrev pub parts_in : (before marked behind : List ℕ) → Parts
+parts_in before marked behind = record { before = characters before; marked = characters marked; behind = characters behind }
+
+-- by the offset of the marked part and its length
+abbrev pub parts_of : List ℕ → (at len : ℕ) → Parts
+parts_of text at len = parts_in (line_before text at) (take len (line_after text at)) (drop len (line_after text at))
+
+-- A line of at most 200 characters is shown whole; of a longer one at most 100 are shown on each side of the place.
+abbrev pub room : Parts → ℕ
+room parts = if nat_lt 200 (length parts.before + length parts.marked + length parts.behind) then 100 else 200
+
+abbrev pub last_of : ℕ → List (List ℕ) → List (List ℕ)
+last_of count characters = drop (length characters - count) characters
+
+-- what stands where characters are left out
+abbrev pub where_cut : Bool → List ℕ → List ℕ
+where_cut cut text = if cut then text else []
+
+abbrev pub shown_text : List (List ℕ) → List ℕ
+shown_text characters = flat_map shown characters
+
+abbrev pub marks : List ℕ → List (List ℕ) → List ℕ
+marks sign characters = flat_map (mark sign) characters
+
+-- the line, with `...` where it is cut
+abbrev pub shown_line : Parts → List ℕ
+shown_line parts =
+    where_cut (nat_lt (room parts) (length parts.before)) (codes "...")
+    ++ shown_text (last_of (room parts) parts.before)
+    ++ shown_text (take (room parts) parts.marked)
+    ++ shown_text (take (room parts - length parts.marked) parts.behind)
+    ++ where_cut (nat_lt (room parts) (length parts.marked + length parts.behind)) (codes "...")
+
+-- carets below what is marked, and one below a place alone
+abbrev pub carets : List (List ℕ) → List ℕ
+carets [] = codes "^"
+carets (character ∷ others) = marks (codes "^") (character ∷ others)
+
+-- what stands below the line
+abbrev pub mark_line : Parts → List ℕ
+mark_line parts =
+    where_cut (nat_lt (room parts) (length parts.before)) (codes "   ")
+    ++ marks (codes " ") (last_of (room parts) parts.before)
+    ++ carets (take (room parts) parts.marked)
+
+-- a space for each digit
+abbrev pub blanks : List ℕ → List ℕ
+blanks digits = flat_map (λ digit. codes " ") digits
+
+-- the line behind its number, and what stands below it, each after a line end
+abbrev pub numbered : (number : List ℕ) → Parts → List ℕ
+numbered number parts = codes "\n  " ++ number ++ codes " | " ++ shown_line parts
+
+abbrev pub below : (number : List ℕ) → Parts → List ℕ
+below number parts = codes "\n  " ++ blanks number ++ codes " | " ++ mark_line parts
+
+abbrev pub excerpt : List ℕ → (at len : ℕ) → List ℕ
+excerpt text at len =
+    numbered (decimal (line_number text at)) (parts_of text at len) ++ below (decimal (line_number text at)) (parts_of text at len)
+
+-- bytes of a source in a sentence, at most 40 of their characters
+abbrev pub quoted : List ℕ → List ℕ
+quoted bytes =
+    codes "`" ++ shown_text (take 40 (characters bytes)) ++ where_cut (nat_lt 40 (length (characters bytes))) (codes "...") ++ codes "`"

@@ -1,0 +1,6 @@
+-- characters, and what is shown of them
+pub mod Characters
+pub mod Shown
+-- a place in a source, and its line
+pub mod Places
+pub mod Excerpts

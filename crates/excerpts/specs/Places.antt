@@ -1,0 +1,34 @@
+-- A place of a source, as editors show it: lines and columns count from 1, columns in characters.
+use Rattle.std.specs.Prelude.{ℕ, ◌+◌, ◌-◌, List, [], ◌++◌, ◌∷◌, length, take, drop, nat_eq, slice_index, codes, if◌then◌else◌}
+use Rattle.std.specs.Fmt.{decimal}
+use Rattle.std.specs.List.{before_first, prefix_len}
+use Rattle.proto_lex.specs.Bytes.{is_word}
+use Rattle.proto_lex.specs.Position.{is_line_end, line_of, line_before}
+use Rattle.excerpts.specs.Characters.{characters}
+
+-- the number of an offset's line
+abbrev pub line_number : List ℕ → ℕ → ℕ
+line_number text at = line_of text at + 1
+
+abbrev pub column : List ℕ → ℕ → ℕ
+column text at = length (characters (line_before text at)) + 1
+
+-- `PATH:LINE:COLUMN: `
+abbrev pub place_text : List ℕ → List ℕ → ℕ → List ℕ
+place_text path text at = path ++ codes ":" ++ decimal (line_number text at) ++ codes ":" ++ decimal (column text at) ++ codes ": "
+
+-- a line without the `\r` that ends it
+abbrev pub without_return : List ℕ → List ℕ
+without_return line = if nat_eq (slice_index line (length line - 1)) 13 then take (length line - 1) line else line
+
+-- what stands on an offset's line from it on
+abbrev pub line_after : List ℕ → ℕ → List ℕ
+line_after text at = without_return (before_first is_line_end (drop at text))
+
+-- how many bytes the token at a place has: letters, digits and `_`, or else one character
+abbrev pub first_len : List (List ℕ) → ℕ
+first_len [] = 0
+first_len (character ∷ others) = length character
+
+abbrev pub token_len : List ℕ → ℕ
+token_len bytes = if nat_eq (prefix_len is_word bytes) 0 then first_len (characters bytes) else prefix_len is_word bytes

@@ -94,9 +94,13 @@ fn is_right(alloc: Global, row: &Row) -> Result<bool, AllocError> {
     }
 }
 
+/// Sees that what a case says holds. (A formatted assertion is proved once, here.)
+pub(crate) fn see(rt: &impl Abort, holds: bool, case: &str) {
+    assert!(rt; holds, "{case}");
+}
+
 /// Ends the test where another thing is made of a row's sources than it lists.
 pub(crate) fn see_row(rt: &impl Abort, alloc: Global, row: &Row) -> Result<(), AllocError> {
-    let is_right = is_right(alloc, row)?;
-    assert!(rt; is_right, "not {}", row.listed);
+    see(rt, is_right(alloc, row)?, row.listed);
     Ok(())
 }

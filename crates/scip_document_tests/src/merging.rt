@@ -2,6 +2,7 @@
 
 ghost use Rattle.scip_document.specs.Pieces.{IsRising};
 
+use crate::documents::see;
 use scip_document::{MergeFault, Unmerged, merge, one_merge_refusal, one_merged_list};
 use scip_model::{Document, Index, Metadata, SymbolInformation};
 use sequences::{OwnedText, Sequence};
@@ -94,8 +95,7 @@ fn pieces_in_any_order(rt: HostRuntime) -> Result<(), Fail> {
     one_merge_refusal();
     one_merged_list();
     for (paths, fault) in &ROWS {
-        let is_due = is_row_due(rt.alloc(), *paths, *fault)?;
-        assert!(rt; is_due, "{paths}");
+        see(&rt, is_row_due(rt.alloc(), *paths, *fault)?, *paths);
     }
     Ok(())
 }

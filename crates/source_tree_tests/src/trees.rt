@@ -81,8 +81,8 @@ fn bad_paths_and_two_sources_with_one_path(rt: HostRuntime) -> Result<(), Fail> 
     }
     let fault = fault_again(rt.alloc(), "a.proto", "a.proto")?;
     see(&rt, fault == Some(TreeFault::SamePath(1)), "one path");
-    let told = format!(in rt.alloc(); "{}", TreeFault::SamePath(1))?;
-    see(&rt, told.as_str() == "SamePath(1)", "its text");
+    let told = format!(in rt.alloc(); "{} {}", TreeFault::SamePath(1), TreeFault::BadPath(2))?;
+    see(&rt, told.as_str() == "SamePath(1) BadPath(2)", "texts");
     let fault = fault_again(rt.alloc(), "a.proto", "b.proto")?;
     see(&rt, fault.is_none(), "two paths");
     Ok(())

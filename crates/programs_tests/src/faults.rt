@@ -4,7 +4,6 @@ use crate::shared::see;
 use programs::QueryFault;
 use scip_query::AnswerFault;
 use scip_wire::WireFault;
-use source_tree::TreeFault;
 use std::alloc::{AllocError, Global};
 use std::test::Fail;
 
@@ -49,15 +48,5 @@ fn lines_and_statuses(rt: HostRuntime) -> Result<(), Fail> {
         let is_so = line.as_str() == row.line && row.fault.status() == row.status;
         see(&rt, is_so, row.line);
     }
-    Ok(())
-}
-
-/// Which file has a bad path; `runs` has the line that a user of the program sees for it, which names the
-/// path.
-#[test]
-fn text_of_a_bad_path(rt: HostRuntime) -> Result<(), Fail> {
-    let fault = TreeFault::BadPath(1);
-    let text = format!(in rt.alloc(); "{fault}")?;
-    see(&rt, text.as_str() == "BadPath(1)", text.as_str());
     Ok(())
 }

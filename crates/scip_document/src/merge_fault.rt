@@ -2,7 +2,7 @@
 
 use scip_model::{Document, SymbolInformation};
 use sequences::Sequence;
-use std::alloc::{AllocError, AllocFailed};
+use std::alloc::AllocError;
 use thiserror::Error;
 
 /// Why documents, the pieces of an index, aren't put together. Of the first two the one of the
@@ -30,17 +30,6 @@ impl From<AllocError> for MergeFault {
     ghost from_gives = { λ _ e. e ≡ Memory };
 
     fn from(_refused: AllocError) -> MergeFault {
-        MergeFault::Memory
-    }
-}
-
-impl<T: Drop> From<AllocFailed<T>> for MergeFault {
-    ghost use Rattle.std.specs.Prelude.{◌≡◌};
-    ghost use Rattle.scip_document.specs.declared.merge_fault.MergeFault.TheVariants.{Memory};
-
-    ghost from_gives = { λ _ e. e ≡ Memory };
-
-    fn from(_refused: AllocFailed<T>) -> MergeFault {
         MergeFault::Memory
     }
 }

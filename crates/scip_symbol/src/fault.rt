@@ -1,6 +1,6 @@
 //! Why a text is no symbol.
 
-use std::alloc::{AllocError, AllocFailed};
+use std::alloc::AllocError;
 use thiserror::Error;
 
 /// Why a text gives no symbol.
@@ -22,17 +22,6 @@ impl From<AllocError> for SymbolFault {
     ghost from_gives = { λ _ e. e ≡ Memory };
 
     fn from(_refused: AllocError) -> SymbolFault {
-        SymbolFault::Memory
-    }
-}
-
-impl<T: Drop> From<AllocFailed<T>> for SymbolFault {
-    ghost use Rattle.std.specs.Prelude.{◌≡◌};
-    ghost use Rattle.scip_symbol.specs.declared.fault.SymbolFault.TheVariants.{Memory};
-
-    ghost from_gives = { λ _ e. e ≡ Memory };
-
-    fn from(_refused: AllocFailed<T>) -> SymbolFault {
         SymbolFault::Memory
     }
 }

@@ -3,7 +3,7 @@
 //! The private readers see the rest of a text alone, so their `BadSymbol` has the number of bytes that are left where no symbol
 //! goes on so; `read` makes the offset of it.
 
-ghost use Rattle.std.specs.Prelude.{◌≡◌, ◌<◌, false, length, IfOk, IfErr, MatchOption, MatchResult};
+ghost use Rattle.std.specs.Prelude.{◌≡◌, ◌<◌, ◌++◌, [], ◌∷◌, false, length, IfOk, IfErr, OnOk, MatchOption, MatchResult};
 ghost use Rattle.std.specs.Prelude.{take, drop};
 ghost use Rattle.scip_symbol.specs.Names.{is_identifier_character, space};
 ghost use Rattle.scip_symbol.specs.Gives.{Gives};
@@ -17,7 +17,7 @@ use crate::fault::SymbolFault;
 use crate::printer::is_identifier_character;
 use crate::symbol::{Descriptor, GlobalSymbol, Suffix, Symbol, SymbolParts};
 use sequences::{OwnedText, Sequence};
-use std::alloc::Global;
+use std::alloc::{AllocError, Global};
 
 /// The text behind a front, where it begins with it.
 pub(crate) fn after<'a>(text: &'a str, front: &str) -> Option<&'a str>
@@ -175,6 +175,14 @@ fn read_descriptor<'a>(alloc: Global, text: &'a str) -> Result<(Descriptor, &'a 
     Ok((Descriptor { name, suffix }, rest))
 }
 
+/// Adds a descriptor at the end.
+fn add(descriptors: &mut Vec<Descriptor>, descriptor: Descriptor) -> Result<(), AllocError>
+    ensures { OnOk result (descriptors.new.items ≡ descriptors.old.items ++ descriptor ∷ []) }
+{
+    descriptors.push(descriptor)?;
+    Ok(())
+}
+
 /// One descriptor or more, up to the end.
 fn read_descriptors(alloc: Global, text: &str) -> Result<Sequence<Descriptor>, SymbolFault>
     ensures { Gives (λ ds. ds) result (descriptors_at text.now) }
@@ -183,7 +191,7 @@ fn read_descriptors(alloc: Global, text: &str) -> Result<Sequence<Descriptor>, S
     let mut rest = text;
     'descriptors: loop {
         let (descriptor, behind) = read_descriptor(alloc, rest)?;
-        descriptors.push(descriptor)?;
+        add(&mut descriptors, descriptor)?;
         if behind.is_empty() {
             return Ok(Sequence::from_vec(descriptors));
         }

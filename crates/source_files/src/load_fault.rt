@@ -1,6 +1,6 @@
 //! Why the files below roots make no tree.
 
-use std::alloc::{AllocError, AllocFailed};
+use std::alloc::AllocError;
 
 /// Why there is no tree of the sources below a root and the files below included roots.
 #[derive(Debug, Drop)]
@@ -25,17 +25,6 @@ impl From<AllocError> for LoadFault {
     ghost from_gives = { λ _ e. e ≡ Memory };
 
     fn from(_refused: AllocError) -> LoadFault {
-        LoadFault::Memory
-    }
-}
-
-impl<T: Drop> From<AllocFailed<T>> for LoadFault {
-    ghost use Rattle.std.specs.Prelude.{◌≡◌};
-    ghost use Rattle.source_files.specs.declared.load_fault.LoadFault.TheVariants.{Memory};
-
-    ghost from_gives = { λ _ e. e ≡ Memory };
-
-    fn from(_refused: AllocFailed<T>) -> LoadFault {
         LoadFault::Memory
     }
 }

@@ -1,6 +1,6 @@
 //! The sources below a root, with what they hold.
 
-ghost use Rattle.std.specs.Prelude.{◌≡◌, IfOk, IfErr, string_bytes};
+ghost use Rattle.std.specs.Prelude.{◌≡◌, ◌++◌, [], ◌∷◌, IfOk, IfErr, OnOk, string_bytes};
 ghost use Rattle.std.specs.Option.{option_map};
 ghost use Rattle.source_files.specs.Source.{MayKeep};
 ghost use Rattle.source_files.specs.Roots.{path_below, AreBelow};
@@ -34,6 +34,14 @@ fn read_below<F: ReadFiles>(
     files.read_source(alloc, below.as_str())
 }
 
+// Adds a source at the end.
+fn add(sources: &mut Vec<Source>, source: Source) -> Result<(), AllocError>
+    ensures { OnOk result (sources.new.items ≡ sources.old.items ++ source ∷ []) }
+{
+    sources.push(source)?;
+    Ok(())
+}
+
 /// The sources below a root, by path.
 ///
 /// `Unreadable`: the root, which can't be listed, or else the first source that can't be read. Beside it
@@ -59,7 +67,7 @@ pub fn read_root<F: ReadFiles>(
             Some(bytes) => bytes,
             None => return Err(LoadFault::Unreadable(path)),
         };
-        sources.push(Source { path, bytes })?;
+        add(&mut sources, Source { path, bytes })?;
     }
     Ok(sources)
 }

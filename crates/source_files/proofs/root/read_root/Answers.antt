@@ -42,8 +42,8 @@ loop-path-preserved g c =
       tt,
       tt,
       omega arith,
-      listed_more lists gives root sources c.push.new.self.items source (map string_bytes (into_iter_items c.next.new.self)) (map string_bytes (into_iter_items c.loop-path.path-iterator))
-          c.in_ok-push.ensures.items (ap (map string_bytes) steps.0) listed,
-      held_more lists gives root sources c.push.new.self.items source c.in_ok-push.ensures.items held
+      listed_more lists gives root sources c.add.new.sources.items source (map string_bytes (into_iter_items c.next.new.self)) (map string_bytes (into_iter_items c.loop-path.path-iterator))
+          c.in_ok-add.ensures (ap (map string_bytes) steps.0) listed,
+      held_more lists gives root sources c.add.new.sources.items source c.in_ok-add.ensures held
           (subst (λ p. MayKeep (gives (path_below root p)) (Some bytes)) c.as_str.ensures.value kept),
     )

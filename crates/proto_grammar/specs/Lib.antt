@@ -3,9 +3,8 @@ pub mod Lexeme
 pub mod Terminal
 -- The tree of a message
 pub mod Tree
-pub mod Code
 pub mod Items
-pub mod Falls
+pub mod Tables
 -- The grammar
 pub mod Grammar
 -- What the parser does

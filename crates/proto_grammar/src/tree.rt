@@ -197,7 +197,7 @@ pub struct Method {
 
 impl Model for Message {
     ghost use Rattle.proto_grammar.specs.Tree.{MessageTree, message_size};
-    ghost use Rattle.proto_grammar.specs.Code.{message_code};
+    ghost use Rattle.proto_grammar.specs.Tables.Code.{message_code};
     ghost use Rattle.std.proofs.Common.{arith};
 
     ghost Value = { MessageTree };
@@ -210,7 +210,7 @@ impl Model for Message {
 
     ghost size = { message_size };
 
-    ghost use Rattle.proto_grammar.specs.Falls.{most_le-body_size};
+    ghost use Rattle.proto_grammar.specs.Tables.Falls.{most_le-body_size};
 
     ghost size_decreases = { λ m h. omega (arith, most_le-body_size m.items.items) };
 }

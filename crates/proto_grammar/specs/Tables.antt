@@ -1,0 +1,5 @@
+-- What the model of a message stands on: no public contract names it.
+-- by what values are told apart
+pub mod Code
+-- that what is inside is smaller
+pub mod Falls

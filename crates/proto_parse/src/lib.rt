@@ -16,4 +16,3 @@ pub use proto_grammar::{
     CustomOptions, Enum, Field, FieldType, File, FileItem, Heading, Import, ImportKind, Label,
     Leaf, MapField, Message, MessageItem, Method, Oneof, Service, SyntaxFault, TypeName,
 };
-pub use sequences::Sequence;

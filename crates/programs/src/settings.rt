@@ -7,10 +7,10 @@ ghost use Rattle.programs.specs.Settings.{custom_options_of, encoding_of, packag
 
 use command_line::{CustomOptionsWord, IndexOptions, PositionsWord};
 use index_pool::Workers;
-use proto_grammar::CustomOptions;
+use proto_parse::CustomOptions;
 use proto_lex::Encoding;
 use scip_build::Settings;
-use scip_model::OwnedText;
+use sequences::OwnedText;
 use scip_symbol::PackageId;
 use std::alloc::{AllocError, Global};
 

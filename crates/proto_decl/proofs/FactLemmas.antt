@@ -4,10 +4,10 @@ use Rattle.std.specs.List.{AllZip, flat_map}
 use Rattle.std.proofs.lemmas.Grind.{flat_map-append}
 use Rattle.proto_lex.specs.declared.span.Span.{Span}
 use Rattle.proto_lex.specs.Lexed.{Lexed, AreInOrder}
-use Rattle.proto_grammar.specs.Lexeme.{Lexeme}
+use Rattle.proto_parse.specs.Lexeme.{Lexeme}
 use Rattle.proto_parse.specs.Walk.{Mark, MarksAreInOrder, Among, each_then, names_then, item_then, PackageIsAmongItems}
-use Rattle.proto_grammar.specs.declared.tree.FileItem.{FileItem}
-use Rattle.proto_grammar.specs.declared.tree.File.{File}
+use Rattle.proto_parse.specs.tree.FileItem.{FileItem}
+use Rattle.proto_parse.specs.tree.File.{File}
 use Rattle.proto_decl.specs.Outlines.{in_item, file_surrounding, outlines_of, package_spans}
 use Rattle.proto_decl.specs.Declares.{IsDeclaration}
 use Rattle.proto_decl.specs.Facts.{Facts, AreFactsOf, name_spans, component_spans, PackageInOrder}

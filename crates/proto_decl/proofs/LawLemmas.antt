@@ -3,7 +3,7 @@ use Rattle.std.proofs.Common.{◌≡◌, ◌∙◌, sym, ap, refl, ℕ, List, []
 use Rattle.std.specs.List.{AllZip, join_with_byte}
 use Rattle.proto_lex.specs.declared.span.Span.{Span}
 use Rattle.proto_lex.specs.Lexed.{Lexed}
-use Rattle.proto_grammar.specs.declared.tree.File.{File}
+use Rattle.proto_parse.specs.tree.File.{File}
 use Rattle.proto_decl.specs.Comments.{first_line, text_of, IsLeadingText, IsTrailingText}
 use Rattle.proto_decl.specs.Comments.IsLeadingText.{leading, not_first}
 use Rattle.proto_decl.specs.Comments.IsTrailingText.{trailing, none}

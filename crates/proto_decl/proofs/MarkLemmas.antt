@@ -5,10 +5,10 @@ use Rattle.std.proofs.lemmas.List.Elements.{All-head, All-tail}
 use Rattle.proto_lex.specs.declared.span.Span.{Span}
 use Rattle.proto_lex.specs.declared.token.Token.{Token}
 use Rattle.proto_lex.specs.declared.token.TokenKind.TheVariants.{Identifier}
-use Rattle.proto_grammar.specs.Lexeme.{Lexeme, lexemes_of}
-use Rattle.proto_grammar.specs.declared.tree.TypeName.{TypeName}
-use Rattle.proto_grammar.specs.declared.tree.FieldType.{FieldType}
-use Rattle.proto_grammar.specs.declared.tree.FieldType.TheVariants.{Scalar, Named}
+use Rattle.proto_parse.specs.Lexeme.{Lexeme, lexemes_of}
+use Rattle.proto_parse.specs.tree.TypeName.{TypeName}
+use Rattle.proto_parse.specs.tree.FieldType.{FieldType}
+use Rattle.proto_parse.specs.tree.FieldType.TheVariants.{Scalar, Named}
 use Rattle.proto_parse.specs.Walk.{Mark, Among, names_then, dot_then, type_name_then, type_then}
 use Rattle.proto_parse.specs.Walk.Mark.{First, Name, Literal, Other}
 use Rattle.proto_parse.specs.Walk.Among.{none as no_marks, skip, first as at_first, name as at_name, literal as at_literal, other as at_other}

@@ -5,17 +5,17 @@ use Rattle.std.proofs.lemmas.List.{length-take-le, length-drop}
 use Rattle.std.proofs.lemmas.List.Elements.{All-nil, All-cons, All-head, All-tail, All-append}
 use Rattle.proto_lex.specs.declared.span.Span.{Span}
 use Rattle.proto_lex.specs.Lexed.{Lexed, IsPart, part_of}
-use Rattle.proto_grammar.specs.declared.tree.Heading.{Heading}
-use Rattle.proto_grammar.specs.declared.tree.Field.{Field}
-use Rattle.proto_grammar.specs.declared.tree.Method.{Method}
-use Rattle.proto_grammar.specs.declared.tree.Enum.{Enum}
-use Rattle.proto_grammar.specs.declared.tree.Leaf.{Leaf}
-use Rattle.proto_grammar.specs.declared.tree.Leaf.TheVariants as leaf
-use Rattle.proto_grammar.specs.declared.tree.FileItem.{FileItem}
-use Rattle.proto_grammar.specs.declared.tree.FileItem.TheVariants as item
-use Rattle.proto_grammar.specs.declared.tree.File.{File}
-use Rattle.proto_grammar.specs.Tree.{Body}
-use Rattle.proto_grammar.specs.Tree.Body.{NoMore, LeafThen, MessageThen}
+use Rattle.proto_parse.specs.tree.Heading.{Heading}
+use Rattle.proto_parse.specs.tree.Field.{Field}
+use Rattle.proto_parse.specs.tree.Method.{Method}
+use Rattle.proto_parse.specs.tree.Enum.{Enum}
+use Rattle.proto_parse.specs.tree.Leaf.{Leaf}
+use Rattle.proto_parse.specs.tree.Leaf.TheVariants as leaf
+use Rattle.proto_parse.specs.tree.FileItem.{FileItem}
+use Rattle.proto_parse.specs.tree.FileItem.TheVariants as item
+use Rattle.proto_parse.specs.tree.File.{File}
+use Rattle.proto_parse.specs.Tree.{Body}
+use Rattle.proto_parse.specs.Tree.Body.{NoMore, LeafThen, MessageThen}
 use Rattle.proto_decl.specs.Names.{qualified}
 use Rattle.proto_decl.specs.Spans.{OfHeading, OfField, OfEnum, OfMethod, OfLeaf, OfBody, OfItem}
 use Rattle.proto_decl.specs.Outlines.{step_to, outline_at, inside, beside, in_enum, in_leaf, in_body, in_item, file_surrounding, outlines_of}

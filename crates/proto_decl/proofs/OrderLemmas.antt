@@ -5,9 +5,9 @@ use Rattle.std.specs.List.{All, flat_map}
 use Rattle.std.proofs.lemmas.List.Elements.{All-nil, All-cons, All-head, All-tail}
 use Rattle.proto_lex.specs.declared.span.Span.{Span}
 use Rattle.proto_lex.specs.Lexed.{AreInOrder, AreApart}
-use Rattle.proto_grammar.specs.declared.tree.FileItem.{FileItem}
-use Rattle.proto_grammar.specs.declared.tree.Import.{Import}
-use Rattle.proto_grammar.specs.declared.tree.File.{File}
+use Rattle.proto_parse.specs.tree.FileItem.{FileItem}
+use Rattle.proto_parse.specs.tree.Import.{Import}
+use Rattle.proto_parse.specs.tree.File.{File}
 use Rattle.proto_parse.specs.Walk.{Mark, MarksAreInOrder, each_then, names_then, item_then, literal_then, import_then, marks_of_items}
 use Rattle.proto_parse.specs.Walk.Mark.{First, Name, Literal, Other}
 use Rattle.proto_parse.specs.Filled.{FilledImport}

@@ -2,9 +2,9 @@
 use Rattle.std.proofs.Common.{◌≡◌, ℕ, zero, suc, ◌≤◌, ◌+◌, ◌<◌, List, [], ◌∷◌, ◌++◌, length, get_or, drop, refl, ap, sym, ◌∙◌, subst, arith, append_assoc, add-one}
 use Rattle.std.proofs.Math.Seq.{drop-cons}
 use Rattle.proto_lex.specs.declared.span.Span.{Span}
-use Rattle.proto_grammar.specs.declared.tree.MessageItem.{MessageItem}
-use Rattle.proto_grammar.specs.declared.tree.MessageItem.TheVariants.{Message, Leaf}
-use Rattle.proto_grammar.specs.declared.tree.Leaf.{Leaf as LeafTree}
+use Rattle.proto_parse.specs.tree.MessageItem.{MessageItem}
+use Rattle.proto_parse.specs.tree.MessageItem.TheVariants.{Message, Leaf}
+use Rattle.proto_parse.specs.tree.Leaf.{Leaf as LeafTree}
 use Rattle.proto_parse.specs.Tree.{MessageTree, body_size, message_size}
 use Rattle.proto_parse.specs.Items.{body_of}
 use Rattle.proto_decl.specs.Spans.{OfMessage, OfLeaf, OfBody}

@@ -5,19 +5,19 @@ use Rattle.std.specs.List.{All, flat_map}
 use Rattle.std.proofs.lemmas.List.Elements.{All-nil, All-cons, All-head, All-tail, All-append}
 use Rattle.proto_lex.specs.declared.span.Span.{Span}
 use Rattle.proto_lex.specs.Lexed.{IsPart, AreInOrder}
-use Rattle.proto_grammar.specs.declared.tree.TypeName.{TypeName}
-use Rattle.proto_grammar.specs.declared.tree.FieldType.{FieldType}
-use Rattle.proto_grammar.specs.declared.tree.FieldType.TheVariants.{Scalar, Named}
-use Rattle.proto_grammar.specs.declared.tree.Field.{Field}
-use Rattle.proto_grammar.specs.declared.tree.Leaf.{Leaf}
-use Rattle.proto_grammar.specs.declared.tree.Leaf.TheVariants as leaf
-use Rattle.proto_grammar.specs.declared.tree.Method.{Method}
-use Rattle.proto_grammar.specs.declared.tree.Import.{Import}
-use Rattle.proto_grammar.specs.declared.tree.FileItem.{FileItem}
-use Rattle.proto_grammar.specs.declared.tree.FileItem.TheVariants as item
-use Rattle.proto_grammar.specs.declared.tree.File.{File}
-use Rattle.proto_grammar.specs.Tree.{Body}
-use Rattle.proto_grammar.specs.Tree.Body.{NoMore, LeafThen, MessageThen}
+use Rattle.proto_parse.specs.tree.TypeName.{TypeName}
+use Rattle.proto_parse.specs.tree.FieldType.{FieldType}
+use Rattle.proto_parse.specs.tree.FieldType.TheVariants.{Scalar, Named}
+use Rattle.proto_parse.specs.tree.Field.{Field}
+use Rattle.proto_parse.specs.tree.Leaf.{Leaf}
+use Rattle.proto_parse.specs.tree.Leaf.TheVariants as leaf
+use Rattle.proto_parse.specs.tree.Method.{Method}
+use Rattle.proto_parse.specs.tree.Import.{Import}
+use Rattle.proto_parse.specs.tree.FileItem.{FileItem}
+use Rattle.proto_parse.specs.tree.FileItem.TheVariants as item
+use Rattle.proto_parse.specs.tree.File.{File}
+use Rattle.proto_parse.specs.Tree.{Body}
+use Rattle.proto_parse.specs.Tree.Body.{NoMore, LeafThen, MessageThen}
 use Rattle.proto_parse.specs.Filled.{FilledImport}
 use Rattle.proto_decl.specs.Names.{qualified, components_at}
 use Rattle.proto_decl.specs.Spans.{OfTypeName, OfType, OfField, OfLeaf, OfBody, OfMethod, OfItem, OfPackage}

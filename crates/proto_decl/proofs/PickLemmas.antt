@@ -4,22 +4,22 @@ use Rattle.std.specs.List.{flat_map}
 use Rattle.std.proofs.lemmas.List.{map-append}
 use Rattle.std.proofs.lemmas.Grind.{flat_map-append}
 use Rattle.proto_lex.specs.declared.span.Span.{Span}
-use Rattle.proto_grammar.specs.declared.tree.Heading.{Heading}
-use Rattle.proto_grammar.specs.declared.tree.TypeName.{TypeName}
-use Rattle.proto_grammar.specs.declared.tree.FieldType.{FieldType}
-use Rattle.proto_grammar.specs.declared.tree.FieldType.TheVariants.{Scalar, Named}
-use Rattle.proto_grammar.specs.declared.tree.Field.{Field}
-use Rattle.proto_grammar.specs.declared.tree.MapField.{MapField}
-use Rattle.proto_grammar.specs.declared.tree.Enum.{Enum}
-use Rattle.proto_grammar.specs.declared.tree.Oneof.{Oneof}
-use Rattle.proto_grammar.specs.declared.tree.Leaf.{Leaf}
-use Rattle.proto_grammar.specs.declared.tree.Leaf.TheVariants as leaf
-use Rattle.proto_grammar.specs.declared.tree.Method.{Method}
-use Rattle.proto_grammar.specs.declared.tree.Service.{Service}
-use Rattle.proto_grammar.specs.declared.tree.FileItem.{FileItem}
-use Rattle.proto_grammar.specs.declared.tree.FileItem.TheVariants as item
-use Rattle.proto_grammar.specs.Tree.{Body, MessageTree}
-use Rattle.proto_grammar.specs.Tree.Body.{NoMore, LeafThen, MessageThen}
+use Rattle.proto_parse.specs.tree.Heading.{Heading}
+use Rattle.proto_parse.specs.tree.TypeName.{TypeName}
+use Rattle.proto_parse.specs.tree.FieldType.{FieldType}
+use Rattle.proto_parse.specs.tree.FieldType.TheVariants.{Scalar, Named}
+use Rattle.proto_parse.specs.tree.Field.{Field}
+use Rattle.proto_parse.specs.tree.MapField.{MapField}
+use Rattle.proto_parse.specs.tree.Enum.{Enum}
+use Rattle.proto_parse.specs.tree.Oneof.{Oneof}
+use Rattle.proto_parse.specs.tree.Leaf.{Leaf}
+use Rattle.proto_parse.specs.tree.Leaf.TheVariants as leaf
+use Rattle.proto_parse.specs.tree.Method.{Method}
+use Rattle.proto_parse.specs.tree.Service.{Service}
+use Rattle.proto_parse.specs.tree.FileItem.{FileItem}
+use Rattle.proto_parse.specs.tree.FileItem.TheVariants as item
+use Rattle.proto_parse.specs.Tree.{Body, MessageTree}
+use Rattle.proto_parse.specs.Tree.Body.{NoMore, LeafThen, MessageThen}
 use Rattle.proto_parse.specs.Walk.{Mark, each_then, names_then, dot_then, type_name_then, type_then, heading_then, field_then, map_field_then, enum_then, oneof_then, leaf_then, body_then, message_then, method_then, service_then, item_then}
 use Rattle.proto_parse.specs.Walk.Mark.{Name, Other}
 use Rattle.proto_decl.specs.Names.{qualified, components_at}

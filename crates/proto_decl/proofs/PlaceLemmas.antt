@@ -10,8 +10,8 @@ use Rattle.proto_lex.specs.declared.token.Token.{Token}
 use Rattle.proto_lex.specs.declared.token.TokenKind.{TokenKind}
 use Rattle.proto_lex.specs.declared.token.TokenKind.TheVariants.{Identifier, StringLiteral}
 use Rattle.proto_lex.specs.Lexed.{Lexed, AreInOrder, AreApart}
-use Rattle.proto_grammar.specs.Lexeme.{Lexeme, lexemes_of}
-use Rattle.proto_grammar.specs.declared.tree.File.{File}
+use Rattle.proto_parse.specs.Lexeme.{Lexeme, lexemes_of}
+use Rattle.proto_parse.specs.tree.File.{File}
 use Rattle.proto_parse.specs.Filled.{FilledImport}
 use Rattle.proto_parse.specs.Walk.{Mark, Among, MarksAreInOrder, PackageIsAmongItems, marks_of_items, marks_of_imports}
 use Rattle.proto_parse.specs.Walk.Mark.{First, Name, Literal, Other}

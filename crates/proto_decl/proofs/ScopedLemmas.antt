@@ -11,18 +11,18 @@ use Rattle.proto_lex.specs.declared.span.Span.{Span}
 use Rattle.proto_lex.specs.declared.token.TokenKind.{TokenKind}
 use Rattle.proto_lex.specs.declared.token.TokenKind.TheVariants.{Identifier}
 use Rattle.proto_lex.proofs.PieceFound.{sign_cases}
-use Rattle.proto_grammar.specs.Lexeme.{lexemes_of}
-use Rattle.proto_grammar.specs.declared.tree.Heading.{Heading}
-use Rattle.proto_grammar.specs.declared.tree.Field.{Field}
-use Rattle.proto_grammar.specs.declared.tree.Method.{Method}
-use Rattle.proto_grammar.specs.declared.tree.Enum.{Enum}
-use Rattle.proto_grammar.specs.declared.tree.Leaf.{Leaf}
-use Rattle.proto_grammar.specs.declared.tree.Leaf.TheVariants as leaf
-use Rattle.proto_grammar.specs.declared.tree.FileItem.{FileItem}
-use Rattle.proto_grammar.specs.declared.tree.FileItem.TheVariants as item
-use Rattle.proto_grammar.specs.declared.tree.File.{File}
-use Rattle.proto_grammar.specs.Tree.{Body}
-use Rattle.proto_grammar.specs.Tree.Body.{NoMore, LeafThen, MessageThen}
+use Rattle.proto_parse.specs.Lexeme.{lexemes_of}
+use Rattle.proto_parse.specs.tree.Heading.{Heading}
+use Rattle.proto_parse.specs.tree.Field.{Field}
+use Rattle.proto_parse.specs.tree.Method.{Method}
+use Rattle.proto_parse.specs.tree.Enum.{Enum}
+use Rattle.proto_parse.specs.tree.Leaf.{Leaf}
+use Rattle.proto_parse.specs.tree.Leaf.TheVariants as leaf
+use Rattle.proto_parse.specs.tree.FileItem.{FileItem}
+use Rattle.proto_parse.specs.tree.FileItem.TheVariants as item
+use Rattle.proto_parse.specs.tree.File.{File}
+use Rattle.proto_parse.specs.Tree.{Body}
+use Rattle.proto_parse.specs.Tree.Body.{NoMore, LeafThen, MessageThen}
 use Rattle.proto_parse.specs.Walk.{Mark, Among, each_then, names_then, type_name_then, heading_then, field_then, enum_then, leaf_then, body_then, method_then, item_then, marks_of_items}
 use Rattle.proto_parse.specs.Walk.Mark.{Name, Other}
 use Rattle.proto_decl.proofs.MarkLemmas.{OfNames, of_lexemes, of_names, past_type_name, past_type}

@@ -6,25 +6,25 @@ use Rattle.proto_lex.specs.declared.span.Span.{Span}
 use Rattle.proto_lex.specs.declared.token.Token.{Token}
 use Rattle.proto_lex.specs.declared.token.TokenKind.{TokenKind}
 use Rattle.proto_lex.specs.declared.token.TokenKind.TheVariants.{StringLiteral}
-use Rattle.proto_grammar.specs.declared.tree.Heading.{Heading}
-use Rattle.proto_grammar.specs.declared.tree.TypeName.{TypeName}
-use Rattle.proto_grammar.specs.declared.tree.FieldType.{FieldType}
-use Rattle.proto_grammar.specs.declared.tree.FieldType.TheVariants.{Scalar, Named}
-use Rattle.proto_grammar.specs.declared.tree.Field.{Field}
-use Rattle.proto_grammar.specs.declared.tree.MapField.{MapField}
-use Rattle.proto_grammar.specs.declared.tree.Enum.{Enum}
-use Rattle.proto_grammar.specs.declared.tree.Oneof.{Oneof}
-use Rattle.proto_grammar.specs.declared.tree.Leaf.{Leaf}
-use Rattle.proto_grammar.specs.declared.tree.Leaf.TheVariants as leaf
-use Rattle.proto_grammar.specs.declared.tree.Method.{Method}
-use Rattle.proto_grammar.specs.declared.tree.Service.{Service}
-use Rattle.proto_grammar.specs.declared.tree.FileItem.{FileItem}
-use Rattle.proto_grammar.specs.declared.tree.FileItem.TheVariants as item
-use Rattle.proto_grammar.specs.declared.tree.Import.{Import}
-use Rattle.proto_grammar.specs.declared.tree.File.{File}
-use Rattle.proto_grammar.specs.Lexeme.{Lexeme, lexemes_of}
-use Rattle.proto_grammar.specs.Tree.{Body, MessageTree}
-use Rattle.proto_grammar.specs.Tree.Body.{NoMore, LeafThen, MessageThen}
+use Rattle.proto_parse.specs.tree.Heading.{Heading}
+use Rattle.proto_parse.specs.tree.TypeName.{TypeName}
+use Rattle.proto_parse.specs.tree.FieldType.{FieldType}
+use Rattle.proto_parse.specs.tree.FieldType.TheVariants.{Scalar, Named}
+use Rattle.proto_parse.specs.tree.Field.{Field}
+use Rattle.proto_parse.specs.tree.MapField.{MapField}
+use Rattle.proto_parse.specs.tree.Enum.{Enum}
+use Rattle.proto_parse.specs.tree.Oneof.{Oneof}
+use Rattle.proto_parse.specs.tree.Leaf.{Leaf}
+use Rattle.proto_parse.specs.tree.Leaf.TheVariants as leaf
+use Rattle.proto_parse.specs.tree.Method.{Method}
+use Rattle.proto_parse.specs.tree.Service.{Service}
+use Rattle.proto_parse.specs.tree.FileItem.{FileItem}
+use Rattle.proto_parse.specs.tree.FileItem.TheVariants as item
+use Rattle.proto_parse.specs.tree.Import.{Import}
+use Rattle.proto_parse.specs.tree.File.{File}
+use Rattle.proto_parse.specs.Lexeme.{Lexeme, lexemes_of}
+use Rattle.proto_parse.specs.Tree.{Body, MessageTree}
+use Rattle.proto_parse.specs.Tree.Body.{NoMore, LeafThen, MessageThen}
 use Rattle.proto_parse.specs.Walk.{Mark, Among, each_then, name_then, names_then, literal_then, dot_then, type_name_then, type_then, heading_then, field_then, map_field_then, enum_then, oneof_then, leaf_then, body_then, message_then, method_then, service_then, item_then, import_then, marks_of_items, marks_of_imports, marks_of_package}
 use Rattle.proto_parse.specs.Walk.Mark.{First, Name, Literal, Other}
 use Rattle.proto_parse.specs.Walk.Among.{none as no_marks, skip, first as at_first, name as at_name, literal as at_literal, other as at_other}

@@ -2,7 +2,7 @@
 use Rattle.std.specs.Prelude.{ℕ, ◌≡◌, List, [], ◌∷◌}
 use Rattle.std.specs.List.{AllZip}
 use Rattle.proto_lex.specs.Lexed.{Lexed}
-use Rattle.proto_grammar.specs.declared.tree.File.{File}
+use Rattle.proto_parse.specs.tree.File.{File}
 use Rattle.proto_decl.specs.Outlines.{outlines_of}
 use Rattle.proto_decl.specs.Comments.{IsLeadingText, IsTrailingText}
 use Rattle.proto_decl.specs.declared.declaration.DeclarationStep.{DeclarationStep}

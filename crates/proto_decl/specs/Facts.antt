@@ -3,8 +3,8 @@ use Rattle.std.specs.Prelude.{ℕ, ◌≡◌, ◌<◌, List, ◌++◌, length, m
 use Rattle.std.specs.List.{flat_map}
 use Rattle.proto_lex.specs.declared.span.Span.{Span}
 use Rattle.proto_lex.specs.Lexed.{Lexed, IsLexed, AreInOrder}
-use Rattle.proto_grammar.specs.declared.tree.CustomOptions.{CustomOptions}
-use Rattle.proto_grammar.specs.declared.tree.File.{File}
+use Rattle.proto_parse.specs.tree.CustomOptions.{CustomOptions}
+use Rattle.proto_parse.specs.tree.File.{File}
 use Rattle.proto_parse.specs.Derives.{Derives}
 use Rattle.proto_decl.specs.Names.{components_at}
 use Rattle.proto_decl.specs.Imports.{imports_of}

@@ -5,8 +5,8 @@ use Rattle.proto_lex.specs.declared.span.Span.{Span}
 use Rattle.proto_lex.specs.declared.token.TokenKind.TheVariants.{StringLiteral}
 use Rattle.proto_lex.specs.Lexed.{IsPart, part_of}
 use Rattle.proto_lex.specs.Lexes.{Spells}
-use Rattle.proto_grammar.specs.declared.tree.Import.{Import}
-use Rattle.proto_grammar.specs.Terminal.{between_quotes}
+use Rattle.proto_parse.specs.tree.Import.{Import}
+use Rattle.proto_parse.specs.Terminal.{between_quotes}
 use Rattle.proto_decl.specs.declared.imported.Imported.{Imported}
 
 -- A string literal of the text stands at the span.

@@ -2,8 +2,8 @@
 use Rattle.std.specs.Prelude.{ℕ, ◌≡◌, ◌<◌, ◌≤◌, List, ◌∷◌, length, take, map, All, Contains}
 use Rattle.proto_lex.specs.declared.span.Span.{Span}
 use Rattle.proto_lex.specs.Lexed.{Lexed, IsLexed, IsPart, part_of}
-use Rattle.proto_grammar.specs.declared.tree.CustomOptions.{CustomOptions}
-use Rattle.proto_grammar.specs.declared.tree.File.{File}
+use Rattle.proto_parse.specs.tree.CustomOptions.{CustomOptions}
+use Rattle.proto_parse.specs.tree.File.{File}
 use Rattle.proto_parse.specs.Derives.{Derives}
 use Rattle.proto_decl.specs.Names.{qualified, IsSimple, dotted, components_of, package_of, prefix_of, scopes_of}
 use Rattle.proto_decl.specs.Comments.{IsLeadingText, IsTrailingText}

@@ -2,7 +2,7 @@
 
 ghost use Rattle.std.specs.Prelude.{ℕ, ◌≢◌, [], All};
 ghost use Rattle.proto_lex.specs.Lexed.{Lexed};
-ghost use Rattle.proto_grammar.specs.declared.tree.File.{File};
+ghost use Rattle.proto_parse.specs.tree.File.{File};
 ghost use Rattle.proto_decl.specs.Facts.{Facts, AreFactsOf, AreOfSomeFile};
 ghost use Rattle.proto_decl.specs.Ancestors.{AreNamed, AreHeld};
 

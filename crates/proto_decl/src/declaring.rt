@@ -4,7 +4,7 @@ ghost use Rattle.std.specs.Prelude.{All, IfOk};
 ghost use Rattle.std.specs.List.{AllZip};
 ghost use Rattle.proto_lex.specs.Lexed.{IsPart, IsLexed};
 ghost use Rattle.proto_parse.specs.Derives.{Derives};
-ghost use Rattle.proto_grammar.specs.declared.tree.CustomOptions.{CustomOptions};
+ghost use Rattle.proto_parse.specs.tree.CustomOptions.{CustomOptions};
 ghost use Rattle.proto_decl.specs.Spans.{OfItem, OfPackage};
 ghost use Rattle.proto_decl.specs.Imports.{IsLiteral};
 ghost use Rattle.proto_decl.specs.Declares.{IsDeclaration};

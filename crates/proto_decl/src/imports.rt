@@ -2,7 +2,7 @@
 
 ghost use Rattle.std.specs.Prelude.{◌≡◌, All, IfOk};
 ghost use Rattle.proto_lex.specs.Lexed.{part_of};
-ghost use Rattle.proto_grammar.specs.Terminal.{between_quotes};
+ghost use Rattle.proto_parse.specs.Terminal.{between_quotes};
 ghost use Rattle.proto_decl.specs.Imports as spec;
 
 use crate::imported::Imported;

@@ -1,8 +1,11 @@
--- Tokens, and the tree of a message
+-- Tokens, the tree and its faults
 pub use Rattle.proto_grammar.specs.Lexeme
 pub use Rattle.proto_grammar.specs.Terminal
 pub use Rattle.proto_grammar.specs.Tree
 pub use Rattle.proto_grammar.specs.Items
+pub use Rattle.proto_grammar.specs.FaultNames
+pub use Rattle.proto_grammar.specs.declared.tree
+pub use Rattle.proto_grammar.specs.declared.fault
 -- The grammar
 pub mod Limits
 pub mod Choice

@@ -1,8 +1,8 @@
 -- The files that are linked, by their numbers, and what they import (proto3 specification, "Import statement").
 use Rattle.std.specs.Prelude.{◌≡◌, ℕ, Bool, true, false, Option, Some, List, map, Contains}
 use Rattle.std.specs.List.{slice_get}
-use Rattle.proto_grammar.specs.declared.tree.ImportKind.{ImportKind}
-use Rattle.proto_grammar.specs.declared.tree.ImportKind.TheVariants.{Plain, Weak, Public}
+use Rattle.proto_parse.specs.tree.ImportKind.{ImportKind}
+use Rattle.proto_parse.specs.tree.ImportKind.TheVariants.{Plain, Weak, Public}
 use Rattle.proto_decl.specs.Facts.{Facts, AreOfSomeFile}
 use Rattle.proto_decl.specs.declared.imported.Imported.{Imported}
 

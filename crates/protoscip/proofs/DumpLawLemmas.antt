@@ -1,7 +1,7 @@
 -- A source has one listing, and is refused for want of memory alone where it has one.
 use Rattle.std.proofs.Common.{◌≡◌, ◌∙◌, ℕ, ◌<◌, List, ap, sym, subst, refl, arith}
 use Rattle.proto_decl.specs.Seen.{Seen}
-use Rattle.proto_grammar.specs.declared.tree.CustomOptions.{CustomOptions}
+use Rattle.proto_parse.specs.tree.CustomOptions.{CustomOptions}
 use Rattle.index_hooks.specs.declared.choice.Choice.{Choice}
 use Rattle.scip_wire.specs.Decodes.{Decodes}
 use Rattle.protoscip.specs.Dump.{dump_tree, dump_settings, default_choices, IsListing, IsRefusal}

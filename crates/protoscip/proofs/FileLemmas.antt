@@ -3,7 +3,7 @@ use Rattle.std.proofs.Common.{◌≡◌, ◌∙◌, ◌⊎◌, inl, inr, ℕ, �
 use Rattle.std.specs.List.{slice_get}
 use Rattle.std.proofs.lemmas.Option.{slice_get_within}
 use Rattle.std.proofs.lemmas.List.{length-map}
-use Rattle.proto_grammar.specs.declared.tree.CustomOptions.{CustomOptions}
+use Rattle.proto_parse.specs.tree.CustomOptions.{CustomOptions}
 use Rattle.proto_decl.specs.Seen.{Seen}
 use Rattle.proto_visibility.specs.declared.place.FilePlace.{FilePlace}
 use Rattle.proto_visibility.specs.Files.{File}

@@ -2,7 +2,7 @@
 -- `failures`, `reads` and `ends` are the feed's, `contents` the sink's; `before` and `after` are it around the call.
 use Rattle.std.specs.Prelude.{◌≡◌, ℕ, false, List, [], ◌∷◌, Option, Some, Result, Ok, Err, codes}
 use Rattle.proto_lex.specs.declared.position.Encoding.TheVariants.{Utf8}
-use Rattle.proto_grammar.specs.declared.tree.CustomOptions.{CustomOptions}
+use Rattle.proto_parse.specs.tree.CustomOptions.{CustomOptions}
 use Rattle.proto_decl.specs.Seen.{Seen}
 use Rattle.index_hooks.specs.declared.choice.Choice.{Choice}
 use Rattle.index_hooks.specs.MayChoose.{IsDefaultChoice}

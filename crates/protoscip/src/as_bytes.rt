@@ -1,7 +1,8 @@
 //! The documents of an index as they stand in its bytes.
 
 use scip_build::DocumentForm;
-use scip_model::{Document, Sequence};
+use scip_model::Document;
+use sequences::Sequence;
 use scip_wire::spell_document;
 use std::alloc::{AllocError, Global};
 

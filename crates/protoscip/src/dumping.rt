@@ -16,7 +16,7 @@ use proto_decl::DeclView;
 use proto_lex::Encoding;
 use proto_parse::CustomOptions;
 use scip_build::{Settings, build};
-use scip_model::OwnedText;
+use sequences::OwnedText;
 use scip_symbol::PackageId;
 use source_tree::{Source, Tree, TreeFault, read_source};
 use std::alloc::{AllocError, Global};

@@ -7,7 +7,7 @@ use Rattle.std.specs.Ordering.{nat_cmp, bool_cmp, ordering_then}
 use Rattle.std.specs.Cmp.Lexicographic.{slice_cmp}
 use Rattle.std.proofs.lemmas.List.{length-map}
 use Rattle.std.proofs.lemmas.Option.{same_Some, none-some, slice_get-map, slice_get_within, get_or_from_slice_get}
-use Rattle.proto_grammar.specs.declared.tree.CustomOptions.{CustomOptions}
+use Rattle.proto_parse.specs.tree.CustomOptions.{CustomOptions}
 use Rattle.proto_decl.specs.Facts.{Facts, AreFactsOf, AreOfSomeFile}
 use Rattle.proto_decl.specs.Seen.{Seen}
 use Rattle.proto_decl.specs.declared.declaration.Declaration.{Declaration}

@@ -1,6 +1,6 @@
 -- A refusal of a stage is one of the whole.
 use Rattle.std.proofs.Common.{ℕ, List, inl, inr}
-use Rattle.proto_grammar.specs.declared.tree.CustomOptions.{CustomOptions}
+use Rattle.proto_parse.specs.tree.CustomOptions.{CustomOptions}
 use Rattle.proto_decl.specs.Seen.{Seen}
 use Rattle.index_hooks.specs.declared.choice.Choice.{Choice}
 use Rattle.proto_visibility.specs.Linked.{CanBeLinked}

@@ -2,9 +2,9 @@
 use Rattle.std.specs.Prelude.{◌≡◌, ℕ, ⊤, List}
 use Rattle.proto_lex.specs.declared.fault.LexFault.{LexFault}
 use Rattle.proto_lex.specs.declared.fault.LexFault.TheVariants as lexing
-use Rattle.proto_grammar.specs.declared.tree.CustomOptions.{CustomOptions}
-use Rattle.proto_grammar.specs.declared.fault.SyntaxFault.{SyntaxFault}
-use Rattle.proto_grammar.specs.declared.fault.SyntaxFault.TheVariants as parsing
+use Rattle.proto_parse.specs.tree.CustomOptions.{CustomOptions}
+use Rattle.proto_parse.specs.fault.SyntaxFault.{SyntaxFault}
+use Rattle.proto_parse.specs.fault.SyntaxFault.TheVariants as parsing
 use Rattle.scip_build.specs.declared.fault.FileFault.TheVariants.{Lex, Syntax}
 use Rattle.scip_build.specs.declared.fault.BuildFault.{BuildFault}
 use Rattle.scip_build.specs.declared.fault.BuildFault.TheVariants.{Spawn, Memory, File, Duplicate, MissingImport, Unresolved}

@@ -4,11 +4,11 @@ use Rattle.proto_lex.specs.Text.{IsText, IsNoText}
 use Rattle.proto_lex.specs.Lexed.{Lexed, IsLexed}
 use Rattle.proto_lex.specs.Faults.{IsFirstFault}
 use Rattle.proto_lex.specs.declared.fault.LexFault.{LexFault}
-use Rattle.proto_grammar.specs.declared.tree.CustomOptions.{CustomOptions}
-use Rattle.proto_grammar.specs.declared.tree.CustomOptions.TheVariants.{Skip}
-use Rattle.proto_grammar.specs.declared.tree.File.{File}
-use Rattle.proto_grammar.specs.declared.fault.SyntaxFault.{SyntaxFault}
-use Rattle.proto_grammar.specs.declared.fault.SyntaxFault.TheVariants.{Memory}
+use Rattle.proto_parse.specs.tree.CustomOptions.{CustomOptions}
+use Rattle.proto_parse.specs.tree.CustomOptions.TheVariants.{Skip}
+use Rattle.proto_parse.specs.tree.File.{File}
+use Rattle.proto_parse.specs.fault.SyntaxFault.{SyntaxFault}
+use Rattle.proto_parse.specs.fault.SyntaxFault.TheVariants.{Memory}
 use Rattle.proto_parse.specs.Derives.{Derives}
 use Rattle.proto_parse.specs.Faults.{is_of_custom_options}
 use Rattle.proto_decl.specs.Facts.{Facts, AreFactsOf}

@@ -1,7 +1,7 @@
 -- What files are read as, and which file is the first that can't be.
 use Rattle.std.specs.Prelude.{◌≡◌, ◌<◌, ℕ, ⊤, true, false, Result, Ok, Err, Some, List, length, MatchResult, IfSome}
 use Rattle.std.specs.List.{AllZip, slice_get}
-use Rattle.proto_grammar.specs.declared.tree.CustomOptions.{CustomOptions}
+use Rattle.proto_parse.specs.tree.CustomOptions.{CustomOptions}
 use Rattle.proto_decl.specs.Facts.{Facts}
 use Rattle.proto_decl.specs.Seen.{Seen}
 use Rattle.proto_decl.specs.Declares.{simple_name}

@@ -7,7 +7,7 @@ use Rattle.std.proofs.lemmas.Option.{slice_get_within, slice_get-map, get_or_fro
 use Rattle.std.proofs.lemmas.List.Elements.{All-get_or}
 use Rattle.index_hooks.specs.declared.choice.Choice.{Choice}
 use Rattle.proto_decl.specs.Facts.{Facts}
-use Rattle.proto_grammar.specs.declared.tree.CustomOptions.TheVariants.{Refuse}
+use Rattle.proto_parse.specs.tree.CustomOptions.TheVariants.{Refuse}
 use Rattle.scip_symbol.specs.Path.{IsGoodPath}
 use Rattle.proto_visibility.specs.Files.{File}
 use Rattle.scip_document.specs.Chosen.{Chosen, HaveChoices}

@@ -1,8 +1,8 @@
 -- What the sources of tests are read as.
 use Rattle.std.specs.Prelude.{◌≡◌, ℕ, Bool, Some, List, map, length, Contains}
 use Rattle.proto_lex.specs.Lexed.{Lexed, IsLexed}
-use Rattle.proto_grammar.specs.declared.tree.CustomOptions.TheVariants.{Refuse}
-use Rattle.proto_grammar.specs.declared.tree.File as tree
+use Rattle.proto_parse.specs.tree.CustomOptions.TheVariants.{Refuse}
+use Rattle.proto_parse.specs.tree.File as tree
 use Rattle.proto_parse.specs.Derives.{Derives}
 use Rattle.proto_decl.specs.Facts.{Facts, AreFactsOf}
 use Rattle.proto_decl.specs.declared.type_use.Use.{Use}

@@ -6,4 +6,3 @@ mod records;
 
 pub use range::{MAX_RANGE_NUMBER, Range};
 pub use records::{Document, Index, Metadata, Occurrence, SymbolInformation, ToolInfo};
-pub use sequences::{OwnedText, Sequence};

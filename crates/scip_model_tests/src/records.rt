@@ -1,6 +1,7 @@
 //! Texts, sequences and ranges.
 
-use scip_model::{MAX_RANGE_NUMBER, OwnedText, Range, Sequence};
+use scip_model::{MAX_RANGE_NUMBER, Range};
+use sequences::{OwnedText, Sequence};
 use std::alloc::{AllocError, Global};
 use std::process::Abort;
 use std::test::Fail;

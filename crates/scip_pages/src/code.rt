@@ -6,7 +6,7 @@ ghost use Rattle.scip_pages.specs.Code as spec;
 
 use crate::escapes::push_escaped;
 use crate::runs::Run;
-use scip_model::OwnedText;
+use sequences::OwnedText;
 use std::alloc::{AllocError, Global};
 
 /// Where a piece of code leads.

@@ -1,7 +1,7 @@
 //! Texts and lines in a page.
 
 use crate::see::see;
-use scip_model::OwnedText;
+use sequences::OwnedText;
 use scip_pages::{Link, Run, Span, escape, line_runs, push_line};
 use std::alloc::{AllocError, Global};
 use std::test::Fail;

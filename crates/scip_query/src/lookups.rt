@@ -20,7 +20,8 @@ use crate::position::Position;
 use crate::queries::{Named, Queries, Subject, is_local};
 use crate::query_fault::{QueryFault, fault_of};
 use crate::search::entry_places_in;
-use scip_model::{Document, OwnedText, SymbolInformation};
+use scip_model::{Document, SymbolInformation};
+use sequences::OwnedText;
 use std::alloc::{AllocError, Global};
 
 /// The role of a definition (`scip.proto`, `SymbolRole`).

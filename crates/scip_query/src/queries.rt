@@ -22,7 +22,8 @@ use crate::place::{EntryPlace, Place};
 use crate::position::Position;
 use crate::search::{entry_places_of, number_named, places_in, places_of};
 use crate::tables::{Tables, tables_of};
-use scip_model::{Document, Index, Occurrence, Sequence, SymbolInformation};
+use scip_model::{Document, Index, Occurrence, SymbolInformation};
+use sequences::Sequence;
 use std::alloc::{AllocError, AllocFailed, Global};
 use std::marker::Model;
 

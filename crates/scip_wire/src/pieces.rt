@@ -10,7 +10,8 @@ ghost use Rattle.scip_wire.specs.Writing.{Leaves};
 use crate::spell::{pieces_len, spell_externals, spell_metadata};
 use crate::write::MAX_INDEX_LEN;
 use crate::write_fault::{SpellFault, WriteFault};
-use scip_model::{Metadata, Sequence, SymbolInformation};
+use scip_model::{Metadata, SymbolInformation};
+use sequences::Sequence;
 use std::alloc::Global;
 use streams::{CutOff, Sink, write_all};
 

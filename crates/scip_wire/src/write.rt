@@ -10,7 +10,8 @@ use crate::laws::spelling_is_of_pieces;
 use crate::pieces::write_pieces;
 use crate::spell::{Encode, spell_document};
 use crate::write_fault::{SpellFault, TooLarge, WriteFault};
-use scip_model::{Index, Sequence};
+use scip_model::Index;
+use sequences::Sequence;
 use std::alloc::Global;
 use streams::Sink;
 

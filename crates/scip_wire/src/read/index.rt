@@ -5,7 +5,8 @@ ghost use Rattle.scip_wire.specs.Reading.{no_index, index_step};
 use crate::read::field::{Field, Payload};
 use crate::read::message::{Decode, add_message, take_only};
 use crate::wire_fault::WireFault;
-use scip_model::{Index, Sequence};
+use scip_model::Index;
+use sequences::Sequence;
 use std::alloc::Global;
 
 impl Decode for Index {

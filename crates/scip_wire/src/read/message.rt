@@ -6,7 +6,7 @@ ghost use Rattle.scip_wire.specs.Reading.{fold_at, field_at, only_after, more_af
 
 use crate::read::field::{Field, read_field};
 use crate::wire_fault::WireFault;
-use scip_model::Sequence;
+use sequences::Sequence;
 use std::alloc::Global;
 
 /// A message that is made of its records: one without fields, into which they are merged in turn.

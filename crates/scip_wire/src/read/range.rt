@@ -8,7 +8,8 @@ ghost use Rattle.scip_wire.specs.Reading.{fold_at, varint_at, packed_step, range
 use crate::read::text::low_bits;
 use crate::read::varint::{MAX_VARINT_LEN, varint_of};
 use crate::wire_fault::WireFault;
-use scip_model::{Range, Sequence};
+use scip_model::Range;
+use sequences::Sequence;
 
 /// Adds the numbers of a packed field, whose record is at `start` in the input (Protocol Buffers
 /// encoding, Packed Repeated Fields). After an error the numbers are of no use.

@@ -6,7 +6,8 @@ use crate::read::field::{Field, Payload};
 use crate::read::message::Decode;
 use crate::read::text::{add_text, take_text};
 use crate::wire_fault::WireFault;
-use scip_model::{OwnedText, Sequence, SymbolInformation};
+use scip_model::SymbolInformation;
+use sequences::{OwnedText, Sequence};
 use std::alloc::Global;
 
 impl Decode for SymbolInformation {

@@ -6,7 +6,7 @@ ghost use Rattle.scip_wire.specs.Spelling.{bytes_of, bytes_field, text_fields, i
 ghost use Rattle.scip_wire.specs.Saturated.{saturated, fields_len};
 
 use super::varint::{encode_varint, varint_len};
-use scip_model::{OwnedText, Sequence};
+use sequences::{OwnedText, Sequence};
 use std::alloc::AllocError;
 
 /// The length of a record of so many bytes, tag and length in front included.

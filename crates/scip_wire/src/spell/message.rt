@@ -7,7 +7,7 @@ ghost use Rattle.scip_wire.specs.Saturated.{saturated, fields_len};
 
 use super::fields::record_len;
 use super::varint::encode_varint;
-use scip_model::Sequence;
+use sequences::Sequence;
 use std::alloc::AllocError;
 
 /// A record of an index, as a message of `scip.proto`.

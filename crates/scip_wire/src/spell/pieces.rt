@@ -10,7 +10,8 @@ use super::message::{
     encode_message, encode_messages, encode_optional_message, message_len, messages_len,
     optional_message_len,
 };
-use scip_model::{Document, Metadata, Sequence, SymbolInformation};
+use scip_model::{Document, Metadata, SymbolInformation};
+use sequences::Sequence;
 use std::alloc::{AllocError, Global};
 
 /// A document's record, as it stands in the spelling of an index, tag and length in front included.

@@ -1,7 +1,7 @@
 use Rattle.std.proofs.Common.{sym, subst, List, ap, map, refl}
 use Rattle.proto_lex.specs.declared.span.Span.{Span}
 use Rattle.proto_lex.specs.Lexed.{AreInOrder}
-use Rattle.proto_grammar.specs.Lexeme.{lexemes_of}
+use Rattle.proto_parse.specs.Lexeme.{lexemes_of}
 use Rattle.proto_parse.specs.Walk.{Mark, Among, MarksAreInOrder, marks_of_items, marks_of_imports}
 use Rattle.proto_decl.specs.Outlines.{outlines_of}
 use Rattle.proto_decl.specs.Facts.{Facts, AreOfSomeFile, NamesInOrder, use_spans}

@@ -1,5 +1,5 @@
 use Rattle.std.proofs.Common.{refl}
-use Rattle.proto_grammar.specs.Lexeme.{lexemes_of}
+use Rattle.proto_parse.specs.Lexeme.{lexemes_of}
 use Rattle.proto_decl.proofs.PlaceLemmas.{marks_of, uses_apart, imports_apart}
 use Rattle.proto_decl.proofs.laws.facts_stand_apart.Goals as goal
 

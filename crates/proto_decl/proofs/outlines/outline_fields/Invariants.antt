@@ -1,7 +1,7 @@
 use Rattle.std.proofs.Common.{◌≡◌, ◌++◌, map, take}
 use Rattle.proto_decl.specs.Outlines.{outline_at}
 use Rattle.proto_decl.specs.declared.kind.DeclarationKind.TheVariants.{Field}
-use Rattle.proto_grammar.specs.declared.tree.Field.{Field as FieldTree}
+use Rattle.proto_parse.specs.tree.Field.{Field as FieldTree}
 use Rattle.proto_decl.proofs.outlines.outline_fields.Given as goal
 
 -- the fields so far

@@ -1,7 +1,7 @@
 use Rattle.std.proofs.Common.{◌≡◌, ◌++◌, map, take}
 use Rattle.proto_decl.specs.Outlines.{outline_at}
 use Rattle.proto_decl.specs.declared.kind.DeclarationKind.TheVariants.{Method}
-use Rattle.proto_grammar.specs.declared.tree.Method.{Method as MethodTree}
+use Rattle.proto_parse.specs.tree.Method.{Method as MethodTree}
 use Rattle.proto_decl.proofs.outlines.outline_methods.Given as goal
 
 -- the methods so far

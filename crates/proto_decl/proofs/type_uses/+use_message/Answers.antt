@@ -1,6 +1,6 @@
 use Rattle.std.proofs.Common.{◌≡◌, ◌+◌, ◌∷◌, ◌∙◌, List, ap, drop, sym, refl, arith}
-use Rattle.proto_grammar.specs.declared.tree.MessageItem.{MessageItem}
-use Rattle.proto_grammar.specs.declared.tree.MessageItem.TheVariants.{Message, Leaf}
+use Rattle.proto_parse.specs.tree.MessageItem.{MessageItem}
+use Rattle.proto_parse.specs.tree.MessageItem.TheVariants.{Message, Leaf}
 use Rattle.proto_parse.specs.Items.{body_of}
 use Rattle.proto_parse.specs.Tree.{MessageTree}
 use Rattle.proto_lex.specs.Lexed.{IsPart}

@@ -1,6 +1,6 @@
 use Rattle.std.proofs.Common.{◌≡◌, ◌++◌, take}
 use Rattle.std.specs.List.{flat_map}
-use Rattle.proto_grammar.specs.declared.tree.Field.{Field}
+use Rattle.proto_parse.specs.tree.Field.{Field}
 use Rattle.proto_decl.specs.Uses.{uses_of_type}
 use Rattle.proto_decl.proofs.type_uses.use_fields.Given as goal
 

@@ -5,6 +5,7 @@ ghost use Rattle.scip_wire.specs.Gives.{Gives};
 ghost use Rattle.scip_wire.specs.Reading.{fold_at, field_at, only_after, more_after};
 
 use crate::read::field::{Field, read_field};
+use crate::read::text::add;
 use crate::wire_fault::WireFault;
 use sequences::Sequence;
 use std::alloc::Global;
@@ -88,6 +89,5 @@ pub fn add_message<M: Decode>(
     requires { length bytes.now ≤ end }
     ensures { Gives (λ _. messages.new) result (more_after (λ b. fold_at field_at M.step b M.none) messages.old bytes.now) }
 {
-    messages.push(read_message(alloc, bytes, end)?)?;
-    Ok(())
+    Ok(add(messages, read_message(alloc, bytes, end)?)?)
 }

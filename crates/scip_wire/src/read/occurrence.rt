@@ -7,7 +7,7 @@ ghost use Rattle.scip_wire.specs.Reading.{occurrence_after};
 use crate::read::field::{Field, Payload};
 use crate::read::message::{Decode, read_message};
 use crate::read::range::{add_packed, range_of};
-use crate::read::text::{low_bits, number_of, take_text};
+use crate::read::text::{add, low_bits, number_of, take_text};
 use crate::wire_fault::WireFault;
 use scip_model::Occurrence;
 use sequences::{OwnedText, Sequence};
@@ -45,7 +45,7 @@ impl Decode for OccurrenceParts {
         _end: usize,
     ) -> Result<(), WireFault> {
         match (field.number, field.payload) {
-            (1, Payload::Varint(value)) => Ok(self.numbers.push(low_bits(value))?),
+            (1, Payload::Varint(value)) => Ok(add(&mut self.numbers, low_bits(value))?),
             (1, Payload::Delimited(bytes)) => add_packed(&mut self.numbers, bytes, start),
             (2, Payload::Delimited(bytes)) => take_text(alloc, &mut self.symbol, bytes, start),
             (3, Payload::Varint(value)) => {
@@ -83,10 +83,10 @@ pub fn add_occurrence(
     let Some(range) = range_of(&numbers) else {
         return Err(WireFault::BadRange(start));
     };
-    occurrences.push(Occurrence {
+    let occurrence = Occurrence {
         range,
         symbol,
         symbol_roles,
-    })?;
-    Ok(())
+    };
+    Ok(add(occurrences, occurrence)?)
 }

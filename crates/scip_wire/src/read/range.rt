@@ -5,7 +5,7 @@ ghost use Rattle.scip_wire.specs.Gives.{Gives};
 ghost use Rattle.scip_wire.specs.Fields.{max_varint_len};
 ghost use Rattle.scip_wire.specs.Reading.{fold_at, varint_at, packed_step, range_at};
 
-use crate::read::text::low_bits;
+use crate::read::text::{add, low_bits};
 use crate::read::varint::{MAX_VARINT_LEN, varint_of};
 use crate::wire_fault::WireFault;
 use scip_model::Range;
@@ -19,7 +19,7 @@ pub fn add_packed(numbers: &mut Sequence<u32>, bytes: &[u8], start: usize) -> Re
     let mut rest = bytes;
     'varints: while !rest.is_empty() {
         let (value, after) = varint_of(rest, MAX_VARINT_LEN, start)?;
-        numbers.push(low_bits(value))?;
+        add(numbers, low_bits(value))?;
         rest = after;
     }
     Ok(())

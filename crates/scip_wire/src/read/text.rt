@@ -1,13 +1,13 @@
 //! Texts and numbers of fields.
 
-ghost use Rattle.std.specs.Prelude.{◌≡◌};
+ghost use Rattle.std.specs.Prelude.{◌≡◌, ◌++◌, [], ◌∷◌, OnOk};
 ghost use Rattle.scip_wire.specs.Gives.{Gives};
 ghost use Rattle.scip_wire.specs.Decodes.{low_32_bits};
 ghost use Rattle.scip_wire.specs.Reading.{text_at, text_after, number_at};
 
 use crate::wire_fault::WireFault;
 use sequences::{OwnedText, Sequence};
-use std::alloc::Global;
+use std::alloc::{AllocError, Global};
 use std::str;
 
 /// The text of a field, whose record is at `start` in the input.
@@ -35,6 +35,14 @@ pub fn take_text(
     Ok(())
 }
 
+/// Adds an item at the end.
+pub fn add<T: Drop>(list: &mut Sequence<T>, item: T) -> Result<(), AllocError>
+    ensures { OnOk result (list.new ≡ list.old ++ item ∷ []) }
+{
+    list.push(item)?;
+    Ok(())
+}
+
 /// Adds the text of a field, whose record is at `start` in the input. After an error the texts are
 /// of no use.
 #[tactic(auto, unfolding(crate::specs::Reading::more_after))]
@@ -46,8 +54,7 @@ pub fn add_text(
 ) -> Result<(), WireFault>
     ensures { Gives (λ _. texts.new) result (text_after texts.old bytes.now) }
 {
-    texts.push(text_of(alloc, bytes, start)?)?;
-    Ok(())
+    Ok(add(texts, text_of(alloc, bytes, start)?)?)
 }
 
 /// The low 32 bits of a varint.

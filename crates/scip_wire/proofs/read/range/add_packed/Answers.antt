@@ -17,9 +17,9 @@ varints-smaller c = varint_shortens c.varints.rest.now (c.in_ok-value.value, c.i
 pub varints-preserved : goal.varints-preserved
 unfolding packed_step
 varints-preserved c =
-    let added : packed_step c.varints.numbers c.in_ok-value.value ≡ Some c.push.new.self = rw (c.in_ok-push.ensures.ok, c.low_bits.ensures) refl in
+    let added : packed_step c.varints.numbers c.in_ok-value.value ≡ Some c.add.new.list = rw (c.in_ok-add.ensures, c.low_bits.ensures) refl in
     goes_on (varint_at max_varint_len) packed_step c.varints.rest.now c.varints.numbers c.is_empty.result c.is_empty.ensures varint_shortens c.varints-test.true
-    c.in_ok-value.value c.in_ok-value.after.now c.push.new.self c.in_ok-value.ensures.reads added ∙ c.varints.invariant
+    c.in_ok-value.value c.in_ok-value.after.now c.add.new.list c.in_ok-value.ensures.reads added ∙ c.varints.invariant
 
 pub returns : goal.returns
 returns c = is_done (varint_at max_varint_len) packed_step c.varints.rest.now c.varints.numbers c.is_empty.result c.is_empty.ensures c.varints-test.false _ c.varints.invariant

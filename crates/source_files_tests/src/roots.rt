@@ -43,17 +43,6 @@ fn list_again<F: ReadFiles>(
     }
 }
 
-fn read_again<F: ReadFiles>(
-    alloc: Global,
-    files: &F,
-    root: &str,
-) -> Result<Vec<Source>, LoadFault> {
-    match read_root(alloc, files, root) {
-        Err(LoadFault::Memory) => read_root(alloc, files, root),
-        answer => answer,
-    }
-}
-
 /// Removes a folder with all that it holds. Where it can't, as where memory ran out, it tries again.
 fn remove_again<S: Files + AllocGlobal>(system: &S, path: &str) -> io::Result<()> {
     match fs::remove_dir_all(system, path) {
@@ -61,6 +50,43 @@ fn remove_again<S: Files + AllocGlobal>(system: &S, path: &str) -> io::Result<()
         done => done,
     }
 }
+
+/// Sees that below a root these sources are listed, or why none are.
+fn see_listed<F: ReadFiles>(
+    rt: &impl Abort,
+    alloc: Global,
+    files: &F,
+    root: &str,
+    due: &str,
+) -> Result<(), AllocError> {
+    let found = text_of(alloc, list_again(alloc, files, root)?)?;
+    see_text(rt, found.as_str(), due);
+    Ok(())
+}
+
+/// Whether there are five sources, and each holds its path.
+fn are_five(sources: &[Source]) -> bool {
+    for source in sources {
+        if !source.bytes.as_slice().ends_with(source.path.as_bytes()) {
+            return false;
+        }
+    }
+    sources.len() == 5
+}
+
+fn are_read<F: ReadFiles>(alloc: Global, files: &F, root: &str) -> bool {
+    let answer = match read_root(alloc, files, root) {
+        Err(LoadFault::Memory) => read_root(alloc, files, root),
+        answer => answer,
+    };
+    match answer {
+        Ok(sources) => are_five(&sources),
+        Err(_) => false,
+    }
+}
+
+/// The sources below `walk`.
+const SOURCES: &str = ".proto a.proto deep/er/c.proto x.proto/b.proto z.proto ";
 
 #[test]
 fn regular_files_by_path(rt: HostRuntime) -> Result<(), Fail> {
@@ -71,7 +97,7 @@ fn regular_files_by_path(rt: HostRuntime) -> Result<(), Fail> {
     fs::create_dir(&rt, "walk/x.proto")?;
     fs::create_dir(&rt, "walk/deep")?;
     fs::create_dir(&rt, "walk/deep/er")?;
-    for path in [
+    for path in &[
         "walk/z.proto",
         "walk/a.proto",
         "walk/a.txt",
@@ -80,37 +106,25 @@ fn regular_files_by_path(rt: HostRuntime) -> Result<(), Fail> {
         "walk/x.proto/proto",
         "walk/deep/er/c.proto",
     ] {
-        fs::write(&rt, path, path)?;
+        fs::write(&rt, *path, *path)?;
     }
     rt.symlink("a.proto", "walk/link.proto")?;
     rt.symlink("deep", "walk/link")?;
     rt.symlink("nowhere", "walk/dangling.proto")?;
     rt.symlink("walk", "root")?;
     let files = SystemFiles::new(&rt);
-    for root in ["walk", "walk/", "./walk", "root"] {
-        let found = text_of(rt.alloc(), list_again(rt.alloc(), &files, root)?)?;
-        see_text(
-            &rt,
-            found.as_str(),
-            ".proto a.proto deep/er/c.proto x.proto/b.proto z.proto ",
-        );
+    for root in &["walk", "walk/", "./walk", "root"] {
+        see_listed(&rt, rt.alloc(), &files, root, SOURCES)?;
     }
-    for root in ["walk/a.proto", "nowhere", "", "walk/link.proto"] {
-        let found = text_of(rt.alloc(), list_again(rt.alloc(), &files, root)?)?;
-        see_text(&rt, found.as_str(), "Unreadable");
+    for root in &["walk/a.proto", "nowhere", "", "walk/link.proto"] {
+        see_listed(&rt, rt.alloc(), &files, root, "Unreadable")?;
     }
-    match read_again(rt.alloc(), &files, "walk") {
-        Ok(sources) => {
-            for source in &sources {
-                let held = String::from_utf8(source.bytes.clone()?);
-                if let Ok(held) = held {
-                    assert!(&rt; held.as_str().ends_with(source.path.as_str()), "{held:?}");
-                }
-            }
-            see_text(&rt, if sources.len() == 5 { "5" } else { "?" }, "5");
-        }
-        Err(_) => see_text(&rt, "refused", "5"),
-    }
+    let read = if are_read(rt.alloc(), &files, "walk") {
+        "read"
+    } else {
+        "not so"
+    };
+    see_text(&rt, read, "read");
     fs::remove_file(&rt, "root")?;
     remove_again(&rt, "walk")?;
     Ok(())

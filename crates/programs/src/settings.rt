@@ -7,11 +7,11 @@ ghost use Rattle.programs.specs.Settings.{custom_options_of, encoding_of, packag
 
 use command_line::{CustomOptionsWord, IndexOptions, PositionsWord};
 use index_pool::Workers;
-use proto_parse::CustomOptions;
 use proto_lex::Encoding;
+use proto_parse::CustomOptions;
 use scip_build::Settings;
-use sequences::OwnedText;
 use scip_symbol::PackageId;
+use sequences::OwnedText;
 use std::alloc::{AllocError, Global};
 
 /// The unit of columns that a word of `--positions` asks for.

@@ -2,8 +2,8 @@
 
 use scip_build::DocumentForm;
 use scip_model::Document;
-use sequences::Sequence;
 use scip_wire::spell_document;
+use sequences::Sequence;
 use std::alloc::{AllocError, Global};
 
 /// Of each document its record in the bytes of the index is kept.

@@ -15,10 +15,10 @@ use index_hooks::Chooses;
 use index_pool::{Gate, Workers};
 use scip_build::{BuiltParts, Parts, Run, Settings, build_in_form};
 use scip_document::Choices;
-use sequences::Sequence;
 use scip_wire::{
     bytes_decode_to_one_index, spelling_decodes_to_its_index, spelling_is_of_pieces, write_pieces,
 };
+use sequences::Sequence;
 use source_tree::Tree;
 use std::alloc::Global;
 use std::sync::Wait;

@@ -1,8 +1,8 @@
 //! Texts and lines in a page.
 
 use crate::see::see;
-use sequences::OwnedText;
 use scip_pages::{Link, Run, Span, escape, line_runs, push_line};
+use sequences::OwnedText;
 use std::alloc::{AllocError, Global};
 use std::test::Fail;
 

@@ -20,7 +20,8 @@ unfolding clap_on_literals
 command_line_is_walked lists = refl
 
 -- words without a fault ask for the program that they name
-pub asks_program : (kinds : Kinds) (program : Option (Text × List Row)) (r : Request) → kinds ≡ [] → Names program r → AsksBy kinds program r
+pub asks_program : (kinds : Kinds) (program : Option (Text × List Row)) (r : Request) → kinds ≡ [] → Names program r
+    → AsksBy kinds program r
 asks_program [] program r e names = names
 asks_program (k ∷ ks) program r e names = absurd cc
 

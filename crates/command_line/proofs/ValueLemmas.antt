@@ -11,15 +11,18 @@ use Rattle.command_line.specs.Asks.{name_of}
 use Rattle.command_line.specs.Values.{rows_in}
 
 -- the program that matches name, by its name, and by its rows
-pub matches_name : {Z : Type 0} (found : Option (Box SubCommand Z)) → name_of (subcommand_rows found) ≡ option_map (λ b. (out-SubCommand (box_value b)).name.now) found
+pub matches_name : {Z : Type 0} (found : Option (Box SubCommand Z))
+    → name_of (subcommand_rows found) ≡ option_map (λ b. (out-SubCommand (box_value b)).name.now) found
 matches_name None = refl
 matches_name (Some b) = refl
 
-pub matches_rows : (program : Option (Text × List Row)) (rows : List Row) → option_map (λ p. p.1) program ≡ Some rows → rows_in program ≡ rows
+pub matches_rows : (program : Option (Text × List Row)) (rows : List Row) → option_map (λ p. p.1) program ≡ Some rows
+    → rows_in program ≡ rows
 matches_rows None rows e = absurd cc
 matches_rows (Some p) rows e = cc
 
 -- the text that is found, or the empty one
-pub text_or_none : (given : Option (Bor Text)) (none : Bor Text) → none.now ≡ [] → (unwrap_or given none).now ≡ unwrap_or (option_map (λ (s : Bor Text). s.now) given) []
+pub text_or_none : (given : Option (Bor Text)) (none : Bor Text) → none.now ≡ []
+    → (unwrap_or given none).now ≡ unwrap_or (option_map (λ (s : Bor Text). s.now) given) []
 text_or_none None none e = e
 text_or_none (Some s) none e = refl

@@ -1,5 +1,6 @@
 -- The number of threads that a text gives.
-use Rattle.std.proofs.Common.{◌≡◌, ◌≤◌, ◌&&◌, ℕ, Bool, true, false, refl, ap, Option, Some, None, Result, Ok, Err, le-leb, leb-true}
+use Rattle.std.proofs.Common.{◌≡◌, ◌≤◌, ◌&&◌, ℕ, Bool, true, false, refl, ap, Option, Some, None, Result, Ok, Err}
+use Rattle.std.proofs.Common.{le-leb, leb-true}
 use Rattle.std.specs.Prelude.{cond, nat_le}
 use Rattle.std.specs.Option.{option_map_or}
 use Rattle.std.specs.Str.Parse.{ParsesUnsigned, digits_value, without_leading_plus}
@@ -37,7 +38,8 @@ none_so t e unread = go (is_unsigned_in 1 16 t) refl
   where
     go : (b : Bool) → is_unsigned_in 1 16 t ≡ b → 4 ≡ cond b (digits_value 10 (without_leading_plus t)) 4
     go false f = refl
-    go true f = let accepted = accepts-Accepts false (values.Unsigned 1 16) t f in absurd (unread (accepted.0, accepted.1))
+    go true f = let accepted = accepts-Accepts false (values.Unsigned 1 16) t f in
+        absurd (unread (accepted.0, accepted.1))
 
 reads : (E : Type 0) (G : Text → Result ℕ E → Type 0) → ((u : Text) (x : Result ℕ E) → G u x → ParsesUnsigned 64 10 u x)
     → (t : Text) (r : Option ℕ) → ReadsOne G t r → fitting r ≡ workers_in t
@@ -45,7 +47,8 @@ reads E G only t (Some n) h = fits_so t n (only t (Ok n) h)
 reads E G only t None h = none_so t 0 (only t (Err h.0) h.1)
 
 -- what is read of the text, if there is one
-pub fitting_is : (E : Type 0) (G : Text → Result ℕ E → Type 0) → ((u : Text) (x : Result ℕ E) → G u x → ParsesUnsigned 64 10 u x)
+pub fitting_is : (E : Type 0) (G : Text → Result ℕ E → Type 0)
+    → ((u : Text) (x : Result ℕ E) → G u x → ParsesUnsigned 64 10 u x)
     → (text : Option Text) (r : Option ℕ) → (text ≡ None → r ≡ None) → ((t : Text) → text ≡ Some t → ReadsOne G t r)
     → fitting r ≡ option_map_or workers_in text 4
 fitting_is E G only None r none some = ap fitting (none refl)

@@ -10,4 +10,5 @@ goes_on byte = nat_le 128 byte && nat_lt byte 192
 -- Each is one byte with those that go on behind it. In a text in UTF-8 these are its characters.
 abbrev pub characters : List ℕ → List (List ℕ)
 characters [] = []
-characters (byte ∷ bytes) = if starts goes_on bytes then onto_first byte (characters bytes) else (byte ∷ []) ∷ characters bytes
+characters (byte ∷ bytes) =
+    if starts goes_on bytes then onto_first byte (characters bytes) else (byte ∷ []) ∷ characters bytes

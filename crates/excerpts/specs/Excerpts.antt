@@ -14,7 +14,8 @@ pub record Parts : Type 0 where
   pub behind : List (List ℕ)
 
 abbrev pub parts_in : (before marked behind : List ℕ) → Parts
-parts_in before marked behind = record { before = characters before; marked = characters marked; behind = characters behind }
+parts_in before marked behind =
+    record { before = characters before; marked = characters marked; behind = characters behind }
 
 -- by the offset of the marked part and its length
 abbrev pub parts_of : List ℕ → (at len : ℕ) → Parts
@@ -71,9 +72,11 @@ below number parts = codes "\n  " ++ blanks number ++ codes " | " ++ mark_line p
 
 abbrev pub excerpt : List ℕ → (at len : ℕ) → List ℕ
 excerpt text at len =
-    numbered (decimal (line_number text at)) (parts_of text at len) ++ below (decimal (line_number text at)) (parts_of text at len)
+    numbered (decimal (line_number text at)) (parts_of text at len)
+    ++ below (decimal (line_number text at)) (parts_of text at len)
 
 -- bytes of a source in a sentence, at most 40 of their characters
 abbrev pub quoted : List ℕ → List ℕ
 quoted bytes =
-    codes "`" ++ shown_text (take 40 (characters bytes)) ++ where_cut (nat_lt 40 (length (characters bytes))) (codes "...") ++ codes "`"
+    codes "`" ++ shown_text (take 40 (characters bytes))
+    ++ where_cut (nat_lt 40 (length (characters bytes))) (codes "...") ++ codes "`"

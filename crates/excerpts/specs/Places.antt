@@ -1,5 +1,6 @@
 -- A place of a source, as editors show it: lines and columns count from 1, columns in characters.
-use Rattle.std.specs.Prelude.{ℕ, ◌+◌, ◌-◌, List, [], ◌++◌, ◌∷◌, length, take, drop, nat_eq, slice_index, codes, if◌then◌else◌}
+use Rattle.std.specs.Prelude.{ℕ, ◌+◌, ◌-◌, List, [], ◌++◌, ◌∷◌, length, take, drop, nat_eq, slice_index, codes}
+use Rattle.std.specs.Prelude.{if◌then◌else◌}
 use Rattle.std.specs.Fmt.{decimal}
 use Rattle.std.specs.List.{before_first, prefix_len}
 use Rattle.proto_lex.specs.Bytes.{is_word}
@@ -15,7 +16,8 @@ column text at = length (characters (line_before text at)) + 1
 
 -- `PATH:LINE:COLUMN: `
 abbrev pub place_text : List ℕ → List ℕ → ℕ → List ℕ
-place_text path text at = path ++ codes ":" ++ decimal (line_number text at) ++ codes ":" ++ decimal (column text at) ++ codes ": "
+place_text path text at =
+    path ++ codes ":" ++ decimal (line_number text at) ++ codes ":" ++ decimal (column text at) ++ codes ": "
 
 -- a line without the `\r` that ends it
 abbrev pub without_return : List ℕ → List ℕ

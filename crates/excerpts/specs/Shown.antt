@@ -1,5 +1,6 @@
 -- What is shown of a character on a terminal, and the marks below it.
-use Rattle.std.specs.Prelude.{ℕ, ◌/◌, ◌%◌, Bool, false, not, ◌&&◌, ◌||◌, nat_eq, nat_lt, List, [], ◌∷◌, ◌++◌, codes, if◌then◌else◌}
+use Rattle.std.specs.Prelude.{ℕ, ◌/◌, ◌%◌, Bool, false, not, ◌&&◌, ◌||◌, nat_eq, nat_lt, List, [], ◌∷◌, ◌++◌, codes}
+use Rattle.std.specs.Prelude.{if◌then◌else◌}
 use Rattle.std.specs.List.{flat_map}
 use Rattle.std.specs.Char.{digit_char, encode_utf8}
 use Rattle.std.specs.Str.{is_utf8}
@@ -33,4 +34,5 @@ four sign = sign ++ sign ++ sign ++ sign
 
 -- what stands below a character: a tab below a tab, and else a sign for each place that it takes
 abbrev pub mark : List ℕ → List ℕ → List ℕ
-mark sign character = if is_tab character then codes "\t" else if is_plain character then sign else flat_map (λ byte. four sign) character
+mark sign character = if is_tab character then codes "\t" else if is_plain character then sign else flat_map
+    (λ byte. four sign) character

@@ -15,7 +15,8 @@ same_tail : {H : Type 0} (x y : H) (xs ys : List H) → x ∷ xs ≡ y ∷ ys �
 same_tail x y xs ys e = cc
 
 -- of all hooks, at the first of them or behind it
-all_at : {H : Type 0} (P : H → Type 0) (before : List H) (hook : H) (after : List H) → All P (before ++ hook ∷ after) → P hook
+all_at : {H : Type 0} (P : H → Type 0) (before : List H) (hook : H) (after : List H) → All P (before ++ hook ∷ after)
+    → P hook
 all_at P [] hook after all = All-head P hook after all
 all_at P (x ∷ before) hook after all = all_at P before hook after (All-tail P x (before ++ hook ∷ after) all)
 
@@ -28,10 +29,13 @@ data Places {H : Type 0} (P : H → Type 0) (hook other : H) : Type 0 where
 places : {H : Type 0} (P : H → Type 0) (before : List H) (hook : H) (after its : List H) (other : H) (rest : List H)
     → All P before → All P its → before ++ hook ∷ after ≡ its ++ other ∷ rest → Places P hook other
 places P [] hook after [] other rest front its-front e = one (same_head hook other after rest e)
-places P [] hook after (x ∷ its) other rest front its-front e = earlier (subst P (sym (same_head hook x after (its ++ other ∷ rest) e)) (All-head P x its its-front))
-places P (x ∷ before) hook after [] other rest front its-front e = later (subst P (same_head x other (before ++ hook ∷ after) rest e) (All-head P x before front))
+places P [] hook after (x ∷ its) other rest front its-front e =
+    earlier (subst P (sym (same_head hook x after (its ++ other ∷ rest) e)) (All-head P x its its-front))
+places P (x ∷ before) hook after [] other rest front its-front e =
+    later (subst P (same_head x other (before ++ hook ∷ after) rest e) (All-head P x before front))
 places P (x ∷ before) hook after (y ∷ its) other rest front its-front e =
-    places P before hook after its other rest (All-tail P x before front) (All-tail P y its its-front) (same_tail x y (before ++ hook ∷ after) (its ++ other ∷ rest) e)
+    places P before hook after its other rest (All-tail P x before front) (All-tail P y its its-front)
+    (same_tail x y (before ++ hook ∷ after) (its ++ other ∷ rest) e)
 
 module _ {F : Type 0} (may : F → Bool → Type 0) (filters : List F) (exact : All (λ f. AllowsOne (may f)) filters) where
   -- no filter may say both
@@ -52,25 +56,31 @@ module _ {F : Type 0} (may : F → Bool → Type 0) (filters : List F) (exact : 
 module _ {R : Type 0} (may : R → DocChoice → Type 0) (rules : List R) (exact : All (λ r. AllowsOne (may r)) rules) where
   -- what the rule at the place of the first answer allows
   exact_at : (doc : DocChoice) (first : FirstOf (λ r. may r Pass) (λ r. may r doc) rules) → AllowsOne (may first.hook)
-  exact_at doc first = all_at (λ r. AllowsOne (may r)) first.before first.hook first.after (subst (λ (rs : List R). All (λ r. AllowsOne (may r)) rs) first.hooks_are exact)
+  exact_at doc first = all_at (λ r. AllowsOne (may r)) first.before first.hook first.after
+      (subst (λ (rs : List R). All (λ r. AllowsOne (may r)) rs) first.hooks_are exact)
 
   -- a rule that may pass gives no answer
-  passes : (doc : DocChoice) (first : FirstOf (λ r. may r Pass) (λ r. may r doc) rules) → may first.hook Pass → doc ≡ Pass
+  passes : (doc : DocChoice) (first : FirstOf (λ r. may r Pass) (λ r. may r doc) rules) → may first.hook Pass
+      → doc ≡ Pass
   passes doc first pass = exact_at doc first doc Pass first.at_it pass
 
   one_answer : (doc other : DocChoice) → doc ≢ Pass → other ≢ Pass
-      → FirstOf (λ r. may r Pass) (λ r. may r doc) rules → FirstOf (λ r. may r Pass) (λ r. may r other) rules → doc ≡ other
+      → FirstOf (λ r. may r Pass) (λ r. may r doc) rules → FirstOf (λ r. may r Pass) (λ r. may r other) rules
+      → doc ≡ other
   one_answer doc other is also first second =
-      elim (places (λ r. may r Pass) first.before first.hook first.after second.before second.hook second.after first.before_it second.before_it (sym first.hooks_are ∙ second.hooks_are)) [
+      elim (places (λ r. may r Pass) first.before first.hook first.after second.before second.hook second.after
+      first.before_it second.before_it (sym first.hooks_are ∙ second.hooks_are)) [
         | one same ↦ exact_at doc first doc other first.at_it (subst (λ (r : R). may r other) (sym same) second.at_it)
         | earlier pass ↦ absurd (is (passes doc first pass))
         | later pass ↦ absurd (also (passes other second pass))
       ]
 
   -- an answer where all rules may pass
-  all_pass : (doc : DocChoice) → doc ≢ Pass → FirstOf (λ r. may r Pass) (λ r. may r doc) rules → All (λ r. may r Pass) rules → ⊥
+  all_pass : (doc : DocChoice) → doc ≢ Pass → FirstOf (λ r. may r Pass) (λ r. may r doc) rules
+      → All (λ r. may r Pass) rules → ⊥
   all_pass doc is first all =
-      is (passes doc first (all_at (λ r. may r Pass) first.before first.hook first.after (subst (λ (rs : List R). All (λ r. may r Pass) rs) first.hooks_are all)))
+      is (passes doc first (all_at (λ r. may r Pass) first.before first.hook first.after
+      (subst (λ (rs : List R). All (λ r. may r Pass) rs) first.hooks_are all)))
 
   one_doc : AllowsOne (MayDocument may rules)
   one_doc doc other (inl a) (inl b) = one_answer doc other a.0 b.0 a.1 b.1
@@ -78,7 +88,8 @@ module _ {R : Type 0} (may : R → DocChoice → Type 0) (rules : List R) (exact
   one_doc doc other (inr a) (inl b) = absurd (all_pass other b.0 b.1 a.1)
   one_doc doc other (inr a) (inr b) = a.0 ∙ sym b.0
 
-pub one_choice : {F R : Type 0} (may_keep : F → Bool → Type 0) (may_document : R → DocChoice → Type 0) (filters : List F) (rules : List R)
+pub one_choice : {F R : Type 0} (may_keep : F → Bool → Type 0) (may_document : R → DocChoice → Type 0)
+    (filters : List F) (rules : List R)
     → AreExact may_keep may_document filters rules → AllowsOne (MayChoose may_keep may_document filters rules)
 one_choice may_keep may_document filters rules exact choice other is also =
     let keep = one_keep may_keep filters exact.filters_are choice.keep other.keep is.keep also.keep in

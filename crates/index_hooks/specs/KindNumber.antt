@@ -1,7 +1,8 @@
 -- The kinds of declarations, numbered from 0 in the order in which they are declared.
 use Rattle.std.specs.Prelude.{ℕ}
 use Rattle.proto_decl.specs.declared.kind.DeclarationKind.{DeclarationKind}
-use Rattle.proto_decl.specs.declared.kind.DeclarationKind.TheVariants.{Message, Enum, Service, Field, Oneof, Value, Method}
+use Rattle.proto_decl.specs.declared.kind.DeclarationKind.TheVariants.{Message, Enum, Service, Field, Oneof, Value}
+use Rattle.proto_decl.specs.declared.kind.DeclarationKind.TheVariants.{Method}
 
 abbrev pub number_of : DeclarationKind → ℕ
 number_of Message = 0

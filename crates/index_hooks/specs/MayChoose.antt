@@ -1,4 +1,5 @@
--- Which choices promises allow for a declaration. A hook is a callback with its promise, of which only the answers that the promise allows are known.
+-- Which choices promises allow for a declaration. A hook is a callback with its promise, of which only the answers that
+-- the promise allows are known.
 use Rattle.std.specs.Prelude.{◌≡◌, ◌≢◌, ◌⊎◌, Bool, true, false, List, ◌∷◌, ◌++◌, All}
 use Rattle.index_hooks.specs.declared.choice.Choice.{Choice}
 use Rattle.index_hooks.specs.declared.choice.DocChoice.{DocChoice}
@@ -29,6 +30,7 @@ MayDocument may rules doc =
     ((doc ≢ Pass) × FirstOf (λ r. may r Pass) (λ r. may r doc) rules)
     ⊎ ((doc ≡ Leading) × All (λ r. may r Pass) rules)
 
-pub record MayChoose {F R : Type 0} (may_keep : F → Bool → Type 0) (may_document : R → DocChoice → Type 0) (filters : List F) (rules : List R) (choice : Choice) : Type 0 where
+pub record MayChoose {F R : Type 0} (may_keep : F → Bool → Type 0) (may_document : R → DocChoice → Type 0)
+    (filters : List F) (rules : List R) (choice : Choice) : Type 0 where
   pub keep : MayKeep may_keep filters choice.keep
   pub doc : MayDocument may_document rules choice.doc

@@ -9,7 +9,8 @@ abbrev pub AllowsOne : {A : Type 0} → (A → Type 0) → Type 0
 AllowsOne {A} allows = (answer other : A) → allows answer → allows other → answer ≡ other
 
 -- the promise of each filter and of each rule allows one answer at most
-pub record AreExact {F R : Type 0} (may_keep : F → Bool → Type 0) (may_document : R → DocChoice → Type 0) (filters : List F) (rules : List R) : Type 0 where
+pub record AreExact {F R : Type 0} (may_keep : F → Bool → Type 0) (may_document : R → DocChoice → Type 0)
+    (filters : List F) (rules : List R) : Type 0 where
   pub filters_are : All (λ f. AllowsOne (may_keep f)) filters
   pub rules_are : All (λ r. AllowsOne (may_document r)) rules
 

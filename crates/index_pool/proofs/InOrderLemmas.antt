@@ -1,5 +1,7 @@
 -- The results, put into the order of their inputs.
-use Rattle.std.proofs.Common.{◌≡◌, ◌≢◌, ℕ, zero, suc, ◌+◌, ◌<◌, ◌≤◌, true, false, List, [], ◌∷◌, ◌++◌, length, set, get_or, drop, slice_get, All, Option, Some, None, Result, Ok, Err, refl, sym, ap, ◌∙◌, subst, append-nil, ◌⊎◌, inl, inr, ⊎_elim, add-one, ◌==◌, arith}
+use Rattle.std.proofs.Common.{◌≡◌, ◌≢◌, ℕ, zero, suc, ◌+◌, ◌<◌, ◌≤◌, true, false, List, [], ◌∷◌, ◌++◌, length, set}
+use Rattle.std.proofs.Common.{get_or, drop, slice_get, All, Option, Some, None, Result, Ok, Err, refl, sym, ap, ◌∙◌}
+use Rattle.std.proofs.Common.{subst, append-nil, ◌⊎◌, inl, inr, ⊎_elim, add-one, ◌==◌, arith}
 use Rattle.std.proofs.Math.ListN.{length-set, length-drop}
 use Rattle.std.proofs.Math.Seq.{drop-cons}
 use Rattle.std.proofs.lemmas.List.{length_push, get_or-set_same, get_or-set_other}
@@ -29,9 +31,11 @@ some_some_same : {A : Type 0} (a b : A) → ◌≡◌ {A = Option (Option A)} (S
 some_some_same a b e = cc
 
 -- what a slot has after one was written
-slice_get_set : {X : Type 0} (xs : List X) (i k : ℕ) (y z : X) → slice_get (set xs i y) k ≡ Some z → ((k ≡ i) × (y ≡ z)) ⊎ ((k ≢ i) × (slice_get xs k ≡ Some z))
+slice_get_set : {X : Type 0} (xs : List X) (i k : ℕ) (y z : X) → slice_get (set xs i y) k ≡ Some z
+    → ((k ≡ i) × (y ≡ z)) ⊎ ((k ≢ i) × (slice_get xs k ≡ Some z))
 slice_get_set {X} xs i k y z e =
-    let within : k < length xs = (let a = slice_get_within (set xs i y) k z e in let b = length-set xs i y in omega arith) in
+    let within : k < length xs =
+    (let a = slice_get_within (set xs i y) k z e in let b = length-set xs i y in omega arith) in
     let here : get_or (set xs i y) k z ≡ z = get_or_from_slice_get (set xs i y) k z z e in
     ⊎_elim
     (λ (yes : ((k == i) ≡ true) × (k ≡ i)).
@@ -43,11 +47,13 @@ slice_get_set {X} xs i k y z e =
     inr (no.1, slice_get-get_or xs k z within ∙ ap (λ (w : X). Some w) old))
     (eqb_tells k i)
 
-slice_get_push : {X : Type 0} (xs : List X) (y : X) (k : ℕ) (z : X) → slice_get (xs ++ y ∷ []) k ≡ Some z → (slice_get xs k ≡ Some z) ⊎ ((k ≡ length xs) × (y ≡ z))
+slice_get_push : {X : Type 0} (xs : List X) (y : X) (k : ℕ) (z : X) → slice_get (xs ++ y ∷ []) k ≡ Some z
+    → (slice_get xs k ≡ Some z) ⊎ ((k ≡ length xs) × (y ≡ z))
 slice_get_push [] y zero z e = inr (refl, cc)
 slice_get_push [] y (suc k) z e = cc
 slice_get_push (x ∷ xs) y zero z e = inl e
-slice_get_push (x ∷ xs) y (suc k) z e = ⊎_elim inl (λ (p : (k ≡ length xs) × (y ≡ z)). inr (ap suc p.0, p.1)) (slice_get_push xs y k z e)
+slice_get_push (x ∷ xs) y (suc k) z e =
+    ⊎_elim inl (λ (p : (k ≡ length xs) × (y ≡ z)). inr (ap suc p.0, p.1)) (slice_get_push xs y k z e)
 
 slice_get_some : {X : Type 0} (xs : List X) (k : ℕ) → k < length xs → (x : X) × (slice_get xs k ≡ Some x)
 slice_get_some [] k within = absurd (omega arith)
@@ -58,7 +64,8 @@ cons_parts : {X : Type 0} (a b : X) (xs ys : List X) → a ∷ xs ≡ b ∷ ys �
 cons_parts a b xs ys e = (cc, cc)
 
 -- what comes next in a list of which i elements went
-drop_front : {X : Type 0} (xs : List X) (i : ℕ) (x : X) (ys : List X) → drop i xs ≡ x ∷ ys → (i < length xs) × (slice_get xs i ≡ Some x) × (drop (i + 1) xs ≡ ys)
+drop_front : {X : Type 0} (xs : List X) (i : ℕ) (x : X) (ys : List X) → drop i xs ≡ x ∷ ys
+    → (i < length xs) × (slice_get xs i ≡ Some x) × (drop (i + 1) xs ≡ ys)
 drop_front {X} xs i x ys e =
     let a = length-drop i xs in
     let b = ap length e in
@@ -76,18 +83,21 @@ placed_none {A} slots empty = record {
   held = λ k a e. (
       let within = slice_get_within slots k (Some a) e in
       let at : get_or slots k (Some a) ≡ None = All-get_or (λ slot. slot ≡ None) slots k (Some a) within empty in
-      let is : get_or slots k (Some a) ≡ Some a = get_or_from_slice_get slots k (Some a) (Some a) e in absurd (some_none a (sym is ∙ at)));
+      let is : get_or slots k (Some a) ≡ Some a = get_or_from_slice_get slots k (Some a) (Some a) e in
+      absurd (some_none a (sym is ∙ at)));
   lacking = λ k e. refl;
 }
 
-pub placed_more : {A : Type 0} (ys : List (Ran A)) (slots : List (Option A)) (number : ℕ) (answer : A) → Placed ys slots → Placed (ys ++ (record { number = number; answer = answer }) ∷ []) (set slots number (Some answer))
+pub placed_more : {A : Type 0} (ys : List (Ran A)) (slots : List (Option A)) (number : ℕ) (answer : A) → Placed ys slots
+    → Placed (ys ++ (record { number = number; answer = answer }) ∷ []) (set slots number (Some answer))
 placed_more {A} ys slots number answer p =
     let r : Ran A = record { number = number; answer = answer } in record {
       held = λ k a e. ⊎_elim
           (λ (own : (k ≡ number) × (◌≡◌ {A = Option A} (Some answer) (Some a))).
           let same : answer ≡ a = some_same answer a own.1 in
           subst (λ (q : ℕ × A). IsAmong (ys ++ r ∷ []) q.0 q.1) (λ i. (sym own.0 i, same i)) (Contains-push ys r))
-          (λ (other : (k ≢ number) × (slice_get slots k ≡ Some (Some a))). Contains-append_left ys (r ∷ []) (record { number = k; answer = a }) (p.held k a other.1))
+          (λ (other : (k ≢ number) × (slice_get slots k ≡ Some (Some a))). Contains-append_left ys (r ∷ [])
+          (record { number = k; answer = a }) (p.held k a other.1))
           (slice_get_set slots number k (Some answer) (Some a) e);
       lacking = λ k e. ⊎_elim
           (λ (own : (k ≡ number) × (◌≡◌ {A = Option A} (Some answer) None)). absurd (some_none answer own.1))
@@ -98,22 +108,29 @@ placed_more {A} ys slots number answer p =
           (slice_get_set slots number k (Some answer) None e);
     }
 
-slot_filled : {A : Type 0} (n : ℕ) (rs : List (Ran A)) (slots : List (Option A)) → Placed rs slots → HasEachOnceBelow n (numbers_of rs) → (k : ℕ) → k < n
+slot_filled : {A : Type 0} (n : ℕ) (rs : List (Ran A)) (slots : List (Option A)) → Placed rs slots
+    → HasEachOnceBelow n (numbers_of rs) → (k : ℕ) → k < n
     → (o : Option A) → slice_get slots k ≡ Some o → (a : A) × (slice_get slots k ≡ Some (Some a)) × IsAmong rs k a
 slot_filled n rs slots p once k below (Some a) e = (a, e, p.held k a e)
-slot_filled n rs slots p once k below None e = absurd (let a = p.lacking k e in let b = once_weighs n rs once k in let d = one_below k n below in omega arith)
+slot_filled n rs slots p once k below None e =
+    absurd (let a = p.lacking k e in let b = once_weighs n rs once k in let d = one_below k n below in omega arith)
 
-pub placed_fills : {A : Type 0} (n : ℕ) (rs : List (Ran A)) (slots : List (Option A)) → Placed rs slots → length slots ≡ n → HasEachOnceBelow n (numbers_of rs) → IsFilled (IsAmong rs) n slots
-placed_fills n rs slots p count once = (count, λ k below. (let o = slice_get_some slots k (omega arith) in slot_filled n rs slots p once k below o.0 o.1))
+pub placed_fills : {A : Type 0} (n : ℕ) (rs : List (Ran A)) (slots : List (Option A)) → Placed rs slots
+    → length slots ≡ n → HasEachOnceBelow n (numbers_of rs) → IsFilled (IsAmong rs) n slots
+placed_fills n rs slots p count once =
+    (count, λ k below. (let o = slice_get_some slots k (omega arith) in slot_filled n rs slots p once k below o.0 o.1))
 
 -- the answers of the slots so far
-pub record Answered {Out Fault : Type 0} (slots : List (Option (Result Out Fault))) (rest : List (Option (Result Out Fault))) (outs : List Out) : Type 0 where
+pub record Answered {Out Fault : Type 0} (slots : List (Option (Result Out Fault)))
+    (rest : List (Option (Result Out Fault))) (outs : List Out) : Type 0 where
   pub left : drop (length outs) slots ≡ rest
   pub few : length outs ≤ length slots
   pub each : (k : ℕ) (out : Out) → slice_get outs k ≡ Some out → HasResult slots k (Ok out)
 
-module _ {Out Fault : Type 0} (slots rest : List (Option (Result Out Fault))) (outs : List Out) (so_far : Answered slots rest outs) where
-  pub next_answer : (out : Out) (rest' : List (Option (Result Out Fault))) → rest ≡ Some (Ok out) ∷ rest' → (length outs < length slots) × Answered slots rest' (outs ++ out ∷ [])
+module _ {Out Fault : Type 0} (slots rest : List (Option (Result Out Fault))) (outs : List Out)
+    (so_far : Answered slots rest outs) where
+  pub next_answer : (out : Out) (rest' : List (Option (Result Out Fault))) → rest ≡ Some (Ok out) ∷ rest'
+      → (length outs < length slots) × Answered slots rest' (outs ++ out ∷ [])
   next_answer out rest' e =
       let front = drop_front slots (length outs) (Some (Ok out)) rest' (so_far.left ∙ e) in
       let count : length (outs ++ out ∷ []) ≡ length outs + 1 = length_push outs out in (
@@ -122,11 +139,13 @@ module _ {Out Fault : Type 0} (slots rest : List (Option (Result Out Fault))) (o
           left = ap (λ n. drop n slots) count ∙ front.2;
           few = (let before = front.0 in omega arith);
           each = λ k o at. ⊎_elim (so_far.each k o)
-              (λ (last : (k ≡ length outs) × (out ≡ o)). subst (λ (q : ℕ × Out). HasResult slots q.0 (Ok q.1)) (λ i. (sym last.0 i, last.1 i)) front.1) (slice_get_push outs out k o at);
+              (λ (last : (k ≡ length outs) × (out ≡ o)). subst (λ (q : ℕ × Out). HasResult slots q.0 (Ok q.1))
+              (λ i. (sym last.0 i, last.1 i)) front.1) (slice_get_push outs out k o at);
         },
       )
 
-  pub next_fault : (fault : Fault) (rest' : List (Option (Result Out Fault))) → rest ≡ Some (Err fault) ∷ rest' → MayRefuse (HasResult slots) (length slots) 1 (Job (length outs) fault)
+  pub next_fault : (fault : Fault) (rest' : List (Option (Result Out Fault))) → rest ≡ Some (Err fault) ∷ rest'
+      → MayRefuse (HasResult slots) (length slots) 1 (Job (length outs) fault)
   next_fault fault rest' e =
       let front = drop_front slots (length outs) (Some (Err fault)) rest' (so_far.left ∙ e) in
       (front.0, front.1, λ j below. (let o = slice_get_some outs j below in (o.0, so_far.each j o.0 o.1)))
@@ -154,13 +173,20 @@ pub none_left : {X : Type 0} (all taken left : List X) → all ≡ taken ++ left
 none_left all taken left e none = e ∙ (ap (λ l. taken ++ l) (nil_of_length left none) ∙ append-nil taken)
 
 -- a relation that allows more allows the same answers and refusals, for any workers the refusals of one
-pub answers_weaker : {Out Fault : Type 0} (P Q : ℕ → Result Out Fault → Type 0) (n m : ℕ) → n ≡ m → ((k : ℕ) (r : Result Out Fault) → P k r → Q k r) → (outs : List Out) → AnswersEach P n outs → AnswersEach Q m outs
+pub answers_weaker : {Out Fault : Type 0} (P Q : ℕ → Result Out Fault → Type 0) (n m : ℕ) → n ≡ m
+    → ((k : ℕ) (r : Result Out Fault) → P k r → Q k r) → (outs : List Out) → AnswersEach P n outs → AnswersEach Q m outs
 answers_weaker P Q n m same weaker outs a = (a.0 ∙ same, λ k out at. weaker k (Ok out) (a.1 k out at))
 
-pub refusal_weaker : {Out Fault : Type 0} (P Q : ℕ → Result Out Fault → Type 0) (n m workers : ℕ) → n ≡ m → ((k : ℕ) (r : Result Out Fault) → P k r → Q k r) → (fault : PoolFault Fault) → MayRefuse P n 1 fault → MayRefuse Q m workers fault
+pub refusal_weaker : {Out Fault : Type 0} (P Q : ℕ → Result Out Fault → Type 0) (n m workers : ℕ) → n ≡ m
+    → ((k : ℕ) (r : Result Out Fault) → P k r → Q k r) → (fault : PoolFault Fault) → MayRefuse P n 1 fault
+    → MayRefuse Q m workers fault
 refusal_weaker P Q n m workers same weaker Spawn a = absurd (omega arith)
 refusal_weaker P Q n m workers same weaker Memory a = tt
-refusal_weaker P Q n m workers same weaker (Job k fault) a = (subst (λ b. k < b) same a.0, weaker k (Err fault) a.1, λ j below. (let o = a.2 j below in (o.0, weaker j (Ok o.0) o.1)))
+refusal_weaker P Q n m workers same weaker (Job k fault) a = (
+  subst (λ b. k < b) same a.0,
+  weaker k (Err fault) a.1,
+  λ j below. (let o = a.2 j below in (o.0, weaker j (Ok o.0) o.1)),
+)
 
 pub each_ran : {A Fault : Type 0} (result : Result A (PoolFault Fault)) (fact : Type 0) → fact → IfEachRan result fact
 each_ran (Ok all) fact holds = holds
@@ -169,12 +195,15 @@ each_ran (Err Memory) fact holds = tt
 each_ran (Err (Job k fault)) fact holds = holds
 
 -- what a filled slot has is among the results
-pub filled_among : {A : Type 0} (among : ℕ → A → Type 0) (n : ℕ) (slots : List (Option A)) → IsFilled among n slots → (k : ℕ) (a : A) → HasResult slots k a → among k a
+pub filled_among : {A : Type 0} (among : ℕ → A → Type 0) (n : ℕ) (slots : List (Option A)) → IsFilled among n slots
+    → (k : ℕ) (a : A) → HasResult slots k a → among k a
 filled_among {A} among n slots filled k a e =
     let within = slice_get_within slots k (Some a) e in
     let count = filled.0 in
     let has = filled.1 k (omega arith) in
     let same : has.0 ≡ a = some_some_same has.0 a (sym has.1 ∙ e) in subst (among k) same has.2
 
-pub filled_full : {A : Type 0} (among : ℕ → A → Type 0) (n : ℕ) (slots : List (Option A)) → IsFilled among n slots → IsFull slots
-filled_full among n slots filled = λ k within. (let count = filled.0 in let has = filled.1 k (omega arith) in (has.0, has.1))
+pub filled_full : {A : Type 0} (among : ℕ → A → Type 0) (n : ℕ) (slots : List (Option A)) → IsFilled among n slots
+    → IsFull slots
+filled_full among n slots filled =
+    λ k within. (let count = filled.0 in let has = filled.1 k (omega arith) in (has.0, has.1))

@@ -1,5 +1,7 @@
 -- The numbers that a lane is given.
-use Rattle.std.proofs.Common.{◌≡◌, ◌≢◌, ℕ, zero, suc, ◌+◌, ◌*◌, ◌/◌, ◌%◌, ◌<◌, ◌≤◌, ◌==◌, Bool, [], ◌∷◌, ◌++◌, length, filter, cond, All, sum_by, nat_lt, if◌then◌else◌, zero-add, true, false, refl, sym, ap, ◌∙◌, subst, ⊎_elim, eq-eqb, ne_eqb, add-one, append-nil, arith}
+use Rattle.std.proofs.Common.{◌≡◌, ◌≢◌, ℕ, zero, suc, ◌+◌, ◌*◌, ◌/◌, ◌%◌, ◌<◌, ◌≤◌, ◌==◌, Bool, [], ◌∷◌, ◌++◌, length}
+use Rattle.std.proofs.Common.{filter, cond, All, sum_by, nat_lt, if◌then◌else◌, zero-add, true, false, refl, sym, ap}
+use Rattle.std.proofs.Common.{◌∙◌, subst, ⊎_elim, eq-eqb, ne_eqb, add-one, append-nil, arith}
 use Rattle.std.proofs.lemmas.List.{length_push}
 use Rattle.std.proofs.lemmas.List.Elements.{filter-append, All-filter, All-from_get_or}
 use Rattle.std.proofs.lemmas.List.Sums.{sum_by_push}
@@ -18,13 +20,17 @@ module _ (lanes w : ℕ) where
 
   lane_more : (n : ℕ) → lane_numbers (n + 1) lanes w ≡ lane_numbers n lanes w ++ cond ((n % lanes) == w) (n ∷ []) []
   unfolding lane_numbers
-  lane_more n = ap (filter (λ k. (k % lanes) == w)) (range_more n) ∙ filter-append (λ k. (k % lanes) == w) (range_with_len 0 n) (n ∷ [])
+  lane_more n = ap (filter (λ k. (k % lanes) == w)) (range_more n)
+      ∙ filter-append (λ k. (k % lanes) == w) (range_with_len 0 n) (n ∷ [])
 
   pub lane_more_own : (n : ℕ) → n % lanes ≡ w → lane_numbers (n + 1) lanes w ≡ lane_numbers n lanes w ++ n ∷ []
-  lane_more_own n own = lane_more n ∙ ap (λ (b : Bool). lane_numbers n lanes w ++ cond b (n ∷ []) []) (eq-eqb (n % lanes) w own)
+  lane_more_own n own = lane_more n
+      ∙ ap (λ (b : Bool). lane_numbers n lanes w ++ cond b (n ∷ []) []) (eq-eqb (n % lanes) w own)
 
   pub lane_more_other : (n : ℕ) → n % lanes ≢ w → lane_numbers (n + 1) lanes w ≡ lane_numbers n lanes w
-  lane_more_other n other = lane_more n ∙ (ap (λ (b : Bool). lane_numbers n lanes w ++ cond b (n ∷ []) []) (ne_eqb (n % lanes) w other) ∙ append-nil (lane_numbers n lanes w))
+  lane_more_other n other =
+      lane_more n ∙ (ap (λ (b : Bool). lane_numbers n lanes w ++ cond b (n ∷ []) []) (ne_eqb (n % lanes) w other)
+      ∙ append-nil (lane_numbers n lanes w))
 
   -- c numbers up to one that is the lane's own come before it
   before_own : (c n : ℕ) → n % lanes ≡ w → w < lanes → c * lanes + w + 1 ≤ n + lanes → c * lanes + w ≤ n
@@ -38,10 +44,12 @@ module _ (lanes w : ℕ) where
 
   lane_spread : (n : ℕ) → w < lanes → length (lane_numbers n lanes w) * lanes + w + 1 ≤ n + lanes
   lane_spread zero within = subst (λ c. c * lanes + w + 1 ≤ 0 + lanes) (sym (ap length lane_none)) (omega arith)
-  lane_spread (suc n) within = subst (λ m. length (lane_numbers m lanes w) * lanes + w + 1 ≤ m + lanes) (add-one n) (⊎_elim
+  lane_spread (suc n) within =
+      subst (λ m. length (lane_numbers m lanes w) * lanes + w + 1 ≤ m + lanes) (add-one n) (⊎_elim
       (λ (yes : (((n % lanes) == w) ≡ true) × (n % lanes ≡ w)).
       let before = before_own (length (lane_numbers n lanes w)) n yes.1 within (lane_spread n within) in
-      let one_more : length (lane_numbers (n + 1) lanes w) ≡ length (lane_numbers n lanes w) + 1 = ap length (lane_more_own n yes.1) ∙ length_push (lane_numbers n lanes w) n in
+      let one_more : length (lane_numbers (n + 1) lanes w) ≡ length (lane_numbers n lanes w) + 1 =
+      ap length (lane_more_own n yes.1) ∙ length_push (lane_numbers n lanes w) n in
       let P : ℕ → Type 0 = λ c. c * lanes + w + 1 ≤ n + 1 + lanes in
       subst P (sym one_more) (omega arith))
       (λ (no : (((n % lanes) == w) ≡ false) × (n % lanes ≢ w)).
@@ -51,7 +59,8 @@ module _ (lanes w : ℕ) where
       (eqb_tells (n % lanes) w))
 
   -- a number of the lane finds room in n / lanes + 1 slots
-  pub lane_has_room : (n number : ℕ) → number < n → number % lanes ≡ w → w < lanes → length (lane_numbers number lanes w) < n / lanes + 1
+  pub lane_has_room : (n number : ℕ) → number < n → number % lanes ≡ w → w < lanes
+      → length (lane_numbers number lanes w) < n / lanes + 1
   lane_has_room n number below own within =
       let a = before_own (length (lane_numbers number lanes w)) number own within (lane_spread number within) in
       let b : length (lane_numbers number lanes w) * lanes ≤ n = omega arith in
@@ -64,7 +73,8 @@ pub lanes_weight : (ℕ → ℕ) → ℕ → ℕ → ℕ → ℕ
 lanes_weight h n lanes zero = 0
 lanes_weight h n lanes (suc c) = lanes_weight h n lanes c + sum_by h (lane_numbers n lanes c)
 
-pub lanes_weight_more : (h : ℕ → ℕ) (n lanes c : ℕ) → lanes_weight h n lanes (c + 1) ≡ lanes_weight h n lanes c + sum_by h (lane_numbers n lanes c)
+pub lanes_weight_more : (h : ℕ → ℕ) (n lanes c : ℕ)
+    → lanes_weight h n lanes (c + 1) ≡ lanes_weight h n lanes c + sum_by h (lane_numbers n lanes c)
 unfolding lanes_weight
 lanes_weight_more h n lanes c = rw add-one refl
 
@@ -73,7 +83,8 @@ unfolding lanes_weight
 lanes_weight_one h n lanes = zero-add _
 
 -- one more number goes to one lane
-one_number_more : (h : ℕ → ℕ) (n lanes c : ℕ) → lanes_weight h (n + 1) lanes c ≡ lanes_weight h n lanes c + (if nat_lt (n % lanes) c then h n else 0)
+one_number_more : (h : ℕ → ℕ) (n lanes c : ℕ)
+    → lanes_weight h (n + 1) lanes c ≡ lanes_weight h n lanes c + (if nat_lt (n % lanes) c then h n else 0)
 unfolding lanes_weight
 one_number_more h n lanes zero = grind (arith, nat_tests)
 one_number_more h n lanes (suc c) = ⊎_elim
@@ -86,7 +97,8 @@ one_number_more h n lanes (suc c) = ⊎_elim
     let a = one_number_more h n lanes c in
     let b = ap (sum_by h) (lane_more_other lanes c n no.1) in
     let other = no.1 in
-    let same : (if nat_lt (n % lanes) (suc c) then h n else 0) ≡ (if nat_lt (n % lanes) c then h n else 0) = grind (arith, nat_tests) in omega arith)
+    let same : (if nat_lt (n % lanes) (suc c) then h n else 0) ≡ (if nat_lt (n % lanes) c then h n else 0) =
+    grind (arith, nat_tests) in omega arith)
     (eqb_tells (n % lanes) c)
 
 no_numbers : (h : ℕ → ℕ) (lanes c : ℕ) → lanes_weight h 0 lanes c ≡ 0

@@ -1,5 +1,7 @@
 -- Sums over the numbers below a bound, and how often a number stands in a list.
-use Rattle.std.proofs.Common.{◌≡◌, ◌≢◌, ℕ, zero, suc, ◌+◌, ◌<◌, ◌≤◌, ◌==◌, List, [], ◌∷◌, ◌++◌, length, drop, slice_index, sum_by, cond, nat_lt, if◌then◌else◌, refl, sym, ap, ◌∙◌, add-zero, zero-add, add-one, arith}
+use Rattle.std.proofs.Common.{◌≡◌, ◌≢◌, ℕ, zero, suc, ◌+◌, ◌<◌, ◌≤◌, ◌==◌, List, [], ◌∷◌, ◌++◌, length, drop}
+use Rattle.std.proofs.Common.{slice_index, sum_by, cond, nat_lt, if◌then◌else◌, refl, sym, ap, ◌∙◌, add-zero, zero-add}
+use Rattle.std.proofs.Common.{add-one, arith}
 use Rattle.std.proofs.lemmas.List.Sums.{sum_by-cons, sum_by-append, sum_by_push}
 use Rattle.std.proofs.lemmas.Bool.Decides.{nat_tests}
 use Rattle.std.specs.List.{range_with_len, flat_map}
@@ -10,25 +12,34 @@ only_at number = λ x. cond (x == number) 1 0
 
 range_more_from : (a n : ℕ) → range_with_len a (suc n) ≡ range_with_len a n ++ (a + n) ∷ []
 range_more_from a zero = ap (λ m. m ∷ []) (sym (add-zero a))
-range_more_from a (suc n) = let more = range_more_from (a + 1) n in let e : (a + 1) + n ≡ a + suc n = omega arith in ap (λ xs. a ∷ xs) (more ∙ ap (λ m. range_with_len (a + 1) n ++ m ∷ []) e)
+range_more_from a (suc n) = let more = range_more_from (a + 1) n in let e : (a + 1) + n ≡ a + suc n = omega arith in
+    ap (λ xs. a ∷ xs) (more ∙ ap (λ m. range_with_len (a + 1) n ++ m ∷ []) e)
 
 pub range_more : (n : ℕ) → range_with_len 0 (n + 1) ≡ range_with_len 0 n ++ n ∷ []
-range_more n = ap (range_with_len 0) (add-one n) ∙ (range_more_from 0 n ∙ ap (λ m. range_with_len 0 n ++ m ∷ []) (zero-add n))
+range_more n = ap (range_with_len 0) (add-one n)
+    ∙ (range_more_from 0 n ∙ ap (λ m. range_with_len 0 n ++ m ∷ []) (zero-add n))
 
 pub sum_by-range_more : (h : ℕ → ℕ) (n : ℕ) → sum_by h (range_with_len 0 (n + 1)) ≡ sum_by h (range_with_len 0 n) + h n
 sum_by-range_more h n = ap (sum_by h) (range_more n) ∙ sum_by_push h (range_with_len 0 n) n
 
-one_more_below : (number n : ℕ) → (if nat_lt number n then 1 else 0) + only_at number n ≡ (if nat_lt number (n + 1) then 1 else 0)
+one_more_below : (number n : ℕ)
+    → (if nat_lt number n then 1 else 0) + only_at number n ≡ (if nat_lt number (n + 1) then 1 else 0)
 one_more_below number n = grind (arith, nat_tests)
 
-pub sum_only_at-range : (number n : ℕ) → sum_by (only_at number) (range_with_len 0 n) ≡ (if nat_lt number n then 1 else 0)
+pub sum_only_at-range : (number n : ℕ)
+    → sum_by (only_at number) (range_with_len 0 n) ≡ (if nat_lt number n then 1 else 0)
 sum_only_at-range number zero = grind (arith, nat_tests)
 sum_only_at-range number (suc n) = ap (λ m. sum_by (only_at number) (range_with_len 0 m)) (sym (add-one n))
-    ∙ (sum_by-range_more (only_at number) n ∙ (ap (λ m. m + only_at number n) (sum_only_at-range number n) ∙ (one_more_below number n ∙ ap (λ m. if nat_lt number m then 1 else 0) (add-one n))))
+    ∙ (sum_by-range_more (only_at number) n
+    ∙ (ap (λ m. m + only_at number n) (sum_only_at-range number n)
+    ∙ (one_more_below number n ∙ ap (λ m. if nat_lt number m then 1 else 0) (add-one n))))
 
-pub sum_by-flat_map : {X : Type 0} (h : ℕ → ℕ) (f : X → List ℕ) (xs : List X) → sum_by h (flat_map f xs) ≡ sum_by (λ x. sum_by h (f x)) xs
+pub sum_by-flat_map : {X : Type 0} (h : ℕ → ℕ) (f : X → List ℕ) (xs : List X)
+    → sum_by h (flat_map f xs) ≡ sum_by (λ x. sum_by h (f x)) xs
 sum_by-flat_map h f [] = refl
-sum_by-flat_map h f (x ∷ xs) = sum_by-append h (f x) (flat_map f xs) ∙ (ap (λ m. sum_by h (f x) + m) (sum_by-flat_map h f xs) ∙ sym (sum_by-cons (λ y. sum_by h (f y)) x xs))
+sum_by-flat_map h f (x ∷ xs) =
+    sum_by-append h (f x) (flat_map f xs)
+    ∙ (ap (λ m. sum_by h (f x) + m) (sum_by-flat_map h f xs) ∙ sym (sum_by-cons (λ y. sum_by h (f y)) x xs))
 
 -- without its first number a list weighs less by that number's weight
 pub sum_by-front : (h : ℕ → ℕ) (xs : List ℕ) → 0 < length xs → sum_by h (drop 1 xs) + h (slice_index xs 0) ≡ sum_by h xs

@@ -1,11 +1,14 @@
--- The core machine: workers who share the numbers below a bound, as one pure state and the events that change it. Each worker has a queue, and takes numbers from its own or, once it has found that empty, from its neighbour's.
-use Rattle.std.specs.Prelude.{◌≡◌, ℕ, ◌+◌, ◌%◌, ◌<◌, Bool, true, false, List, [], ◌∷◌, ◌++◌, length, drop, replicate, slice_index, slice_index_or, slice_set, Option, Some, None, All}
+-- The core machine: workers who share the numbers below a bound, as one pure state and the events that change it. Each
+-- worker has a queue, and takes numbers from its own or, once it has found that empty, from its neighbour's.
+use Rattle.std.specs.Prelude.{◌≡◌, ℕ, ◌+◌, ◌%◌, ◌<◌, Bool, true, false, List, [], ◌∷◌, ◌++◌, length, drop, replicate}
+use Rattle.std.specs.Prelude.{slice_index, slice_index_or, slice_set, Option, Some, None, All}
 use Rattle.std.specs.List.{flat_map}
 use Rattle.index_pool.specs.Once.{HasEachOnceBelow}
 use Rattle.index_pool.specs.declared.core_machine.Event.{Event}
 use Rattle.index_pool.specs.declared.core_machine.Event.TheVariants.{Seed, Pop, PopEmpty, Steal, StealEmpty, StealRetry}
 
--- one worker: its queue, front first; the numbers that it took, in order; and whether it has noted that its queue is empty
+-- one worker: its queue, front first; the numbers that it took, in order; and whether it has noted that its queue is
+-- empty
 pub record WorkerState : Type 0 where
   pub queue : List ℕ
   pub takings : List ℕ
@@ -51,7 +54,8 @@ MayHappen s (Steal w) = HasNoted s w × (0 < length (queue_of s (neighbour s w))
 MayHappen s (StealEmpty w) = HasNoted s w × (queue_of s (neighbour s w) ≡ [])
 MayHappen s (StealRetry w) = HasNoted s w
 
--- one worker with one more number in its queue, without the first of them, with one more number taken, and with the note
+-- one worker with one more number in its queue, without the first of them, with one more number taken, and with the
+-- note
 abbrev pub queued : WorkerState → ℕ → WorkerState
 queued x k = record x { queue = x.queue ++ k ∷ [] }
 
@@ -75,7 +79,8 @@ after_take s from to =
 
 -- the state after a possible event
 abbrev pub state_after : CoreState → Event → CoreState
-state_after s (Seed k) = let w = k % length s.workers in record (with_worker s w (queued (worker_at s w) k)) { seeded = s.seeded + 1 }
+state_after s (Seed k) = let w = k % length s.workers in
+    record (with_worker s w (queued (worker_at s w) k)) { seeded = s.seeded + 1 }
 state_after s (Pop w) = after_take s w w
 state_after s (PopEmpty w) = with_worker s w (noted (worker_at s w))
 state_after s (Steal w) = after_take s (neighbour s w) w
@@ -107,10 +112,15 @@ numbers_held s = flat_map (λ x. x.queue ++ x.takings) s.workers
 abbrev pub all_takings : CoreState → List ℕ
 all_takings s = flat_map (λ x. x.takings) s.workers
 
--- of a state to which some events lead from the start: each seeded number stands in one queue or in one worker's takings, once
+-- of a state to which some events lead from the start: each seeded number stands in one queue or in one worker's
+-- takings, once
 abbrev pub LosesNoNumber : Type 0
-LosesNoNumber = (inputs workers : ℕ) (events : List Event) (s : CoreState) → 0 < workers → CoreRun (core_start inputs workers) events s → HasEachOnceBelow s.seeded (numbers_held s)
+LosesNoNumber = (inputs workers : ℕ) (events : List Event) (s : CoreState) → 0 < workers
+    → CoreRun (core_start inputs workers) events s → HasEachOnceBelow s.seeded (numbers_held s)
 
--- and where every worker has noted that its queue is empty, the takings of all are the numbers below the bound, each once
+-- and where every worker has noted that its queue is empty, the takings of all are the numbers below the bound, each
+-- once
 abbrev pub TakesEachNumber : Type 0
-TakesEachNumber = (inputs workers : ℕ) (events : List Event) (s : CoreState) → 0 < workers → CoreRun (core_start inputs workers) events s → All (λ x. x.found_empty ≡ true) s.workers → HasEachOnceBelow inputs (all_takings s)
+TakesEachNumber = (inputs workers : ℕ) (events : List Event) (s : CoreState) → 0 < workers
+    → CoreRun (core_start inputs workers) events s → All (λ x. x.found_empty ≡ true) s.workers
+    → HasEachOnceBelow inputs (all_takings s)

@@ -14,9 +14,11 @@ lane_numbers n lanes w = filter (λ k. (k % lanes) == w) (range_with_len 0 n)
 abbrev pub IsLane : List ℕ → List ℕ → List ℕ → List ℕ → Type 0
 IsLane given queue popped stolen = (gone : List ℕ) × (given ≡ gone ++ queue) × IsPermutation gone (popped ++ stolen)
 
--- what a party of a deque knows: whether it is the owner's, whether it is the thief's, what the deque was given, and what it popped and stole
+-- what a party of a deque knows: whether it is the owner's, whether it is the thief's, what the deque was given, and
+-- what it popped and stole
 abbrev pub lane_view : Bool → Bool → List ℕ → List ℕ → List ℕ → LaneView
-lane_view owns steals given popped stolen = record { owns = owns; steals = steals; given = given; popped = popped; stolen = stolen }
+lane_view owns steals given popped stolen =
+    record { owns = owns; steals = steals; given = given; popped = popped; stolen = stolen }
 
 -- the changes of a view that a step at the deque makes: more was given, popped or stolen
 abbrev pub more_given : LaneView → List ℕ → LaneView
@@ -31,9 +33,11 @@ more_stolen v xs = lane_view v.owns v.steals v.given v.popped (v.stolen ++ xs)
 -- only one party's view is the owner's, and only one the thief's, and these two have the lane's lists
 abbrev pub Fits : ℕ → ℕ → List ℕ → List ℕ → List ℕ → ℕ → LaneView → Type 0
 Fits owner thief given popped stolen party v =
-    (v.owns ≡ true → (party ≡ owner) × (v.given ≡ given) × (v.popped ≡ popped)) × (v.steals ≡ true → (party ≡ thief) × (v.given ≡ given) × (v.stolen ≡ stolen))
+    (v.owns ≡ true → (party ≡ owner) × (v.given ≡ given) × (v.popped ≡ popped))
+    × (v.steals ≡ true → (party ≡ thief) × (v.given ≡ given) × (v.stolen ≡ stolen))
 
 -- the rule of a deque: what it holds and what its parties know are a lane
 abbrev pub HoldsLane : List ℕ → List LaneView → Type 0
-HoldsLane queue views = (owner : ℕ) × (thief : ℕ) × (given : List ℕ) × (popped : List ℕ) × (stolen : List ℕ) × IsLane given queue popped stolen
+HoldsLane queue views = (owner : ℕ) × (thief : ℕ) × (given : List ℕ) × (popped : List ℕ) × (stolen : List ℕ)
+    × IsLane given queue popped stolen
     × ((party : ℕ) (v : LaneView) → get_elem? views party ≡ some v → Fits owner thief given popped stolen party v)

@@ -5,13 +5,15 @@ use Rattle.index_pool.specs.declared.phase.fault.PoolFault.TheVariants.{Spawn, M
 
 -- n answers, and answer k is one to input k
 abbrev pub AnswersEach : {Out Fault : Type 0} → (ℕ → Result Out Fault → Type 0) → ℕ → List Out → Type 0
-AnswersEach {Out} gives n outs = (length outs ≡ n) × ((k : ℕ) (out : Out) → slice_get outs k ≡ Some out → gives k (Ok out))
+AnswersEach {Out} gives n outs =
+    (length outs ≡ n) × ((k : ℕ) (out : Out) → slice_get outs k ≡ Some out → gives k (Ok out))
 
 -- input k may give this fault, and each lesser input has an answer
 abbrev pub IsLeastFault : {Out Fault : Type 0} → (ℕ → Result Out Fault → Type 0) → ℕ → ℕ → Fault → Type 0
 IsLeastFault {Out} gives n k fault = (k < n) × gives k (Err fault) × ((j : ℕ) → j < k → (out : Out) × gives j (Ok out))
 
--- a thread is refused only where one is to be started, that is, for two workers or more; of memory that is refused nothing is said; an input's fault is the least one
+-- a thread is refused only where one is to be started, that is, for two workers or more; of memory that is refused
+-- nothing is said; an input's fault is the least one
 abbrev pub MayRefuse : {Out Fault : Type 0} → (ℕ → Result Out Fault → Type 0) → ℕ → ℕ → PoolFault Fault → Type 0
 MayRefuse gives n workers Spawn = 1 < workers
 MayRefuse gives n workers Memory = ⊤

@@ -22,19 +22,28 @@ outcome_of (Err fault) = Err (query.Answers fault)
 -- bytes that are refused, and not for want of memory, decode to no index
 pub refused_bytes : (gives : Option (List ℕ) → Type 0) (bytes : List ℕ) (fault : WireFault) → gives (Some bytes)
     → ((index : Index) → Decodes bytes index → fault ≡ wire.Memory) → IsReadFrom gives (Err (fault_of_wire fault))
-refused_bytes gives bytes (wire.Truncated at) given only = (bytes, given, λ index d. let same = only index d in cc, λ same. cc)
-refused_bytes gives bytes (wire.Varint at) given only = (bytes, given, λ index d. let same = only index d in cc, λ same. cc)
-refused_bytes gives bytes (wire.FieldZero at) given only = (bytes, given, λ index d. let same = only index d in cc, λ same. cc)
-refused_bytes gives bytes (wire.Group at) given only = (bytes, given, λ index d. let same = only index d in cc, λ same. cc)
-refused_bytes gives bytes (wire.WireType at) given only = (bytes, given, λ index d. let same = only index d in cc, λ same. cc)
-refused_bytes gives bytes (wire.Repeated at) given only = (bytes, given, λ index d. let same = only index d in cc, λ same. cc)
-refused_bytes gives bytes (wire.Utf8 at) given only = (bytes, given, λ index d. let same = only index d in cc, λ same. cc)
-refused_bytes gives bytes (wire.BadRange at) given only = (bytes, given, λ index d. let same = only index d in cc, λ same. cc)
+refused_bytes gives bytes (wire.Truncated at) given only =
+    (bytes, given, λ index d. let same = only index d in cc, λ same. cc)
+refused_bytes gives bytes (wire.Varint at) given only =
+    (bytes, given, λ index d. let same = only index d in cc, λ same. cc)
+refused_bytes gives bytes (wire.FieldZero at) given only =
+    (bytes, given, λ index d. let same = only index d in cc, λ same. cc)
+refused_bytes gives bytes (wire.Group at) given only =
+    (bytes, given, λ index d. let same = only index d in cc, λ same. cc)
+refused_bytes gives bytes (wire.WireType at) given only =
+    (bytes, given, λ index d. let same = only index d in cc, λ same. cc)
+refused_bytes gives bytes (wire.Repeated at) given only =
+    (bytes, given, λ index d. let same = only index d in cc, λ same. cc)
+refused_bytes gives bytes (wire.Utf8 at) given only =
+    (bytes, given, λ index d. let same = only index d in cc, λ same. cc)
+refused_bytes gives bytes (wire.BadRange at) given only =
+    (bytes, given, λ index d. let same = only index d in cc, λ same. cc)
 refused_bytes gives bytes wire.Memory given only = tt
 
 module _ {R W : Type 0} (gives : Option (List ℕ) → Type 0) (commands : Reader R) (answers : Writer W) where
   -- there is no index
-  pub unread : (fault : QueryFault) → IsReadFrom gives (Err fault) → AreUnused commands answers → Queried gives commands answers (Err fault)
+  pub unread : (fault : QueryFault) → IsReadFrom gives (Err fault) → AreUnused commands answers
+      → Queried gives commands answers (Err fault)
   unread query.Unreadable why unused = (why, unused)
   unread (query.Wire fault) why unused = (why, unused)
   unread (query.Answers answer.Read) why unused = absurd why
@@ -43,13 +52,15 @@ module _ {R W : Type 0} (gives : Option (List ℕ) → Type 0) (commands : Reade
 
   module _ (index : Index) (is : IsReadFrom gives (Ok index)) where
     answered : (done : Result (Unit {0}) AnswerFault)
-        → AreAnswered commands.remaining commands.failures commands.reads commands.ends answers.contents answers.failures index commands.before commands.after answers.before answers.after done
+        → AreAnswered commands.remaining commands.failures commands.reads commands.ends answers.contents
+        answers.failures index commands.before commands.after answers.before answers.after done
         → IsAnswered gives commands answers done
     answered done are = record { index = index; is = is; are = are }
 
     -- commands about it are answered, or that stops
     pub told : (done : Result (Unit {0}) AnswerFault)
-        → MayAnswer commands.remaining commands.failures commands.reads commands.ends answers.contents answers.failures index commands.before commands.after answers.before answers.after done
+        → MayAnswer commands.remaining commands.failures commands.reads commands.ends answers.contents answers.failures
+        index commands.before commands.after answers.before answers.after done
         → Queried gives commands answers (outcome_of done)
     told (Ok done) are = answered (Ok done) are
     told (Err answer.Read) are = answered (Err answer.Read) are

@@ -11,12 +11,14 @@ abbrev pub part_of : {A B E : Type 0} → (A → B) → Result A E → Result B 
 part_of f done = result_map_both f (λ e. e) done
 
 -- what holds of the part, or of the fault, holds of the part or the fault
-pub holds_of_part : {A B E : Type 0} (f : A → B) (P : Result B E → Type 0) (done : Result A E) → MatchResult done (λ a. P (Ok (f a))) (λ e. P (Err e)) → P (part_of f done)
+pub holds_of_part : {A B E : Type 0} (f : A → B) (P : Result B E → Type 0) (done : Result A E)
+    → MatchResult done (λ a. P (Ok (f a))) (λ e. P (Err e)) → P (part_of f done)
 holds_of_part f P (Ok a) holds = holds
 holds_of_part f P (Err e) holds = holds
 
 -- a run ends alike, whatever is handed out
-pub ends_alike : {M A B : Type 0} (f : A → B) (said : M → Option (List ℕ)) (unsaid : M → ℕ) (tree : List TreeFile) (done : Result A Fault) (before after : M) (status : ℕ)
+pub ends_alike : {M A B : Type 0} (f : A → B) (said : M → Option (List ℕ)) (unsaid : M → ℕ) (tree : List TreeFile)
+    (done : Result A Fault) (before after : M) (status : ℕ)
     → Ends said unsaid tree done before after status → Ends said unsaid tree (part_of f done) before after status
 ends_alike f said unsaid tree (Ok a) before after status ends = ends
 ends_alike f said unsaid tree (Err e) before after status ends = ends

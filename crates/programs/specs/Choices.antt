@@ -24,7 +24,8 @@ documented_by (Some Leading) = Leading
 documented_by (Some Trailing) = Trailing
 documented_by (Some Both) = Both
 
--- whether a declaration is kept by a full name of `--only`: exactly where it is its own or one above it; where there is none, it is kept
+-- whether a declaration is kept by a full name of `--only`: exactly where it is its own or one above it; where there is
+-- none, it is kept
 abbrev pub IsKeptBy : Option (List ℕ) → Seen → Bool → Type 0
 IsKeptBy None seen keep = keep ≡ true
 IsKeptBy (Some scope) seen keep = IsTrue keep ↔ IsUnder scope seen.full_name

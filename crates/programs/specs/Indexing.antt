@@ -8,7 +8,10 @@ use Rattle.programs.specs.Streams.{Writer}
 use Rattle.programs.specs.TreeRuns.{IsRun}
 
 -- it doesn't start, and nothing is written; or the tree of the files is indexed into the file, as the options say
-abbrev pub Indexed : {W M : Type 0} → (lists : List ℕ → Option (List (List ℕ)) → Type 0) → (gives : List ℕ → Option (List ℕ) → Type 0)
+abbrev pub Indexed : {W M : Type 0} → (lists : List ℕ → Option (List (List ℕ)) → Type 0)
+    → (gives : List ℕ → Option (List ℕ) → Type 0)
     → IndexOptions → Writer W → Writer M → (status : ℕ) → Type 0
-Indexed lists gives options out messages status = IsRun lists gives messages.contents messages.failures options (out.after ≡ out.before)
-    (λ tree done. Indexes out.contents out.failures (allowed_by options) (settings_in options) tree options.workers out.before out.after done) messages.before messages.after status
+Indexed lists gives options out messages status =
+    IsRun lists gives messages.contents messages.failures options (out.after ≡ out.before)
+    (λ tree done. Indexes out.contents out.failures (allowed_by options)
+    (settings_in options) tree options.workers out.before out.after done) messages.before messages.after status

@@ -8,10 +8,13 @@ use Rattle.protoscip.specs.declared.statuses.TheConstants.{MEMORY_STATUS}
 abbrev pub Heard : ℕ → ℕ → Type 0 → Type 0
 Heard before after P = before < 2 ^ 64 - 1 → after ≡ before → P
 
--- the stream of messages, before and after, and the exit status: this line is said, with its end, and the status is the one that is due
-abbrev pub Says : {M : Type 0} → (contents : M → Option (List ℕ)) → (failures : M → ℕ) → (line : List ℕ) → (due : ℕ) → M → M → (status : ℕ) → Type 0
+-- the stream of messages, before and after, and the exit status: this line is said, with its end, and the status is the
+-- one that is due
+abbrev pub Says : {M : Type 0} → (contents : M → Option (List ℕ)) → (failures : M → ℕ) → (line : List ℕ) → (due : ℕ) → M
+    → M → (status : ℕ) → Type 0
 Says contents failures line due before after status =
-    (status ≡ due) × Heard (failures before) (failures after) (Appends (contents before) (contents after) (line ++ codes "\n"))
+    (status ≡ due) × Heard (failures before) (failures after)
+    (Appends (contents before) (contents after) (line ++ codes "\n"))
 
 -- what is said where memory doesn't suffice, and the status of that
 abbrev pub memory_line : List ℕ
@@ -20,11 +23,14 @@ memory_line = plain_line (codes "Memory")
 abbrev pub memory_status : ℕ
 memory_status = MEMORY_STATUS
 
--- where a program stops, the line that is due is said, with the status that is due; or, where memory doesn't suffice for it, that of want
+-- where a program stops, the line that is due is said, with the status that is due; or, where memory doesn't suffice
+-- for it, that of want
 -- of memory, with that status
-abbrev pub Tells : {M : Type 0} → (contents : M → Option (List ℕ)) → (failures : M → ℕ) → (line : List ℕ) → (due : ℕ) → M → M → (status : ℕ) → Type 0
+abbrev pub Tells : {M : Type 0} → (contents : M → Option (List ℕ)) → (failures : M → ℕ) → (line : List ℕ) → (due : ℕ)
+    → M → M → (status : ℕ) → Type 0
 Tells contents failures line due before after status =
-    Says contents failures line due before after status ⊎ Says contents failures memory_line memory_status before after status
+    Says contents failures line due before after status
+    ⊎ Says contents failures memory_line memory_status before after status
 
 -- of a success nothing is said, and the exit status is 0
 abbrev pub IsSilent : {M : Type 0} → M → M → (status : ℕ) → Type 0

@@ -16,23 +16,29 @@ abbrev pub IsReadFrom : (Option (List ℕ) → Type 0) → Result Index QueryFau
 IsReadFrom gives (Ok index) = (bytes : List ℕ) × gives (Some bytes) × Decodes bytes index
 IsReadFrom gives (Err (Answers answer.Memory)) = Unit {0}
 IsReadFrom gives (Err Unreadable) = gives None
-IsReadFrom gives (Err (Wire fault)) = (bytes : List ℕ) × gives (Some bytes) × ((index : Index) → Decodes bytes index → ⊥) × (fault ≢ wire.Memory)
+IsReadFrom gives (Err (Wire fault)) =
+    (bytes : List ℕ) × gives (Some bytes) × ((index : Index) → Decodes bytes index → ⊥) × (fault ≢ wire.Memory)
 IsReadFrom gives (Err other) = ⊥
 
 -- the index is read, and answers go out to commands about it
-pub record IsAnswered {R W : Type 0} (gives : Option (List ℕ) → Type 0) (commands : Reader R) (answers : Writer W) (answered : Result (Unit {0}) AnswerFault) : Type 0 where
+pub record IsAnswered {R W : Type 0} (gives : Option (List ℕ) → Type 0) (commands : Reader R) (answers : Writer W)
+    (answered : Result (Unit {0}) AnswerFault) : Type 0 where
   pub index : Index
   pub is : IsReadFrom gives (Ok index)
-  pub are : AreAnswered commands.remaining commands.failures commands.reads commands.ends answers.contents answers.failures index commands.before commands.after answers.before answers.after answered
+  pub are : AreAnswered commands.remaining commands.failures commands.reads commands.ends answers.contents
+      answers.failures index commands.before commands.after answers.before answers.after answered
 
 -- nothing was read or written
 abbrev pub AreUnused : {R W : Type 0} → Reader R → Writer W → Type 0
 AreUnused commands answers = AreUntouched commands.before commands.after answers.before answers.after
 
--- all commands are answered; or reading them or writing answers stops; or memory ran out before an answer, or before the first; or there
+-- all commands are answered; or reading them or writing answers stops; or memory ran out before an answer, or before
+-- the first; or there
 -- is no index
-abbrev pub Queried : {R W : Type 0} → (Option (List ℕ) → Type 0) → Reader R → Writer W → Result (Unit {0}) QueryFault → Type 0
+abbrev pub Queried : {R W : Type 0} → (Option (List ℕ) → Type 0) → Reader R → Writer W → Result (Unit {0}) QueryFault
+    → Type 0
 Queried gives commands answers (Ok done) = IsAnswered gives commands answers (Ok done)
-Queried gives commands answers (Err (Answers answer.Memory)) = AreUnused commands answers ⊎ IsAnswered gives commands answers (Err answer.Memory)
+Queried gives commands answers (Err (Answers answer.Memory)) =
+    AreUnused commands answers ⊎ IsAnswered gives commands answers (Err answer.Memory)
 Queried gives commands answers (Err (Answers fault)) = IsAnswered gives commands answers (Err fault)
 Queried gives commands answers (Err fault) = IsReadFrom gives (Err fault) × AreUnused commands answers

@@ -1,4 +1,5 @@
--- Why commands about the index of a file aren't answered: what is said of it, and the exit status. (Texts and statuses are this
+-- Why commands about the index of a file aren't answered: what is said of it, and the exit status. (Texts and statuses
+-- are this
 -- project's own.)
 use Rattle.std.specs.Prelude.{ℕ, List, codes}
 use Rattle.scip_query.specs.AnswerFaults.{name_of as answer_name}

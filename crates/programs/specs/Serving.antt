@@ -7,10 +7,14 @@ use Rattle.programs.specs.Settings.{allowed_by, settings_in}
 use Rattle.programs.specs.Streams.{Reader, Writer}
 use Rattle.programs.specs.TreeRuns.{IsRun}
 
--- it doesn't start, and nothing is read or written; or commands are answered from the index of the tree of the files, as the options say
-abbrev pub Served : {R W M : Type 0} → (lists : List ℕ → Option (List (List ℕ)) → Type 0) → (gives : List ℕ → Option (List ℕ) → Type 0)
+-- it doesn't start, and nothing is read or written; or commands are answered from the index of the tree of the files,
+-- as the options say
+abbrev pub Served : {R W M : Type 0} → (lists : List ℕ → Option (List (List ℕ)) → Type 0)
+    → (gives : List ℕ → Option (List ℕ) → Type 0)
     → IndexOptions → Reader R → Writer W → Writer M → (status : ℕ) → Type 0
 Served lists gives options commands answers messages status =
-    IsRun lists gives messages.contents messages.failures options (AreUntouched commands.before commands.after answers.before answers.after)
-    (λ tree done. Serves commands.remaining commands.failures commands.reads commands.ends answers.contents answers.failures (allowed_by options) (settings_in options) tree options.workers
+    IsRun lists gives messages.contents messages.failures options
+    (AreUntouched commands.before commands.after answers.before answers.after)
+    (λ tree done. Serves commands.remaining commands.failures commands.reads commands.ends answers.contents
+    answers.failures (allowed_by options) (settings_in options) tree options.workers
     commands.before commands.after answers.before answers.after done) messages.before messages.after status

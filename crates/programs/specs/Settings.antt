@@ -28,7 +28,11 @@ custom_options_of word.Skip = custom.Skip
 
 -- the package that symbols name
 abbrev pub package_in : IndexOptions → Package
-package_in options = record { manager = string_bytes options.manager; name = string_bytes options.«package»; version = string_bytes options.release }
+package_in options = record {
+  manager = string_bytes options.manager;
+  name = string_bytes options.«package»;
+  version = string_bytes options.release;
+}
 
 abbrev pub settings_in : IndexOptions → Settings
 settings_in options = record {

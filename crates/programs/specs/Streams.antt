@@ -1,7 +1,8 @@
 -- What a call does with a reader and with a writer.
 use Rattle.std.specs.Prelude.{ℕ, List, Option}
 
--- a reader before and after a call, and what its trait says of it: the bytes that remain, and how many reads failed, were made, and gave the
+-- a reader before and after a call, and what its trait says of it: the bytes that remain, and how many reads failed,
+-- were made, and gave the
 -- end
 pub record Reader (R : Type 0) : Type 0 where
   pub remaining : R → Option (List ℕ)
@@ -23,4 +24,5 @@ pub record Writer (W : Type 0) : Type 0 where
   pub after : W
 
 abbrev pub writer : {W : Type 0} → (W → Option (List ℕ)) → (failures : W → ℕ) → W → W → Writer W
-writer contents failures before after = record { contents = contents; failures = failures; before = before; after = after }
+writer contents failures before after =
+    record { contents = contents; failures = failures; before = before; after = after }

@@ -1,5 +1,6 @@
 -- What the programs about a tree do: `index` and `shell`.
--- `lists` and `gives` are what the system of files gives, `said` and `unsaid` the contents and failures of the stream of messages;
+-- `lists` and `gives` are what the system of files gives, `said` and `unsaid` the contents and failures of the stream
+-- of messages;
 -- `before` and `after` are that stream around the call.
 use Rattle.std.specs.Prelude.{ℕ, List, Option, Result, Ok, Err, map, string_bytes}
 use Rattle.source_tree.specs.Files.{TreeFile}
@@ -17,17 +18,24 @@ use Rattle.programs.specs.StartFaults.{line_of as start_line, status_of as start
 use Rattle.programs.specs.Starting.{MayNotStart}
 
 -- the end of a run over a tree: nothing is said of a success; of a fault its line is, with its status
-abbrev pub Ends : {M A : Type 0} → (said : M → Option (List ℕ)) → (unsaid : M → ℕ) → List TreeFile → Result A Fault → M → M → (status : ℕ) → Type 0
+abbrev pub Ends : {M A : Type 0} → (said : M → Option (List ℕ)) → (unsaid : M → ℕ) → List TreeFile → Result A Fault → M
+    → M → (status : ℕ) → Type 0
 Ends said unsaid tree (Ok done) before after status = IsSilent before after status
-Ends said unsaid tree (Err fault) before after status = Tells said unsaid (line_of tree fault) (status_of fault) before after status
+Ends said unsaid tree (Err fault) before after status =
+    Tells said unsaid (line_of tree fault) (status_of fault) before after status
 
--- The program doesn't start, with all but the stream of messages `untouched`, and says why; or there is a tree of the files, and the
+-- The program doesn't start, with all but the stream of messages `untouched`, and says why; or there is a tree of the
+-- files, and the
 -- run over it ends, of which `runs` says what it answers.
-pub data IsRun {M : Type 0} (lists : List ℕ → Option (List (List ℕ)) → Type 0) (gives : List ℕ → Option (List ℕ) → Type 0)
-    (said : M → Option (List ℕ)) (unsaid : M → ℕ) (options : IndexOptions) (untouched : Type 0) (runs : List TreeFile → Result Chosen Fault → Type 0)
+pub data IsRun {M : Type 0} (lists : List ℕ → Option (List (List ℕ)) → Type 0)
+    (gives : List ℕ → Option (List ℕ) → Type 0)
+    (said : M → Option (List ℕ)) (unsaid : M → ℕ) (options : IndexOptions) (untouched : Type 0)
+    (runs : List TreeFile → Result Chosen Fault → Type 0)
     (before after : M) (status : ℕ) : Type 0 where
   not_started : (fault : StartFault) → MayNotStart lists gives options fault → untouched
-      → Tells said unsaid (start_line fault) (start_status fault) before after status → IsRun lists gives said unsaid options untouched runs before after status
+      → Tells said unsaid (start_line fault) (start_status fault) before after status
+      → IsRun lists gives said unsaid options untouched runs before after status
   over_tree : (tree : List TreeFile) (done : Result Chosen Fault) → IsPackage (package_in options)
       → IsTreeBelow lists gives (string_bytes options.root) (map string_bytes options.include.items) tree
-      → runs tree done → Ends said unsaid tree done before after status → IsRun lists gives said unsaid options untouched runs before after status
+      → runs tree done → Ends said unsaid tree done before after status
+      → IsRun lists gives said unsaid options untouched runs before after status

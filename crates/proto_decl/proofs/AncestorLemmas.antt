@@ -3,7 +3,8 @@ use Rattle.std.proofs.Common.{◌≡◌, ◌≢◌, ℕ, List, [], ◌∷◌, �
 use Rattle.std.specs.Prelude.{All, Contains}
 use Rattle.std.specs.List.{AllByRecursion, AllZip, flat_map}
 use Rattle.std.proofs.lemmas.List.{append-nil}
-use Rattle.std.proofs.lemmas.List.Elements.{All-from_recursion, recursion_from_All, All-contains, Contains-append_left, Contains-append_right, Contains-push}
+use Rattle.std.proofs.lemmas.List.Elements.{All-from_recursion, recursion_from_All, All-contains, Contains-append_left}
+use Rattle.std.proofs.lemmas.List.Elements.{Contains-append_right, Contains-push}
 use Rattle.proto_lex.specs.Lexed.{Lexed, part_of}
 use Rattle.proto_lex.specs.declared.span.Span.{Span}
 use Rattle.proto_parse.specs.tree.Heading.{Heading}
@@ -18,7 +19,8 @@ use Rattle.proto_parse.specs.tree.File.{File}
 use Rattle.proto_parse.specs.Tree.{Body}
 use Rattle.proto_parse.specs.Tree.Body.{NoMore, LeafThen, MessageThen}
 use Rattle.proto_decl.specs.Names.{qualified, dotted, components_at}
-use Rattle.proto_decl.specs.Outlines.{step_to, outline_at, inside, beside, in_enum, in_leaf, in_body, in_item, package_spans, file_surrounding, outlines_of}
+use Rattle.proto_decl.specs.Outlines.{step_to, outline_at, inside, beside, in_enum, in_leaf, in_body, in_item}
+use Rattle.proto_decl.specs.Outlines.{package_spans, file_surrounding, outlines_of}
 use Rattle.proto_decl.specs.Declares.{IsDeclaration}
 use Rattle.proto_decl.specs.Facts.{Facts, AreFactsOf}
 use Rattle.proto_decl.specs.declared.kind.DeclarationKind.{DeclarationKind}
@@ -58,7 +60,8 @@ module _ {A : Type 0} (P : A → Type 0) where
   each-behind [] ys h = h
   each-behind (x ∷ xs) ys h = each-behind xs ys h.1
 
-each-weaker : {A : Type 0} (P Q : A → Type 0) → ((x : A) → P x → Q x) → (xs : List A) → AllByRecursion P xs → AllByRecursion Q xs
+each-weaker : {A : Type 0} (P Q : A → Type 0) → ((x : A) → P x → Q x) → (xs : List A) → AllByRecursion P xs
+    → AllByRecursion Q xs
 each-weaker P Q w [] h = tt
 each-weaker P Q w (x ∷ xs) h = (w x h.0, each-weaker P Q w xs h.1)
 
@@ -70,10 +73,12 @@ AreSome names = AllByRecursion (λ name. name ≢ []) names
 abbrev StepsAreSome : List DeclarationStep → Type 0
 StepsAreSome path = AllByRecursion (λ step. step.name ≢ []) path
 
-dotted-push : (first name : List ℕ) (others : List (List ℕ)) → dotted (first ∷ (others ++ name ∷ [])) ≡ dotted (first ∷ others) ++ (46 ∷ name)
+dotted-push : (first name : List ℕ) (others : List (List ℕ))
+    → dotted (first ∷ (others ++ name ∷ [])) ≡ dotted (first ∷ others) ++ (46 ∷ name)
 dotted-push first name [] = refl
 dotted-push first name (next ∷ others) =
-    ap (λ t. first ++ (46 ∷ t)) (dotted-push next name others) ∙ sym (append_assoc first (46 ∷ dotted (next ∷ others)) (46 ∷ name))
+    ap (λ t. first ++ (46 ∷ t)) (dotted-push next name others)
+    ∙ sym (append_assoc first (46 ∷ dotted (next ∷ others)) (46 ∷ name))
 
 dotted-some : (x : List ℕ) (xs : List (List ℕ)) → x ≢ [] → dotted (x ∷ xs) ≢ []
 dotted-some [] xs some e = some refl
@@ -84,9 +89,11 @@ qualified-some : (scope name : List ℕ) → scope ≢ [] → qualified scope na
 qualified-some [] name some = absurd (some refl)
 qualified-some (b ∷ scope) name some = refl
 
-qualified-dotted : (names : List (List ℕ)) (name : List ℕ) → AreSome names → qualified (dotted names) name ≡ dotted (names ++ name ∷ [])
+qualified-dotted : (names : List (List ℕ)) (name : List ℕ) → AreSome names
+    → qualified (dotted names) name ≡ dotted (names ++ name ∷ [])
 qualified-dotted [] name h = refl
-qualified-dotted (x ∷ xs) name h = qualified-some (dotted (x ∷ xs)) name (dotted-some x xs h.0) ∙ sym (dotted-push x name xs)
+qualified-dotted (x ∷ xs) name h =
+    qualified-some (dotted (x ∷ xs)) name (dotted-some x xs h.0) ∙ sym (dotted-push x name xs)
 
 -- ---- the scopes on a path
 
@@ -94,7 +101,8 @@ abbrev scopes : List DeclarationStep → List (List ℕ)
 scopes [] = []
 scopes (step ∷ path) = scoped step.kind step.name (scopes path)
 
-scoped-append : (k : DeclarationKind) (name : List ℕ) (xs ys : List (List ℕ)) → scoped k name (xs ++ ys) ≡ scoped k name xs ++ ys
+scoped-append : (k : DeclarationKind) (name : List ℕ) (xs ys : List (List ℕ))
+    → scoped k name (xs ++ ys) ≡ scoped k name xs ++ ys
 scoped-append kind.Message name xs ys = refl
 scoped-append kind.Enum name xs ys = refl
 scoped-append kind.Service name xs ys = refl
@@ -103,7 +111,8 @@ scoped-append kind.Oneof name xs ys = refl
 scoped-append kind.Value name xs ys = refl
 scoped-append kind.Method name xs ys = refl
 
-scoped-some : (k : DeclarationKind) (name : List ℕ) (xs : List (List ℕ)) → name ≢ [] → AreSome xs → AreSome (scoped k name xs)
+scoped-some : (k : DeclarationKind) (name : List ℕ) (xs : List (List ℕ)) → name ≢ [] → AreSome xs
+    → AreSome (scoped k name xs)
 scoped-some kind.Message name xs some h = (some, h)
 scoped-some kind.Enum name xs some h = h
 scoped-some kind.Service name xs some h = (some, h)
@@ -116,15 +125,20 @@ scopes-some : (path : List DeclarationStep) → StepsAreSome path → AreSome (s
 scopes-some [] h = tt
 scopes-some (step ∷ path) h = scoped-some step.kind step.name (scopes path) h.0 (scopes-some path h.1)
 
-scopes-push : (path : List DeclarationStep) (x : DeclarationStep) → scopes (path ++ x ∷ []) ≡ scopes path ++ scoped x.kind x.name []
+scopes-push : (path : List DeclarationStep) (x : DeclarationStep)
+    → scopes (path ++ x ∷ []) ≡ scopes path ++ scoped x.kind x.name []
 scopes-push [] x = refl
-scopes-push (step ∷ path) x = ap (scoped step.kind step.name) (scopes-push path x) ∙ scoped-append step.kind step.name (scopes path) (scoped x.kind x.name [])
+scopes-push (step ∷ path) x =
+    ap (scoped step.kind step.name) (scopes-push path x)
+    ∙ scoped-append step.kind step.name (scopes path) (scoped x.kind x.name [])
 
-names-push : (path : List DeclarationStep) (x : DeclarationStep) → names_of (path ++ x ∷ []) ≡ scopes path ++ x.name ∷ []
+names-push : (path : List DeclarationStep) (x : DeclarationStep)
+    → names_of (path ++ x ∷ []) ≡ scopes path ++ x.name ∷ []
 names-push [] x = refl
 names-push (step ∷ []) x = scoped-append step.kind step.name [] (x.name ∷ [])
 names-push (step ∷ (next ∷ path)) x =
-    ap (scoped step.kind step.name) (names-push (next ∷ path) x) ∙ scoped-append step.kind step.name (scopes (next ∷ path)) (x.name ∷ [])
+    ap (scoped step.kind step.name) (names-push (next ∷ path) x)
+    ∙ scoped-append step.kind step.name (scopes (next ∷ path)) (x.name ∷ [])
 
 last-some : (path : List DeclarationStep) (x : DeclarationStep) → StepsAreSome (path ++ x ∷ []) → x.name ≢ []
 last-some [] x h = h.0
@@ -140,7 +154,8 @@ scope_in kind.Oneof scope name = qualified scope name
 scope_in kind.Value scope name = qualified scope name
 scope_in kind.Method scope name = qualified scope name
 
-scope-push : (k : DeclarationKind) (names : List (List ℕ)) (name : List ℕ) → AreSome names → scope_in k (dotted names) name ≡ dotted (names ++ scoped k name [])
+scope-push : (k : DeclarationKind) (names : List (List ℕ)) (name : List ℕ) → AreSome names
+    → scope_in k (dotted names) name ≡ dotted (names ++ scoped k name [])
 scope-push kind.Message names name h = qualified-dotted names name h
 scope-push kind.Enum names name h = ap dotted (sym (append-nil names))
 scope-push kind.Service names name h = qualified-dotted names name h
@@ -156,7 +171,8 @@ inner_of s step = record { scope = scope_in step.kind s.scope step.name; path = 
 
 data AreIn : Surrounding → List Outline → Type 0 where
   none : {s : Surrounding} → AreIn s []
-  node : {s : Surrounding} (step : DeclarationStep) {o : Outline} {inner others : List Outline} → o.path ≡ s.path ++ step ∷ [] → o.full_name ≡ qualified s.scope step.name
+  node : {s : Surrounding} (step : DeclarationStep) {o : Outline} {inner others : List Outline}
+      → o.path ≡ s.path ++ step ∷ [] → o.full_name ≡ qualified s.scope step.name
       → AreIn (inner_of s step) inner → AreIn s others → AreIn s (o ∷ (inner ++ others))
 
 and-then : {s : Surrounding} {xs ys : List Outline} → AreIn s xs → AreIn s ys → AreIn s (xs ++ ys)
@@ -166,22 +182,27 @@ and-then {s = s} {ys = ys} (node step {o = o} {inner = inner} {others = others} 
 
 module _ (text : List ℕ) where
   one : (s : Surrounding) (k : DeclarationKind) (heading : Heading) {inner others : List Outline}
-      → AreIn (inner_of s (step_to text k heading)) inner → AreIn s others → AreIn s (outline_at text s k heading ∷ (inner ++ others))
+      → AreIn (inner_of s (step_to text k heading)) inner → AreIn s others
+      → AreIn s (outline_at text s k heading ∷ (inner ++ others))
   one s k heading i h = node (step_to text k heading) refl refl i h
 
   alone : (s : Surrounding) (k : DeclarationKind) (heading : Heading) (inner : List Outline)
       → AreIn (inner_of s (step_to text k heading)) inner → AreIn s (outline_at text s k heading ∷ inner)
-  alone s k heading inner i = subst (λ (l : List Outline). AreIn s (outline_at text s k heading ∷ l)) (append-nil inner) (one s k heading i none)
+  alone s k heading inner i =
+      subst (λ (l : List Outline). AreIn s (outline_at text s k heading ∷ l)) (append-nil inner)
+      (one s k heading i none)
 
   values-in : (s : Surrounding) (headings : List Heading) → AreIn s (map (outline_at text s kind.Value) headings)
   values-in s [] = none
   values-in s (h ∷ headings) = one s kind.Value h none (values-in s headings)
 
-  fields-in : (s : Surrounding) (fields : List Field) → AreIn s (map (λ field. outline_at text s kind.Field field.heading) fields)
+  fields-in : (s : Surrounding) (fields : List Field)
+      → AreIn s (map (λ field. outline_at text s kind.Field field.heading) fields)
   fields-in s [] = none
   fields-in s (f ∷ fields) = one s kind.Field f.heading none (fields-in s fields)
 
-  methods-in : (s : Surrounding) (methods : List Method) → AreIn s (map (λ method. outline_at text s kind.Method method.heading) methods)
+  methods-in : (s : Surrounding) (methods : List Method)
+      → AreIn s (map (λ method. outline_at text s kind.Method method.heading) methods)
   methods-in s [] = none
   methods-in s (m ∷ methods) = one s kind.Method m.heading none (methods-in s methods)
 
@@ -197,12 +218,15 @@ module _ (text : List ℕ) where
   body-in : (s : Surrounding) (body : Body) → AreIn s (in_body text s body)
   body-in s NoMore = none
   body-in s (LeafThen l others) = and-then (leaf-in s l) (body-in s others)
-  body-in s (MessageThen heading inner others) = one s kind.Message heading (body-in (inside text s kind.Message heading) inner) (body-in s others)
+  body-in s (MessageThen heading inner others) =
+      one s kind.Message heading (body-in (inside text s kind.Message heading) inner) (body-in s others)
 
   item-in : (s : Surrounding) (i : FileItem) → AreIn s (in_item text s i)
-  item-in s (item.Message message) = alone s kind.Message message.heading _ (body-in (inside text s kind.Message message.heading) message.body)
+  item-in s (item.Message message) =
+      alone s kind.Message message.heading _ (body-in (inside text s kind.Message message.heading) message.body)
   item-in s (item.Enum enum) = enum-in s enum
-  item-in s (item.Service service) = alone s kind.Service service.heading _ (methods-in (inside text s kind.Service service.heading) service.methods)
+  item-in s (item.Service service) =
+      alone s kind.Service service.heading _ (methods-in (inside text s kind.Service service.heading) service.methods)
 
   items-in : (s : Surrounding) (items : List FileItem) → AreIn s (flat_map (in_item text s) items)
   items-in s [] = none
@@ -214,18 +238,25 @@ module _ (text : List ℕ) where
 abbrev IsNamedFrom : (components : List (List ℕ)) → Outline → Type 0
 IsNamedFrom components o = o.full_name ≡ dotted (components ++ names_of o.path)
 
-named-in : (components : List (List ℕ)) → AreSome components → {s : Surrounding} {outlines : List Outline} → AreIn s outlines
-    → StepsAreSome s.path → s.scope ≡ dotted (components ++ scopes s.path) → AllByRecursion (λ o. StepsAreSome o.path) outlines → AllByRecursion (IsNamedFrom components) outlines
+named-in : (components : List (List ℕ)) → AreSome components → {s : Surrounding} {outlines : List Outline}
+    → AreIn s outlines
+    → StepsAreSome s.path → s.scope ≡ dotted (components ++ scopes s.path)
+    → AllByRecursion (λ o. StepsAreSome o.path) outlines → AllByRecursion (IsNamedFrom components) outlines
 named-in components some none steps scope named = tt
 named-in components some {s} (node step {o = o} {inner = inner} {others = others} p n i h) steps scope named =
     let there : StepsAreSome (s.path ++ step ∷ []) = subst StepsAreSome p named.0 in
-    let all : AreSome (components ++ scopes s.path) = each-append (λ name. name ≢ []) components (scopes s.path) some (scopes-some s.path steps) in
+    let all : AreSome (components ++ scopes s.path) =
+    each-append (λ name. name ≢ []) components (scopes s.path) some (scopes-some s.path steps) in
     let full : o.full_name ≡ dotted (components ++ names_of o.path) =
-    n ∙ (ap (λ (t : List ℕ). qualified t step.name) scope ∙ (qualified-dotted (components ++ scopes s.path) step.name all ∙ ap dotted (
-    append_assoc components (scopes s.path) (step.name ∷ []) ∙ ap (λ (l : List (List ℕ)). components ++ l) (sym (names-push s.path step) ∙ ap names_of (sym p))))) in
+    n ∙ (ap (λ (t : List ℕ). qualified t step.name) scope
+    ∙ (qualified-dotted (components ++ scopes s.path) step.name all ∙ ap dotted (
+    append_assoc components (scopes s.path) (step.name ∷ [])
+    ∙ ap (λ (l : List (List ℕ)). components ++ l) (sym (names-push s.path step) ∙ ap names_of (sym p))))) in
     let inner_scope : scope_in step.kind s.scope step.name ≡ dotted (components ++ scopes (s.path ++ step ∷ [])) =
-    ap (λ (t : List ℕ). scope_in step.kind t step.name) scope ∙ (scope-push step.kind (components ++ scopes s.path) step.name all ∙ ap dotted (
-    append_assoc components (scopes s.path) (scoped step.kind step.name []) ∙ ap (λ (l : List (List ℕ)). components ++ l) (sym (scopes-push s.path step)))) in (
+    ap (λ (t : List ℕ). scope_in step.kind t step.name) scope
+    ∙ (scope-push step.kind (components ++ scopes s.path) step.name all ∙ ap dotted (
+    append_assoc components (scopes s.path) (scoped step.kind step.name [])
+    ∙ ap (λ (l : List (List ℕ)). components ++ l) (sym (scopes-push s.path step)))) in (
       full,
       each-append (IsNamedFrom components) inner others
           (named-in components some i there inner_scope (each-front (λ o. StepsAreSome o.path) inner others named.1))
@@ -245,27 +276,41 @@ record IsHeldFrom (path : List DeclarationStep) (outlines : List Outline) (o : O
   below : o.path ≡ path ++ rest
   held : (outer inner : List DeclarationStep) → outer ≢ [] → rest ≡ outer ++ inner → Leads outlines (path ++ outer)
 
-one-step : (step : DeclarationStep) (outer inner : List DeclarationStep) → outer ≢ [] → step ∷ [] ≡ outer ++ inner → step ∷ [] ≡ outer
+one-step : (step : DeclarationStep) (outer inner : List DeclarationStep) → outer ≢ [] → step ∷ [] ≡ outer ++ inner
+    → step ∷ [] ≡ outer
 one-step step [] inner some e = absurd (some refl)
 one-step step (y ∷ []) inner some e = ap (λ (t : DeclarationStep). t ∷ []) (heads e)
 one-step step (y ∷ (z ∷ outer)) inner some e = absurd cc
 
-module _ (s : Surrounding) (step : DeclarationStep) (o : Outline) (inner others : List Outline) (p : o.path ≡ s.path ++ step ∷ []) where
-  deeper-leads : (rest : List DeclarationStep) → ((outer behind : List DeclarationStep) → outer ≢ [] → rest ≡ outer ++ behind → Leads inner ((s.path ++ step ∷ []) ++ outer))
-      → (outer behind : List DeclarationStep) → outer ≢ [] → step ∷ rest ≡ outer ++ behind → Leads (o ∷ (inner ++ others)) (s.path ++ outer)
+module _ (s : Surrounding) (step : DeclarationStep) (o : Outline) (inner others : List Outline)
+    (p : o.path ≡ s.path ++ step ∷ []) where
+  deeper-leads : (rest : List DeclarationStep)
+      → ((outer behind : List DeclarationStep) → outer ≢ [] → rest ≡ outer ++ behind
+      → Leads inner ((s.path ++ step ∷ []) ++ outer))
+      → (outer behind : List DeclarationStep) → outer ≢ [] → step ∷ rest ≡ outer ++ behind
+      → Leads (o ∷ (inner ++ others)) (s.path ++ outer)
   deeper-leads rest h [] behind some e = absurd (some refl)
   deeper-leads rest h (y ∷ []) behind some e =
-      record { outline = o; listed = here o (inner ++ others); same = p ∙ ap (λ (t : DeclarationStep). s.path ++ t ∷ []) (heads e) }
+      record {
+        outline = o;
+        listed = here o (inner ++ others);
+        same = p ∙ ap (λ (t : DeclarationStep). s.path ++ t ∷ []) (heads e);
+      }
   deeper-leads rest h (y ∷ (z ∷ outer)) behind some e =
       let found = h (z ∷ outer) behind (λ q. cc) (tails e) in
       record {
         outline = found.outline;
         listed = there o (inner ++ others) found.outline (Contains-append_left inner others found.outline found.listed);
-        same = found.same ∙ (append_assoc s.path (step ∷ []) (z ∷ outer) ∙ ap (λ (t : DeclarationStep). s.path ++ (t ∷ (z ∷ outer))) (heads e));
+        same = found.same ∙ (append_assoc s.path (step ∷ []) (z ∷ outer)
+            ∙ ap (λ (t : DeclarationStep). s.path ++ (t ∷ (z ∷ outer))) (heads e));
       }
 
   deeper : (x : Outline) → IsHeldFrom (s.path ++ step ∷ []) inner x → IsHeldFrom s.path (o ∷ (inner ++ others)) x
-  deeper x is = record { rest = step ∷ is.rest; below = is.below ∙ append_assoc s.path (step ∷ []) is.rest; held = deeper-leads is.rest is.held }
+  deeper x is = record {
+    rest = step ∷ is.rest;
+    below = is.below ∙ append_assoc s.path (step ∷ []) is.rest;
+    held = deeper-leads is.rest is.held;
+  }
 
   wider : (x : Outline) → IsHeldFrom s.path others x → IsHeldFrom s.path (o ∷ (inner ++ others)) x
   wider x is = record {
@@ -273,7 +318,12 @@ module _ (s : Surrounding) (step : DeclarationStep) (o : Outline) (inner others 
     below = is.below;
     held = λ outer behind some e.
         let found = is.held outer behind some e in
-        record { outline = found.outline; listed = there o (inner ++ others) found.outline (Contains-append_right inner others found.outline found.listed); same = found.same };
+        record {
+          outline = found.outline;
+          listed = there o (inner ++ others) found.outline
+              (Contains-append_right inner others found.outline found.listed);
+          same = found.same;
+        };
   }
 
   itself : IsHeldFrom s.path (o ∷ (inner ++ others)) o
@@ -287,7 +337,8 @@ module _ (s : Surrounding) (step : DeclarationStep) (o : Outline) (inner others 
     };
   }
 
-held-in : {s : Surrounding} {outlines : List Outline} → AreIn s outlines → AllByRecursion (IsHeldFrom s.path outlines) outlines
+held-in : {s : Surrounding} {outlines : List Outline} → AreIn s outlines
+    → AllByRecursion (IsHeldFrom s.path outlines) outlines
 held-in none = tt
 held-in {s} (node step {o = o} {inner = inner} {others = others} p n i h) = (
   itself s step o inner others p,
@@ -306,27 +357,34 @@ names-some : (names : List (List ℕ)) → AllByRecursion (Spells Identifier) na
 names-some [] h = tt
 names-some (x ∷ xs) h = (identifier-some x h.0, names-some xs h.1)
 
-steps-some : (path : List DeclarationStep) → AllByRecursion (λ step. Spells Identifier step.name) path → StepsAreSome path
+steps-some : (path : List DeclarationStep) → AllByRecursion (λ step. Spells Identifier step.name) path
+    → StepsAreSome path
 steps-some [] h = tt
 steps-some (x ∷ xs) h = (identifier-some x.name h.0, steps-some xs h.1)
 
-component-names : (text : List ℕ) (spans : List Span) → component_names (components_at text spans) ≡ map (part_of text) spans
+component-names : (text : List ℕ) (spans : List Span)
+    → component_names (components_at text spans) ≡ map (part_of text) spans
 component-names text [] = refl
 component-names text (span ∷ spans) = ap (λ (l : List (List ℕ)). part_of text span ∷ l) (component-names text spans)
 
 module _ (lexed : Lexed) where
-  named-outlines : (outlines : List Outline) (declarations : List Declaration) → AllZip (IsDeclaration lexed) outlines declarations
-      → AllByRecursion (λ d. All (λ step. Spells Identifier step.name) d.path) declarations → AllByRecursion (λ o. StepsAreSome o.path) outlines
+  named-outlines : (outlines : List Outline) (declarations : List Declaration)
+      → AllZip (IsDeclaration lexed) outlines declarations
+      → AllByRecursion (λ d. All (λ step. Spells Identifier step.name) d.path) declarations
+      → AllByRecursion (λ o. StepsAreSome o.path) outlines
   named-outlines [] [] z h = tt
   named-outlines [] (d ∷ ds) z h = absurd z
   named-outlines (o ∷ os) [] z h = absurd z
   named-outlines (o ∷ os) (d ∷ ds) z h = (
-    subst StepsAreSome z.0.path (steps-some d.path (recursion_from_All (λ step. Spells Identifier step.name) d.path h.0)),
+    subst StepsAreSome z.0.path
+        (steps-some d.path (recursion_from_All (λ step. Spells Identifier step.name) d.path h.0)),
     named-outlines os ds z.1 h.1,
   )
 
-  named-declarations : (components : List (List ℕ)) (outlines : List Outline) (declarations : List Declaration) → AllZip (IsDeclaration lexed) outlines declarations
-      → AllByRecursion (IsNamedFrom components) outlines → AllByRecursion (λ d. d.full_name ≡ dotted (components ++ names_of d.path)) declarations
+  named-declarations : (components : List (List ℕ)) (outlines : List Outline) (declarations : List Declaration)
+      → AllZip (IsDeclaration lexed) outlines declarations
+      → AllByRecursion (IsNamedFrom components) outlines
+      → AllByRecursion (λ d. d.full_name ≡ dotted (components ++ names_of d.path)) declarations
   named-declarations components [] [] z h = tt
   named-declarations components [] (d ∷ ds) z h = absurd z
   named-declarations components (o ∷ os) [] z h = absurd z
@@ -340,7 +398,8 @@ module _ (lexed : Lexed) where
     listed : Contains declarations found
     same : found.path ≡ path
 
-  stands : (outlines : List Outline) (declarations : List Declaration) → AllZip (IsDeclaration lexed) outlines declarations → AllByRecursion (λ o. Stands declarations o.path) outlines
+  stands : (outlines : List Outline) (declarations : List Declaration)
+      → AllZip (IsDeclaration lexed) outlines declarations → AllByRecursion (λ o. Stands declarations o.path) outlines
   stands [] ds z = tt
   stands (o ∷ os) [] z = absurd z
   stands (o ∷ os) (d ∷ ds) z = (
@@ -349,8 +408,11 @@ module _ (lexed : Lexed) where
         (λ x h. record { found = h.found; listed = there d ds h.found h.listed; same = h.same }) os (stands os ds z.1),
   )
 
-  held-declarations : (all : List Outline) (outlines : List Outline) (declarations : List Declaration) → AllZip (IsDeclaration lexed) outlines declarations
-      → AllByRecursion (IsHeldFrom [] all) outlines → AllByRecursion (λ d. (outer inner : List DeclarationStep) → outer ≢ [] → d.path ≡ outer ++ inner → Leads all outer) declarations
+  held-declarations : (all : List Outline) (outlines : List Outline) (declarations : List Declaration)
+      → AllZip (IsDeclaration lexed) outlines declarations
+      → AllByRecursion (IsHeldFrom [] all) outlines
+      → AllByRecursion (λ d. (outer inner : List DeclarationStep) → outer ≢ [] → d.path ≡ outer ++ inner
+      → Leads all outer) declarations
   held-declarations all [] [] z h = tt
   held-declarations all [] (d ∷ ds) z h = absurd z
   held-declarations all (o ∷ os) [] z h = absurd z
@@ -367,18 +429,25 @@ declarations-held number lexed file facts are named =
     let all : List Outline = outlines_of text file in
     let components : List (List ℕ) = component_names facts.package_name in
     let tree : AreIn s all = items-in text s file.items in
-    let some : AreSome components = names-some components (recursion_from_All (Spells Identifier) components named.of_components) in
-    let same : components ≡ map (part_of text) (package_spans file.package_name) = ap component_names are.package_name ∙ component-names text (package_spans file.package_name) in
+    let some : AreSome components =
+    names-some components (recursion_from_All (Spells Identifier) components named.of_components) in
+    let same : components ≡ map (part_of text) (package_spans file.package_name) =
+    ap component_names are.package_name ∙ component-names text (package_spans file.package_name) in
     let scope : s.scope ≡ dotted (components ++ []) = ap dotted (sym (append-nil components ∙ same)) in
-    let steps = recursion_from_All (λ (d : Declaration). All (λ step. Spells Identifier step.name) d.path) facts.declarations named.of_steps in
-    let full = named-in components some tree tt scope (named-outlines lexed all facts.declarations are.declarations steps) in
+    let steps = recursion_from_All
+    (λ (d : Declaration). All (λ step. Spells Identifier step.name) d.path) facts.declarations named.of_steps in
+    let full = named-in components some tree tt scope
+    (named-outlines lexed all facts.declarations are.declarations steps) in
     let held = held-declarations lexed all all facts.declarations are.declarations (held-in tree) in
     record {
       holder = λ d outer inner has e more.
-          let leads = All-contains (λ (x : Declaration). (outer inner : List DeclarationStep) → outer ≢ [] → x.path ≡ outer ++ inner → Leads all outer) facts.declarations d
+          let leads = All-contains
+          (λ (x : Declaration). (outer inner : List DeclarationStep) → outer ≢ [] → x.path ≡ outer ++ inner
+          → Leads all outer) facts.declarations d
           (All-from_recursion _ facts.declarations held) has outer inner more e in
           let stand = All-contains (λ (x : Outline). Stands lexed facts.declarations x.path) all leads.outline
           (All-from_recursion _ all (stands lexed all facts.declarations are.declarations)) leads.listed in
           (stand.found, stand.listed, stand.same ∙ leads.same);
-      full_names = All-from_recursion _ facts.declarations (named-declarations lexed components all facts.declarations are.declarations full);
+      full_names = All-from_recursion _ facts.declarations
+          (named-declarations lexed components all facts.declarations are.declarations full);
     }

@@ -1,5 +1,6 @@
 -- The marks of comments, and texts of several.
-use Rattle.std.proofs.Common.{◌≡◌, ◌∙◌, sym, ap, refl, ℕ, suc, ◌+◌, ◌-◌, ◌<◌, ◌≤◌, List, [], ◌∷◌, ◌++◌, length, get_or, take, map, arith, append_assoc, IsUtf8, IsCharBoundary}
+use Rattle.std.proofs.Common.{◌≡◌, ◌∙◌, sym, ap, refl, ℕ, suc, ◌+◌, ◌-◌, ◌<◌, ◌≤◌, List, [], ◌∷◌, ◌++◌, length, get_or}
+use Rattle.std.proofs.Common.{take, map, arith, append_assoc, IsUtf8, IsCharBoundary}
 use Rattle.std.specs.List.{join_with_byte}
 use Rattle.std.proofs.lemmas.List.{take_more, map-append}
 use Rattle.std.proofs.lemmas.Str.{IsCharBoundary-before_ascii, IsCharBoundary-after_ascii}
@@ -10,9 +11,12 @@ use Rattle.proto_lex.specs.declared.token.CommentKind.{CommentKind}
 use Rattle.proto_lex.specs.declared.token.CommentKind.TheVariants.{Block}
 
 -- a comment may be cut behind its first mark
-pub behind_mark : {k : CommentKind} {spelling rest : List ℕ} → IsComment k spelling rest → IsUtf8 spelling → IsCharBoundary spelling 2
-behind_mark (line {inside = others} e f) utf8 = IsCharBoundary-after_ascii (47 ∷ (47 ∷ others)) 1 utf8 (omega arith) (omega arith)
-behind_mark (block {inside = others} e) utf8 = IsCharBoundary-after_ascii (47 ∷ (42 ∷ others)) 1 utf8 (omega arith) (omega arith)
+pub behind_mark : {k : CommentKind} {spelling rest : List ℕ} → IsComment k spelling rest → IsUtf8 spelling
+    → IsCharBoundary spelling 2
+behind_mark (line {inside = others} e f) utf8 =
+    IsCharBoundary-after_ascii (47 ∷ (47 ∷ others)) 1 utf8 (omega arith) (omega arith)
+behind_mark (block {inside = others} e) utf8 =
+    IsCharBoundary-after_ascii (47 ∷ (42 ∷ others)) 1 utf8 (omega arith) (omega arith)
 
 -- what stands between a block comment's first mark and its last ends two bytes before its end
 record EndsInMark (others : List ℕ) : Type 0 where
@@ -27,22 +31,36 @@ ends_in_mark (inside {b} {others} e ends) =
     record { some = omega (arith, later.some); mark = rw one later.mark }
 
 -- a block comment may be cut before its last mark, which stands behind the first one
-pub before_mark : {k : CommentKind} {spelling rest : List ℕ} → IsComment k spelling rest → k ≡ Block → (2 ≤ length spelling - 2) × IsCharBoundary spelling (length spelling - 2)
+pub before_mark : {k : CommentKind} {spelling rest : List ℕ} → IsComment k spelling rest → k ≡ Block
+    → (2 ≤ length spelling - 2) × IsCharBoundary spelling (length spelling - 2)
 before_mark (line e f) is = absurd (cc)
 before_mark (block {inside = others} e) is =
     let ends = ends_in_mark e in
     let two : length (47 ∷ (42 ∷ others)) - 2 ≡ suc (suc (length others - 2)) = omega (arith, ends.some) in
-    let mark : get_or (47 ∷ (42 ∷ others)) (length (47 ∷ (42 ∷ others)) - 2) 0 ≡ 42 = rw two ends.mark in
-    (omega (arith, ends.some), IsCharBoundary-before_ascii (47 ∷ (42 ∷ others)) (length (47 ∷ (42 ∷ others)) - 2) (omega arith) (omega (arith, mark)))
+    let mark : get_or (47 ∷ (42 ∷ others)) (length (47 ∷ (42 ∷ others)) - 2) 0 ≡ 42 = rw two ends.mark in (
+      omega (arith, ends.some),
+      IsCharBoundary-before_ascii (47 ∷ (42 ∷ others)) (length (47 ∷ (42 ∷ others)) - 2) (omega arith)
+          (omega (arith, mark)),
+    )
 
 -- one text more
-pub join_with_byte-push : (c : ℕ) (first x : List ℕ) (others : List (List ℕ)) → join_with_byte c (first ∷ (others ++ x ∷ [])) ≡ join_with_byte c (first ∷ others) ++ (c ∷ x)
+pub join_with_byte-push : (c : ℕ) (first x : List ℕ) (others : List (List ℕ))
+    → join_with_byte c (first ∷ (others ++ x ∷ [])) ≡ join_with_byte c (first ∷ others) ++ (c ∷ x)
 join_with_byte-push c first x [] = refl
-join_with_byte-push c first x (next ∷ others) = ap (λ t. first ++ (c ∷ t)) (join_with_byte-push c next x others) ∙ sym (append_assoc first (c ∷ join_with_byte c (next ∷ others)) (c ∷ x))
+join_with_byte-push c first x (next ∷ others) =
+    ap (λ t. first ++ (c ∷ t)) (join_with_byte-push c next x others)
+    ∙ sym (append_assoc first (c ∷ join_with_byte c (next ∷ others)) (c ∷ x))
 
 -- a loop's step: a separator and the next text
-pub joined_more : {X : Type 0} (c : ℕ) (f : X → List ℕ) (first x : X) (others : List X) (i : ℕ) (d : X) (old new : List ℕ) → i < length others → get_or others i d ≡ x
-    → old ≡ join_with_byte c (map f (first ∷ take i others)) → new ≡ (old ++ c ∷ []) ++ f x → new ≡ join_with_byte c (map f (first ∷ take (i + 1) others))
+pub joined_more : {X : Type 0} (c : ℕ) (f : X → List ℕ) (first x : X) (others : List X) (i : ℕ) (d : X)
+    (old new : List ℕ) → i < length others → get_or others i d ≡ x
+    → old ≡ join_with_byte c (map f (first ∷ take i others)) → new ≡ (old ++ c ∷ []) ++ f x
+    → new ≡ join_with_byte c (map f (first ∷ take (i + 1) others))
 joined_more c f first x others i d old new h at so_far pushed =
-    let more : map f (take (i + 1) others) ≡ map f (take i others) ++ f x ∷ [] = ap (map f) (take_more others i d h) ∙ (map-append f (take i others) (get_or others i d ∷ []) ∙ ap (λ y. map f (take i others) ++ f y ∷ []) at) in
-    pushed ∙ (append_assoc old (c ∷ []) (f x) ∙ (ap (λ t. t ++ (c ∷ f x)) so_far ∙ (sym (join_with_byte-push c (f first) (f x) (map f (take i others))) ∙ ap (λ ts. join_with_byte c (f first ∷ ts)) (sym more))))
+    let more : map f (take (i + 1) others) ≡ map f (take i others) ++ f x ∷ [] =
+    ap (map f) (take_more others i d h)
+    ∙ (map-append f (take i others) (get_or others i d ∷ []) ∙ ap (λ y. map f (take i others) ++ f y ∷ []) at) in
+    pushed ∙ (append_assoc old (c ∷ []) (f x)
+    ∙ (ap (λ t. t ++ (c ∷ f x)) so_far
+    ∙ (sym (join_with_byte-push c (f first) (f x) (map f (take i others)))
+    ∙ ap (λ ts. join_with_byte c (f first ∷ ts)) (sym more))))

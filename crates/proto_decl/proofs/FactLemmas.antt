@@ -17,14 +17,16 @@ use Rattle.proto_decl.proofs.PickLemmas.{heading_names, spans_of_components}
 use Rattle.proto_decl.proofs.OrderLemmas.{package_in_order}
 
 -- one more of each
-pub AllZip-push : {A B : Type 0} (R : A → B → Type 0) (xs : List A) (ys : List B) (x : A) (y : B) → AllZip R xs ys → R x y → AllZip R (xs ++ x ∷ []) (ys ++ y ∷ [])
+pub AllZip-push : {A B : Type 0} (R : A → B → Type 0) (xs : List A) (ys : List B) (x : A) (y : B) → AllZip R xs ys
+    → R x y → AllZip R (xs ++ x ∷ []) (ys ++ y ∷ [])
 AllZip-push R [] [] x y all r = (r, tt)
 AllZip-push R [] (b ∷ ys) x y all r = absurd all
 AllZip-push R (a ∷ xs) [] x y all r = absurd all
 AllZip-push R (a ∷ xs) (b ∷ ys) x y all r = (all.0, AllZip-push R xs ys x y all.1 r)
 
 -- declarations stand at the names of their outlines
-pub same_names : (lexed : Lexed) (outlines : List Outline) (declarations : List Declaration) → AllZip (IsDeclaration lexed) outlines declarations
+pub same_names : (lexed : Lexed) (outlines : List Outline) (declarations : List Declaration)
+    → AllZip (IsDeclaration lexed) outlines declarations
     → map (λ (d : Declaration). d.name) declarations ≡ heading_names outlines
 same_names lexed [] [] all = refl
 same_names lexed [] (d ∷ ds) all = absurd all
@@ -45,7 +47,13 @@ parts R [] ys zs all = record { first = []; second = zs; whole = refl; left = tt
 parts R (x ∷ xs) ys [] all = absurd all
 parts R (x ∷ xs) ys (z ∷ zs) all =
     let rest = parts R xs ys zs all.1 in
-    record { first = z ∷ rest.first; second = rest.second; whole = ap (λ l. z ∷ l) rest.whole; left = (all.0, rest.left); right = rest.right }
+    record {
+      first = z ∷ rest.first;
+      second = rest.second;
+      whole = ap (λ l. z ∷ l) rest.whole;
+      left = (all.0, rest.left);
+      right = rest.right;
+    }
 
 -- the package's name stands between two declared names
 
@@ -53,22 +61,34 @@ module _ (number : ℕ) (lexed : Lexed) (file : File) (facts : Facts) (is : AreF
   abbrev outlines : List FileItem → List Outline
   outlines items = flat_map (in_item lexed.text (file_surrounding lexed.text file)) items
 
-  among_items : (before behind : List FileItem) (components : List Span) → file.items ≡ before ++ behind → package_spans file.package_name ≡ components
-      → MarksAreInOrder 0 (each_then item_then before (names_then components (each_then item_then behind []))) → PackageInOrder facts
+  among_items : (before behind : List FileItem) (components : List Span) → file.items ≡ before ++ behind
+      → package_spans file.package_name ≡ components
+      → MarksAreInOrder 0 (each_then item_then before (names_then components (each_then item_then behind [])))
+      → PackageInOrder facts
   among_items before behind components items name m =
-      let both : outlines_of lexed.text file ≡ outlines before ++ outlines behind = ap outlines items ∙ flat_map-append (in_item lexed.text (file_surrounding lexed.text file)) before behind in
+      let both : outlines_of lexed.text file ≡ outlines before ++ outlines behind =
+      ap outlines items ∙ flat_map-append (in_item lexed.text (file_surrounding lexed.text file)) before behind in
       let two = parts (IsDeclaration lexed) (outlines before) (outlines behind) facts.declarations
       (subst (λ (os : List Outline). AllZip (IsDeclaration lexed) os facts.declarations) both is.declarations) in
-      let spans : component_spans facts.package_name ≡ components = ap component_spans is.package_name ∙ (spans_of_components lexed.text (package_spans file.package_name) ∙ name) in
+      let spans : component_spans facts.package_name ≡ components =
+      ap component_spans is.package_name ∙ (spans_of_components lexed.text (package_spans file.package_name) ∙ name)
+      in
       record {
         before = two.first;
         behind = two.second;
         split = two.whole;
-        in_order = rw (same_names lexed (outlines before) two.first two.left, spans, same_names lexed (outlines behind) two.second two.right) (package_in_order lexed.text file before behind components m);
+        in_order = rw (
+          same_names lexed (outlines before) two.first two.left,
+          spans,
+          same_names lexed (outlines behind) two.second two.right,
+        )
+            (package_in_order lexed.text file before behind components m);
       }
 
-  pub package_placed : (tokens : List Lexeme) (package_name : Option (List Span)) → file.package_name ≡ package_name → PackageIsAmongItems package_name file.items tokens
-      → ((marks : List Mark) → Among marks tokens → MarksAreInOrder 0 marks) → AreInOrder 0 (name_spans facts.declarations) → PackageInOrder facts
+  pub package_placed : (tokens : List Lexeme) (package_name : Option (List Span)) → file.package_name ≡ package_name
+      → PackageIsAmongItems package_name file.items tokens
+      → ((marks : List Mark) → Among marks tokens → MarksAreInOrder 0 marks)
+      → AreInOrder 0 (name_spans facts.declarations) → PackageInOrder facts
   package_placed tokens None e among ordered names =
       record { before = []; behind = facts.declarations; split = refl; in_order = rw (is.package_name, e) names }
   package_placed tokens (Some components) e among ordered names =

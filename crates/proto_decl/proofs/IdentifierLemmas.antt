@@ -19,10 +19,13 @@ use Rattle.proto_parse.specs.tree.FileItem.TheVariants as item
 use Rattle.proto_parse.specs.tree.File.{File}
 use Rattle.proto_parse.specs.Tree.{Body}
 use Rattle.proto_parse.specs.Tree.Body.{NoMore, LeafThen, MessageThen}
-use Rattle.proto_parse.specs.Walk.{Mark, Among, each_then, names_then, type_name_then, heading_then, field_then, enum_then, leaf_then, body_then, method_then, item_then, marks_of_items, marks_of_package}
+use Rattle.proto_parse.specs.Walk.{Mark, Among, each_then, names_then, type_name_then, heading_then, field_then}
+use Rattle.proto_parse.specs.Walk.{enum_then, leaf_then, body_then, method_then, item_then, marks_of_items}
+use Rattle.proto_parse.specs.Walk.{marks_of_package}
 use Rattle.proto_parse.specs.Walk.Mark.{Name, Other}
 use Rattle.proto_decl.specs.Names.{components_at}
-use Rattle.proto_decl.specs.Outlines.{step_to, outline_at, inside, beside, in_enum, in_leaf, in_body, in_item, file_surrounding, package_spans, outlines_of}
+use Rattle.proto_decl.specs.Outlines.{step_to, outline_at, inside, beside, in_enum, in_leaf, in_body, in_item}
+use Rattle.proto_decl.specs.Outlines.{file_surrounding, package_spans, outlines_of}
 use Rattle.proto_decl.specs.Declares.{IsDeclaration}
 use Rattle.proto_decl.specs.Facts.{Facts, AreFactsOf}
 use Rattle.proto_decl.specs.Ancestors.{component_names, AreNamed}
@@ -45,7 +48,8 @@ OnPath path = All IsSpelled path
 abbrev IsOnPath : Outline → Type 0
 IsOnPath outline = OnPath outline.path
 
--- Where the names of a part of the tree are identifiers, and those on the path to it: so are those on the ways to all that it declares,
+-- Where the names of a part of the tree are identifiers, and those on the path to it: so are those on the ways to all
+-- that it declares,
 -- and the names behind it.
 module _ (text : List ℕ) where
   abbrev Ident : Span → Type 0
@@ -54,44 +58,71 @@ module _ (text : List ℕ) where
   abbrev AreOnPaths : List Outline → Type 0
   AreOnPaths outlines = All IsOnPath outlines
 
-  farther : (path : List DeclarationStep) (kind : DeclarationKind) (heading : Heading) → OnPath path → Ident heading.name → OnPath (path ++ step_to text kind heading ∷ [])
+  farther : (path : List DeclarationStep) (kind : DeclarationKind) (heading : Heading) → OnPath path
+      → Ident heading.name → OnPath (path ++ step_to text kind heading ∷ [])
   farther path kind heading on_path name = All-push IsSpelled path (step_to text kind heading) on_path name
 
-  each_on : {A : Type 0} (marks_then : A → List Mark → List Mark) (heading : A → Heading) (kind : DeclarationKind) (surrounding : Surrounding) → OnPath surrounding.path
-      → ((x : A) (marks : List Mark) → OfNames Ident (marks_then x marks) → Ident (heading x).name × OfNames Ident marks)
-      → (xs : List A) (marks : List Mark) → OfNames Ident (each_then marks_then xs marks) → AreOnPaths (map (λ x. outline_at text surrounding kind (heading x)) xs) × OfNames Ident marks
+  each_on : {A : Type 0} (marks_then : A → List Mark → List Mark) (heading : A → Heading) (kind : DeclarationKind)
+      (surrounding : Surrounding) → OnPath surrounding.path
+      → ((x : A) (marks : List Mark) → OfNames Ident (marks_then x marks)
+      → Ident (heading x).name × OfNames Ident marks)
+      → (xs : List A) (marks : List Mark) → OfNames Ident (each_then marks_then xs marks)
+      → AreOnPaths (map (λ x. outline_at text surrounding kind (heading x)) xs) × OfNames Ident marks
   each_on marks_then heading kind surrounding on_path has [] marks h = (All-nil IsOnPath, h)
   each_on marks_then heading kind surrounding on_path has (x ∷ xs) marks h =
       let first = has x (each_then marks_then xs marks) h in
-      let others = each_on marks_then heading kind surrounding on_path has xs marks first.1 in
-      (All-cons IsOnPath (outline_at text surrounding kind (heading x)) (map (λ y. outline_at text surrounding kind (heading y)) xs) (farther surrounding.path kind (heading x) on_path first.0) others.0, others.1)
+      let others = each_on marks_then heading kind surrounding on_path has xs marks first.1 in (
+        All-cons IsOnPath (outline_at text surrounding kind (heading x))
+            (map (λ y. outline_at text surrounding kind (heading y)) xs)
+            (farther surrounding.path kind (heading x) on_path first.0) others.0,
+        others.1,
+      )
 
-  field_on : (field : Field) (marks : List Mark) → OfNames Ident (field_then field marks) → Ident field.heading.name × OfNames Ident marks
-  field_on field marks h = let behind = past_type Ident field.field_type (Name field.heading.name ∷ (Other field.heading.closing ∷ marks)) h in (behind.0, behind.1)
+  field_on : (field : Field) (marks : List Mark) → OfNames Ident (field_then field marks)
+      → Ident field.heading.name × OfNames Ident marks
+  field_on field marks h = let behind =
+      past_type Ident field.field_type (Name field.heading.name ∷ (Other field.heading.closing ∷ marks)) h in
+      (behind.0, behind.1)
 
-  method_on : (method : Method) (marks : List Mark) → OfNames Ident (method_then method marks) → Ident method.heading.name × OfNames Ident marks
-  method_on method marks h =
-      (h.0, past_type_name Ident method.output (Other method.heading.closing ∷ marks) (past_type_name Ident method.input (type_name_then method.output (Other method.heading.closing ∷ marks)) h.1))
+  method_on : (method : Method) (marks : List Mark) → OfNames Ident (method_then method marks)
+      → Ident method.heading.name × OfNames Ident marks
+  method_on method marks h = (
+    h.0,
+    past_type_name Ident method.output (Other method.heading.closing ∷ marks)
+        (past_type_name Ident method.input (type_name_then method.output (Other method.heading.closing ∷ marks)) h.1),
+  )
 
-  enum_on : (surrounding : Surrounding) (enum : Enum) (marks : List Mark) → OnPath surrounding.path → OfNames Ident (enum_then enum marks) → AreOnPaths (in_enum text surrounding enum) × OfNames Ident marks
+  enum_on : (surrounding : Surrounding) (enum : Enum) (marks : List Mark) → OnPath surrounding.path
+      → OfNames Ident (enum_then enum marks) → AreOnPaths (in_enum text surrounding enum) × OfNames Ident marks
   enum_on surrounding enum marks on_path h =
       let self = farther surrounding.path kind.Enum enum.heading on_path h.0 in
-      let values = each_on heading_then (λ (value : Heading). value) kind.Value (beside text surrounding kind.Enum enum.heading) self (λ value rest all. (all.0, all.1)) enum.values marks h.1 in
+      let values = each_on heading_then (λ (value : Heading). value) kind.Value
+      (beside text surrounding kind.Enum enum.heading) self (λ value rest all. (all.0, all.1)) enum.values marks h.1
+      in
       (All-cons IsOnPath _ _ self values.0, values.1)
 
-  leaf_on : (surrounding : Surrounding) (leaf : Leaf) (marks : List Mark) → OnPath surrounding.path → OfNames Ident (leaf_then leaf marks) → AreOnPaths (in_leaf text surrounding leaf) × OfNames Ident marks
+  leaf_on : (surrounding : Surrounding) (leaf : Leaf) (marks : List Mark) → OnPath surrounding.path
+      → OfNames Ident (leaf_then leaf marks) → AreOnPaths (in_leaf text surrounding leaf) × OfNames Ident marks
   leaf_on surrounding (leaf.Enum enum) marks on_path h = enum_on surrounding enum marks on_path h
   leaf_on surrounding (leaf.Oneof oneof) marks on_path h =
-      let fields = each_on field_then (λ (field : Field). field.heading) kind.Field surrounding on_path field_on oneof.fields marks h.1 in
+      let fields = each_on field_then
+      (λ (field : Field). field.heading) kind.Field surrounding on_path field_on oneof.fields marks h.1 in
       (All-cons IsOnPath _ _ (farther surrounding.path kind.Oneof oneof.heading on_path h.0) fields.0, fields.1)
   leaf_on surrounding (leaf.Field field) marks on_path h =
-      let name = field_on field marks h in
-      (All-cons IsOnPath (outline_at text surrounding kind.Field field.heading) [] (farther surrounding.path kind.Field field.heading on_path name.0) (All-nil IsOnPath), name.1)
+      let name = field_on field marks h in (
+        All-cons IsOnPath (outline_at text surrounding kind.Field field.heading) []
+            (farther surrounding.path kind.Field field.heading on_path name.0) (All-nil IsOnPath),
+        name.1,
+      )
   leaf_on surrounding (leaf.MapField field) marks on_path h =
-      let behind = past_type Ident field.value (Name field.heading.name ∷ (Other field.heading.closing ∷ marks)) h.1 in
-      (All-cons IsOnPath (outline_at text surrounding kind.Field field.heading) [] (farther surrounding.path kind.Field field.heading on_path behind.0) (All-nil IsOnPath), behind.1)
+      let behind = past_type Ident field.value (Name field.heading.name ∷ (Other field.heading.closing ∷ marks)) h.1 in (
+        All-cons IsOnPath (outline_at text surrounding kind.Field field.heading) []
+            (farther surrounding.path kind.Field field.heading on_path behind.0) (All-nil IsOnPath),
+        behind.1,
+      )
 
-  body_on : (surrounding : Surrounding) (body : Body) (marks : List Mark) → OnPath surrounding.path → OfNames Ident (body_then body marks) → AreOnPaths (in_body text surrounding body) × OfNames Ident marks
+  body_on : (surrounding : Surrounding) (body : Body) (marks : List Mark) → OnPath surrounding.path
+      → OfNames Ident (body_then body marks) → AreOnPaths (in_body text surrounding body) × OfNames Ident marks
   body_on surrounding NoMore marks on_path h = (All-nil IsOnPath, h)
   body_on surrounding (LeafThen leaf others) marks on_path h =
       let first = leaf_on surrounding leaf (body_then others marks) on_path h in
@@ -101,10 +132,14 @@ module _ (text : List ℕ) where
       let around = inside text surrounding kind.Message heading in
       let self = farther surrounding.path kind.Message heading on_path h.0 in
       let within = body_on around inner (body_then others marks) self h.1 in
-      let rest = body_on surrounding others marks on_path within.1 in
-      (All-cons IsOnPath _ _ self (All-append IsOnPath (in_body text around inner) (in_body text surrounding others) within.0 rest.0), rest.1)
+      let rest = body_on surrounding others marks on_path within.1 in (
+        All-cons IsOnPath _ _ self
+            (All-append IsOnPath (in_body text around inner) (in_body text surrounding others) within.0 rest.0),
+        rest.1,
+      )
 
-  item_on : (surrounding : Surrounding) (item : FileItem) (marks : List Mark) → OnPath surrounding.path → OfNames Ident (item_then item marks) → AreOnPaths (in_item text surrounding item) × OfNames Ident marks
+  item_on : (surrounding : Surrounding) (item : FileItem) (marks : List Mark) → OnPath surrounding.path
+      → OfNames Ident (item_then item marks) → AreOnPaths (in_item text surrounding item) × OfNames Ident marks
   item_on surrounding (item.Message message) marks on_path h =
       let self = farther surrounding.path kind.Message message.heading on_path h.0 in
       let body = body_on (inside text surrounding kind.Message message.heading) message.body marks self h.1 in
@@ -112,45 +147,62 @@ module _ (text : List ℕ) where
   item_on surrounding (item.Enum enum) marks on_path h = enum_on surrounding enum marks on_path h
   item_on surrounding (item.Service service) marks on_path h =
       let self = farther surrounding.path kind.Service service.heading on_path h.0 in
-      let methods = each_on method_then (λ (method : Method). method.heading) kind.Method (inside text surrounding kind.Service service.heading) self method_on service.methods marks h.1 in
+      let methods = each_on method_then (λ (method : Method). method.heading) kind.Method
+      (inside text surrounding kind.Service service.heading) self method_on service.methods marks h.1 in
       (All-cons IsOnPath _ _ self methods.0, methods.1)
 
-  items_on : (surrounding : Surrounding) (items : List FileItem) (marks : List Mark) → OnPath surrounding.path → OfNames Ident (each_then item_then items marks)
+  items_on : (surrounding : Surrounding) (items : List FileItem) (marks : List Mark) → OnPath surrounding.path
+      → OfNames Ident (each_then item_then items marks)
       → AreOnPaths (flat_map (in_item text surrounding) items) × OfNames Ident marks
   items_on surrounding [] marks on_path h = (All-nil IsOnPath, h)
   items_on surrounding (item ∷ items) marks on_path h =
       let first = item_on surrounding item (each_then item_then items marks) on_path h in
-      let rest = items_on surrounding items marks on_path first.1 in
-      (All-append IsOnPath (in_item text surrounding item) (flat_map (in_item text surrounding) items) first.0 rest.0, rest.1)
+      let rest = items_on surrounding items marks on_path first.1 in (
+        All-append IsOnPath (in_item text surrounding item) (flat_map (in_item text surrounding) items) first.0 rest.0,
+        rest.1,
+      )
 
-  components_on : (names : List Span) (marks : List Mark) → OfNames Ident (names_then names marks) → All (Spells Identifier) (component_names (components_at text names))
+  components_on : (names : List Span) (marks : List Mark) → OfNames Ident (names_then names marks)
+      → All (Spells Identifier) (component_names (components_at text names))
   components_on [] marks h = All-nil (Spells Identifier)
-  components_on (name ∷ names) marks h = All-cons (Spells Identifier) (part_of text name) (component_names (components_at text names)) h.0 (components_on names marks h.1)
+  components_on (name ∷ names) marks h =
+      All-cons (Spells Identifier) (part_of text name) (component_names (components_at text names)) h.0
+      (components_on names marks h.1)
 
-  package_on : (package_name : Option (List Span)) → OfNames Ident (each_then names_then (option_to_list package_name) []) → All (Spells Identifier) (component_names (components_at text (package_spans package_name)))
+  package_on : (package_name : Option (List Span))
+      → OfNames Ident (each_then names_then (option_to_list package_name) [])
+      → All (Spells Identifier) (component_names (components_at text (package_spans package_name)))
   package_on None h = All-nil (Spells Identifier)
   package_on (Some names) h = components_on names [] h
 
 -- the names of a text's marks are identifiers
-identifiers : (lexed : Lexed) → IsLexed lexed.text lexed.tokens lexed.comments → {marks : List Mark} → Among marks (lexemes_of lexed.text lexed.tokens) → OfNames (Ident lexed.text) marks
+identifiers : (lexed : Lexed) → IsLexed lexed.text lexed.tokens lexed.comments → {marks : List Mark}
+    → Among marks (lexemes_of lexed.text lexed.tokens) → OfNames (Ident lexed.text) marks
 identifiers lexed is among =
     of_names (Ident lexed.text) among
     (of_lexemes (Ident lexed.text) lexed.text lexed.tokens
-    (λ k d h kind. subst (λ (k' : TokenKind). Spells k' (part_of lexed.text (slice_index_or lexed.tokens k d).span)) kind (is.spelled k d h)))
+    (λ k d h kind. subst (λ (k' : TokenKind). Spells k' (part_of lexed.text (slice_index_or lexed.tokens k d).span))
+    kind (is.spelled k d h)))
 
-declared_on : (lexed : Lexed) (os : List Outline) (ds : List Declaration) → AllZip (IsDeclaration lexed) os ds → All IsOnPath os → All (λ (d : Declaration). OnPath d.path) ds
+declared_on : (lexed : Lexed) (os : List Outline) (ds : List Declaration) → AllZip (IsDeclaration lexed) os ds
+    → All IsOnPath os → All (λ (d : Declaration). OnPath d.path) ds
 declared_on lexed [] [] all on_paths = All-nil (λ (d : Declaration). OnPath d.path)
 declared_on lexed [] (d ∷ ds) all on_paths = absurd all
 declared_on lexed (o ∷ os) [] all on_paths = absurd all
 declared_on lexed (o ∷ os) (d ∷ ds) all on_paths =
-    All-cons (λ (x : Declaration). OnPath x.path) d ds (subst OnPath (sym all.0.path) (All-head IsOnPath o os on_paths)) (declared_on lexed os ds all.1 (All-tail IsOnPath o os on_paths))
+    All-cons (λ (x : Declaration). OnPath x.path) d ds (subst OnPath (sym all.0.path) (All-head IsOnPath o os on_paths))
+    (declared_on lexed os ds all.1 (All-tail IsOnPath o os on_paths))
 
-pub facts_named : (number : ℕ) (lexed : Lexed) (file : File) (facts : Facts) → IsLexed lexed.text lexed.tokens lexed.comments → AreFactsOf number lexed file facts
-    → Among (marks_of_items file) (lexemes_of lexed.text lexed.tokens) → Among (marks_of_package file) (lexemes_of lexed.text lexed.tokens)
+pub facts_named : (number : ℕ) (lexed : Lexed) (file : File) (facts : Facts)
+    → IsLexed lexed.text lexed.tokens lexed.comments → AreFactsOf number lexed file facts
+    → Among (marks_of_items file) (lexemes_of lexed.text lexed.tokens)
+    → Among (marks_of_package file) (lexemes_of lexed.text lexed.tokens)
     → AreNamed facts.package_name facts.declarations
 facts_named number lexed file facts is of_file items package_name = record {
-  of_components = subst (λ (components : List Component). All (Spells Identifier) (component_names components)) (sym of_file.package_name)
+  of_components = subst (λ (components : List Component). All (Spells Identifier) (component_names components))
+      (sym of_file.package_name)
       (package_on lexed.text file.package_name (identifiers lexed is package_name));
   of_steps = declared_on lexed (outlines_of lexed.text file) facts.declarations of_file.declarations
-      (items_on lexed.text (file_surrounding lexed.text file) file.items [] (All-nil IsSpelled) (identifiers lexed is items)).0;
+      (items_on lexed.text (file_surrounding lexed.text file) file.items [] (All-nil IsSpelled)
+      (identifiers lexed is items)).0;
 }

@@ -16,15 +16,19 @@ use Rattle.proto_decl.proofs.LeadingLemmas.{CommentsInOrder, one_longest}
 use Rattle.proto_decl.proofs.TrailingLemmas.{one_trailing}
 
 module _ (lexed : Lexed) (ordered : CommentsInOrder lexed.comments) where
-  pub one_leading_text : (first : Span) {text other : List ℕ} → IsLeadingText lexed first text → IsLeadingText lexed first other → text ≡ other
+  pub one_leading_text : (first : Span) {text other : List ℕ} → IsLeadingText lexed first text
+      → IsLeadingText lexed first other → text ≡ other
   one_leading_text first (leading {comments = a} f longest) (leading {comments = b} g also) =
-      ap (λ comments. join_with_byte 10 (map (text_of lexed) comments)) (one_longest lexed (first_line lexed first) ordered a b longest also)
+      ap (λ comments. join_with_byte 10 (map (text_of lexed) comments))
+      (one_longest lexed (first_line lexed first) ordered a b longest also)
   one_leading_text first (leading f longest) (not_first g) = absurd (g f)
   one_leading_text first (not_first f) (leading g longest) = absurd (f g)
   one_leading_text first (not_first f) (not_first g) = refl
 
-  pub one_trailing_text : (closing : Span) {text other : List ℕ} → IsTrailingText lexed closing text → IsTrailingText lexed closing other → text ≡ other
-  one_trailing_text closing (trailing {comment = a} t) (trailing {comment = b} u) = ap (text_of lexed) (one_trailing lexed closing a b ordered t u)
+  pub one_trailing_text : (closing : Span) {text other : List ℕ} → IsTrailingText lexed closing text
+      → IsTrailingText lexed closing other → text ≡ other
+  one_trailing_text closing (trailing {comment = a} t) (trailing {comment = b} u) =
+      ap (text_of lexed) (one_trailing lexed closing a b ordered t u)
   one_trailing_text closing (trailing {comment = a} t) (none f) = absurd (f a t)
   one_trailing_text closing (none f) (trailing {comment = b} u) = absurd (f b u)
   one_trailing_text closing (none f) (none g) = refl
@@ -37,9 +41,17 @@ module _ (lexed : Lexed) (ordered : CommentsInOrder lexed.comments) where
       let name = a.name ∙ sym b.name in
       let before = one_leading_text o.heading.first a.leading b.leading in
       let behind = one_trailing_text o.heading.closing a.trailing b.trailing in
-      λ i. record { kind = kind i; full_name = full_name i; path = path i; name = name i; leading = before i; trailing = behind i }
+      λ i. record {
+        kind = kind i;
+        full_name = full_name i;
+        path = path i;
+        name = name i;
+        leading = before i;
+        trailing = behind i;
+      }
 
-  one_list : (os : List Outline) (ds es : List Declaration) → AllZip (IsDeclaration lexed) os ds → AllZip (IsDeclaration lexed) os es → ds ≡ es
+  one_list : (os : List Outline) (ds es : List Declaration) → AllZip (IsDeclaration lexed) os ds
+      → AllZip (IsDeclaration lexed) os es → ds ≡ es
   one_list [] [] [] a b = refl
   one_list [] [] (e ∷ es) a b = absurd b
   one_list [] (d ∷ ds) es a b = absurd a
@@ -47,11 +59,19 @@ module _ (lexed : Lexed) (ordered : CommentsInOrder lexed.comments) where
   one_list (o ∷ os) (d ∷ ds) [] a b = absurd b
   one_list (o ∷ os) (d ∷ ds) (e ∷ es) a b = λ i. one_declaration o d e a.0 b.0 i ∷ one_list os ds es a.1 b.1 i
 
-  pub one_facts : (number : ℕ) (file : File) (facts other : Facts) → AreFactsOf number lexed file facts → AreFactsOf number lexed file other → facts ≡ other
+  pub one_facts : (number : ℕ) (file : File) (facts other : Facts) → AreFactsOf number lexed file facts
+      → AreFactsOf number lexed file other → facts ≡ other
   one_facts number file facts other a b =
       let numbered = a.numbered ∙ sym b.numbered in
       let package_name = a.package_name ∙ sym b.package_name in
       let imports = a.imports ∙ sym b.imports in
-      let declarations = one_list (outlines_of lexed.text file) facts.declarations other.declarations a.declarations b.declarations in
+      let declarations = one_list
+      (outlines_of lexed.text file) facts.declarations other.declarations a.declarations b.declarations in
       let uses = a.uses ∙ sym b.uses in
-      λ i. record { number = numbered i; package_name = package_name i; imports = imports i; declarations = declarations i; uses = uses i }
+      λ i. record {
+        number = numbered i;
+        package_name = package_name i;
+        imports = imports i;
+        declarations = declarations i;
+        uses = uses i;
+      }

@@ -1,5 +1,6 @@
 -- Lines of offsets, and what stands in order.
-use Rattle.std.proofs.Common.{◌≡◌, ◌∙◌, sym, subst, ℕ, zero, suc, ◌<◌, ◌≤◌, List, [], ◌∷◌, length, get_or, take, map, true, false, cond, leb, ltb, arith}
+use Rattle.std.proofs.Common.{◌≡◌, ◌∙◌, sym, subst, ℕ, zero, suc, ◌<◌, ◌≤◌, List, [], ◌∷◌, length, get_or, take, map}
+use Rattle.std.proofs.Common.{true, false, cond, leb, ltb, arith}
 use Rattle.std.specs.Prelude.{◌↔◌, IsTrue}
 use Rattle.std.specs.List.{count_by}
 use Rattle.std.specs.List.Sorted.{IsPartitionPoint}
@@ -13,7 +14,8 @@ use Rattle.proto_lex.specs.Position.{is_line_end, line_of}
 -- an offset further on is on no lesser line
 pub lines_rise : (text : List ℕ) (i j : ℕ) → i ≤ j → line_of text i ≤ line_of text j
 lines_rise text i j h =
-    subst (λ (xs : List ℕ). count_by is_line_end xs ≤ line_of text j) (take-take i j text h) (sum_by-take-le (λ c. cond {A = ℕ} (is_line_end c) 1 0) (take j text) i)
+    subst (λ (xs : List ℕ). count_by is_line_end xs ≤ line_of text j) (take-take i j text h)
+    (sum_by-take-le (λ c. cond {A = ℕ} (is_line_end c) 1 0) (take j text) i)
 
 -- what tests on numbers say
 pub less : (a b : ℕ) → ltb a b ≡ true → a < b
@@ -54,7 +56,8 @@ module _ {X : Type 0} (span : X → Span) where
       → (place ≤ (span (get_or xs k d)).start) × ((span (get_or xs k d)).start < (span (get_or xs k d)).end)
   behind_place place k d [] o h = absurd (omega arith)
   behind_place place zero d (x ∷ xs) o h = (o.0, o.1)
-  behind_place place (suc k) d (x ∷ xs) o h = let later = behind_place (span x).end k d xs o.2 (omega arith) in (omega arith, later.1)
+  behind_place place (suc k) d (x ∷ xs) o h = let later = behind_place (span x).end k d xs o.2 (omega arith) in
+      (omega arith, later.1)
 
   -- each ends before a later one begins, or where it does
   pub ends_before : (place i j : ℕ) (d : X) (xs : List X) → AreInOrder place (map span xs) → i < j → j < length xs
@@ -69,7 +72,8 @@ module _ {X : Type 0} (span : X → Span) where
       → (span (get_or xs i d)).start ≤ (span (get_or xs j d)).start
   starts_rise place i j d [] o l h = absurd (omega arith)
   starts_rise place zero zero d (x ∷ xs) o l h = omega arith
-  starts_rise place zero (suc j) d (x ∷ xs) o l h = let later = behind_place (span x).end j d xs o.2 (omega arith) in omega (arith, later.0, o.1)
+  starts_rise place zero (suc j) d (x ∷ xs) o l h = let later = behind_place (span x).end j d xs o.2 (omega arith) in
+      omega (arith, later.0, o.1)
   starts_rise place (suc i) zero d (x ∷ xs) o l h = absurd (omega arith)
   starts_rise place (suc i) (suc j) d (x ∷ xs) o l h = starts_rise (span x).end i j d xs o.2 (omega arith) (omega arith)
 
@@ -77,15 +81,20 @@ module _ {X : Type 0} (span : X → Span) where
       → (span (get_or xs i d)).end ≤ (span (get_or xs j d)).end
   ends_rise place i j d [] o l h = absurd (omega arith)
   ends_rise place zero zero d (x ∷ xs) o l h = omega arith
-  ends_rise place zero (suc j) d (x ∷ xs) o l h = let later = behind_place (span x).end j d xs o.2 (omega arith) in omega (arith, later.0, later.1)
+  ends_rise place zero (suc j) d (x ∷ xs) o l h = let later = behind_place (span x).end j d xs o.2 (omega arith) in
+      omega (arith, later.0, later.1)
   ends_rise place (suc i) zero d (x ∷ xs) o l h = absurd (omega arith)
   ends_rise place (suc i) (suc j) d (x ∷ xs) o l h = ends_rise (span x).end i j d xs o.2 (omega arith) (omega arith)
 
 -- a point that parts a list by a test parts it by what the test says
 pub parted_less : {X : Type 0} (n : X → ℕ) (bound i : ℕ) (xs : List X) → i ≤ length xs
-    → IsPartitionPoint (λ x. ltb (n x) bound ≡ true) (λ x. ltb (n x) bound ≡ false) xs i → IsPartitionPoint (λ x. n x < bound) (λ x. bound ≤ n x) xs i
-parted_less n bound i xs h p = (λ k d low high. less _ _ (p.0 k d low high), λ k d low high. not_less _ _ (p.1 k d low high))
+    → IsPartitionPoint (λ x. ltb (n x) bound ≡ true) (λ x. ltb (n x) bound ≡ false) xs i
+    → IsPartitionPoint (λ x. n x < bound) (λ x. bound ≤ n x) xs i
+parted_less n bound i xs h p =
+    (λ k d low high. less _ _ (p.0 k d low high), λ k d low high. not_less _ _ (p.1 k d low high))
 
 pub parted_no_more : {X : Type 0} (n : X → ℕ) (bound i : ℕ) (xs : List X) → i ≤ length xs
-    → IsPartitionPoint (λ x. leb (n x) bound ≡ true) (λ x. leb (n x) bound ≡ false) xs i → IsPartitionPoint (λ x. n x ≤ bound) (λ x. bound < n x) xs i
-parted_no_more n bound i xs h p = (λ k d low high. no_more _ _ (p.0 k d low high), λ k d low high. more _ _ (p.1 k d low high))
+    → IsPartitionPoint (λ x. leb (n x) bound ≡ true) (λ x. leb (n x) bound ≡ false) xs i
+    → IsPartitionPoint (λ x. n x ≤ bound) (λ x. bound < n x) xs i
+parted_no_more n bound i xs h p =
+    (λ k d low high. no_more _ _ (p.0 k d low high), λ k d low high. more _ _ (p.1 k d low high))

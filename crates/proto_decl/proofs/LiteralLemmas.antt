@@ -1,5 +1,6 @@
 -- String literals may be cut behind their first quote and before their last one.
-use Rattle.std.proofs.Common.{◌≡◌, ◌∙◌, sym, ap, refl, subst, ℕ, ◌-◌, ◌<◌, ◌≤◌, Bool, true, false, cond, Some, List, [], ◌∷◌, ◌++◌, length, get_or, arith, length-append, IsUtf8, IsCharBoundary}
+use Rattle.std.proofs.Common.{◌≡◌, ◌∙◌, sym, ap, refl, subst, ℕ, ◌-◌, ◌<◌, ◌≤◌, Bool, true, false, cond, Some, List, []}
+use Rattle.std.proofs.Common.{◌∷◌, ◌++◌, length, get_or, arith, length-append, IsUtf8, IsCharBoundary}
 use Rattle.std.proofs.lemmas.Bool.Decides.{nat_tests}
 use Rattle.std.proofs.lemmas.List.{get_or-append_right}
 use Rattle.std.proofs.lemmas.Str.{IsCharBoundary-before_ascii, IsCharBoundary-after_ascii}
@@ -23,7 +24,8 @@ behind quote prefix others ends =
     let at : length (prefix ++ others) - 1 - length prefix ≡ length others - 1 = omega (arith, ends.some) in
     record {
       some = omega (arith, ends.some);
-      quoted = get_or-append_right prefix others (length prefix) (length (prefix ++ others) - 1) 0 refl (omega (arith, ends.some)) ∙ (ap (λ i. get_or others i 0) at ∙ ends.quoted);
+      quoted = get_or-append_right prefix others (length prefix) (length (prefix ++ others) - 1) 0 refl
+          (omega (arith, ends.some)) ∙ (ap (λ i. get_or others i 0) at ∙ ends.quoted);
     }
 
 ends_in_quote : {quote : ℕ} {others : List ℕ} → EndsLiteral quote others → EndsInQuote quote others
@@ -54,7 +56,9 @@ is_literal _ = false
 
 not_a_sign : (b : ℕ) (k : TokenKind) → sign_kind b ≡ Some k → k ≡ StringLiteral → ⊥
 unfolding is_literal
-not_a_sign b k e is = never (sym (sign_cases (λ b k. is_literal k ≡ false) b k e refl refl refl refl refl refl refl refl refl refl refl refl refl refl refl refl) ∙ ap is_literal is)
+not_a_sign b k e is = never
+    (sym (sign_cases (λ b k. is_literal k ≡ false) b k e refl refl refl refl refl refl refl refl refl refl refl refl
+    refl refl refl refl) ∙ ap is_literal is)
 
 literal_quoted : {k : TokenKind} {spelling : List ℕ} → Spells k spelling → k ≡ StringLiteral → IsQuoted spelling
 unfolding is_literal
@@ -66,7 +70,10 @@ literal_quoted (sign {b} {k} e) is = absurd (not_a_sign b k e is)
 
 -- of a literal of a text, what stands between its quotes
 pub cut_first : {spelling : List ℕ} → Spells StringLiteral spelling → IsUtf8 spelling → IsCharBoundary spelling 1
-cut_first {spelling} spells utf8 = let q = literal_quoted spells refl in IsCharBoundary-after_ascii spelling 0 utf8 (omega (arith, q.some)) q.first
+cut_first {spelling} spells utf8 = let q = literal_quoted spells refl in
+    IsCharBoundary-after_ascii spelling 0 utf8 (omega (arith, q.some)) q.first
 
-pub cut_last : {spelling : List ℕ} → Spells StringLiteral spelling → (1 ≤ length spelling - 1) × IsCharBoundary spelling (length spelling - 1)
-cut_last {spelling} spells = let q = literal_quoted spells refl in (omega (arith, q.some), IsCharBoundary-before_ascii spelling (length spelling - 1) (omega (arith, q.some)) q.last)
+pub cut_last : {spelling : List ℕ} → Spells StringLiteral spelling
+    → (1 ≤ length spelling - 1) × IsCharBoundary spelling (length spelling - 1)
+cut_last {spelling} spells = let q = literal_quoted spells refl in
+    (omega (arith, q.some), IsCharBoundary-before_ascii spelling (length spelling - 1) (omega (arith, q.some)) q.last)

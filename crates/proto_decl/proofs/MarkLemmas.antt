@@ -11,7 +11,8 @@ use Rattle.proto_parse.specs.tree.FieldType.{FieldType}
 use Rattle.proto_parse.specs.tree.FieldType.TheVariants.{Scalar, Named}
 use Rattle.proto_parse.specs.Walk.{Mark, Among, names_then, dot_then, type_name_then, type_then}
 use Rattle.proto_parse.specs.Walk.Mark.{First, Name, Literal, Other}
-use Rattle.proto_parse.specs.Walk.Among.{none as no_marks, skip, first as at_first, name as at_name, literal as at_literal, other as at_other}
+use Rattle.proto_parse.specs.Walk.Among.{none as no_marks, skip, first as at_first, name as at_name}
+use Rattle.proto_parse.specs.Walk.Among.{literal as at_literal, other as at_other}
 
 module _ (N : Span → Type 0) where
   abbrev pub OfNames : List Mark → Type 0
@@ -24,10 +25,13 @@ module _ (N : Span → Type 0) where
   abbrev pub OfIdentifiers : List Lexeme → Type 0
   OfIdentifiers lexemes = AllByRecursion (λ (t : Lexeme). t.kind ≡ Identifier → N t.span) lexemes
 
-  pub of_lexemes : (text : List ℕ) (tokens : List Token) → All (λ t. t.kind ≡ Identifier → N t.span) tokens → OfIdentifiers (lexemes_of text tokens)
+  pub of_lexemes : (text : List ℕ) (tokens : List Token) → All (λ t. t.kind ≡ Identifier → N t.span) tokens
+      → OfIdentifiers (lexemes_of text tokens)
   of_lexemes text [] all = tt
-  of_lexemes text (t ∷ tokens) all =
-      (All-head (λ (x : Token). x.kind ≡ Identifier → N x.span) t tokens all, of_lexemes text tokens (All-tail (λ (x : Token). x.kind ≡ Identifier → N x.span) t tokens all))
+  of_lexemes text (t ∷ tokens) all = (
+    All-head (λ (x : Token). x.kind ≡ Identifier → N x.span) t tokens all,
+    of_lexemes text tokens (All-tail (λ (x : Token). x.kind ≡ Identifier → N x.span) t tokens all),
+  )
 
   pub of_names : {marks : List Mark} {tokens : List Lexeme} → Among marks tokens → OfIdentifiers tokens → OfNames marks
   of_names no_marks all = tt
@@ -47,7 +51,8 @@ module _ (N : Span → Type 0) where
   past_dot (Some dot) marks h = h
 
   pub past_type_name : (name : TypeName) (marks : List Mark) → OfNames (type_name_then name marks) → OfNames marks
-  past_type_name name marks h = past_names name.components marks (past_dot name.leading_dot (names_then name.components marks) h)
+  past_type_name name marks h =
+      past_names name.components marks (past_dot name.leading_dot (names_then name.components marks) h)
 
   pub past_type : (type : FieldType) (marks : List Mark) → OfNames (type_then type marks) → OfNames marks
   past_type (Scalar word) marks h = h.1

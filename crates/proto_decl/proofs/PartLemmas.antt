@@ -23,7 +23,8 @@ use Rattle.proto_decl.specs.Names.{qualified, components_at}
 use Rattle.proto_decl.specs.Spans.{OfTypeName, OfType, OfField, OfLeaf, OfBody, OfMethod, OfItem, OfPackage}
 use Rattle.proto_decl.specs.Imports.{start_of, end_of, imports_of}
 use Rattle.proto_decl.specs.Outlines.{name_of, package_scope, package_spans}
-use Rattle.proto_decl.specs.Uses.{use_of, uses_of_type, uses_in_leaf, uses_in_body, uses_of_method, uses_in_item, uses_of}
+use Rattle.proto_decl.specs.Uses.{use_of, uses_of_type, uses_in_leaf, uses_in_body, uses_of_method, uses_in_item}
+use Rattle.proto_decl.specs.Uses.{uses_of}
 use Rattle.proto_decl.specs.Facts.{component_spans, name_spans, use_spans}
 use Rattle.proto_decl.specs.Laws.{IsNamedAt}
 use Rattle.proto_decl.specs.declared.declaration.Declaration.{Declaration}
@@ -36,8 +37,10 @@ module _ (text : List ℕ) where
   abbrev OfUse : Use → Type 0
   OfUse used = All (IsPart text) (component_spans used.components)
 
-  components_part : (spans : List Span) → All (IsPart text) spans → All (IsPart text) (component_spans (components_at text spans))
-  components_part spans all = subst (λ (found : List Span). All (IsPart text) found) (sym (spans_of_components text spans)) all
+  components_part : (spans : List Span) → All (IsPart text) spans
+      → All (IsPart text) (component_spans (components_at text spans))
+  components_part spans all =
+      subst (λ (found : List Span). All (IsPart text) found) (sym (spans_of_components text spans)) all
 
   name_part : (scope : List ℕ) (name : TypeName) → OfTypeName (IsPart text) name → OfUse (use_of text scope name)
   name_part scope name h = components_part name.components h.1
@@ -46,28 +49,35 @@ module _ (text : List ℕ) where
   type_part scope (Scalar word) h = All-nil OfUse
   type_part scope (Named name) h = All-cons OfUse (use_of text scope name) [] (name_part scope name h) (All-nil OfUse)
 
-  flat_part : {A : Type 0} (f : A → List Use) (Q : A → Type 0) → ((x : A) → Q x → All OfUse (f x)) → (xs : List A) → All Q xs → All OfUse (flat_map f xs)
+  flat_part : {A : Type 0} (f : A → List Use) (Q : A → Type 0) → ((x : A) → Q x → All OfUse (f x)) → (xs : List A)
+      → All Q xs → All OfUse (flat_map f xs)
   flat_part f Q has [] all = All-nil OfUse
-  flat_part f Q has (x ∷ xs) all = All-append OfUse (f x) (flat_map f xs) (has x (All-head Q x xs all)) (flat_part f Q has xs (All-tail Q x xs all))
+  flat_part f Q has (x ∷ xs) all =
+      All-append OfUse (f x) (flat_map f xs) (has x (All-head Q x xs all)) (flat_part f Q has xs (All-tail Q x xs all))
 
   leaf_part : (scope : List ℕ) (leaf : Leaf) → OfLeaf (IsPart text) leaf → All OfUse (uses_in_leaf text scope leaf)
   leaf_part scope (leaf.Enum enum) h = All-nil OfUse
   leaf_part scope (leaf.Oneof oneof) h =
-      flat_part (λ (field : Field). uses_of_type text scope field.field_type) (OfField (IsPart text)) (λ field has. type_part scope field.field_type has.1) oneof.fields h.1
+      flat_part (λ (field : Field). uses_of_type text scope field.field_type) (OfField (IsPart text))
+      (λ field has. type_part scope field.field_type has.1) oneof.fields h.1
   leaf_part scope (leaf.Field field) h = type_part scope field.field_type h.1
   leaf_part scope (leaf.MapField field) h = type_part scope field.value h.1
 
   body_part : (scope : List ℕ) (body : Body) → OfBody (IsPart text) body → All OfUse (uses_in_body text scope body)
   body_part scope NoMore h = All-nil OfUse
   body_part scope (LeafThen leaf others) h =
-      All-append OfUse (uses_in_leaf text scope leaf) (uses_in_body text scope others) (leaf_part scope leaf h.0) (body_part scope others h.1)
+      All-append OfUse (uses_in_leaf text scope leaf) (uses_in_body text scope others) (leaf_part scope leaf h.0)
+      (body_part scope others h.1)
   body_part scope (MessageThen heading inner others) h =
       let within = qualified scope (name_of text heading) in
-      All-append OfUse (uses_in_body text within inner) (uses_in_body text scope others) (body_part within inner h.1) (body_part scope others h.2)
+      All-append OfUse (uses_in_body text within inner) (uses_in_body text scope others) (body_part within inner h.1)
+      (body_part scope others h.2)
 
-  method_part : (scope : List ℕ) (method : Method) → OfMethod (IsPart text) method → All OfUse (uses_of_method text scope method)
+  method_part : (scope : List ℕ) (method : Method) → OfMethod (IsPart text) method
+      → All OfUse (uses_of_method text scope method)
   method_part scope method h =
-      All-cons OfUse (use_of text scope method.input) (use_of text scope method.output ∷ []) (name_part scope method.input h.1)
+      All-cons OfUse (use_of text scope method.input) (use_of text scope method.output ∷ [])
+      (name_part scope method.input h.1)
       (All-cons OfUse (use_of text scope method.output) [] (name_part scope method.output h.2) (All-nil OfUse))
 
   item_part : (scope : List ℕ) (item : FileItem) → OfItem (IsPart text) item → All OfUse (uses_in_item text scope item)
@@ -80,28 +90,37 @@ module _ (text : List ℕ) where
   all_parts : (uses : List Use) → All OfUse uses → All (IsPart text) (use_spans uses)
   all_parts [] all = All-nil (IsPart text)
   all_parts (used ∷ uses) all =
-      All-append (IsPart text) (component_spans used.components) (use_spans uses) (All-head OfUse used uses all) (all_parts uses (All-tail OfUse used uses all))
+      All-append (IsPart text) (component_spans used.components) (use_spans uses) (All-head OfUse used uses all)
+      (all_parts uses (All-tail OfUse used uses all))
 
-  pub uses_part : (file : File) → All (OfItem (IsPart text)) file.items → All (IsPart text) (use_spans (uses_of text file))
+  pub uses_part : (file : File) → All (OfItem (IsPart text)) file.items
+      → All (IsPart text) (use_spans (uses_of text file))
   uses_part file h =
-      all_parts (uses_of text file) (flat_part (uses_in_item text (package_scope text file)) (OfItem (IsPart text)) (item_part (package_scope text file)) file.items h)
+      all_parts (uses_of text file)
+      (flat_part (uses_in_item text (package_scope text file)) (OfItem (IsPart text))
+      (item_part (package_scope text file)) file.items h)
 
   package_part_by : (name : Option (List Span)) → OfPackage (IsPart text) name → All (IsPart text) (package_spans name)
   package_part_by None h = All-nil (IsPart text)
   package_part_by (Some spans) h = h
 
-  pub package_part : (name : Option (List Span)) → OfPackage (IsPart text) name → All (IsPart text) (component_spans (components_at text (package_spans name)))
+  pub package_part : (name : Option (List Span)) → OfPackage (IsPart text) name
+      → All (IsPart text) (component_spans (components_at text (package_spans name)))
   package_part name h = components_part (package_spans name) (package_part_by name h)
 
-  pub names_part : (declarations : List Declaration) → All (IsNamedAt text) declarations → All (IsPart text) (name_spans declarations)
+  pub names_part : (declarations : List Declaration) → All (IsNamedAt text) declarations
+      → All (IsPart text) (name_spans declarations)
   names_part [] all = All-nil (IsPart text)
-  names_part (d ∷ ds) all = All-cons (IsPart text) d.name (name_spans ds) ((All-head (IsNamedAt text) d ds all).place) (names_part ds (All-tail (IsNamedAt text) d ds all))
+  names_part (d ∷ ds) all =
+      All-cons (IsPart text) d.name (name_spans ds) ((All-head (IsNamedAt text) d ds all).place)
+      (names_part ds (All-tail (IsNamedAt text) d ds all))
 
   -- the ends of spans that are parts
   ends_part : (spans : List Span) → 0 < length spans → All (IsPart text) spans
       → IsCharBoundary text (start_of spans) × (end_of spans ≤ length text) × IsCharBoundary text (end_of spans)
   ends_part [] some all = absurd (omega (arith, some))
-  ends_part (span ∷ []) some all = let is = All-head (IsPart text) span [] all in (is.starts_whole, is.within, is.ends_whole)
+  ends_part (span ∷ []) some all = let is = All-head (IsPart text) span [] all in
+      (is.starts_whole, is.within, is.ends_whole)
   ends_part (span ∷ (next ∷ others)) some all =
       let later = ends_part (next ∷ others) (omega arith) (All-tail (IsPart text) span (next ∷ others) all) in
       ((All-head (IsPart text) span (next ∷ others) all).starts_whole, later.1, later.2)
@@ -110,9 +129,13 @@ module _ (text : List ℕ) where
   OfLiterals import = All (IsPart text) import.literals
 
   pub imports_part : (imports : List Import) (from : ℕ) → All FilledImport imports → All OfLiterals imports
-      → AreInOrder from (map (λ (imported : Imported). imported.span) (imports_of text imports)) → All (IsPart text) (map (λ (imported : Imported). imported.span) (imports_of text imports))
+      → AreInOrder from (map (λ (imported : Imported). imported.span) (imports_of text imports))
+      → All (IsPart text) (map (λ (imported : Imported). imported.span) (imports_of text imports))
   imports_part [] from filled all order = All-nil (IsPart text)
   imports_part (import ∷ imports) from filled all order =
-      let ends = ends_part import.literals (All-head FilledImport import imports filled) (All-head OfLiterals import imports all) in
-      All-cons (IsPart text) _ _ (record { some = order.1; within = ends.1; starts_whole = ends.0; ends_whole = ends.2 })
-      (imports_part imports (end_of import.literals) (All-tail FilledImport import imports filled) (All-tail OfLiterals import imports all) order.2)
+      let ends = ends_part import.literals (All-head FilledImport import imports filled)
+      (All-head OfLiterals import imports all) in
+      All-cons (IsPart text) _ _
+      (record { some = order.1; within = ends.1; starts_whole = ends.0; ends_whole = ends.2 })
+      (imports_part imports (end_of import.literals) (All-tail FilledImport import imports filled)
+      (All-tail OfLiterals import imports all) order.2)

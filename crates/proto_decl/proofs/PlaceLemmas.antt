@@ -1,9 +1,12 @@
--- What a file's facts tell has places of its own: the components of uses stand apart from names, and no import begins where one of those does.
-use Rattle.std.proofs.Common.{◌≡◌, ◌∙◌, sym, ap, refl, subst, ◌⊎◌, inl, inr, ℕ, ◌<◌, ◌≤◌, ◌==◌, Option, Some, None, List, [], ◌∷◌, ◌++◌, length, map, arith, append-nil}
+-- What a file's facts tell has places of its own: the components of uses stand apart from names, and no import begins
+-- where one of those does.
+use Rattle.std.proofs.Common.{◌≡◌, ◌∙◌, sym, ap, refl, subst, ◌⊎◌, inl, inr, ℕ, ◌<◌, ◌≤◌, ◌==◌, Option, Some, None}
+use Rattle.std.proofs.Common.{List, [], ◌∷◌, ◌++◌, length, map, arith, append-nil}
 use Rattle.std.specs.Prelude.{if◌then◌else◌}
 use Rattle.std.specs.List.{All, Contains, slice_index_or, flat_map}
 use Rattle.std.proofs.lemmas.Bool.Decides.{nat_tests}
-use Rattle.std.proofs.lemmas.List.Elements.{All-nil, All-cons, All-head, All-weaker, All-map, All-contains, Contains-append_left, Contains-append_right, Contains-append_cases}
+use Rattle.std.proofs.lemmas.List.Elements.{All-nil, All-cons, All-head, All-weaker, All-map, All-contains}
+use Rattle.std.proofs.lemmas.List.Elements.{Contains-append_left, Contains-append_right, Contains-append_cases}
 use Rattle.std.proofs.lemmas.Grind.{flat_map-append}
 use Rattle.proto_lex.specs.declared.span.Span.{Span}
 use Rattle.proto_lex.specs.declared.token.Token.{Token}
@@ -23,7 +26,8 @@ use Rattle.proto_decl.specs.Places.{named_spans}
 use Rattle.proto_decl.specs.declared.imported.Imported.{Imported}
 use Rattle.proto_decl.proofs.SpanLemmas.{imports_hold}
 use Rattle.proto_decl.proofs.MarkLemmas.{OfNames, of_lexemes, of_names}
-use Rattle.proto_decl.proofs.PickLemmas.{Picked, retyped, heading_names, spans_of_components, names-append, components-append, items_picked, package_picked}
+use Rattle.proto_decl.proofs.PickLemmas.{Picked, retyped, heading_names, spans_of_components, names-append}
+use Rattle.proto_decl.proofs.PickLemmas.{components-append, items_picked, package_picked}
 use Rattle.proto_decl.proofs.PickLemmas.Picked.{none, skip, a_name, a_component}
 use Rattle.proto_decl.proofs.OrderLemmas.{beside}
 use Rattle.proto_decl.proofs.FactLemmas.{same_names}
@@ -34,14 +38,17 @@ either f g (inr b) = g b
 
 -- what holds of the marks of names holds of those that are picked
 module _ (N : Span → Type 0) where
-  picked_hold : {marks behind : List Mark} {names components : List Span} → Picked marks names components behind → OfNames N marks → All N names × All N components
+  picked_hold : {marks behind : List Mark} {names components : List Span} → Picked marks names components behind
+      → OfNames N marks → All N names × All N components
   picked_hold none h = (All-nil N, All-nil N)
   picked_hold (skip {mark = First span} picked) h = picked_hold picked h
   picked_hold (skip {mark = Name span} picked) h = picked_hold picked h.1
   picked_hold (skip {mark = Literal span} picked) h = picked_hold picked h
   picked_hold (skip {mark = Other span} picked) h = picked_hold picked h
-  picked_hold (a_name {span = span} {names = names} picked) h = let rest = picked_hold picked h.1 in (All-cons N span names h.0 rest.0, rest.1)
-  picked_hold (a_component {span = span} {components = components} picked) h = let rest = picked_hold picked h.1 in (rest.0, All-cons N span components h.0 rest.1)
+  picked_hold (a_name {span = span} {names = names} picked) h = let rest = picked_hold picked h.1 in
+      (All-cons N span names h.0 rest.0, rest.1)
+  picked_hold (a_component {span = span} {components = components} picked) h = let rest = picked_hold picked h.1 in
+      (rest.0, All-cons N span components h.0 rest.1)
 
 -- the kind of the first token that begins at an offset
 
@@ -60,21 +67,28 @@ found_first : (t : Token) (tokens : List Token) → kind_at (t ∷ tokens) t.spa
 unfolding kind_at
 found_first t tokens = grind (arith, nat_tests)
 
-found_later : (t u : Token) (tokens : List Token) → t.span.start < u.span.start → kind_at tokens u.span.start ≡ Some u.kind → kind_at (t ∷ tokens) u.span.start ≡ Some u.kind
+found_later : (t u : Token) (tokens : List Token) → t.span.start < u.span.start
+    → kind_at tokens u.span.start ≡ Some u.kind → kind_at (t ∷ tokens) u.span.start ≡ Some u.kind
 unfolding kind_at
 found_later t u tokens less found = grind (arith, nat_tests)
 
-kinds_found : (place : ℕ) (tokens : List Token) → AreInOrder place (map (λ (t : Token). t.span) tokens) → All (IsFound place tokens) tokens
+kinds_found : (place : ℕ) (tokens : List Token) → AreInOrder place (map (λ (t : Token). t.span) tokens)
+    → All (IsFound place tokens) tokens
 kinds_found place [] order = All-nil (IsFound place [])
 kinds_found place (t ∷ tokens) order =
     All-cons (IsFound place (t ∷ tokens)) t tokens (order.0, found_first t tokens)
     (All-weaker (IsFound t.span.end tokens) (IsFound place (t ∷ tokens))
-    (λ u found. (omega (arith, order.0, order.1, found.0), found_later t u tokens (omega (arith, order.1, found.0)) found.1)) tokens (kinds_found t.span.end tokens order.2))
+    (λ u found. (
+      omega (arith, order.0, order.1, found.0),
+      found_later t u tokens (omega (arith, order.1, found.0)) found.1,
+    )) tokens
+    (kinds_found t.span.end tokens order.2))
 
 two_kinds : {kind : Option TokenKind} → kind ≡ Some StringLiteral → kind ≡ Some Identifier → ⊥
 two_kinds e f = cc
 
-first_begins : (tokens : List Token) (literals : List Span) → 0 < length literals → All (BeginsAs StringLiteral tokens) literals → kind_at tokens (start_of literals) ≡ Some StringLiteral
+first_begins : (tokens : List Token) (literals : List Span) → 0 < length literals
+    → All (BeginsAs StringLiteral tokens) literals → kind_at tokens (start_of literals) ≡ Some StringLiteral
 first_begins tokens [] some all = absurd (omega (arith, some))
 first_begins tokens (span ∷ others) some all = All-head (BeginsAs StringLiteral tokens) span others all
 
@@ -87,25 +101,35 @@ pub record MarksOf (facts : Facts) (tokens : List Lexeme) : Type 0 where
   pub all_named : (span : Span) → Contains (named_spans facts) span → Contains names span
 
 module _ (number : ℕ) (lexed : Lexed) (file : File) (facts : Facts) (is : AreFactsOf number lexed file facts) where
-  named : (package_name : Option (List Span)) → file.package_name ≡ package_name → named_spans facts ≡ heading_names (outlines_of lexed.text file) ++ package_spans package_name
+  named : (package_name : Option (List Span)) → file.package_name ≡ package_name
+      → named_spans facts ≡ heading_names (outlines_of lexed.text file) ++ package_spans package_name
   named package_name e =
       let names = same_names lexed (outlines_of lexed.text file) facts.declarations is.declarations in
-      let components : component_spans facts.package_name ≡ package_spans package_name = ap component_spans is.package_name ∙ (spans_of_components lexed.text (package_spans file.package_name) ∙ ap package_spans e) in
+      let components : component_spans facts.package_name ≡ package_spans package_name =
+      ap component_spans is.package_name
+      ∙ (spans_of_components lexed.text (package_spans file.package_name) ∙ ap package_spans e) in
       λ i. names i ++ components i
 
-  names_among : (first last components : List Span) (span : Span) → Contains ((first ++ last) ++ components) span → Contains (first ++ (components ++ last)) span
+  names_among : (first last components : List Span) (span : Span) → Contains ((first ++ last) ++ components) span
+      → Contains (first ++ (components ++ last)) span
   names_among first last components span h =
-      either (λ name. either (Contains-append_left first (components ++ last) span) (λ later. Contains-append_right first (components ++ last) span (Contains-append_right components last span later))
+      either (λ name. either (Contains-append_left first (components ++ last) span)
+      (λ later. Contains-append_right first (components ++ last) span
+      (Contains-append_right components last span later))
       (Contains-append_cases first last span name))
-      (λ component. Contains-append_right first (components ++ last) span (Contains-append_left components last span component)) (Contains-append_cases (first ++ last) components span h)
+      (λ component. Contains-append_right first (components ++ last) span
+      (Contains-append_left components last span component))
+      (Contains-append_cases (first ++ last) components span h)
 
-  pub marks_of : (tokens : List Lexeme) → Among (marks_of_items file) tokens → (package_name : Option (List Span)) → file.package_name ≡ package_name → PackageIsAmongItems package_name file.items tokens
+  pub marks_of : (tokens : List Lexeme) → Among (marks_of_items file) tokens → (package_name : Option (List Span))
+      → file.package_name ≡ package_name → PackageIsAmongItems package_name file.items tokens
       → MarksOf facts tokens
   marks_of tokens among None e place = record {
     marks = marks_of_items file;
     among = among;
     names = heading_names (outlines_of lexed.text file);
-    picked = retyped refl (sym (ap use_spans is.uses)) (items_picked lexed.text (package_scope lexed.text file) (file_surrounding lexed.text file) file.items []);
+    picked = retyped refl (sym (ap use_spans is.uses))
+        (items_picked lexed.text (package_scope lexed.text file) (file_surrounding lexed.text file) file.items []);
     all_named = λ span h. subst (λ (spans : List Span). Contains spans span) (named None e ∙ append-nil _) h;
   }
   marks_of tokens among (Some components) e place =
@@ -114,11 +138,18 @@ module _ (number : ℕ) (lexed : Lexed) (file : File) (facts : Facts) (is : AreF
       let scope = package_scope text file in
       let before = place.0 in
       let behind = place.1.0 in
-      let uses : use_spans facts.uses ≡ use_spans (flat_map (uses_in_item text scope) before) ++ use_spans (flat_map (uses_in_item text scope) behind) =
-      ap use_spans (is.uses ∙ (ap (flat_map (uses_in_item text scope)) place.1.1.0 ∙ flat_map-append (uses_in_item text scope) before behind))
-      ∙ sym (components-append (flat_map (uses_in_item text scope) before) (flat_map (uses_in_item text scope) behind)) in
-      let names : heading_names (outlines_of text file) ≡ heading_names (flat_map (in_item text surrounding) before) ++ heading_names (flat_map (in_item text surrounding) behind) =
-      ap heading_names (ap (flat_map (in_item text surrounding)) place.1.1.0 ∙ flat_map-append (in_item text surrounding) before behind)
+      let uses : use_spans facts.uses
+      ≡ use_spans (flat_map (uses_in_item text scope) before)
+      ++ use_spans (flat_map (uses_in_item text scope) behind) =
+      ap use_spans (is.uses ∙ (ap (flat_map (uses_in_item text scope)) place.1.1.0
+      ∙ flat_map-append (uses_in_item text scope) before behind))
+      ∙ sym (components-append (flat_map (uses_in_item text scope) before) (flat_map (uses_in_item text scope) behind))
+      in
+      let names : heading_names (outlines_of text file)
+      ≡ heading_names (flat_map (in_item text surrounding) before)
+      ++ heading_names (flat_map (in_item text surrounding) behind) =
+      ap heading_names (ap (flat_map (in_item text surrounding)) place.1.1.0
+      ∙ flat_map-append (in_item text surrounding) before behind)
       ∙ sym (names-append (flat_map (in_item text surrounding) before) (flat_map (in_item text surrounding) behind)) in
       record {
         marks = _;
@@ -126,35 +157,50 @@ module _ (number : ℕ) (lexed : Lexed) (file : File) (facts : Facts) (is : AreF
         names = _;
         picked = retyped refl (sym uses) (package_picked text scope surrounding before behind components);
         all_named = λ span h.
-            names_among (heading_names (flat_map (in_item text surrounding) before)) (heading_names (flat_map (in_item text surrounding) behind)) components span
-            (subst (λ (spans : List Span). Contains spans span) (named (Some components) e ∙ ap (λ (spans : List Span). spans ++ components) names) h);
+            names_among (heading_names (flat_map (in_item text surrounding) before))
+            (heading_names (flat_map (in_item text surrounding) behind)) components span
+            (subst (λ (spans : List Span). Contains spans span)
+            (named (Some components) e ∙ ap (λ (spans : List Span). spans ++ components) names) h);
       }
 
   module _ (m : MarksOf facts (lexemes_of lexed.text lexed.tokens)) where
-    pub uses_apart : MarksAreInOrder 0 m.marks → (used name : Span) → Contains (use_spans facts.uses) used → Contains (named_spans facts) name → AreApart used name
+    pub uses_apart : MarksAreInOrder 0 m.marks → (used name : Span) → Contains (use_spans facts.uses) used
+        → Contains (named_spans facts) name → AreApart used name
     uses_apart order used name h k =
         All-contains (AreApart used) m.names name
-        (All-contains (λ (component : Span). All (AreApart component) m.names) (use_spans facts.uses) used (beside m.picked 0 order).apart h) (m.all_named name k)
+        (All-contains (λ (component : Span). All (AreApart component) m.names) (use_spans facts.uses) used
+        (beside m.picked 0 order).apart h) (m.all_named name k)
 
-    module _ (order : AreInOrder 0 (map (λ (t : Token). t.span) lexed.tokens)) (among : Among (marks_of_imports file) (lexemes_of lexed.text lexed.tokens)) (filled : All FilledImport file.imports) where
-      names_begin : All (BeginsAs Identifier lexed.tokens) m.names × All (BeginsAs Identifier lexed.tokens) (use_spans facts.uses)
+    module _ (order : AreInOrder 0 (map (λ (t : Token). t.span) lexed.tokens))
+        (among : Among (marks_of_imports file) (lexemes_of lexed.text lexed.tokens))
+        (filled : All FilledImport file.imports) where
+      names_begin : All (BeginsAs Identifier lexed.tokens) m.names
+          × All (BeginsAs Identifier lexed.tokens) (use_spans facts.uses)
       names_begin =
           picked_hold (BeginsAs Identifier lexed.tokens) m.picked
           (of_names (BeginsAs Identifier lexed.tokens) m.among
-          (of_lexemes (BeginsAs Identifier lexed.tokens) lexed.text lexed.tokens (λ k d h kind. (kinds_found 0 lexed.tokens order k d h).1 ∙ ap Some kind)))
+          (of_lexemes (BeginsAs Identifier lexed.tokens) lexed.text lexed.tokens
+          (λ k d h kind. (kinds_found 0 lexed.tokens order k d h).1 ∙ ap Some kind)))
 
       imports_begin : All (λ (imported : Imported). BeginsAs StringLiteral lexed.tokens imported.span) facts.imports
       imports_begin =
-          let literals = imports_hold (λ span. Unit {0}) (BeginsAs StringLiteral lexed.tokens) lexed.text lexed.tokens file
+          let literals = imports_hold (λ span. Unit {0})
+          (BeginsAs StringLiteral lexed.tokens) lexed.text lexed.tokens file
           (λ k d h. (tt, λ kind. (kinds_found 0 lexed.tokens order k d h).1 ∙ ap Some kind)) among in
           subst (All (λ (imported : Imported). BeginsAs StringLiteral lexed.tokens imported.span)) (sym is.imports)
-          (All-map (λ (imported : Imported). BeginsAs StringLiteral lexed.tokens imported.span) (imported_by lexed.text) file.imports
-          (λ k d h. first_begins lexed.tokens (slice_index_or file.imports k d).literals (filled k d h) (literals k d h)))
+          (All-map (λ (imported : Imported). BeginsAs StringLiteral lexed.tokens imported.span)
+          (imported_by lexed.text) file.imports
+          (λ k d h. first_begins lexed.tokens (slice_index_or file.imports k d).literals (filled k d h)
+          (literals k d h)))
 
-      pub imports_apart : (imported : Imported) (name : Span) → Contains facts.imports imported → Contains (named_spans facts ++ use_spans facts.uses) name → imported.span.start ≡ name.start → ⊥
+      pub imports_apart : (imported : Imported) (name : Span) → Contains facts.imports imported
+          → Contains (named_spans facts ++ use_spans facts.uses) name → imported.span.start ≡ name.start → ⊥
       imports_apart imported name h k same =
           let begins : BeginsAs Identifier lexed.tokens name =
-          either (λ named_one. All-contains (BeginsAs Identifier lexed.tokens) m.names name names_begin.0 (m.all_named name named_one))
-          (λ used. All-contains (BeginsAs Identifier lexed.tokens) (use_spans facts.uses) name names_begin.1 used) (Contains-append_cases (named_spans facts) (use_spans facts.uses) name k) in
-          let literal = All-contains (λ (i : Imported). BeginsAs StringLiteral lexed.tokens i.span) facts.imports imported imports_begin h in
+          either (λ named_one. All-contains (BeginsAs Identifier lexed.tokens) m.names name names_begin.0
+          (m.all_named name named_one))
+          (λ used. All-contains (BeginsAs Identifier lexed.tokens) (use_spans facts.uses) name names_begin.1 used)
+          (Contains-append_cases (named_spans facts) (use_spans facts.uses) name k) in
+          let literal = All-contains
+          (λ (i : Imported). BeginsAs StringLiteral lexed.tokens i.span) facts.imports imported imports_begin h in
           two_kinds (subst (λ (offset : ℕ). kind_at lexed.tokens offset ≡ Some StringLiteral) same literal) begins

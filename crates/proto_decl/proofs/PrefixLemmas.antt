@@ -1,9 +1,11 @@
 -- The prefixes of a full name are packages or declarations of its file.
-use Rattle.std.proofs.Common.{◌≡◌, ◌∙◌, sym, ap, refl, subst, ℕ, zero, suc, ◌<◌, ◌≤◌, ◌==◌, ◌⊎◌, inl, inr, Bool, true, false, not, ◌&&◌, cond, List, [], ◌∷◌, ◌++◌, length, map, take, arith, length-append}
+use Rattle.std.proofs.Common.{◌≡◌, ◌∙◌, sym, ap, refl, subst, ℕ, zero, suc, ◌<◌, ◌≤◌, ◌==◌, ◌⊎◌, inl, inr, Bool, true}
+use Rattle.std.proofs.Common.{false, not, ◌&&◌, cond, List, [], ◌∷◌, ◌++◌, length, map, take, arith, length-append}
 use Rattle.std.specs.List.{All, Contains, list_all, onto_first}
 use Rattle.std.proofs.lemmas.List.{take-append-le, take_all, take-map, length-map}
 use Rattle.std.proofs.lemmas.List.Elements.{All-nil, All-cons, All-head, All-tail, All-contains}
-use Rattle.std.proofs.lemmas.List.Splits.{slice_split_none, slice_split_at, length-slice_split, join_with_byte-slice_split}
+use Rattle.std.proofs.lemmas.List.Splits.{slice_split_none, slice_split_at, length-slice_split}
+use Rattle.std.proofs.lemmas.List.Splits.{join_with_byte-slice_split}
 use Rattle.proto_decl.specs.Names.{qualified, IsSimple, dotted, components_of, prefix_of}
 use Rattle.proto_decl.specs.Facts.{Facts}
 use Rattle.proto_decl.specs.Laws.{IsScope, StandsInScope, IsEntity}
@@ -33,89 +35,125 @@ no_dots (byte ∷ name) e =
 of_simple : (name : List ℕ) → IsSimple name → components_of name ≡ name ∷ []
 of_simple name simple = slice_split_none is_dot name (no_dots name simple.no_dot)
 
-onto_more : (byte : ℕ) (parts : List (List ℕ)) (last : List ℕ) → 0 < length parts → onto_first byte (parts ++ last ∷ []) ≡ onto_first byte parts ++ last ∷ []
+onto_more : (byte : ℕ) (parts : List (List ℕ)) (last : List ℕ) → 0 < length parts
+    → onto_first byte (parts ++ last ∷ []) ≡ onto_first byte parts ++ last ∷ []
 onto_more byte [] last some = absurd (omega (arith, some))
 onto_more byte (part ∷ parts) last some = refl
 
 one_more : (t : Bool) (byte : ℕ) (parts : List (List ℕ)) (last : List ℕ) → 0 < length parts
-    → cond t ([] ∷ (parts ++ last ∷ [])) (onto_first byte (parts ++ last ∷ [])) ≡ cond t ([] ∷ parts) (onto_first byte parts) ++ last ∷ []
+    → cond t ([] ∷ (parts ++ last ∷ [])) (onto_first byte (parts ++ last ∷ []))
+    ≡ cond t ([] ∷ parts) (onto_first byte parts) ++ last ∷ []
 one_more true byte parts last some = refl
 one_more false byte parts last some = onto_more byte parts last some
 
 components_some : (name : List ℕ) → 0 < length (components_of name)
 components_some name = omega (arith, length-slice_split is_dot name)
 
-of_qualified : (scope name : List ℕ) → IsSimple name → components_of (scope ++ 46 ∷ name) ≡ components_of scope ++ name ∷ []
+of_qualified : (scope name : List ℕ) → IsSimple name
+    → components_of (scope ++ 46 ∷ name) ≡ components_of scope ++ name ∷ []
 of_qualified [] name simple = ap (λ (parts : List (List ℕ)). [] ∷ parts) (of_simple name simple)
-of_qualified (byte ∷ scope) name simple = rw (of_qualified scope name simple) (one_more (is_dot byte) byte (components_of scope) name (components_some scope))
+of_qualified (byte ∷ scope) name simple =
+    rw (of_qualified scope name simple) (one_more (is_dot byte) byte (components_of scope) name (components_some scope))
 
 of_dotted : (names : List (List ℕ)) → 0 < length names → All IsSimple names → components_of (dotted names) ≡ names
 of_dotted [] some simple = absurd (omega (arith, some))
 of_dotted (name ∷ []) some simple = of_simple name (All-head IsSimple name [] simple)
 of_dotted (name ∷ (next ∷ others)) some simple =
-    slice_split_at is_dot name 46 (dotted (next ∷ others)) (no_dots name (All-head IsSimple name (next ∷ others) simple).no_dot) refl
-    ∙ ap (λ (parts : List (List ℕ)). name ∷ parts) (of_dotted (next ∷ others) (omega arith) (All-tail IsSimple name (next ∷ others) simple))
+    slice_split_at is_dot name 46 (dotted (next ∷ others))
+    (no_dots name (All-head IsSimple name (next ∷ others) simple).no_dot) refl
+    ∙ ap (λ (parts : List (List ℕ)). name ∷ parts)
+    (of_dotted (next ∷ others) (omega arith) (All-tail IsSimple name (next ∷ others) simple))
 
 whole_prefix : (name : List ℕ) (count : ℕ) → count ≡ length (components_of name) → prefix_of name count ≡ name
-whole_prefix name count all = ap dotted (take_all count (components_of name) (omega (arith, all))) ∙ join_with_byte-slice_split 46 name
+whole_prefix name count all =
+    ap dotted (take_all count (components_of name) (omega (arith, all))) ∙ join_with_byte-slice_split 46 name
 
-prefix_of_scope : (scope name : List ℕ) (count : ℕ) → IsSimple name → count ≤ length (components_of scope) → prefix_of (scope ++ 46 ∷ name) count ≡ prefix_of scope count
-prefix_of_scope scope name count simple le = ap (λ parts. dotted (take count parts)) (of_qualified scope name simple) ∙ ap dotted (take-append-le count (components_of scope) (name ∷ []) le)
+prefix_of_scope : (scope name : List ℕ) (count : ℕ) → IsSimple name → count ≤ length (components_of scope)
+    → prefix_of (scope ++ 46 ∷ name) count ≡ prefix_of scope count
+prefix_of_scope scope name count simple le =
+    ap (λ parts. dotted (take count parts)) (of_qualified scope name simple)
+    ∙ ap dotted (take-append-le count (components_of scope) (name ∷ []) le)
 
 less_or_same : (a b : ℕ) → a ≤ b → (a < b) ⊎ (a ≡ b)
 less_or_same a b le = grind arith
 
-simple_names : (components : List Component) → All (λ (component : Component). IsSimple component.name) components → All IsSimple (map (λ (component : Component). component.name) components)
+simple_names : (components : List Component) → All (λ (component : Component). IsSimple component.name) components
+    → All IsSimple (map (λ (component : Component). component.name) components)
 simple_names [] all = All-nil IsSimple
 simple_names (component ∷ components) all =
-    All-cons IsSimple component.name (map (λ (c : Component). c.name) components) (All-head (λ (c : Component). IsSimple c.name) component components all)
+    All-cons IsSimple component.name (map (λ (c : Component). c.name) components)
+    (All-head (λ (c : Component). IsSimple c.name) component components all)
     (simple_names components (All-tail (λ (c : Component). IsSimple c.name) component components all))
 
-module _ (facts : Facts) (declarations : All (StandsInScope facts) facts.declarations) (package_name : All (λ (component : Component). IsSimple component.name) facts.package_name) where
+module _ (facts : Facts) (declarations : All (StandsInScope facts) facts.declarations)
+    (package_name : All (λ (component : Component). IsSimple component.name) facts.package_name) where
   abbrev names : List (List ℕ)
   names = map (λ (component : Component). component.name) facts.package_name
 
   -- of the package, where it has a name
-  of_components : (parts : List Component) → facts.package_name ≡ parts → 0 < length (dotted names) → (count : ℕ) → 0 < count → count ≤ length (components_of (dotted names)) → IsEntity facts (prefix_of (dotted names) count)
-  of_components [] e some count one le = absurd (omega (arith, some, ap (λ (cs : List Component). length (dotted (map (λ (c : Component). c.name) cs))) e))
+  of_components : (parts : List Component) → facts.package_name ≡ parts → 0 < length (dotted names) → (count : ℕ)
+      → 0 < count → count ≤ length (components_of (dotted names)) → IsEntity facts (prefix_of (dotted names) count)
+  of_components [] e some count one le =
+      absurd (omega (arith, some, ap (λ (cs : List Component). length (dotted (map (λ (c : Component). c.name) cs))) e))
   of_components (part ∷ parts) e some count one le =
       let count_names = length-map facts.package_name (λ (component : Component). component.name) in
-      let all : components_of (dotted names) ≡ names = of_dotted names (omega (arith, count_names, ap length e)) (simple_names facts.package_name package_name) in
-      let prefix : prefix_of (dotted names) count ≡ dotted (map (λ (component : Component). component.name) (take count facts.package_name)) =
-      ap (λ parts. dotted (take count parts)) all ∙ ap dotted (take-map (λ (component : Component). component.name) count facts.package_name) in
-      subst (λ (name : List ℕ). IsEntity facts name) (sym prefix) (packaged one (omega (arith, le, ap length all, count_names)))
+      let all : components_of (dotted names) ≡ names =
+      of_dotted names (omega (arith, count_names, ap length e)) (simple_names facts.package_name package_name) in
+      let prefix : prefix_of (dotted names) count
+      ≡ dotted (map (λ (component : Component). component.name) (take count facts.package_name)) =
+      ap (λ parts. dotted (take count parts)) all
+      ∙ ap dotted (take-map (λ (component : Component). component.name) count facts.package_name) in
+      subst (λ (name : List ℕ). IsEntity facts name) (sym prefix)
+      (packaged one (omega (arith, le, ap length all, count_names)))
 
   -- of every shorter scope
   abbrev Prefixes : ℕ → Type 0
-  Prefixes most = (full : List ℕ) → IsScope facts full → length full < most → 0 < length full → (count : ℕ) → 0 < count → count ≤ length (components_of full) → IsEntity facts (prefix_of full count)
+  Prefixes most = (full : List ℕ) → IsScope facts full → length full < most → 0 < length full → (count : ℕ) → 0 < count
+      → count ≤ length (components_of full) → IsEntity facts (prefix_of full count)
 
-  by_scope : (most : ℕ) → Prefixes most → (scope name full : List ℕ) → full ≡ qualified scope name → IsSimple name → IsScope facts scope → length full < suc most → (count : ℕ) → 0 < count
+  by_scope : (most : ℕ) → Prefixes most → (scope name full : List ℕ) → full ≡ qualified scope name → IsSimple name
+      → IsScope facts scope → length full < suc most → (count : ℕ) → 0 < count
       → count < length (components_of full) → IsEntity facts (prefix_of full count)
-  by_scope most shorter [] name full e simple stands less count one few = absurd (omega (arith, one, few, ap length (ap components_of e ∙ of_simple name simple)))
+  by_scope most shorter [] name full e simple stands less count one few =
+      absurd (omega (arith, one, few, ap length (ap components_of e ∙ of_simple name simple)))
   by_scope most shorter (byte ∷ scope) name full e simple stands less count one few =
       let count_all = ap length (ap components_of e ∙ of_qualified (byte ∷ scope) name simple) in
-      let le : count ≤ length (components_of (byte ∷ scope)) = omega (arith, few, count_all, length-append (components_of (byte ∷ scope)) (name ∷ [])) in
-      let prefix : prefix_of full count ≡ prefix_of (byte ∷ scope) count = ap (λ whole. prefix_of whole count) e ∙ prefix_of_scope (byte ∷ scope) name count simple le in
+      let le : count ≤ length (components_of (byte ∷ scope)) =
+      omega (arith, few, count_all, length-append (components_of (byte ∷ scope)) (name ∷ [])) in
+      let prefix : prefix_of full count ≡ prefix_of (byte ∷ scope) count =
+      ap (λ whole. prefix_of whole count) e ∙ prefix_of_scope (byte ∷ scope) name count simple le in
       subst (λ (whole : List ℕ). IsEntity facts whole) (sym prefix)
-      (shorter (byte ∷ scope) stands (omega (arith, less, ap length e, length-append (byte ∷ scope) (46 ∷ name))) (omega arith) count one le)
+      (shorter (byte ∷ scope) stands (omega (arith, less, ap length e, length-append (byte ∷ scope) (46 ∷ name)))
+      (omega arith) count one le)
 
-  by_count : (most : ℕ) → Prefixes most → (declaration : Declaration) → Contains facts.declarations declaration → length declaration.full_name < suc most → (count : ℕ) → 0 < count
-      → (count < length (components_of declaration.full_name)) ⊎ (count ≡ length (components_of declaration.full_name)) → IsEntity facts (prefix_of declaration.full_name count)
-  by_count most shorter declaration listed less count one (inr all) = subst (λ (name : List ℕ). IsEntity facts name) (sym (whole_prefix declaration.full_name count all)) (declared listed)
+  by_count : (most : ℕ) → Prefixes most → (declaration : Declaration) → Contains facts.declarations declaration
+      → length declaration.full_name < suc most → (count : ℕ) → 0 < count
+      → (count < length (components_of declaration.full_name)) ⊎ (count ≡ length (components_of declaration.full_name))
+      → IsEntity facts (prefix_of declaration.full_name count)
+  by_count most shorter declaration listed less count one (inr all) =
+      subst (λ (name : List ℕ). IsEntity facts name) (sym (whole_prefix declaration.full_name count all))
+      (declared listed)
   by_count most shorter declaration listed less count one (inl few) =
       let stands = All-contains (StandsInScope facts) facts.declarations declaration declarations listed in
-      by_scope most shorter stands.scope stands.name declaration.full_name stands.full stands.simple stands.stands less count one few
+      by_scope most shorter stands.scope stands.name declaration.full_name stands.full stands.simple stands.stands less
+      count one few
 
-  by_kind : (most : ℕ) → Prefixes most → {full : List ℕ} → IsScope facts full → length full < suc most → 0 < length full → (count : ℕ) → 0 < count → count ≤ length (components_of full)
+  by_kind : (most : ℕ) → Prefixes most → {full : List ℕ} → IsScope facts full → length full < suc most → 0 < length full
+      → (count : ℕ) → 0 < count → count ≤ length (components_of full)
       → IsEntity facts (prefix_of full count)
   by_kind most shorter of_package less some count one le = of_components facts.package_name refl some count one le
   by_kind most shorter (of_declaration {declaration} listed) less some count one le =
-      by_count most shorter declaration listed less count one (less_or_same count (length (components_of declaration.full_name)) le)
+      by_count most shorter declaration listed less count one
+      (less_or_same count (length (components_of declaration.full_name)) le)
 
   below : (most : ℕ) → Prefixes most
   below zero full scope less some count one le = absurd (omega (arith, less))
   below (suc most) full scope less some count one le = by_kind most (below most) scope less some count one le
 
-  pub prefixes : (declaration : Declaration) → Contains facts.declarations declaration → 0 < length declaration.full_name → (count : ℕ) → 0 < count → count ≤ length (components_of declaration.full_name)
+  pub prefixes : (declaration : Declaration) → Contains facts.declarations declaration
+      → 0 < length declaration.full_name → (count : ℕ) → 0 < count
+      → count ≤ length (components_of declaration.full_name)
       → IsEntity facts (prefix_of declaration.full_name count)
-  prefixes declaration listed some count one le = below (suc (length declaration.full_name)) declaration.full_name (of_declaration listed) (omega arith) some count one le
+  prefixes declaration listed some count one le =
+      below (suc (length declaration.full_name)) declaration.full_name (of_declaration listed)
+      (omega arith) some count one le

@@ -1,5 +1,6 @@
 -- Each declaration has a simple name in a scope of its file.
-use Rattle.std.proofs.Common.{◌≡◌, ◌∙◌, sym, ap, refl, subst, ℕ, ◌==◌, Bool, true, false, not, ◌&&◌, cond, Option, Some, None, List, [], ◌∷◌, ◌++◌, map, arith, option_to_list}
+use Rattle.std.proofs.Common.{◌≡◌, ◌∙◌, sym, ap, refl, subst, ℕ, ◌==◌, Bool, true, false, not, ◌&&◌, cond, Option, Some}
+use Rattle.std.proofs.Common.{None, List, [], ◌∷◌, ◌++◌, map, arith, option_to_list}
 use Rattle.std.specs.List.{All, AllZip, Contains, flat_map, list_all}
 use Rattle.std.proofs.lemmas.Bool.Decides.{nat_tests}
 use Rattle.std.proofs.lemmas.List.Elements.{All-nil, All-cons, All-head, All-tail, All-append, All-contains_itself}
@@ -23,11 +24,13 @@ use Rattle.proto_parse.specs.tree.FileItem.TheVariants as item
 use Rattle.proto_parse.specs.tree.File.{File}
 use Rattle.proto_parse.specs.Tree.{Body}
 use Rattle.proto_parse.specs.Tree.Body.{NoMore, LeafThen, MessageThen}
-use Rattle.proto_parse.specs.Walk.{Mark, Among, each_then, names_then, type_name_then, heading_then, field_then, enum_then, leaf_then, body_then, method_then, item_then, marks_of_items}
+use Rattle.proto_parse.specs.Walk.{Mark, Among, each_then, names_then, type_name_then, heading_then, field_then}
+use Rattle.proto_parse.specs.Walk.{enum_then, leaf_then, body_then, method_then, item_then, marks_of_items}
 use Rattle.proto_parse.specs.Walk.Mark.{Name, Other}
 use Rattle.proto_decl.proofs.MarkLemmas.{OfNames, of_lexemes, of_names, past_type_name, past_type}
 use Rattle.proto_decl.specs.Names.{qualified, IsSimple, dotted, components_at}
-use Rattle.proto_decl.specs.Outlines.{name_of, outline_at, inside, beside, in_enum, in_leaf, in_body, in_item, file_surrounding, package_scope, package_spans, outlines_of}
+use Rattle.proto_decl.specs.Outlines.{name_of, outline_at, inside, beside, in_enum, in_leaf, in_body, in_item}
+use Rattle.proto_decl.specs.Outlines.{file_surrounding, package_scope, package_spans, outlines_of}
 use Rattle.proto_decl.specs.Declares.{IsDeclaration}
 use Rattle.proto_decl.specs.Facts.{Facts, AreFactsOf}
 use Rattle.proto_decl.specs.Laws.{IsScope, StandsInScope}
@@ -56,7 +59,8 @@ word_no_dot b e = grind (arith, nat_tests)
 
 words_no_dot : (others : List ℕ) → list_all is_word others ≡ true → list_all (λ byte. not (byte == 46)) others ≡ true
 words_no_dot [] e = refl
-words_no_dot (b ∷ others) e = let p = both (is_word b) (list_all is_word others) e in rw (word_no_dot b p.0, words_no_dot others p.1) refl
+words_no_dot (b ∷ others) e = let p = both (is_word b) (list_all is_word others) e in
+    rw (word_no_dot b p.0, words_no_dot others p.1) refl
 
 is_identifier : TokenKind → Bool
 is_identifier Identifier = true
@@ -64,18 +68,21 @@ is_identifier _ = false
 
 spelled_simple : {k : TokenKind} {spelling : List ℕ} → Spells k spelling → k ≡ Identifier → IsSimple spelling
 unfolding is_identifier
-spelled_simple (identifier {b} {others} e f) is = record { some = omega arith; no_dot = rw (letter_no_dot b e, words_no_dot others f) refl }
+spelled_simple (identifier {b} {others} e f) is =
+    record { some = omega arith; no_dot = rw (letter_no_dot b e, words_no_dot others f) refl }
 spelled_simple (integer e) is = never (ap is_identifier is)
 spelled_simple (float e) is = never (ap is_identifier is)
 spelled_simple (literal e ends) is = never (ap is_identifier is)
 spelled_simple (sign {b} {k} e) is =
-    never (sym (sign_cases (λ b k. is_identifier k ≡ false) b k e refl refl refl refl refl refl refl refl refl refl refl refl refl refl refl refl) ∙ ap is_identifier is)
+    never (sym (sign_cases (λ b k. is_identifier k ≡ false) b k e refl refl refl refl refl refl refl refl refl refl refl
+    refl refl refl refl refl) ∙ ap is_identifier is)
 
 -- a list's parts
 module _ {X : Type 0} (P : X → Type 0) where
   all_left : (xs ys : List X) → All P (xs ++ ys) → All P xs
   all_left [] ys all = All-nil P
-  all_left (x ∷ xs) ys all = All-cons P x xs (All-head P x (xs ++ ys) all) (all_left xs ys (All-tail P x (xs ++ ys) all))
+  all_left (x ∷ xs) ys all =
+      All-cons P x xs (All-head P x (xs ++ ys) all) (all_left xs ys (All-tail P x (xs ++ ys) all))
 
   all_right : (xs ys : List X) → All P (xs ++ ys) → All P ys
   all_right [] ys all = all
@@ -89,7 +96,8 @@ record IsScoped (K : List ℕ → Type 0) (outline : Outline) : Type 0 where
   full : outline.full_name ≡ qualified scope name
   known : K scope
 
--- Where the names of a part of the tree are simple, its scope is known, and the names that it declares are known scopes: all that it
+-- Where the names of a part of the tree are simple, its scope is known, and the names that it declares are known
+-- scopes: all that it
 -- declares is so, and the names behind are simple too.
 module _ (text : List ℕ) (K : List ℕ → Type 0) where
   abbrev Simple : Span → Type 0
@@ -101,140 +109,207 @@ module _ (text : List ℕ) (K : List ℕ → Type 0) where
   abbrev Scoped : List Outline → Type 0
   Scoped outlines = All (IsScoped K) outlines
 
-  scoped : (surrounding : Surrounding) (kind : DeclarationKind) (heading : Heading) → K surrounding.scope → Simple heading.name → IsScoped K (outline_at text surrounding kind heading)
-  scoped surrounding kind heading known simple = record { scope = surrounding.scope; name = name_of text heading; simple = simple; full = refl; known = known }
+  scoped : (surrounding : Surrounding) (kind : DeclarationKind) (heading : Heading) → K surrounding.scope
+      → Simple heading.name → IsScoped K (outline_at text surrounding kind heading)
+  scoped surrounding kind heading known simple =
+      record { scope = surrounding.scope; name = name_of text heading; simple = simple; full = refl; known = known }
 
   -- each of a list is declared in one scope
-  each_scoped : {A : Type 0} (marks_then : A → List Mark → List Mark) (heading : A → Heading) (kind : DeclarationKind) (surrounding : Surrounding) → K surrounding.scope
-      → ((x : A) (marks : List Mark) → OfNames Simple (marks_then x marks) → Simple (heading x).name × OfNames Simple marks)
-      → (xs : List A) (marks : List Mark) → OfNames Simple (each_then marks_then xs marks) → Scoped (map (λ x. outline_at text surrounding kind (heading x)) xs) × OfNames Simple marks
+  each_scoped : {A : Type 0} (marks_then : A → List Mark → List Mark) (heading : A → Heading) (kind : DeclarationKind)
+      (surrounding : Surrounding) → K surrounding.scope
+      → ((x : A) (marks : List Mark) → OfNames Simple (marks_then x marks)
+      → Simple (heading x).name × OfNames Simple marks)
+      → (xs : List A) (marks : List Mark) → OfNames Simple (each_then marks_then xs marks)
+      → Scoped (map (λ x. outline_at text surrounding kind (heading x)) xs) × OfNames Simple marks
   each_scoped marks_then heading kind surrounding known has [] marks h = (All-nil (IsScoped K), h)
   each_scoped marks_then heading kind surrounding known has (x ∷ xs) marks h =
       let first = has x (each_then marks_then xs marks) h in
-      let others = each_scoped marks_then heading kind surrounding known has xs marks first.1 in
-      (All-cons (IsScoped K) (outline_at text surrounding kind (heading x)) (map (λ y. outline_at text surrounding kind (heading y)) xs) (scoped surrounding kind (heading x) known first.0) others.0, others.1)
+      let others = each_scoped marks_then heading kind surrounding known has xs marks first.1 in (
+        All-cons (IsScoped K) (outline_at text surrounding kind (heading x))
+            (map (λ y. outline_at text surrounding kind (heading y)) xs)
+            (scoped surrounding kind (heading x) known first.0) others.0,
+        others.1,
+      )
 
-  field_simple : (field : Field) (marks : List Mark) → OfNames Simple (field_then field marks) → Simple field.heading.name × OfNames Simple marks
-  field_simple field marks h = let behind = past_type Simple field.field_type (Name field.heading.name ∷ (Other field.heading.closing ∷ marks)) h in (behind.0, behind.1)
+  field_simple : (field : Field) (marks : List Mark) → OfNames Simple (field_then field marks)
+      → Simple field.heading.name × OfNames Simple marks
+  field_simple field marks h = let behind =
+      past_type Simple field.field_type (Name field.heading.name ∷ (Other field.heading.closing ∷ marks)) h in
+      (behind.0, behind.1)
 
-  method_simple : (method : Method) (marks : List Mark) → OfNames Simple (method_then method marks) → Simple method.heading.name × OfNames Simple marks
-  method_simple method marks h =
-      (h.0, past_type_name Simple method.output (Other method.heading.closing ∷ marks) (past_type_name Simple method.input (type_name_then method.output (Other method.heading.closing ∷ marks)) h.1))
+  method_simple : (method : Method) (marks : List Mark) → OfNames Simple (method_then method marks)
+      → Simple method.heading.name × OfNames Simple marks
+  method_simple method marks h = (
+    h.0,
+    past_type_name Simple method.output (Other method.heading.closing ∷ marks)
+        (past_type_name Simple method.input
+        (type_name_then method.output (Other method.heading.closing ∷ marks)) h.1),
+  )
 
-  enum_scoped : (surrounding : Surrounding) (enum : Enum) (marks : List Mark) → K surrounding.scope → OfNames Simple (enum_then enum marks) → Scoped (in_enum text surrounding enum) × OfNames Simple marks
+  enum_scoped : (surrounding : Surrounding) (enum : Enum) (marks : List Mark) → K surrounding.scope
+      → OfNames Simple (enum_then enum marks) → Scoped (in_enum text surrounding enum) × OfNames Simple marks
   enum_scoped surrounding enum marks known h =
       let around = beside text surrounding kind.Enum enum.heading in
-      let values = each_scoped heading_then (λ (value : Heading). value) kind.Value around known (λ value rest all. (all.0, all.1)) enum.values marks h.1 in
-      (All-cons (IsScoped K) (outline_at text surrounding kind.Enum enum.heading) (map (outline_at text around kind.Value) enum.values) (scoped surrounding kind.Enum enum.heading known h.0) values.0, values.1)
+      let values = each_scoped heading_then (λ (value : Heading). value) kind.Value around known
+      (λ value rest all. (all.0, all.1)) enum.values marks h.1 in (
+        All-cons (IsScoped K) (outline_at text surrounding kind.Enum enum.heading)
+            (map (outline_at text around kind.Value) enum.values)
+            (scoped surrounding kind.Enum enum.heading known h.0) values.0,
+        values.1,
+      )
 
-  leaf_scoped : (surrounding : Surrounding) (leaf : Leaf) (marks : List Mark) → K surrounding.scope → OfNames Simple (leaf_then leaf marks) → Scoped (in_leaf text surrounding leaf) × OfNames Simple marks
+  leaf_scoped : (surrounding : Surrounding) (leaf : Leaf) (marks : List Mark) → K surrounding.scope
+      → OfNames Simple (leaf_then leaf marks) → Scoped (in_leaf text surrounding leaf) × OfNames Simple marks
   leaf_scoped surrounding (leaf.Enum enum) marks known h = enum_scoped surrounding enum marks known h
   leaf_scoped surrounding (leaf.Oneof oneof) marks known h =
-      let fields = each_scoped field_then (λ (field : Field). field.heading) kind.Field surrounding known field_simple oneof.fields marks h.1 in (
-        All-cons (IsScoped K) (outline_at text surrounding kind.Oneof oneof.heading) (map (λ (field : Field). outline_at text surrounding kind.Field field.heading) oneof.fields)
+      let fields = each_scoped field_then
+      (λ (field : Field). field.heading) kind.Field surrounding known field_simple oneof.fields marks h.1 in (
+        All-cons (IsScoped K) (outline_at text surrounding kind.Oneof oneof.heading)
+            (map (λ (field : Field). outline_at text surrounding kind.Field field.heading) oneof.fields)
             (scoped surrounding kind.Oneof oneof.heading known h.0) fields.0,
         fields.1,
       )
   leaf_scoped surrounding (leaf.Field field) marks known h =
-      let name = field_simple field marks h in
-      (All-cons (IsScoped K) (outline_at text surrounding kind.Field field.heading) [] (scoped surrounding kind.Field field.heading known name.0) (All-nil (IsScoped K)), name.1)
+      let name = field_simple field marks h in (
+        All-cons (IsScoped K) (outline_at text surrounding kind.Field field.heading) []
+            (scoped surrounding kind.Field field.heading known name.0) (All-nil (IsScoped K)),
+        name.1,
+      )
   leaf_scoped surrounding (leaf.MapField field) marks known h =
-      let behind = past_type Simple field.value (Name field.heading.name ∷ (Other field.heading.closing ∷ marks)) h.1 in
-      (All-cons (IsScoped K) (outline_at text surrounding kind.Field field.heading) [] (scoped surrounding kind.Field field.heading known behind.0) (All-nil (IsScoped K)), behind.1)
+      let behind = past_type Simple field.value (Name field.heading.name ∷ (Other field.heading.closing ∷ marks)) h.1 in (
+        All-cons (IsScoped K) (outline_at text surrounding kind.Field field.heading) []
+            (scoped surrounding kind.Field field.heading known behind.0) (All-nil (IsScoped K)),
+        behind.1,
+      )
 
-  body_scoped : (surrounding : Surrounding) (body : Body) (marks : List Mark) → K surrounding.scope → All Known (in_body text surrounding body) → OfNames Simple (body_then body marks)
+  body_scoped : (surrounding : Surrounding) (body : Body) (marks : List Mark) → K surrounding.scope
+      → All Known (in_body text surrounding body) → OfNames Simple (body_then body marks)
       → Scoped (in_body text surrounding body) × OfNames Simple marks
   body_scoped surrounding NoMore marks known all h = (All-nil (IsScoped K), h)
   body_scoped surrounding (LeafThen leaf others) marks known all h =
       let first = leaf_scoped surrounding leaf (body_then others marks) known h in
-      let rest = body_scoped surrounding others marks known (all_right Known (in_leaf text surrounding leaf) (in_body text surrounding others) all) first.1 in
+      let rest = body_scoped surrounding others marks known
+      (all_right Known (in_leaf text surrounding leaf) (in_body text surrounding others) all) first.1 in
       (All-append (IsScoped K) (in_leaf text surrounding leaf) (in_body text surrounding others) first.0 rest.0, rest.1)
   body_scoped surrounding (MessageThen heading inner others) marks known all h =
       let around = inside text surrounding kind.Message heading in
       let self = outline_at text surrounding kind.Message heading in
       let below = All-tail Known self (in_body text around inner ++ in_body text surrounding others) all in
-      let within = body_scoped around inner (body_then others marks) (All-head Known self (in_body text around inner ++ in_body text surrounding others) all)
+      let within = body_scoped around inner (body_then others marks)
+      (All-head Known self (in_body text around inner ++ in_body text surrounding others) all)
       (all_left Known (in_body text around inner) (in_body text surrounding others) below) h.1 in
-      let rest = body_scoped surrounding others marks known (all_right Known (in_body text around inner) (in_body text surrounding others) below) within.1 in (
-        All-cons (IsScoped K) self (in_body text around inner ++ in_body text surrounding others) (scoped surrounding kind.Message heading known h.0)
+      let rest = body_scoped surrounding others marks known
+      (all_right Known (in_body text around inner) (in_body text surrounding others) below) within.1 in (
+        All-cons (IsScoped K) self (in_body text around inner ++ in_body text surrounding others)
+            (scoped surrounding kind.Message heading known h.0)
             (All-append (IsScoped K) (in_body text around inner) (in_body text surrounding others) within.0 rest.0),
         rest.1,
       )
 
-  item_scoped : (surrounding : Surrounding) (item : FileItem) (marks : List Mark) → K surrounding.scope → All Known (in_item text surrounding item) → OfNames Simple (item_then item marks)
+  item_scoped : (surrounding : Surrounding) (item : FileItem) (marks : List Mark) → K surrounding.scope
+      → All Known (in_item text surrounding item) → OfNames Simple (item_then item marks)
       → Scoped (in_item text surrounding item) × OfNames Simple marks
   item_scoped surrounding (item.Message message) marks known all h =
       let around = inside text surrounding kind.Message message.heading in
       let self = outline_at text surrounding kind.Message message.heading in
-      let body = body_scoped around message.body marks (All-head Known self (in_body text around message.body) all) (All-tail Known self (in_body text around message.body) all) h.1 in
-      (All-cons (IsScoped K) self (in_body text around message.body) (scoped surrounding kind.Message message.heading known h.0) body.0, body.1)
+      let body = body_scoped around message.body marks (All-head Known self (in_body text around message.body) all)
+      (All-tail Known self (in_body text around message.body) all) h.1 in (
+        All-cons (IsScoped K) self (in_body text around message.body)
+            (scoped surrounding kind.Message message.heading known h.0) body.0,
+        body.1,
+      )
   item_scoped surrounding (item.Enum enum) marks known all h = enum_scoped surrounding enum marks known h
   item_scoped surrounding (item.Service service) marks known all h =
       let around = inside text surrounding kind.Service service.heading in
       let self = outline_at text surrounding kind.Service service.heading in
       let outlines = map (λ (method : Method). outline_at text around kind.Method method.heading) service.methods in
-      let methods = each_scoped method_then (λ (method : Method). method.heading) kind.Method around (All-head Known self outlines all) method_simple service.methods marks h.1 in
-      (All-cons (IsScoped K) self outlines (scoped surrounding kind.Service service.heading known h.0) methods.0, methods.1)
+      let methods = each_scoped method_then (λ (method : Method). method.heading) kind.Method around
+      (All-head Known self outlines all) method_simple service.methods marks h.1 in (
+        All-cons (IsScoped K) self outlines (scoped surrounding kind.Service service.heading known h.0) methods.0,
+        methods.1,
+      )
 
-  items_scoped : (surrounding : Surrounding) (items : List FileItem) (marks : List Mark) → K surrounding.scope → All Known (flat_map (in_item text surrounding) items)
-      → OfNames Simple (each_then item_then items marks) → Scoped (flat_map (in_item text surrounding) items) × OfNames Simple marks
+  items_scoped : (surrounding : Surrounding) (items : List FileItem) (marks : List Mark) → K surrounding.scope
+      → All Known (flat_map (in_item text surrounding) items)
+      → OfNames Simple (each_then item_then items marks)
+      → Scoped (flat_map (in_item text surrounding) items) × OfNames Simple marks
   items_scoped surrounding [] marks known all h = (All-nil (IsScoped K), h)
   items_scoped surrounding (item ∷ items) marks known all h =
       let here = in_item text surrounding item in
       let later = flat_map (in_item text surrounding) items in
-      let first = item_scoped surrounding item (each_then item_then items marks) known (all_left Known here later all) h in
+      let first = item_scoped surrounding item (each_then item_then items marks) known (all_left Known here later all) h
+      in
       let rest = items_scoped surrounding items marks known (all_right Known here later all) first.1 in
       (All-append (IsScoped K) here later first.0 rest.0, rest.1)
 
 -- the names of a text's marks are simple
-pub names_simple : (lexed : Lexed) → IsLexed lexed.text lexed.tokens lexed.comments → {marks : List Mark} → Among marks (lexemes_of lexed.text lexed.tokens)
+pub names_simple : (lexed : Lexed) → IsLexed lexed.text lexed.tokens lexed.comments → {marks : List Mark}
+    → Among marks (lexemes_of lexed.text lexed.tokens)
     → OfNames (λ span. IsSimple (part_of lexed.text span)) marks
 names_simple lexed is among =
     let N : Span → Type 0 = λ span. IsSimple (part_of lexed.text span) in
     of_names N among (of_lexemes N lexed.text lexed.tokens (λ k d h kind. spelled_simple (is.spelled k d h) kind))
 
 -- so are a package's components
-components_simple : (text : List ℕ) (names : List Span) (marks : List Mark) → OfNames (λ span. IsSimple (part_of text span)) (names_then names marks)
+components_simple : (text : List ℕ) (names : List Span) (marks : List Mark)
+    → OfNames (λ span. IsSimple (part_of text span)) (names_then names marks)
     → All (λ (component : Component). IsSimple component.name) (components_at text names)
 components_simple text [] marks h = All-nil (λ (component : Component). IsSimple component.name)
 components_simple text (name ∷ names) marks h =
-    All-cons (λ (component : Component). IsSimple component.name) (record { name = part_of text name; span = name }) (components_at text names) h.0 (components_simple text names marks h.1)
+    All-cons (λ (component : Component). IsSimple component.name) (record { name = part_of text name; span = name })
+    (components_at text names) h.0 (components_simple text names marks h.1)
 
-pub package_simple : (text : List ℕ) (package_name : Option (List Span)) → OfNames (λ span. IsSimple (part_of text span)) (each_then names_then (option_to_list package_name) [])
+pub package_simple : (text : List ℕ) (package_name : Option (List Span))
+    → OfNames (λ span. IsSimple (part_of text span)) (each_then names_then (option_to_list package_name) [])
     → All (λ (component : Component). IsSimple component.name) (components_at text (package_spans package_name))
 package_simple text None h = All-nil (λ (component : Component). IsSimple component.name)
 package_simple text (Some names) h = components_simple text names [] h
 
-names_of_components : (text : List ℕ) (spans : List Span) → map (λ (component : Component). component.name) (components_at text spans) ≡ map (part_of text) spans
+names_of_components : (text : List ℕ) (spans : List Span)
+    → map (λ (component : Component). component.name) (components_at text spans) ≡ map (part_of text) spans
 names_of_components text [] = refl
 names_of_components text (span ∷ spans) = ap (λ names. part_of text span ∷ names) (names_of_components text spans)
 
 module _ (number : ℕ) (lexed : Lexed) (file : File) (facts : Facts) (is : AreFactsOf number lexed file facts) where
-  outlines_known : (os : List Outline) (ds : List Declaration) → AllZip (IsDeclaration lexed) os ds → All (Contains facts.declarations) ds → All (λ (o : Outline). IsScope facts o.full_name) os
+  outlines_known : (os : List Outline) (ds : List Declaration) → AllZip (IsDeclaration lexed) os ds
+      → All (Contains facts.declarations) ds → All (λ (o : Outline). IsScope facts o.full_name) os
   outlines_known [] [] all listed = All-nil (λ (o : Outline). IsScope facts o.full_name)
   outlines_known [] (d ∷ ds) all listed = absurd all
   outlines_known (o ∷ os) [] all listed = absurd all
   outlines_known (o ∷ os) (d ∷ ds) all listed =
       All-cons (λ (o : Outline). IsScope facts o.full_name) o os
-      (subst (λ (name : List ℕ). IsScope facts name) all.0.full_name (of_declaration {declaration = d} (All-head (Contains facts.declarations) d ds listed)))
+      (subst (λ (name : List ℕ). IsScope facts name) all.0.full_name
+      (of_declaration {declaration = d} (All-head (Contains facts.declarations) d ds listed)))
       (outlines_known os ds all.1 (All-tail (Contains facts.declarations) d ds listed))
 
   package_known : IsScope facts (package_scope lexed.text file)
   package_known =
       subst (λ (name : List ℕ). IsScope facts name)
-      (ap (λ (components : List Component). dotted (map (λ (component : Component). component.name) components)) is.package_name ∙ ap dotted (names_of_components lexed.text (package_spans file.package_name))) of_package
+      (ap (λ (components : List Component). dotted (map (λ (component : Component). component.name) components))
+      is.package_name ∙ ap dotted (names_of_components lexed.text (package_spans file.package_name))) of_package
 
-  declared_scoped : (os : List Outline) (ds : List Declaration) → AllZip (IsDeclaration lexed) os ds → All (IsScoped (IsScope facts)) os → All (StandsInScope facts) ds
+  declared_scoped : (os : List Outline) (ds : List Declaration) → AllZip (IsDeclaration lexed) os ds
+      → All (IsScoped (IsScope facts)) os → All (StandsInScope facts) ds
   declared_scoped [] [] all scopes = All-nil (StandsInScope facts)
   declared_scoped [] (d ∷ ds) all scopes = absurd all
   declared_scoped (o ∷ os) [] all scopes = absurd all
   declared_scoped (o ∷ os) (d ∷ ds) all scopes =
       let first = All-head (IsScoped (IsScope facts)) o os scopes in
-      All-cons (StandsInScope facts) d ds (record { scope = first.scope; name = first.name; simple = first.simple; full = all.0.full_name ∙ first.full; stands = first.known })
+      All-cons (StandsInScope facts) d ds
+      (record {
+        scope = first.scope;
+        name = first.name;
+        simple = first.simple;
+        full = all.0.full_name ∙ first.full;
+        stands = first.known;
+      })
       (declared_scoped os ds all.1 (All-tail (IsScoped (IsScope facts)) o os scopes))
 
-  pub stand_in_scopes : OfNames (λ span. IsSimple (part_of lexed.text span)) (marks_of_items file) → All (StandsInScope facts) facts.declarations
+  pub stand_in_scopes : OfNames (λ span. IsSimple (part_of lexed.text span)) (marks_of_items file)
+      → All (StandsInScope facts) facts.declarations
   stand_in_scopes simple =
       let outlines = outlines_of lexed.text file in
       let known = outlines_known outlines facts.declarations is.declarations (All-contains_itself facts.declarations) in
-      declared_scoped outlines facts.declarations is.declarations (items_scoped lexed.text (IsScope facts) (file_surrounding lexed.text file) file.items [] package_known known simple).0
+      declared_scoped outlines facts.declarations is.declarations
+      (items_scoped lexed.text (IsScope facts)
+      (file_surrounding lexed.text file) file.items [] package_known known simple).0

@@ -25,10 +25,15 @@ use Rattle.proto_parse.specs.tree.File.{File}
 use Rattle.proto_parse.specs.Lexeme.{Lexeme, lexemes_of}
 use Rattle.proto_parse.specs.Tree.{Body, MessageTree}
 use Rattle.proto_parse.specs.Tree.Body.{NoMore, LeafThen, MessageThen}
-use Rattle.proto_parse.specs.Walk.{Mark, Among, each_then, name_then, names_then, literal_then, dot_then, type_name_then, type_then, heading_then, field_then, map_field_then, enum_then, oneof_then, leaf_then, body_then, message_then, method_then, service_then, item_then, import_then, marks_of_items, marks_of_imports, marks_of_package}
+use Rattle.proto_parse.specs.Walk.{Mark, Among, each_then, name_then, names_then, literal_then, dot_then}
+use Rattle.proto_parse.specs.Walk.{type_name_then, type_then, heading_then, field_then, map_field_then, enum_then}
+use Rattle.proto_parse.specs.Walk.{oneof_then, leaf_then, body_then, message_then, method_then, service_then, item_then}
+use Rattle.proto_parse.specs.Walk.{import_then, marks_of_items, marks_of_imports, marks_of_package}
 use Rattle.proto_parse.specs.Walk.Mark.{First, Name, Literal, Other}
-use Rattle.proto_parse.specs.Walk.Among.{none as no_marks, skip, first as at_first, name as at_name, literal as at_literal, other as at_other}
-use Rattle.proto_decl.specs.Spans.{OfHeading, OfSome, OfTypeName, OfType, OfField, OfMapField, OfEnum, OfOneof, OfMethod, OfService, OfLeaf, OfBody, OfMessage, OfItem, OfPackage}
+use Rattle.proto_parse.specs.Walk.Among.{none as no_marks, skip, first as at_first, name as at_name}
+use Rattle.proto_parse.specs.Walk.Among.{literal as at_literal, other as at_other}
+use Rattle.proto_decl.specs.Spans.{OfHeading, OfSome, OfTypeName, OfType, OfField, OfMapField, OfEnum, OfOneof}
+use Rattle.proto_decl.specs.Spans.{OfMethod, OfService, OfLeaf, OfBody, OfMessage, OfItem, OfPackage}
 
 -- P holds of the marks' spans, and Q of those of literals
 abbrev pub OfMarks : (P Q : Span → Type 0) → List Mark → Type 0
@@ -46,9 +51,13 @@ module _ (P Q : Span → Type 0) where
   abbrev OfLexemes : List Lexeme → Type 0
   OfLexemes lexemes = AllByRecursion (λ (t : Lexeme). OfToken t.kind t.span) lexemes
 
-  of_lexemes : (text : List ℕ) (tokens : List Token) → All (λ t. OfToken t.kind t.span) tokens → OfLexemes (lexemes_of text tokens)
+  of_lexemes : (text : List ℕ) (tokens : List Token) → All (λ t. OfToken t.kind t.span) tokens
+      → OfLexemes (lexemes_of text tokens)
   of_lexemes text [] all = tt
-  of_lexemes text (t ∷ tokens) all = (All-head (λ (x : Token). OfToken x.kind x.span) t tokens all, of_lexemes text tokens (All-tail (λ (x : Token). OfToken x.kind x.span) t tokens all))
+  of_lexemes text (t ∷ tokens) all = (
+    All-head (λ (x : Token). OfToken x.kind x.span) t tokens all,
+    of_lexemes text tokens (All-tail (λ (x : Token). OfToken x.kind x.span) t tokens all),
+  )
 
   of_marks : {marks : List Mark} {tokens : List Lexeme} → Among marks tokens → OfLexemes tokens → OfMarks P Q marks
   of_marks no_marks all = tt
@@ -60,7 +69,8 @@ module _ (P Q : Span → Type 0) where
 
   -- what holds of the marks of a part of a tree and those behind holds of the part, and of those behind
 
-  each_of : {A : Type 0} (marks_then : A → List Mark → List Mark) (R : A → Type 0) → ((x : A) (marks : List Mark) → OfMarks P Q (marks_then x marks) → R x × OfMarks P Q marks)
+  each_of : {A : Type 0} (marks_then : A → List Mark → List Mark) (R : A → Type 0)
+      → ((x : A) (marks : List Mark) → OfMarks P Q (marks_then x marks) → R x × OfMarks P Q marks)
       → (xs : List A) (marks : List Mark) → OfMarks P Q (each_then marks_then xs marks) → All R xs × OfMarks P Q marks
   each_of marks_then R part [] marks h = (All-nil R, h)
   each_of marks_then R part (x ∷ xs) marks h =
@@ -68,32 +78,38 @@ module _ (P Q : Span → Type 0) where
       let others = each_of marks_then R part xs marks first.1 in
       (All-cons R x xs first.0 others.0, others.1)
 
-  names_of : (names : List Span) (marks : List Mark) → OfMarks P Q (names_then names marks) → All P names × OfMarks P Q marks
+  names_of : (names : List Span) (marks : List Mark) → OfMarks P Q (names_then names marks)
+      → All P names × OfMarks P Q marks
   names_of names marks h = each_of name_then P (λ name rest all. (all.0, all.1)) names marks h
 
-  heading_of : (heading : Heading) (marks : List Mark) → OfMarks P Q (heading_then heading marks) → OfHeading P heading × OfMarks P Q marks
+  heading_of : (heading : Heading) (marks : List Mark) → OfMarks P Q (heading_then heading marks)
+      → OfHeading P heading × OfMarks P Q marks
   heading_of heading marks h = ((h.0, h.1.0, h.1.1.0), h.1.1.1)
 
   dot_of : (dot : Option Span) (marks : List Mark) → OfMarks P Q (dot_then dot marks) → OfSome P dot × OfMarks P Q marks
   dot_of None marks h = (tt, h)
   dot_of (Some dot) marks h = (h.0, h.1)
 
-  type_name_of : (name : TypeName) (marks : List Mark) → OfMarks P Q (type_name_then name marks) → OfTypeName P name × OfMarks P Q marks
+  type_name_of : (name : TypeName) (marks : List Mark) → OfMarks P Q (type_name_then name marks)
+      → OfTypeName P name × OfMarks P Q marks
   type_name_of name marks h =
       let dot = dot_of name.leading_dot (names_then name.components marks) h in
       let components = names_of name.components marks dot.1 in
       ((dot.0, components.0), components.1)
 
-  type_of : (type : FieldType) (marks : List Mark) → OfMarks P Q (type_then type marks) → OfType P type × OfMarks P Q marks
+  type_of : (type : FieldType) (marks : List Mark) → OfMarks P Q (type_then type marks)
+      → OfType P type × OfMarks P Q marks
   type_of (Scalar word) marks h = (h.0, h.1)
   type_of (Named name) marks h = type_name_of name marks h
 
-  field_of : (field : Field) (marks : List Mark) → OfMarks P Q (field_then field marks) → OfField P field × OfMarks P Q marks
+  field_of : (field : Field) (marks : List Mark) → OfMarks P Q (field_then field marks)
+      → OfField P field × OfMarks P Q marks
   field_of field marks h =
       let type = type_of field.field_type (Name field.heading.name ∷ (Other field.heading.closing ∷ marks)) h.1 in
       (((h.0, type.1.0, type.1.1.0), type.0), type.1.1.1)
 
-  map_field_of : (field : MapField) (marks : List Mark) → OfMarks P Q (map_field_then field marks) → OfMapField P field × OfMarks P Q marks
+  map_field_of : (field : MapField) (marks : List Mark) → OfMarks P Q (map_field_then field marks)
+      → OfMapField P field × OfMarks P Q marks
   map_field_of field marks h =
       let value = type_of field.value (Name field.heading.name ∷ (Other field.heading.closing ∷ marks)) h.1.1 in
       (((h.0, value.1.0, value.1.1.0), value.0), value.1.1.1)
@@ -104,7 +120,8 @@ module _ (P Q : Span → Type 0) where
       let values = each_of heading_then (OfHeading P) heading_of enum.values marks heading.1 in
       ((heading.0, values.0), values.1)
 
-  oneof_of : (oneof : Oneof) (marks : List Mark) → OfMarks P Q (oneof_then oneof marks) → OfOneof P oneof × OfMarks P Q marks
+  oneof_of : (oneof : Oneof) (marks : List Mark) → OfMarks P Q (oneof_then oneof marks)
+      → OfOneof P oneof × OfMarks P Q marks
   oneof_of oneof marks h =
       let heading = heading_of oneof.heading (each_then field_then oneof.fields marks) h in
       let fields = each_of field_then (OfField P) field_of oneof.fields marks heading.1 in
@@ -128,43 +145,53 @@ module _ (P Q : Span → Type 0) where
       let rest = body_of others marks within.1 in
       ((first.0, within.0, rest.0), rest.1)
 
-  message_of : (message : MessageTree) (marks : List Mark) → OfMarks P Q (message_then message marks) → OfMessage P message × OfMarks P Q marks
+  message_of : (message : MessageTree) (marks : List Mark) → OfMarks P Q (message_then message marks)
+      → OfMessage P message × OfMarks P Q marks
   message_of message marks h =
       let heading = heading_of message.heading (body_then message.body marks) h in
       let body = body_of message.body marks heading.1 in
       ((heading.0, body.0), body.1)
 
-  method_of : (method : Method) (marks : List Mark) → OfMarks P Q (method_then method marks) → OfMethod P method × OfMarks P Q marks
+  method_of : (method : Method) (marks : List Mark) → OfMarks P Q (method_then method marks)
+      → OfMethod P method × OfMarks P Q marks
   method_of method marks h =
-      let input = type_name_of method.input (type_name_then method.output (Other method.heading.closing ∷ marks)) h.1.1 in
+      let input = type_name_of method.input (type_name_then method.output (Other method.heading.closing ∷ marks)) h.1.1
+      in
       let output = type_name_of method.output (Other method.heading.closing ∷ marks) input.1 in
       (((h.0, h.1.0, output.1.0), input.0, output.0), output.1.1)
 
-  service_of : (service : Service) (marks : List Mark) → OfMarks P Q (service_then service marks) → OfService P service × OfMarks P Q marks
+  service_of : (service : Service) (marks : List Mark) → OfMarks P Q (service_then service marks)
+      → OfService P service × OfMarks P Q marks
   service_of service marks h =
       let heading = heading_of service.heading (each_then method_then service.methods marks) h in
       let methods = each_of method_then (OfMethod P) method_of service.methods marks heading.1 in
       ((heading.0, methods.0), methods.1)
 
-  item_of : (item : FileItem) (marks : List Mark) → OfMarks P Q (item_then item marks) → OfItem P item × OfMarks P Q marks
+  item_of : (item : FileItem) (marks : List Mark) → OfMarks P Q (item_then item marks)
+      → OfItem P item × OfMarks P Q marks
   item_of (item.Message message) marks h = message_of message marks h
   item_of (item.Enum enum) marks h = enum_of enum marks h
   item_of (item.Service service) marks h = service_of service marks h
 
-  import_of : (import : Import) (marks : List Mark) → OfMarks P Q (import_then import marks) → All Q import.literals × OfMarks P Q marks
+  import_of : (import : Import) (marks : List Mark) → OfMarks P Q (import_then import marks)
+      → All Q import.literals × OfMarks P Q marks
   import_of import marks h = each_of literal_then Q (λ literal rest all. (all.0, all.1)) import.literals marks h
 
-  package_of : (package_name : Option (List Span)) (marks : List Mark) → OfMarks P Q (each_then names_then (option_to_list package_name) marks) → OfPackage P package_name
+  package_of : (package_name : Option (List Span)) (marks : List Mark)
+      → OfMarks P Q (each_then names_then (option_to_list package_name) marks) → OfPackage P package_name
   package_of None marks h = tt
   package_of (Some names) marks h = (names_of names marks h).0
 
   -- what holds of the tokens' spans holds of those of the tree
   module _ (text : List ℕ) (tokens : List Token) (file : File) (all : All (λ t. OfToken t.kind t.span) tokens) where
     pub items_hold : Among (marks_of_items file) (lexemes_of text tokens) → All (OfItem P) file.items
-    items_hold among = (each_of item_then (OfItem P) item_of file.items [] (of_marks among (of_lexemes text tokens all))).0
+    items_hold among = (each_of item_then (OfItem P) item_of file.items []
+        (of_marks among (of_lexemes text tokens all))).0
 
-    pub imports_hold : Among (marks_of_imports file) (lexemes_of text tokens) → All (λ import. All Q import.literals) file.imports
-    imports_hold among = (each_of import_then (λ (import : Import). All Q import.literals) import_of file.imports [] (of_marks among (of_lexemes text tokens all))).0
+    pub imports_hold : Among (marks_of_imports file) (lexemes_of text tokens)
+        → All (λ import. All Q import.literals) file.imports
+    imports_hold among = (each_of import_then (λ (import : Import). All Q import.literals) import_of file.imports []
+        (of_marks among (of_lexemes text tokens all))).0
 
     pub package_holds : Among (marks_of_package file) (lexemes_of text tokens) → OfPackage P file.package_name
     package_holds among = package_of file.package_name [] (of_marks among (of_lexemes text tokens all))

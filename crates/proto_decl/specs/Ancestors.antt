@@ -36,7 +36,8 @@ pub record AreNamed (components : List Component) (declarations : List Declarati
   pub of_components : All (Spells Identifier) (component_names components)
   pub of_steps : All (λ d. All (λ step. Spells Identifier step.name) d.path) declarations
 
--- Each prefix of a path leads to a declaration, and the names of the package's components and those on the path, joined by
+-- Each prefix of a path leads to a declaration, and the names of the package's components and those on the path, joined
+-- by
 -- dots, are the full name.
 pub record AreHeld (components : List Component) (declarations : List Declaration) : Type 0 where
   pub holder : (d : Declaration) (outer inner : List DeclarationStep) → Contains declarations d

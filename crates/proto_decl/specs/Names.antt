@@ -43,7 +43,8 @@ components_at text spans = map (component_at text) spans
 abbrev pub prefixes_before_dots : List ℕ → List (List ℕ)
 prefixes_before_dots [] = []
 prefixes_before_dots (byte ∷ others) =
-    let longer = map (λ prefix. byte ∷ prefix) (prefixes_before_dots others) in if byte == ascii.dot then [] ∷ longer else longer
+    let longer = map (λ prefix. byte ∷ prefix) (prefixes_before_dots others) in
+    if byte == ascii.dot then [] ∷ longer else longer
 
 -- The scope with this full name and those around it, innermost first: the enclosing messages or the service, the
 -- package, each parent package, and the root. Those between it and the root are the prefixes of its name, but the empty

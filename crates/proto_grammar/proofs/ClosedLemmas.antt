@@ -1,5 +1,6 @@
 -- Aggregates, token by token.
-use Rattle.std.proofs.Common.{◌≡◌, ℕ, ◌+◌, ◌-◌, ◌==◌, ◌<◌, ◌≤◌, Bool, true, false, cond, Some, None, List, [], ◌∷◌, length, refl, ◌∙◌, ap, arith}
+use Rattle.std.proofs.Common.{◌≡◌, ℕ, ◌+◌, ◌-◌, ◌==◌, ◌<◌, ◌≤◌, Bool, true, false, cond, Some, None, List, [], ◌∷◌}
+use Rattle.std.proofs.Common.{length, refl, ◌∙◌, ap, arith}
 use Rattle.std.proofs.lemmas.Bool.Decides.{nat_tests}
 use Rattle.proto_lex.specs.declared.token.TokenKind.TheVariants.{OpenBrace, CloseBrace}
 use Rattle.proto_grammar.specs.Lexeme.{Lexeme}
@@ -11,7 +12,8 @@ not_zero : (depth : ℕ) → 0 < depth → (depth == 0) ≡ false
 not_zero depth h = grind (arith, nat_tests)
 
 -- a token more
-pub closed_goes_on : (depth : ℕ) (tokens : List Lexeme) (next : ℕ) (rest : List Lexeme) → 0 < depth → deeper_at depth tokens ≡ Some (next, rest) → closed_at depth tokens ≡ closed_at next rest
+pub closed_goes_on : (depth : ℕ) (tokens : List Lexeme) (next : ℕ) (rest : List Lexeme) → 0 < depth
+    → deeper_at depth tokens ≡ Some (next, rest) → closed_at depth tokens ≡ closed_at next rest
 unfolding deeper_at closed_at
 closed_goes_on depth [] next rest h e = cc
 closed_goes_on depth (t ∷ tokens) next rest h e =
@@ -19,7 +21,8 @@ closed_goes_on depth (t ∷ tokens) next rest h e =
     step ∙ ap (λ (x : ℕ × List Lexeme). closed_at x.0 x.1) (same_Some (depth_behind t depth, tokens) (next, rest) e)
 
 -- none where one has to stand
-pub closed_stops : (depth : ℕ) (tokens : List Lexeme) → 0 < depth → deeper_at depth tokens ≡ None → closed_at depth tokens ≡ None
+pub closed_stops : (depth : ℕ) (tokens : List Lexeme) → 0 < depth → deeper_at depth tokens ≡ None
+    → closed_at depth tokens ≡ None
 unfolding deeper_at closed_at
 closed_stops depth [] h e = rw (not_zero depth h) refl
 closed_stops depth (t ∷ tokens) h e = cc
@@ -37,7 +40,8 @@ depth_behind_le t depth = by_tests (of_kind OpenBrace t) (of_kind CloseBrace t)
     by_tests false true = omega arith
     by_tests false false = omega arith
 
-pub deeper_bounded : (depth : ℕ) (tokens : List Lexeme) (next : ℕ) (rest : List Lexeme) (left : ℕ) → deeper_at depth tokens ≡ Some (next, rest) → depth + length tokens ≤ left
+pub deeper_bounded : (depth : ℕ) (tokens : List Lexeme) (next : ℕ) (rest : List Lexeme) (left : ℕ)
+    → deeper_at depth tokens ≡ Some (next, rest) → depth + length tokens ≤ left
     → next + length rest ≤ left
 unfolding deeper_at
 deeper_bounded depth [] next rest left e h = absurd (let none : None ≡ Some (next, rest) = e in cc)
@@ -47,9 +51,11 @@ deeper_bounded depth (t ∷ tokens) next rest left e h =
     let r : tokens ≡ rest = ap (λ (x : ℕ × List Lexeme). x.1) here in
     rw (← n, ← r) (omega (arith, depth_behind_le t depth))
 
-pub deeper_shorter : (depth : ℕ) (tokens : List Lexeme) (next : ℕ) (rest : List Lexeme) → deeper_at depth tokens ≡ Some (next, rest) → length rest < length tokens
+pub deeper_shorter : (depth : ℕ) (tokens : List Lexeme) (next : ℕ) (rest : List Lexeme)
+    → deeper_at depth tokens ≡ Some (next, rest) → length rest < length tokens
 unfolding deeper_at
 deeper_shorter depth [] next rest e = absurd (let none : None ≡ Some (next, rest) = e in cc)
 deeper_shorter depth (t ∷ tokens) next rest e =
-    let r : tokens ≡ rest = ap (λ (x : ℕ × List Lexeme). x.1) (same_Some (depth_behind t depth, tokens) (next, rest) e) in
+    let r : tokens ≡ rest = ap (λ (x : ℕ × List Lexeme). x.1) (same_Some (depth_behind t depth, tokens) (next, rest) e)
+    in
     rw (← r) (omega arith)

@@ -1,5 +1,6 @@
 -- The tokens from a place on.
-use Rattle.std.proofs.Common.{◌≡◌, ℕ, zero, suc, ◌+◌, List, [], ◌∷◌, map, drop, slice_get, option_map, Option, None, Some, length, get_or, ◌<◌, IfSome, refl, sym, ◌∙◌, ap, add-one}
+use Rattle.std.proofs.Common.{◌≡◌, ℕ, zero, suc, ◌+◌, List, [], ◌∷◌, map, drop, slice_get, option_map, Option, None}
+use Rattle.std.proofs.Common.{Some, length, get_or, ◌<◌, IfSome, refl, sym, ◌∙◌, ap, add-one}
 use Rattle.std.proofs.lemmas.Option.{slice_get-map, slice_get-get_or}
 use Rattle.std.specs.Option.{option_map_or}
 use Rattle.proto_lex.specs.declared.token.Token.{Token}
@@ -20,11 +21,13 @@ others-drop-by (t ∷ rest) zero = refl
 others-drop-by (t ∷ rest) (suc place) = others-drop-by rest place
 
 -- the token at the place
-pub first-drop : {A : Type 0} (f : A → Lexeme) (xs : List A) (place : ℕ) → first (drop place (map f xs)) ≡ option_map f (slice_get xs place)
+pub first-drop : {A : Type 0} (f : A → Lexeme) (xs : List A) (place : ℕ)
+    → first (drop place (map f xs)) ≡ option_map f (slice_get xs place)
 first-drop f xs place = first-drop-by (map f xs) place ∙ slice_get-map f xs place
 
 -- what `get` gives where something is there
-pub slice_get-got : {A : Type 0} (xs : List A) (place : ℕ) (x : A) → place < length xs → x ≡ get_or xs place x → slice_get xs place ≡ Some x
+pub slice_get-got : {A : Type 0} (xs : List A) (place : ℕ) (x : A) → place < length xs → x ≡ get_or xs place x
+    → slice_get xs place ≡ Some x
 slice_get-got xs place x inside there = slice_get-get_or xs place x inside ∙ ap Some (sym there)
 
 -- the tokens behind the place
@@ -32,7 +35,8 @@ pub others_drop : (tokens : List Lexeme) (place : ℕ) → others (drop place to
 others_drop tokens place = rw add-one (others-drop-by tokens place)
 
 -- the token at the place, with its spelling
-pub first-lexemes_of : (text : List ℕ) (tokens : List Token) (place : ℕ) (t : Token) (spelling : List ℕ) → slice_get tokens place ≡ Some t
+pub first-lexemes_of : (text : List ℕ) (tokens : List Token) (place : ℕ) (t : Token) (spelling : List ℕ)
+    → slice_get tokens place ≡ Some t
     → IfSome (slice_get tokens place) (λ u. spelling ≡ part_of text u.span)
     → first (drop place (lexemes_of text tokens)) ≡ Some (record { kind = t.kind; spelling = spelling; span = t.span })
 first-lexemes_of text tokens place t spelling here spelled =
@@ -40,11 +44,14 @@ first-lexemes_of text tokens place t spelling here spelled =
     rw same (first-drop (lexeme_of text) tokens place ∙ rw here refl)
 
 -- the offset of the token at the place
-offset-of : (text : List ℕ) (o : Option Token) (n otherwise : ℕ) → n ≡ option_map_or (λ (t : Token). t.span.start) o otherwise
+offset-of : (text : List ℕ) (o : Option Token) (n otherwise : ℕ)
+    → n ≡ option_map_or (λ (t : Token). t.span.start) o otherwise
     → IfSome (option_map (lexeme_of text) o) (λ t. n ≡ t.span.start)
 offset-of text None n otherwise e = tt
 offset-of text (Some t) n otherwise e = e
 
-pub first-offset : (text : List ℕ) (tokens : List Token) (place n : ℕ) → n ≡ option_map_or (λ (t : Token). t.span.start) (slice_get tokens place) (length text)
+pub first-offset : (text : List ℕ) (tokens : List Token) (place n : ℕ)
+    → n ≡ option_map_or (λ (t : Token). t.span.start) (slice_get tokens place) (length text)
     → IfSome (first (drop place (lexemes_of text tokens))) (λ t. n ≡ t.span.start)
-first-offset text tokens place n e = rw (first-drop (lexeme_of text) tokens place) (offset-of text (slice_get tokens place) n (length text) e)
+first-offset text tokens place n e =
+    rw (first-drop (lexeme_of text) tokens place) (offset-of text (slice_get tokens place) n (length text) e)

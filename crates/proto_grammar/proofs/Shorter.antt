@@ -14,14 +14,16 @@ use Rattle.proto_grammar.specs.Grammar.Names.IsDotName.{dot_name}
 use Rattle.proto_grammar.specs.Grammar.Names.IsName.{name}
 use Rattle.proto_grammar.specs.Grammar.Names.IsTypeName.{rooted, plain as plain_name}
 use Rattle.proto_grammar.specs.Grammar.Names.IsType.{scalar, named}
-use Rattle.proto_grammar.specs.Grammar.Options.{IsOptionPart, IsDotPart, IsOptionName, IsLiteral, IsStrings, IsClosed, IsConstant, IsSetting, IsCommaSetting, IsOption, IsOptions}
+use Rattle.proto_grammar.specs.Grammar.Options.{IsOptionPart, IsDotPart, IsOptionName, IsLiteral, IsStrings, IsClosed}
+use Rattle.proto_grammar.specs.Grammar.Options.{IsConstant, IsSetting, IsCommaSetting, IsOption, IsOptions}
 use Rattle.proto_grammar.specs.Grammar.Options.IsOptionPart.{plain as plain_part, extension}
 use Rattle.proto_grammar.specs.Grammar.Options.IsDotPart.{dot_part}
 use Rattle.proto_grammar.specs.Grammar.Options.IsOptionName.{option_name}
 use Rattle.proto_grammar.specs.Grammar.Options.IsLiteral.{literal}
 use Rattle.proto_grammar.specs.Grammar.Options.IsStrings.{strings}
 use Rattle.proto_grammar.specs.Grammar.Options.IsClosed.{closed, open_brace, close_brace, other}
-use Rattle.proto_grammar.specs.Grammar.Options.IsConstant.{name as a_name, signed, unsigned, strings as some_strings, aggregate}
+use Rattle.proto_grammar.specs.Grammar.Options.IsConstant.{name as a_name, signed, unsigned, strings as some_strings}
+use Rattle.proto_grammar.specs.Grammar.Options.IsConstant.{aggregate}
 use Rattle.proto_grammar.specs.Grammar.Options.IsSetting.{setting}
 use Rattle.proto_grammar.specs.Grammar.Options.IsCommaSetting.{comma_setting}
 use Rattle.proto_grammar.specs.Grammar.Options.IsOption.{option}
@@ -33,7 +35,8 @@ use Rattle.proto_grammar.specs.Grammar.Fields.IsLabel.{repeated, optional, no_la
 use Rattle.proto_grammar.specs.Grammar.Fields.IsField.{field}
 use Rattle.proto_grammar.specs.Grammar.Fields.IsOneofField.{oneof_field}
 use Rattle.proto_grammar.specs.Grammar.Fields.IsMapField.{map_field}
-use Rattle.proto_grammar.specs.Grammar.Reserved.{IsInteger, IsRangeEnd, IsRange, IsReservedItem, IsCommaItem, IsReserved}
+use Rattle.proto_grammar.specs.Grammar.Reserved.{IsInteger, IsRangeEnd, IsRange, IsReservedItem, IsCommaItem}
+use Rattle.proto_grammar.specs.Grammar.Reserved.{IsReserved}
 use Rattle.proto_grammar.specs.Grammar.Reserved.IsInteger.{plain, minus}
 use Rattle.proto_grammar.specs.Grammar.Reserved.IsRangeEnd.{number, max}
 use Rattle.proto_grammar.specs.Grammar.Reserved.IsRange.{single, range}
@@ -47,7 +50,8 @@ pub dot_name_shorter : (a b : List Lexeme) (x : Option Span) → IsDotName a x b
 dot_name_shorter a b x (dot_name d n) = omega (arith, one_shorter d, one_shorter n)
 
 pub name_shorter : {a b : List Lexeme} {x : List Span} → IsName a x b → length b < length a
-name_shorter (name t u) = omega (arith, one_shorter t, Until-shorter (Adds-shorter IsDotName dot_name_shorter) _ _ _ _ u)
+name_shorter (name t u) =
+    omega (arith, one_shorter t, Until-shorter (Adds-shorter IsDotName dot_name_shorter) _ _ _ _ u)
 
 pub type_name_shorter : {a b : List Lexeme} {x : TypeName} → IsTypeName a x b → length b < length a
 type_name_shorter (rooted d n) = omega (arith, one_shorter d, name_shorter n)
@@ -65,13 +69,15 @@ pub dot_part_shorter : (custom : CustomOptions) (a b : List Lexeme) → IsDotPar
 dot_part_shorter custom a b (dot_part d p) = omega (arith, one_shorter d, part_shorter p)
 
 option_name_shorter : {custom : CustomOptions} {a b : List Lexeme} → IsOptionName custom a b → length b < length a
-option_name_shorter {custom} (option_name p u) = omega (arith, part_shorter p, Until-shorter (Passes-shorter (IsDotPart custom) (dot_part_shorter custom)) _ _ _ _ u)
+option_name_shorter {custom} (option_name p u) =
+    omega (arith, part_shorter p, Until-shorter (Passes-shorter (IsDotPart custom) (dot_part_shorter custom)) _ _ _ _ u)
 
 pub literal_shorter : (a b : List Lexeme) → IsLiteral a b → length b < length a
 literal_shorter a b (literal t) = one_shorter t
 
 strings_shorter : {a b : List Lexeme} → IsStrings a b → length b < length a
-strings_shorter (strings l u) = omega (arith, literal_shorter _ _ l, Until-shorter (Passes-shorter IsLiteral literal_shorter) _ _ _ _ u)
+strings_shorter (strings l u) =
+    omega (arith, literal_shorter _ _ l, Until-shorter (Passes-shorter IsLiteral literal_shorter) _ _ _ _ u)
 
 closed_shorter : {depth : ℕ} {a b : List Lexeme} → IsClosed depth a b → length b ≤ length a
 closed_shorter closed = omega arith
@@ -89,7 +95,8 @@ constant_shorter (aggregate o behind) = omega (arith, one_shorter o, closed_shor
 setting_shorter : {custom : CustomOptions} {a b : List Lexeme} → IsSetting custom a b → length b < length a
 setting_shorter (setting n q c) = omega (arith, option_name_shorter n, one_shorter q, constant_shorter c)
 
-pub comma_setting_shorter : (custom : CustomOptions) (a b : List Lexeme) → IsCommaSetting custom a b → length b < length a
+pub comma_setting_shorter : (custom : CustomOptions) (a b : List Lexeme) → IsCommaSetting custom a b
+    → length b < length a
 comma_setting_shorter custom a b (comma_setting c s) = omega (arith, one_shorter c, setting_shorter s)
 
 pub option_shorter : {custom : CustomOptions} {a b : List Lexeme} → IsOption custom a b → length b < length a
@@ -98,12 +105,21 @@ option_shorter (option k v s) = omega (arith, one_shorter k, setting_shorter v, 
 pub options_shorter : {custom : CustomOptions} {a b : List Lexeme} → IsOptions custom a b → length b ≤ length a
 options_shorter (none none_next) = omega arith
 options_shorter {custom} (some o v u c) =
-    omega (arith, one_shorter o, setting_shorter v, Until-shorter (Passes-shorter (IsCommaSetting custom) (comma_setting_shorter custom)) _ _ _ _ u, one_shorter c)
+    omega (
+      arith,
+      one_shorter o,
+      setting_shorter v,
+      Until-shorter (Passes-shorter (IsCommaSetting custom) (comma_setting_shorter custom)) _ _ _ _ u,
+      one_shorter c,
+    )
 
-numbered_shorter : {custom : CustomOptions} {first : Span} {a b : List Lexeme} {x : Heading} → IsNumbered custom first a x b → length b < length a
-numbered_shorter (numbered n q i o s) = omega (arith, one_shorter n, one_shorter q, one_shorter i, options_shorter o, one_shorter s)
+numbered_shorter : {custom : CustomOptions} {first : Span} {a b : List Lexeme} {x : Heading}
+    → IsNumbered custom first a x b → length b < length a
+numbered_shorter (numbered n q i o s) =
+    omega (arith, one_shorter n, one_shorter q, one_shorter i, options_shorter o, one_shorter s)
 
-typed_shorter : {custom : CustomOptions} {first : Span} {label : Option Label} {a b : List Lexeme} {x : Field} → IsTyped custom first label a x b → length b < length a
+typed_shorter : {custom : CustomOptions} {first : Span} {label : Option Label} {a b : List Lexeme} {x : Field}
+    → IsTyped custom first label a x b → length b < length a
 typed_shorter (typed t n) = omega (arith, type_shorter t, numbered_shorter n)
 
 label_shorter : {a b : List Lexeme} {x : Option Label} → IsLabel a x b → length b ≤ length a
@@ -111,15 +127,27 @@ label_shorter (repeated w) = omega (arith, one_shorter w)
 label_shorter (optional w) = omega (arith, one_shorter w)
 label_shorter (no_label p q) = omega arith
 
-pub field_shorter : {custom : CustomOptions} {a b : List Lexeme} {x : Field} → IsField custom a x b → length b < length a
+pub field_shorter : {custom : CustomOptions} {a b : List Lexeme} {x : Field} → IsField custom a x b
+    → length b < length a
 field_shorter (field l t) = omega (arith, label_shorter l, typed_shorter t)
 
-pub oneof_field_shorter : {custom : CustomOptions} {a b : List Lexeme} {x : Field} → IsOneofField custom a x b → length b < length a
+pub oneof_field_shorter : {custom : CustomOptions} {a b : List Lexeme} {x : Field} → IsOneofField custom a x b
+    → length b < length a
 oneof_field_shorter (oneof_field t) = typed_shorter t
 
-pub map_field_shorter : {custom : CustomOptions} {a b : List Lexeme} {x : MapField} → IsMapField custom a x b → length b < length a
+pub map_field_shorter : {custom : CustomOptions} {a b : List Lexeme} {x : MapField} → IsMapField custom a x b
+    → length b < length a
 map_field_shorter (map_field f l k c v g h) =
-    omega (arith, one_shorter f, one_shorter l, one_shorter k, one_shorter c, type_shorter v, one_shorter g, numbered_shorter h)
+    omega (
+      arith,
+      one_shorter f,
+      one_shorter l,
+      one_shorter k,
+      one_shorter c,
+      type_shorter v,
+      one_shorter g,
+      numbered_shorter h,
+    )
 
 pub integer_shorter : {negative : Bool} {a b : List Lexeme} → IsInteger negative a b → length b < length a
 integer_shorter (plain n) = one_shorter n
@@ -133,13 +161,21 @@ range_shorter : {negative : Bool} {a b : List Lexeme} → IsRange negative a b �
 range_shorter (single i none_next) = integer_shorter i
 range_shorter (range i w e) = omega (arith, integer_shorter i, one_shorter w, range_end_shorter e)
 
-reserved_item_shorter : {negative names : Bool} {a b : List Lexeme} → IsReservedItem negative names a b → length b < length a
+reserved_item_shorter : {negative names : Bool} {a b : List Lexeme} → IsReservedItem negative names a b
+    → length b < length a
 reserved_item_shorter (reserved_name t) = strings_shorter t
 reserved_item_shorter (reserved_number r) = range_shorter r
 
-pub comma_item_shorter : (negative names : Bool) (a b : List Lexeme) → IsCommaItem negative names a b → length b < length a
+pub comma_item_shorter : (negative names : Bool) (a b : List Lexeme) → IsCommaItem negative names a b
+    → length b < length a
 comma_item_shorter negative names a b (comma_item c i) = omega (arith, one_shorter c, reserved_item_shorter i)
 
 pub reserved_shorter : {negative : Bool} {a b : List Lexeme} → IsReserved negative a b → length b < length a
 reserved_shorter {negative} (reserved {names} k is i u s) =
-    omega (arith, one_shorter k, reserved_item_shorter i, Until-shorter (Passes-shorter (IsCommaItem negative names) (comma_item_shorter negative names)) _ _ _ _ u, one_shorter s)
+    omega (
+      arith,
+      one_shorter k,
+      reserved_item_shorter i,
+      Until-shorter (Passes-shorter (IsCommaItem negative names) (comma_item_shorter negative names)) _ _ _ _ u,
+      one_shorter s,
+    )

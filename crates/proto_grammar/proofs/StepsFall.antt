@@ -11,7 +11,8 @@ use Rattle.proto_grammar.proofs.UntilLemmas.{Falls, adding-falls}
 use Rattle.proto_grammar.proofs.Found.Names.{dot_name_found}
 use Rattle.proto_grammar.proofs.Found.Options.{dot_part_found, literal_found, comma_setting_found}
 use Rattle.proto_grammar.proofs.Found.Fields.{comma_item_found}
-use Rattle.proto_grammar.proofs.Shorter.{dot_name_shorter, dot_part_shorter, literal_shorter, comma_setting_shorter, comma_item_shorter}
+use Rattle.proto_grammar.proofs.Shorter.{dot_name_shorter, dot_part_shorter, literal_shorter, comma_setting_shorter}
+use Rattle.proto_grammar.proofs.Shorter.{comma_item_shorter}
 
 pub dot_names_fall : Falls (adding dot_name_at)
 dot_names_fall = adding-falls dot_name_at (λ tokens x e. dot_name_shorter tokens x.1 x.0 (dot_name_found tokens x e))
@@ -30,7 +31,9 @@ pub literals_fall : Falls (passing literal_at)
 literals_fall s tokens x e = literal_shorter tokens x.1 (literal_found tokens x e)
 
 pub comma_settings_fall : (custom : CustomOptions) → Falls (passing (comma_setting_at custom))
-comma_settings_fall custom s tokens x e = comma_setting_shorter custom tokens x.1 (comma_setting_found custom tokens x e)
+comma_settings_fall custom s tokens x e =
+    comma_setting_shorter custom tokens x.1 (comma_setting_found custom tokens x e)
 
 pub comma_items_fall : (negative names : Bool) → Falls (passing (comma_item_at negative names))
-comma_items_fall negative names s tokens x e = comma_item_shorter negative names tokens x.1 (comma_item_found negative names tokens x e)
+comma_items_fall negative names s tokens x e =
+    comma_item_shorter negative names tokens x.1 (comma_item_found negative names tokens x e)

@@ -1,5 +1,6 @@
 -- Single tokens: what is read of them, and what tests of them exclude.
-use Rattle.std.proofs.Common.{◌≡◌, ℕ, ◌<◌, ◌==◌, Bool, true, false, not, Some, List, [], ◌∷◌, length, refl, sym, subst, arith, bytes_eq}
+use Rattle.std.proofs.Common.{◌≡◌, ℕ, ◌<◌, ◌==◌, Bool, true, false, not, Some, List, [], ◌∷◌, length, refl, sym, subst}
+use Rattle.std.proofs.Common.{arith, bytes_eq}
 use Rattle.std.proofs.lemmas.Bool.{eqb-true}
 use Rattle.std.proofs.lemmas.Slice.Eq.{bytes_eq-Decides}
 use Rattle.proto_lex.specs.declared.span.Span.{Span}
@@ -13,19 +14,22 @@ use Rattle.proto_grammar.specs.Reading.Repetition.{token_that}
 use Rattle.std.proofs.lemmas.Option.{same_Some}
 use Rattle.proto_grammar.proofs.OptionSteps.{guard_some, both_true}
 
-pub token_found : {test : Lexeme → Bool} (tokens : List Lexeme) (x : Span × List Lexeme) → token_that test tokens ≡ Some x → One test tokens x.0 x.1
+pub token_found : {test : Lexeme → Bool} (tokens : List Lexeme) (x : Span × List Lexeme)
+    → token_that test tokens ≡ Some x → One test tokens x.0 x.1
 unfolding token_that
 token_found [] x e = cc
 token_found {test} (t ∷ rest) x e =
     let g = guard_some (test t) _ x e in
     subst (λ (y : Span × List Lexeme). One test (t ∷ rest) y.0 y.1) (same_Some _ x g.1) (one g.0)
 
-pub token_exact : {test : Lexeme → Bool} {a b : List Lexeme} {span : Span} → One test a span b → token_that test a ≡ Some (span, b)
+pub token_exact : {test : Lexeme → Bool} {a b : List Lexeme} {span : Span} → One test a span b
+    → token_that test a ≡ Some (span, b)
 unfolding token_that
 token_exact (one e) = rw e refl
 
 -- a token of which a test is known
-pub next_found : {test : Lexeme → Bool} (tokens : List Lexeme) → first_is test tokens ≡ true → (span : Span) × One test tokens span (others tokens)
+pub next_found : {test : Lexeme → Bool} (tokens : List Lexeme) → first_is test tokens ≡ true
+    → (span : Span) × One test tokens span (others tokens)
 next_found [] e = cc
 next_found (t ∷ rest) e = (t.span, one e)
 
@@ -39,13 +43,15 @@ pub one_shorter : {test : Lexeme → Bool} {a b : List Lexeme} {span : Span} →
 one_shorter (one e) = omega arith
 
 -- a token of one kind is of no other
-pub other_kind : (kind other : TokenKind) (t : Lexeme) → is_kind other kind ≡ false → of_kind kind t ≡ true → of_kind other t ≡ false
+pub other_kind : (kind other : TokenKind) (t : Lexeme) → is_kind other kind ≡ false → of_kind kind t ≡ true
+    → of_kind other t ≡ false
 other_kind kind other t differs is =
     let numbers : number_of t.kind ≡ number_of kind = eqb-true (number_of t.kind) (number_of kind) is in
     subst (λ n. (n == number_of other) ≡ false) (sym numbers) differs
 
 -- a token of another kind is no word
-pub kind_no_word : (kind : TokenKind) (word : List ℕ) (t : Lexeme) → is_kind Identifier kind ≡ false → of_kind kind t ≡ true → is_word word t ≡ false
+pub kind_no_word : (kind : TokenKind) (word : List ℕ) (t : Lexeme) → is_kind Identifier kind ≡ false
+    → of_kind kind t ≡ true → is_word word t ≡ false
 kind_no_word kind word t differs is = rw (other_kind kind Identifier t differs is) refl
 
 -- a word is a token of no other kind
@@ -53,7 +59,8 @@ pub word_kind : (word : List ℕ) (t : Lexeme) → is_word word t ≡ true → o
 word_kind word t is = (both_true (is_kind Identifier t.kind) (bytes_eq t.spelling word) is).0
 
 -- a word is no other word
-pub other_word : (word other : List ℕ) (t : Lexeme) → bytes_eq word other ≡ false → is_word word t ≡ true → is_word other t ≡ false
+pub other_word : (word other : List ℕ) (t : Lexeme) → bytes_eq word other ≡ false → is_word word t ≡ true
+    → is_word other t ≡ false
 other_word word other t differs is =
     let both = both_true (is_kind Identifier t.kind) (bytes_eq t.spelling word) is in
     let same : t.spelling ≡ word = (bytes_eq-Decides t.spelling word).0 both.1 in
@@ -61,19 +68,23 @@ other_word word other t differs is =
     rw (both.0, other_differs) refl
 
 -- the same of what stands next
-pub next_other_kind : (kind other : TokenKind) (a : List Lexeme) → is_kind other kind ≡ false → first_is (of_kind kind) a ≡ true → first_is (of_kind other) a ≡ false
+pub next_other_kind : (kind other : TokenKind) (a : List Lexeme) → is_kind other kind ≡ false
+    → first_is (of_kind kind) a ≡ true → first_is (of_kind other) a ≡ false
 next_other_kind kind other [] differs is = refl
 next_other_kind kind other (t ∷ rest) differs is = other_kind kind other t differs is
 
-pub next_no_word : (kind : TokenKind) (word : List ℕ) (a : List Lexeme) → is_kind Identifier kind ≡ false → first_is (of_kind kind) a ≡ true → first_is (is_word word) a ≡ false
+pub next_no_word : (kind : TokenKind) (word : List ℕ) (a : List Lexeme) → is_kind Identifier kind ≡ false
+    → first_is (of_kind kind) a ≡ true → first_is (is_word word) a ≡ false
 next_no_word kind word [] differs is = refl
 next_no_word kind word (t ∷ rest) differs is = kind_no_word kind word t differs is
 
-pub next_word_kind : (word : List ℕ) (a : List Lexeme) → first_is (is_word word) a ≡ true → first_is (of_kind Identifier) a ≡ true
+pub next_word_kind : (word : List ℕ) (a : List Lexeme) → first_is (is_word word) a ≡ true
+    → first_is (of_kind Identifier) a ≡ true
 next_word_kind word [] is = cc
 next_word_kind word (t ∷ rest) is = word_kind word t is
 
-pub next_other_word : (word other : List ℕ) (a : List Lexeme) → bytes_eq word other ≡ false → first_is (is_word word) a ≡ true → first_is (is_word other) a ≡ false
+pub next_other_word : (word other : List ℕ) (a : List Lexeme) → bytes_eq word other ≡ false
+    → first_is (is_word word) a ≡ true → first_is (is_word other) a ≡ false
 next_other_word word other [] differs is = refl
 next_other_word word other (t ∷ rest) differs is = other_word word other t differs is
 

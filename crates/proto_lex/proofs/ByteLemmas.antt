@@ -1,6 +1,7 @@
 use Rattle.std.proofs.Common.{◌≡◌, ◌≢◌, ℕ, true, false, ◌&&◌, nat_eq, nat_le, arith}
 use Rattle.std.proofs.lemmas.Bool.Decides.{nat_tests}
-use Rattle.proto_lex.specs.Bytes.{is_blank, is_letter, is_digit, is_octal_digit, is_hex_digit, is_plus_or_minus, is_exponent_mark, is_hex_mark, is_quote}
+use Rattle.proto_lex.specs.Bytes.{is_blank, is_letter, is_digit, is_octal_digit, is_hex_digit, is_plus_or_minus}
+use Rattle.proto_lex.specs.Bytes.{is_exponent_mark, is_hex_mark, is_quote}
 use Rattle.proto_lex.specs.Literals.{is_plain}
 
 -- Which classes of bytes exclude or contain one another.
@@ -87,5 +88,6 @@ plain_not_nul q b h = grind (arith, nat_tests)
 pub plain_not_backslash : (q b : ℕ) → is_plain q b ≡ true → nat_eq b 92 ≡ false
 plain_not_backslash q b h = grind (arith, nat_tests)
 
-pub is_plain_from : (q b : ℕ) → nat_eq b q ≡ false → nat_eq b 10 ≡ false → nat_eq b 0 ≡ false → nat_eq b 92 ≡ false → is_plain q b ≡ true
+pub is_plain_from : (q b : ℕ) → nat_eq b q ≡ false → nat_eq b 10 ≡ false → nat_eq b 0 ≡ false → nat_eq b 92 ≡ false
+    → is_plain q b ≡ true
 is_plain_from q b h i j k = grind (arith, nat_tests)

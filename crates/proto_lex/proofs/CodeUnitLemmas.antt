@@ -1,5 +1,6 @@
 -- The code units of a text in UTF-16, counted by its bytes in UTF-8.
-use Rattle.std.proofs.Common.{◌≡◌, ◌∙◌, sym, refl, subst, ℕ, ◌+◌, ◌/◌, ◌<◌, ◌≤◌, List, [], ◌∷◌, length, ◌⊎◌, inl, inr, arith, length-append}
+use Rattle.std.proofs.Common.{◌≡◌, ◌∙◌, sym, refl, subst, ℕ, ◌+◌, ◌/◌, ◌<◌, ◌≤◌, List, [], ◌∷◌, length, ◌⊎◌, inl, inr}
+use Rattle.std.proofs.Common.{arith, length-append}
 use Rattle.std.specs.Prelude.{IsUtf8}
 use Rattle.std.specs.List.{sum_by, flat_map}
 use Rattle.std.specs.Str.{chars}
@@ -38,17 +39,39 @@ one_byte c small = rw (lt-ltb c 128 small, lt-ltb c 65536 (omega arith), of_asci
 
 two_bytes : (c : ℕ) → 128 ≤ c → c < 2048 → SameUnits c
 unfolding encode
-two_bytes c least small = rw (le-ltb c 128 least, lt-ltb c 2048 small, lt-ltb c 65536 (omega arith), of_lead (192 + c / 64) (omega arith) (omega arith), of_next c) refl
+two_bytes c least small =
+    rw (
+      le-ltb c 128 least,
+      lt-ltb c 2048 small,
+      lt-ltb c 65536 (omega arith),
+      of_lead (192 + c / 64) (omega arith) (omega arith),
+      of_next c,
+    ) refl
 
 three_bytes : (c : ℕ) → 2048 ≤ c → c < 65536 → SameUnits c
 unfolding encode
 three_bytes c least small =
-    rw (le-ltb c 128 (omega arith), le-ltb c 2048 least, lt-ltb c 65536 small, of_lead (224 + c / 4096) (omega arith) (omega arith), of_next (c / 64), of_next c) refl
+    rw (
+      le-ltb c 128 (omega arith),
+      le-ltb c 2048 least,
+      lt-ltb c 65536 small,
+      of_lead (224 + c / 4096) (omega arith) (omega arith),
+      of_next (c / 64),
+      of_next c,
+    ) refl
 
 four_bytes : (c : ℕ) → 65536 ≤ c → SameUnits c
 unfolding encode
 four_bytes c least =
-    rw (le-ltb c 128 (omega arith), le-ltb c 2048 (omega arith), le-ltb c 65536 least, of_wide (240 + c / 262144) (omega arith), of_next (c / 4096), of_next (c / 64), of_next c) refl
+    rw (
+      le-ltb c 128 (omega arith),
+      le-ltb c 2048 (omega arith),
+      le-ltb c 65536 least,
+      of_wide (240 + c / 262144) (omega arith),
+      of_next (c / 4096),
+      of_next (c / 64),
+      of_next c,
+    ) refl
 
 units_of : (c : ℕ) → SameUnits c
 units_of c = by_bytes c (cases_lt c 128) (cases_lt c 2048) (cases_lt c 65536)
@@ -61,20 +84,37 @@ units_of c = by_bytes c (cases_lt c 128) (cases_lt c 2048) (cases_lt c 65536)
 
 units_of_all : (cs : List ℕ) → sum_by units (encodes cs) ≡ length (flat_map encode_utf16 cs)
 units_of_all [] = refl
-units_of_all (c ∷ cs) = sum_by-append units (encode c) (encodes cs) ∙ rw (units_of c, units_of_all cs) (sym (length-append (encode_utf16 c) (flat_map encode_utf16 cs)))
+units_of_all (c ∷ cs) = sum_by-append units (encode c) (encodes cs)
+    ∙ rw (units_of c, units_of_all cs) (sym (length-append (encode_utf16 c) (flat_map encode_utf16 cs)))
 
-pub units_of_text : (text : List ℕ) → IsUtf8 text → sum_by (code_units Utf16) text ≡ length (flat_map encode_utf16 (chars text))
-units_of_text text utf8 = subst (λ (bytes : List ℕ). sum_by (code_units Utf16) bytes ≡ length (flat_map encode_utf16 (chars bytes))) utf8.1.1
+pub units_of_text : (text : List ℕ) → IsUtf8 text
+    → sum_by (code_units Utf16) text ≡ length (flat_map encode_utf16 (chars text))
+units_of_text text utf8 =
+    subst (λ (bytes : List ℕ). sum_by (code_units Utf16) bytes ≡ length (flat_map encode_utf16 (chars bytes))) utf8.1.1
     (rw (chars-encodes utf8.0 utf8.1.0) (units_of_all utf8.0))
 
 -- a character takes no more units in UTF-16 than bytes in UTF-8
 few_by : (c : ℕ) → (c < 65536) ⊎ (65536 ≤ c) → length (encode_utf16 c) ≤ length (encode c)
 few_by c (inl small) = rw (lt-ltb c 65536 small) (omega (arith, length-encode c, len_utf8_bounds c))
-few_by c (inr large) = rw (le-ltb c 65536 large, length-encode c, le-ltb c 128 (omega arith), le-ltb c 2048 (omega arith), le-ltb c 65536 large) (omega arith)
+few_by c (inr large) = rw (
+  le-ltb c 65536 large,
+  length-encode c,
+  le-ltb c 128 (omega arith),
+  le-ltb c 2048 (omega arith),
+  le-ltb c 65536 large,
+) (omega arith)
 
 few_of_all : (cs : List ℕ) → sum_by units (encodes cs) ≤ length (encodes cs)
 few_of_all [] = omega arith
-few_of_all (c ∷ cs) = omega (arith, sum_by-append units (encode c) (encodes cs), length-append (encode c) (encodes cs), units_of c, few_by c (cases_lt c 65536), few_of_all cs)
+few_of_all (c ∷ cs) = omega (
+  arith,
+  sum_by-append units (encode c) (encodes cs),
+  length-append (encode c) (encodes cs),
+  units_of c,
+  few_by c (cases_lt c 65536),
+  few_of_all cs,
+)
 
 pub few_of_text : (text : List ℕ) → IsUtf8 text → sum_by (code_units Utf16) text ≤ length text
-few_of_text text utf8 = subst (λ (bytes : List ℕ). sum_by (code_units Utf16) bytes ≤ length bytes) utf8.1.1 (few_of_all utf8.0)
+few_of_text text utf8 = subst (λ (bytes : List ℕ). sum_by (code_units Utf16) bytes ≤ length bytes) utf8.1.1
+    (few_of_all utf8.0)

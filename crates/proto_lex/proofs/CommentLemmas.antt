@@ -1,4 +1,5 @@
-use Rattle.std.proofs.Common.{◌≡◌, ℕ, ◌+◌, true, false, nat_eq, Some, List, [], ◌∷◌, ◌++◌, length, refl, sym, ◌∙◌, ap, arith, eqb-true, ◌-◌, ◌≤◌, None, drop, take}
+use Rattle.std.proofs.Common.{◌≡◌, ℕ, ◌+◌, true, false, nat_eq, Some, List, [], ◌∷◌, ◌++◌, length, refl, sym, ◌∙◌, ap}
+use Rattle.std.proofs.Common.{arith, eqb-true, ◌-◌, ◌≤◌, None, drop, take}
 use Rattle.std.proofs.lemmas.Option.{same_Some}
 use Rattle.proto_lex.specs.Comments.{begins_close, EndsBlock, close, inside}
 use Rattle.proto_lex.specs.Reading.{block_at}
@@ -22,7 +23,8 @@ close_found b (c ∷ others) e = both (nat_eq b 42) (nat_eq 47 c) e (λ t s.
     record { front = 42 ∷ (47 ∷ []); rest = others; parts = rw (first, ← second) refl; ends = close; counted = refl })
 
 -- a mark that doesn't close doesn't close before less of the text either, and the other way round
-not_closed : (b : ℕ) (others front rest : List ℕ) → others ≡ front ++ rest → EndsBlock front → begins_close (b ∷ others) ≡ false → begins_close (b ∷ front) ≡ false
+not_closed : (b : ℕ) (others front rest : List ℕ) → others ≡ front ++ rest → EndsBlock front
+    → begins_close (b ∷ others) ≡ false → begins_close (b ∷ front) ≡ false
 not_closed b others front rest e (close) h = rw e at h
 not_closed b others front rest e (inside c r) h = rw e at h
 
@@ -47,11 +49,13 @@ block_found len total (b ∷ others) e =
       },
     ))
 
-still_open : (b : ℕ) (others rest : List ℕ) → EndsBlock others → begins_close (b ∷ others) ≡ false → begins_close (b ∷ (others ++ rest)) ≡ false
+still_open : (b : ℕ) (others rest : List ℕ) → EndsBlock others → begins_close (b ∷ others) ≡ false
+    → begins_close (b ∷ (others ++ rest)) ≡ false
 still_open b others rest (close) h = h
 still_open b others rest (inside c r) h = h
 
-pub block_exact : (len : ℕ) (rest : List ℕ) {bytes : List ℕ} → EndsBlock bytes → block_at len (bytes ++ rest) ≡ Some (len + length bytes)
+pub block_exact : (len : ℕ) (rest : List ℕ) {bytes : List ℕ} → EndsBlock bytes
+    → block_at len (bytes ++ rest) ≡ Some (len + length bytes)
 unfolding block_at
 block_exact len rest (close) = refl
 block_exact len rest (inside {b} {others} c r) =

@@ -1,5 +1,7 @@
 -- The fault that a text meets first is the one that is read.
-use Rattle.std.proofs.Common.{◌≡◌, ◌≢◌, ℕ, ◌+◌, ◌<◌, Bool, true, false, not, cond, ◌||◌, ◌&&◌, ◌⊎◌, inl, inr, nat_eq, Option, Some, None, Ok, Err, List, [], ◌∷◌, ◌++◌, length, drop, refl, sym, ◌∙◌, ap, subst, arith, eqb-true}
+use Rattle.std.proofs.Common.{◌≡◌, ◌≢◌, ℕ, ◌+◌, ◌<◌, Bool, true, false, not, cond, ◌||◌, ◌&&◌, ◌⊎◌, inl, inr, nat_eq}
+use Rattle.std.proofs.Common.{Option, Some, None, Ok, Err, List, [], ◌∷◌, ◌++◌, length, drop, refl, sym, ◌∙◌, ap, subst}
+use Rattle.std.proofs.Common.{arith, eqb-true}
 use Rattle.std.proofs.lemmas.Bool.Decides.{nat_tests}
 use Rattle.std.proofs.lemmas.List.{drop_at, length-append}
 use Rattle.proto_lex.specs.Bytes.{is_blank, is_letter, is_digit, is_quote, starts}
@@ -7,8 +9,12 @@ use Rattle.proto_lex.specs.Numbers.{IsInteger, IsFloat, begins_number, run_of}
 use Rattle.proto_lex.specs.Literals.{IsEscape}
 use Rattle.proto_lex.specs.Comments.{EndsBlock}
 use Rattle.proto_lex.specs.Lexes.{sign_kind, Lexes}
-use Rattle.proto_lex.specs.Faults.{StaysInString, here, character, escape, IsStringFault, cut, nul, no_escape, IsFaultAt, unknown, no_number, no_close, no_string, Meets, fault, blank, comment, token, begins_mark, IsFirstFault, unmarked, marked}
-use Rattle.proto_lex.specs.Reading.{Read, ◌>>=◌, is_integer, is_float, number_kind, number_at, escape_len, character_at, literal_at, block_at, piece_at, Pieces, pieces, with_first, pieces_at, mark_len, pieces_of}
+use Rattle.proto_lex.specs.Faults.{StaysInString, here, character, escape, IsStringFault, cut, nul, no_escape}
+use Rattle.proto_lex.specs.Faults.{IsFaultAt, unknown, no_number, no_close, no_string, Meets, fault, blank, comment}
+use Rattle.proto_lex.specs.Faults.{token, begins_mark, IsFirstFault, unmarked, marked}
+use Rattle.proto_lex.specs.Reading.{Read, ◌>>=◌, is_integer, is_float, number_kind, number_at, escape_len, character_at}
+use Rattle.proto_lex.specs.Reading.{literal_at, block_at, piece_at, Pieces, pieces, with_first, pieces_at, mark_len}
+use Rattle.proto_lex.specs.Reading.{pieces_of}
 use Rattle.proto_lex.specs.declared.fault.LexFault.{LexFault}
 use Rattle.proto_lex.specs.declared.fault.LexFault.TheVariants.{BadByte, OpenString, BadEscape, BadNumber}
 use Rattle.proto_lex.specs.declared.lexer.piece.Piece.{Piece}
@@ -36,7 +42,8 @@ record IsReadTo (quote opening len later : ℕ) (bytes left : List ℕ) : Type 0
   place : later ≡ opening + count
   read : literal_at quote opening 0 len bytes ≡ literal_at quote opening 0 count left
 
-stays_exact : (quote opening len : ℕ) → is_quote quote ≡ true → {place later : ℕ} {bytes left : List ℕ} → StaysInString quote place bytes later left
+stays_exact : (quote opening len : ℕ) → is_quote quote ≡ true → {place later : ℕ} {bytes left : List ℕ}
+    → StaysInString quote place bytes later left
     → place ≡ opening + len → IsReadTo quote opening len later bytes left
 stays_exact quote opening len q here e = record { count = len; place = e; read = refl }
 stays_exact quote opening len q (character {b = b} {others = others} p h) e =
@@ -54,24 +61,28 @@ nul_faults : (opening at : ℕ) (others : List ℕ) → character_at opening at 
 unfolding character_at
 nul_faults opening at others = refl
 
-no_escape_len : (left : List ℕ) → ((letters rest : List ℕ) → IsEscape letters → left ≡ letters ++ rest → ⊥) → escape_len left ≡ None
+no_escape_len : (left : List ℕ) → ((letters rest : List ℕ) → IsEscape letters → left ≡ letters ++ rest → ⊥)
+    → escape_len left ≡ None
 no_escape_len left none =
     elim (escape_len left) as (λ o. escape_len left ≡ o → o ≡ None) [
       | None ↦ λ e. refl
       | Some count ↦ λ e. let f = escape_found left count e in absurd (none f.front f.rest f.form f.parts)
     ] refl
 
-escape_faults : (opening at : ℕ) (left : List ℕ) → escape_len left ≡ None → character_at opening at 92 left ≡ Err (BadEscape at)
+escape_faults : (opening at : ℕ) (left : List ℕ) → escape_len left ≡ None
+    → character_at opening at 92 left ≡ Err (BadEscape at)
 unfolding character_at
 escape_faults opening at left e = rw e refl
 
-open_faults : (quote opening len : ℕ) → is_quote quote ≡ true → (left : List ℕ) → starts (λ b. not (nat_eq b 10)) left ≡ false
+open_faults : (quote opening len : ℕ) → is_quote quote ≡ true → (left : List ℕ)
+    → starts (λ b. not (nat_eq b 10)) left ≡ false
     → literal_at quote opening 0 len left ≡ Err (OpenString opening)
 unfolding literal_at
 open_faults quote opening len q [] s = refl
 open_faults quote opening len q (b ∷ others) s =
     let newline : b ≡ 10 = is_newline b s in
-    rw newline (literal_first quote opening len 10 others (not_quote quote q) ∙ bind_of_err _ (newline_faults opening (opening + len) others))
+    rw newline (literal_first quote opening len 10 others (not_quote quote q)
+    ∙ bind_of_err _ (newline_faults opening (opening + len) others))
   where
     is_newline : (b : ℕ) → not (nat_eq b 10) ≡ false → b ≡ 10
     is_newline b s = grind (arith, nat_tests)
@@ -91,7 +102,8 @@ string_fault_exact quote opening len q (cut {left = left} h s) e =
     let r = stays_exact quote opening len q h e in r.read ∙ open_faults quote opening r.count q left s
 string_fault_exact quote opening len q (nul h) e =
     let r = stays_exact quote opening len q h e in
-    rw r.place (r.read ∙ (literal_first quote opening r.count 0 _ (nul_is_no_quote quote q) ∙ bind_of_err _ (nul_faults opening (opening + r.count) _)))
+    rw r.place (r.read ∙ (literal_first quote opening r.count 0 _ (nul_is_no_quote quote q)
+    ∙ bind_of_err _ (nul_faults opening (opening + r.count) _)))
 string_fault_exact quote opening len q (no_escape {left = left} h none) e =
     let r = stays_exact quote opening len q h e in
     rw r.place (r.read ∙ (literal_first quote opening r.count 92 left (backslash_is_no_quote quote q)
@@ -104,17 +116,21 @@ no_kind run i f = rw (not_integer run i, not_float run f) refl
   where
     not_integer : (run : List ℕ) → (IsInteger run → ⊥) → is_integer run ≡ false
     not_integer run i =
-        elim (is_integer run) as (λ t. is_integer run ≡ t → t ≡ false) [ true ↦ λ e. absurd (i (integer_found run e)) | false ↦ λ e. refl ] refl
+        elim (is_integer run) as
+        (λ t. is_integer run ≡ t → t ≡ false) [ true ↦ λ e. absurd (i (integer_found run e)) | false ↦ λ e. refl ]
+        refl
 
     not_float : (run : List ℕ) → (IsFloat run → ⊥) → is_float run ≡ false
     not_float run f =
-        elim (is_float run) as (λ t. is_float run ≡ t → t ≡ false) [ true ↦ λ e. absurd (f (float_found run e)) | false ↦ λ e. refl ] refl
+        elim (is_float run) as (λ t. is_float run ≡ t → t ≡ false)
+        [ true ↦ λ e. absurd (f (float_found run e)) | false ↦ λ e. refl ] refl
 
 number_faults : (at : ℕ) (bytes : List ℕ) → number_kind (run_of bytes) ≡ None → number_at at bytes ≡ Err (BadNumber at)
 unfolding number_at
 number_faults at bytes e = rw e refl
 
-no_block_len : (others : List ℕ) → ((inside rest : List ℕ) → EndsBlock inside → others ≡ inside ++ rest → ⊥) → block_at 2 others ≡ None
+no_block_len : (others : List ℕ) → ((inside rest : List ℕ) → EndsBlock inside → others ≡ inside ++ rest → ⊥)
+    → block_at 2 others ≡ None
 no_block_len others none =
     elim (block_at 2 others) as (λ o. block_at 2 others ≡ o → o ≡ None) [
       | None ↦ λ e. refl
@@ -134,7 +150,8 @@ fault_exact (unknown {place} {b} {others} nb nl nd nq e) =
     let point : nat_eq b 46 ≡ false = no_sign b 46 e (λ some. cc) in
     let slash : nat_eq b 47 ≡ false = no_sign b 47 e (λ some. cc) in
     rw (e, nb, nl, nd, point, nq, slash) refl
-fault_exact (no_number {place} {bytes} t i f) = number_place place bytes t ∙ number_faults place bytes (no_kind (run_of bytes) i f)
+fault_exact (no_number {place} {bytes} t i f) =
+    number_place place bytes t ∙ number_faults place bytes (no_kind (run_of bytes) i f)
 fault_exact (no_close {place} {others} none) = rw (no_block_len others none) refl
 fault_exact (no_string {place} {quote} {others} q s) =
     quote_place place quote others q ∙ bind_of_err _ (string_fault_exact quote place 1 q s refl)
@@ -151,19 +168,24 @@ fault_some (no_string q s) = omega arith
 
 -- the text
 
-fault_after : (at : ℕ) (k : PieceKind) (word rest : List ℕ) (f : LexFault) → Stands k word rest → pieces_at 0 (at + length word) rest ≡ Err f
+fault_after : (at : ℕ) (k : PieceKind) (word rest : List ℕ) (f : LexFault) → Stands k word rest
+    → pieces_at 0 (at + length word) rest ≡ Err f
     → pieces_at 0 at (word ++ rest) ≡ Err f
 fault_after at k word rest f s e =
     let some = stands_some k word rest s in
     let long : 0 < length (word ++ rest) = omega (arith, length-append word rest) in
     let p : Piece = record { kind = k; len = length word } in
-    pieces_step at (word ++ rest) p long (piece_exact at k word rest s) some ∙ rw (drop_at word rest (length word) refl, e) refl
+    pieces_step at (word ++ rest) p long (piece_exact at k word rest s) some
+    ∙ rw (drop_at word rest (length word) refl, e) refl
 
 meets_exact : {at : ℕ} {bytes : List ℕ} {f : LexFault} → Meets at bytes f → pieces_at 0 at bytes ≡ Err f
 meets_exact (fault {place = at} {bytes = bytes} {f = f} h) = pieces_fault at bytes f (fault_some h) (fault_exact h)
-meets_exact (blank {place = at} {b = b} {rest = rest} {f = f} t m) = fault_after at piece.Blank (b ∷ []) rest f (b, refl, t) (meets_exact m)
-meets_exact (comment {place = at} {k = k} {word = word} {rest = rest} {f = f} s m) = fault_after at (piece.Comment k) word rest f s (meets_exact m)
-meets_exact (token {place = at} {k = k} {word = word} {rest = rest} {f = f} s m) = fault_after at (piece.Token k) word rest f s (meets_exact m)
+meets_exact (blank {place = at} {b = b} {rest = rest} {f = f} t m) =
+    fault_after at piece.Blank (b ∷ []) rest f (b, refl, t) (meets_exact m)
+meets_exact (comment {place = at} {k = k} {word = word} {rest = rest} {f = f} s m) =
+    fault_after at (piece.Comment k) word rest f s (meets_exact m)
+meets_exact (token {place = at} {k = k} {word = word} {rest = rest} {f = f} s m) =
+    fault_after at (piece.Token k) word rest f s (meets_exact m)
 
 pub first_fault_exact : {text : List ℕ} {f : LexFault} → IsFirstFault text f → pieces_of text ≡ Err f
 unfolding pieces_of
@@ -178,12 +200,18 @@ first_fault_exact (marked m) = meets_exact m
 pub one_fault : {text : List ℕ} {f g : LexFault} → IsFirstFault text f → IsFirstFault text g → f ≡ g
 one_fault {text} {f} {g} a b = same_err f g (pieces_of text) (first_fault_exact a) (first_fault_exact b)
 
-pub no_fault : {text : List ℕ} {f : LexFault} {tokens : List Token} {comments : List Comment} → Lexes text tokens comments → IsFirstFault text f → ⊥
+pub no_fault : {text : List ℕ} {f : LexFault} {tokens : List Token} {comments : List Comment}
+    → Lexes text tokens comments → IsFirstFault text f → ⊥
 no_fault a b = ok_not_err (sym (lexes_exact a) ∙ first_fault_exact b)
 
-pub lexes_or_faults : (text : List ℕ) → ((tokens : List Token) × (comments : List Comment) × Lexes text tokens comments) ⊎ ((f : LexFault) × IsFirstFault text f)
+pub lexes_or_faults : (text : List ℕ)
+    → ((tokens : List Token) × (comments : List Comment) × Lexes text tokens comments)
+    ⊎ ((f : LexFault) × IsFirstFault text f)
 lexes_or_faults text =
-    elim (pieces_of text) as (λ r. pieces_of text ≡ r → ((tokens : List Token) × (comments : List Comment) × Lexes text tokens comments) ⊎ ((f : LexFault) × IsFirstFault text f)) [
+    elim (pieces_of text) as
+    (λ r. pieces_of text ≡ r
+    → ((tokens : List Token) × (comments : List Comment) × Lexes text tokens comments)
+    ⊎ ((f : LexFault) × IsFirstFault text f)) [
       | Ok l ↦ λ e. inl (l.tokens, l.comments, lexes_found text l e)
       | Err f ↦ λ e. inr (f, first_fault_found text f e)
     ] refl

@@ -1,15 +1,22 @@
-use Rattle.std.proofs.Common.{◌≡◌, ℕ, zero, suc, ◌+◌, ◌-◌, ◌<◌, Bool, true, false, cond, ◌||◌, ◌&&◌, ◌⊎◌, inl, inr, nat_eq, Option, Some, None, Ok, Err, List, [], ◌∷◌, ◌++◌, length, drop, refl, sym, ◌∙◌, ap, subst, arith, eqb-true, add-zero}
+use Rattle.std.proofs.Common.{◌≡◌, ℕ, zero, suc, ◌+◌, ◌-◌, ◌<◌, Bool, true, false, cond, ◌||◌, ◌&&◌, ◌⊎◌, inl, inr}
+use Rattle.std.proofs.Common.{nat_eq, Option, Some, None, Ok, Err, List, [], ◌∷◌, ◌++◌, length, drop, refl, sym, ◌∙◌}
+use Rattle.std.proofs.Common.{ap, subst, arith, eqb-true, add-zero}
 use Rattle.std.proofs.lemmas.List.{drop_at}
 use Rattle.std.proofs.lemmas.Option.{none-some}
 use Rattle.proto_lex.specs.Bytes.{is_blank, is_letter, is_digit, is_quote, starts}
 use Rattle.proto_lex.specs.Numbers.{begins_number, run_of}
 use Rattle.proto_lex.specs.Literals.{is_plain, IsEscape}
 use Rattle.proto_lex.specs.Lexes.{sign_kind}
-use Rattle.proto_lex.specs.Faults.{here, character, escape, IsStringFault, cut, nul, no_escape, IsFaultAt, unknown, no_number, no_close, no_string, Meets, fault, blank, comment, token, begins_mark, IsFirstFault, unmarked, marked}
-use Rattle.proto_lex.specs.Reading.{Read, ◌>>=◌, is_in_line, is_integer, is_float, number_kind, numbered, number_at, escape_len, escaped, character_at, literal_at, block_at, blocked, past_first, slash_at, signed, piece_at, Pieces, with_first, pieces_at, mark_len, pieces_of}
+use Rattle.proto_lex.specs.Faults.{here, character, escape, IsStringFault, cut, nul, no_escape, IsFaultAt, unknown}
+use Rattle.proto_lex.specs.Faults.{no_number, no_close, no_string, Meets, fault, blank, comment, token, begins_mark}
+use Rattle.proto_lex.specs.Faults.{IsFirstFault, unmarked, marked}
+use Rattle.proto_lex.specs.Reading.{Read, ◌>>=◌, is_in_line, is_integer, is_float, number_kind, numbered, number_at}
+use Rattle.proto_lex.specs.Reading.{escape_len, escaped, character_at, literal_at, block_at, blocked, past_first}
+use Rattle.proto_lex.specs.Reading.{slash_at, signed, piece_at, Pieces, with_first, pieces_at, mark_len, pieces_of}
 use Rattle.proto_lex.specs.Reading as reading
 use Rattle.proto_lex.specs.declared.fault.LexFault.{LexFault}
-use Rattle.proto_lex.specs.declared.fault.LexFault.TheVariants.{Memory, BadByte, OpenString, OpenComment, BadEscape, BadNumber}
+use Rattle.proto_lex.specs.declared.fault.LexFault.TheVariants.{Memory, BadByte, OpenString, OpenComment, BadEscape}
+use Rattle.proto_lex.specs.declared.fault.LexFault.TheVariants.{BadNumber}
 use Rattle.proto_lex.specs.declared.lexer.piece.Piece.{Piece}
 use Rattle.proto_lex.specs.declared.lexer.piece.PieceKind.{PieceKind}
 use Rattle.proto_lex.specs.declared.lexer.piece.PieceKind.TheVariants as piece
@@ -42,7 +49,8 @@ plain_before quote opening place b others f p (nul h) = nul (character p h)
 plain_before quote opening place b others f p (no_escape h n) = no_escape (character p h) n
 
 escape_before : (quote opening place : ℕ) (letters others : List ℕ) (f : LexFault) → IsEscape letters
-    → IsStringFault quote opening (place + (1 + length letters)) others f → IsStringFault quote opening place (92 ∷ (letters ++ others)) f
+    → IsStringFault quote opening (place + (1 + length letters)) others f
+    → IsStringFault quote opening place (92 ∷ (letters ++ others)) f
 escape_before quote opening place letters others f p (cut h s) = cut (escape p h) s
 escape_before quote opening place letters others f p (nul h) = nul (escape p h)
 escape_before quote opening place letters others f p (no_escape h n) = no_escape (escape p h) n
@@ -68,8 +76,10 @@ character_fault quote opening at b others f e =
     absurd (none-some _ (sym g.0 ∙ (ap escape_len parts ∙ (escape_some form rest).1)))))))
     (λ _ z. ok_not_err z)))
 
-backslash_before : (quote opening at more count : ℕ) (others : List ℕ) (f : LexFault) → EscapeFront others count → more ≡ count + 1
-    → IsStringFault quote opening (at + more) (drop (more - 1) others) f → IsStringFault quote opening at (92 ∷ others) f
+backslash_before : (quote opening at more count : ℕ) (others : List ℕ) (f : LexFault) → EscapeFront others count
+    → more ≡ count + 1
+    → IsStringFault quote opening (at + more) (drop (more - 1) others) f
+    → IsStringFault quote opening at (92 ∷ others) f
 backslash_before quote opening at more count others f h n g =
     let less : more - 1 ≡ count = omega arith in
     let back : drop (more - 1) others ≡ h.rest = rw (less, h.parts) (drop_at h.front h.rest count (sym h.counted)) in
@@ -95,19 +105,23 @@ character_before quote opening at b more others f nq e g =
     plain_before quote opening at b others f (is_plain_from quote b nq n10 n0 n92)
     (subst (λ (k : ℕ). IsStringFault quote opening (at + k) (drop (k - 1) others) f) (sym one) g))))
 
-literal_fault_found : (quote opening skip len : ℕ) (bytes : List ℕ) (f : LexFault) → literal_at quote opening skip len bytes ≡ Err f
+literal_fault_found : (quote opening skip len : ℕ) (bytes : List ℕ) (f : LexFault)
+    → literal_at quote opening skip len bytes ≡ Err f
     → IsStringFault quote opening (opening + len + skip) (drop skip bytes) f
 unfolding literal_at
 literal_fault_found quote opening zero len [] f e =
-    subst (λ (d : LexFault). IsStringFault quote opening (opening + len + 0) [] d) (same_err (OpenString opening) f (failed (OpenString opening)) refl e) (cut here refl)
+    subst (λ (d : LexFault). IsStringFault quote opening (opening + len + 0) [] d)
+    (same_err (OpenString opening) f (failed (OpenString opening)) refl e) (cut here refl)
 literal_fault_found quote opening (suc skip) len [] f e =
-    subst (λ (d : LexFault). IsStringFault quote opening (opening + len + suc skip) [] d) (same_err (OpenString opening) f (failed (OpenString opening)) refl e) (cut here refl)
+    subst (λ (d : LexFault). IsStringFault quote opening (opening + len + suc skip) [] d)
+    (same_err (OpenString opening) f (failed (OpenString opening)) refl e) (cut here refl)
 literal_fault_found quote opening (suc skip) len (b ∷ others) f e =
     let n : opening + (len + 1) + skip ≡ opening + len + suc skip = omega arith in
     rw n at (literal_fault_found quote opening skip (len + 1) others f e)
 literal_fault_found quote opening zero len (b ∷ others) f e =
     chosen (nat_eq b quote) e (λ _ x. ok_not_err x) (λ n x.
-    rw add-zero (bind_err (character_at opening (opening + len) b others) (λ more. literal_at quote opening (more - 1) (len + 1) others) f x
+    rw add-zero (bind_err (character_at opening (opening + len) b others)
+    (λ more. literal_at quote opening (more - 1) (len + 1) others) f x
     (λ y. character_fault quote opening (opening + len) b others f y)
     (λ more y z.
     let some = character_positive opening (opening + len) b more others y in
@@ -117,7 +131,8 @@ literal_fault_found quote opening zero len (b ∷ others) f e =
 
 -- what stands at a place
 
-numbered_fault : (at : ℕ) (o : Option TokenKind) (len : ℕ) (f : LexFault) → numbered at o len ≡ Err f → (o ≡ None) × (BadNumber at ≡ f)
+numbered_fault : (at : ℕ) (o : Option TokenKind) (len : ℕ) (f : LexFault) → numbered at o len ≡ Err f
+    → (o ≡ None) × (BadNumber at ≡ f)
 numbered_fault at None len f e = (refl, same_err (BadNumber at) f (numbered at None len) refl e)
 numbered_fault at (Some k) len f e = ok_not_err e
 
@@ -126,19 +141,22 @@ no_kind run e =
     chosen (is_integer run) e (λ _ x. absurd (none-some _ (sym x))) (λ i x.
     chosen (is_float run) x (λ _ y. absurd (none-some _ (sym y))) (λ f _. (i, f)))
 
-number_fault : (at : ℕ) (bytes : List ℕ) (f : LexFault) → begins_number bytes ≡ true → number_at at bytes ≡ Err f → IsFaultAt at bytes f
+number_fault : (at : ℕ) (bytes : List ℕ) (f : LexFault) → begins_number bytes ≡ true → number_at at bytes ≡ Err f
+    → IsFaultAt at bytes f
 unfolding number_at
 number_fault at bytes f t e =
     let m = numbered_fault at (number_kind (run_of bytes)) (length (run_of bytes)) f e in
     let k = no_kind (run_of bytes) m.0 in
     subst (λ (d : LexFault). IsFaultAt at bytes d) m.1
-    (no_number t (λ i. let yes = integer_exact i in let no = k.0 in cc) (λ i. let yes = float_exact i in let no = k.1 in cc))
+    (no_number t (λ i. let yes = integer_exact i in let no = k.0 in cc)
+    (λ i. let yes = float_exact i in let no = k.1 in cc))
 
 blocked_fault : (at : ℕ) (o : Option ℕ) (f : LexFault) → blocked at o ≡ Err f → (o ≡ None) × (OpenComment at ≡ f)
 blocked_fault at None f e = (refl, same_err (OpenComment at) f (blocked at None) refl e)
 blocked_fault at (Some len) f e = ok_not_err e
 
-open_fault : (at : ℕ) (others : List ℕ) (f : LexFault) → starts (nat_eq 42) others ≡ true → blocked at (block_at 2 (past_first others)) ≡ Err f
+open_fault : (at : ℕ) (others : List ℕ) (f : LexFault) → starts (nat_eq 42) others ≡ true
+    → blocked at (block_at 2 (past_first others)) ≡ Err f
     → IsFaultAt at (47 ∷ others) f
 open_fault at [] f t e = absurd cc
 open_fault at (c ∷ others) f t e =
@@ -161,13 +179,15 @@ or_false true b e = e
 or_false false b e = refl
 
 string_fault : (at b : ℕ) (others : List ℕ) (f : LexFault) → is_quote b ≡ true
-    → (literal_at b at 0 1 others >>= λ len. Ok (reading.token kind.StringLiteral len)) ≡ Err f → IsFaultAt at (b ∷ others) f
+    → (literal_at b at 0 1 others >>= λ len. Ok (reading.token kind.StringLiteral len)) ≡ Err f
+    → IsFaultAt at (b ∷ others) f
 string_fault at b others f t e =
     bind_err (literal_at b at 0 1 others) (λ len. Ok (reading.token kind.StringLiteral len)) f e
     (λ x. no_string t (rw add-zero at (literal_fault_found b at 0 1 others f x)))
     (λ _ _ x. ok_not_err x)
 
-piece_fault : (at b : ℕ) (others : List ℕ) (f : LexFault) → piece_at at (b ∷ others) ≡ Err f → IsFaultAt at (b ∷ others) f
+piece_fault : (at b : ℕ) (others : List ℕ) (f : LexFault) → piece_at at (b ∷ others) ≡ Err f
+    → IsFaultAt at (b ∷ others) f
 unfolding piece_at
 piece_fault at b others f e =
     chosen (is_blank b) e (λ _ x. ok_not_err x) (λ nb x.
@@ -182,7 +202,8 @@ piece_fault at b others f e =
 
 -- the text
 
-placed : (at : ℕ) (k : PieceKind) (word rest : List ℕ) (f : LexFault) → Stands k word rest → Meets (at + length word) rest f → Meets at (word ++ rest) f
+placed : (at : ℕ) (k : PieceKind) (word rest : List ℕ) (f : LexFault) → Stands k word rest
+    → Meets (at + length word) rest f → Meets at (word ++ rest) f
 placed at piece.Blank word rest f s r =
     let from : Meets (at + 1) rest f = subst (λ (w : List ℕ). Meets (at + length w) rest f) s.1 r in
     subst (λ (w : List ℕ). Meets at (w ++ rest) f) (sym s.1) (blank s.2 from)
@@ -193,11 +214,13 @@ piece_before : (at b : ℕ) (others : List ℕ) (p : Piece) (f : LexFault) → B
     → Meets (at + 1 + (p.len - 1)) (drop (p.len - 1) others) f → Meets at (b ∷ others) f
 piece_before at b others p f h some r =
     let n : at + 1 + (p.len - 1) ≡ at + length h.word = omega (arith, h.counted) in
-    let left : drop (p.len - 1) others ≡ h.rest = drop_after p.len b others some ∙ (ap (λ xs. drop p.len xs) h.parts ∙ drop_at h.word h.rest p.len h.counted) in
+    let left : drop (p.len - 1) others ≡ h.rest =
+    drop_after p.len b others some ∙ (ap (λ xs. drop p.len xs) h.parts ∙ drop_at h.word h.rest p.len h.counted) in
     let from : Meets (at + length h.word) h.rest f = rw (n, left) at r in
     subst (λ (xs : List ℕ). Meets at xs f) (sym h.parts) (placed at p.kind h.word h.rest f h.stands from)
 
-pieces_fault_found : (skip at : ℕ) (bytes : List ℕ) (f : LexFault) → pieces_at skip at bytes ≡ Err f → Meets (at + skip) (drop skip bytes) f
+pieces_fault_found : (skip at : ℕ) (bytes : List ℕ) (f : LexFault) → pieces_at skip at bytes ≡ Err f
+    → Meets (at + skip) (drop skip bytes) f
 unfolding pieces_at
 pieces_fault_found zero at [] f e = ok_not_err e
 pieces_fault_found (suc skip) at [] f e = ok_not_err e
@@ -205,7 +228,8 @@ pieces_fault_found (suc skip) at (b ∷ others) f e =
     let n : at + 1 + skip ≡ at + suc skip = omega arith in
     rw n at (pieces_fault_found skip (at + 1) others f e)
 pieces_fault_found zero at (b ∷ others) f e =
-    rw add-zero (bind_err (piece_at at (b ∷ others)) (λ p. pieces_at (p.len - 1) (at + 1) others >>= λ later. Ok (with_first p.kind at p.len later)) f e
+    rw add-zero (bind_err (piece_at at (b ∷ others))
+    (λ p. pieces_at (p.len - 1) (at + 1) others >>= λ later. Ok (with_first p.kind at p.len later)) f e
     (λ x. fault (piece_fault at b others f x))
     (λ p x y. bind_err (pieces_at (p.len - 1) (at + 1) others) (λ later. Ok (with_first p.kind at p.len later)) f y
     (λ z.
@@ -232,11 +256,13 @@ first_fault_found text f e =
     (λ rest m. subst (λ (t : List ℕ). IsFirstFault t f) (sym m) (marked (pieces_fault_found 0 3 rest f (rw m at e))))
 
 -- what a failed reading tells of the text
-pub given_fault : (text : List ℕ) (f : LexFault) → (f ≡ Memory) ⊎ (pieces_of text ≡ Err f) → (f ≡ Memory) ⊎ IsFirstFault text f
+pub given_fault : (text : List ℕ) (f : LexFault) → (f ≡ Memory) ⊎ (pieces_of text ≡ Err f)
+    → (f ≡ Memory) ⊎ IsFirstFault text f
 given_fault text f (inl memory) = inl memory
 given_fault text f (inr e) = inr (first_fault_found text f e)
 
 -- a text that lexes fails for want of memory alone
-pub only_memory : (f : LexFault) (read : Read Pieces) (l : Pieces) → (f ≡ Memory) ⊎ (read ≡ Err f) → read ≡ Ok l → f ≡ Memory
+pub only_memory : (f : LexFault) (read : Read Pieces) (l : Pieces) → (f ≡ Memory) ⊎ (read ≡ Err f) → read ≡ Ok l
+    → f ≡ Memory
 only_memory f read l (inl memory) g = memory
 only_memory f read l (inr e) g = ok_not_err (sym g ∙ e)

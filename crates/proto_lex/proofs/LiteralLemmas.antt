@@ -1,4 +1,5 @@
-use Rattle.std.proofs.Common.{◌≡◌, ◌≢◌, ℕ, zero, suc, ◌+◌, ◌-◌, ◌<◌, ◌≤◌, true, false, Option, Some, None, Ok, Err, List, [], ◌∷◌, length, drop, take, get_or, nat_eq, refl, ◌∙◌, arith, add-zero, eq-eqb}
+use Rattle.std.proofs.Common.{◌≡◌, ◌≢◌, ℕ, zero, suc, ◌+◌, ◌-◌, ◌<◌, ◌≤◌, true, false, Option, Some, None, Ok, Err}
+use Rattle.std.proofs.Common.{List, [], ◌∷◌, length, drop, take, get_or, nat_eq, refl, ◌∙◌, arith, add-zero, eq-eqb}
 use Rattle.std.proofs.lemmas.Bool.Decides.{nat_tests}
 use Rattle.proto_lex.specs.Reading.{Read, ◌>>=◌, literal_at, character_at, escape_len, escaped}
 use Rattle.proto_lex.specs.declared.fault.LexFault.{LexFault}
@@ -23,12 +24,14 @@ one_positive : (more : ℕ) (r : Read ℕ) → r ≡ Ok 1 → r ≡ Ok more → 
 one_positive more r d e = let same : 1 ≡ more = cc in omega arith
 
 -- a character takes a byte at least
-pub character_positive : (opening at b more : ℕ) (others : List ℕ) → character_at opening at b others ≡ Ok more → 0 < more
+pub character_positive : (opening at b more : ℕ) (others : List ℕ) → character_at opening at b others ≡ Ok more
+    → 0 < more
 unfolding character_at
 character_positive opening at b more others e =
     chosen (nat_eq b 10) e (λ _ x. err_not_ok x) (λ _ x.
     chosen (nat_eq b 0) x (λ _ y. err_not_ok y) (λ _ y.
-    chosen (nat_eq b 92) y (λ _ z. escaped_positive at (escape_len others) more z) (λ _ z. one_positive more (Ok 1) refl z)))
+    chosen (nat_eq b 92) y (λ _ z. escaped_positive at (escape_len others) more z)
+    (λ _ z. one_positive more (Ok 1) refl z)))
 
 pub literal_first : (quote opening len b : ℕ) (others : List ℕ) → b ≢ quote
     → literal_at quote opening 0 len (b ∷ others)
@@ -37,13 +40,15 @@ unfolding literal_at
 literal_first quote opening len b others ne = let e : nat_eq b quote ≡ false = grind (arith, nat_tests) in rw e refl
 
 -- a character is read, and then the rest
-pub literal_step-cons : (quote opening len more b : ℕ) (others : List ℕ) → b ≢ quote → character_at opening (opening + len) b others ≡ Ok more
+pub literal_step-cons : (quote opening len more b : ℕ) (others : List ℕ) → b ≢ quote
+    → character_at opening (opening + len) b others ≡ Ok more
     → literal_at quote opening 0 len (b ∷ others) ≡ literal_at quote opening 0 (len + more) (drop more (b ∷ others))
 literal_step-cons quote opening len zero b others ne e = absurd (omega (arith, character_positive _ _ _ _ _ e))
 literal_step-cons quote opening len (suc k) b others ne e =
     let same : len + 1 + k ≡ len + suc k = omega arith in
     let less : suc k - 1 ≡ k = omega arith in
-    literal_first quote opening len b others ne ∙ bind_of_ok _ e ∙ rw less (literal_skip quote opening k (len + 1) others ∙ rw same refl)
+    literal_first quote opening len b others ne ∙ bind_of_ok _ e
+    ∙ rw less (literal_skip quote opening k (len + 1) others ∙ rw same refl)
 
 pub literal_step : (quote opening len more : ℕ) (bytes : List ℕ) → 1 ≤ length bytes → get_or bytes 0 0 ≢ quote
     → character_at opening (opening + len) (get_or bytes 0 0) (take (length bytes - 1) (drop 1 bytes)) ≡ Ok more
@@ -53,7 +58,8 @@ literal_step quote opening len more (b ∷ others) h ne e =
     literal_step-cons quote opening len more b others ne (rw (after-cons b others) at e)
 
 -- a character that isn't one is the string's fault
-pub literal_fault : (quote opening len : ℕ) (bytes : List ℕ) (fault : LexFault) → 1 ≤ length bytes → get_or bytes 0 0 ≢ quote
+pub literal_fault : (quote opening len : ℕ) (bytes : List ℕ) (fault : LexFault) → 1 ≤ length bytes
+    → get_or bytes 0 0 ≢ quote
     → character_at opening (opening + len) (get_or bytes 0 0) (take (length bytes - 1) (drop 1 bytes)) ≡ Err fault
     → literal_at quote opening 0 len bytes ≡ Err fault
 literal_fault quote opening len [] fault h ne e = absurd (omega arith)
@@ -68,7 +74,8 @@ literal_close quote opening len [] h e = absurd (omega arith)
 literal_close quote opening len (b ∷ others) h e = let t : nat_eq b quote ≡ true = eq-eqb b quote e in rw t refl
 
 -- and so does the end
-pub literal_end : (quote opening len : ℕ) (bytes : List ℕ) → length bytes ≡ 0 → literal_at quote opening 0 len bytes ≡ Err (OpenString opening)
+pub literal_end : (quote opening len : ℕ) (bytes : List ℕ) → length bytes ≡ 0
+    → literal_at quote opening 0 len bytes ≡ Err (OpenString opening)
 unfolding literal_at
 literal_end quote opening len [] h = refl
 literal_end quote opening len (b ∷ others) h = absurd (omega arith)

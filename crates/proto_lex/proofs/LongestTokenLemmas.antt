@@ -1,9 +1,13 @@
-use Rattle.std.proofs.Common.{◌≡◌, ℕ, suc, ◌+◌, ◌≤◌, Bool, true, false, not, cond, ◌&&◌, nat_eq, nat_le, Option, Some, None, Ok, List, [], ◌∷◌, ◌++◌, length, refl, sym, ◌∙◌, ap, subst, arith, append_assoc}
+use Rattle.std.proofs.Common.{◌≡◌, ℕ, suc, ◌+◌, ◌≤◌, Bool, true, false, not, cond, ◌&&◌, nat_eq, nat_le, Option, Some}
+use Rattle.std.proofs.Common.{None, Ok, List, [], ◌∷◌, ◌++◌, length, refl, sym, ◌∙◌, ap, subst, arith, append_assoc}
 use Rattle.std.proofs.lemmas.Bool.Decides.{nat_tests}
 use Rattle.std.proofs.lemmas.List.{length-append}
 use Rattle.std.specs.List.{list_all, prefix_len}
-use Rattle.proto_lex.specs.Bytes.{is_letter, is_digit, is_octal_digit, is_hex_digit, is_word, is_plus_or_minus, is_exponent_mark, is_hex_mark, starts}
-use Rattle.proto_lex.specs.Numbers.{IsInteger, decimal, octal, hexadecimal, Digits, digit, digits, IsExponentOrNone, no_exponent, unsigned, signed, IsFloat, whole, fraction, power, point_first, begins_hexadecimal, goes_on, run_after, run_of, begins_number}
+use Rattle.proto_lex.specs.Bytes.{is_letter, is_digit, is_octal_digit, is_hex_digit, is_word, is_plus_or_minus}
+use Rattle.proto_lex.specs.Bytes.{is_exponent_mark, is_hex_mark, starts}
+use Rattle.proto_lex.specs.Numbers.{IsInteger, decimal, octal, hexadecimal, Digits, digit, digits, IsExponentOrNone}
+use Rattle.proto_lex.specs.Numbers.{no_exponent, unsigned, signed, IsFloat, whole, fraction, power, point_first}
+use Rattle.proto_lex.specs.Numbers.{begins_hexadecimal, goes_on, run_after, run_of, begins_number}
 use Rattle.proto_lex.specs.Lexes.{Spells, identifier, integer, float, literal, sign, IsToken}
 use Rattle.proto_lex.specs.Reading.{number_kind, token, numbered, number_at, piece_at}
 use Rattle.proto_lex.specs.declared.lexer.piece.Piece.{Piece}
@@ -14,13 +18,15 @@ use Rattle.proto_lex.proofs.ReadLemmas.{both, same_ok, err_not_ok}
 use Rattle.proto_lex.proofs.ByteLemmas.{letter_not_blank}
 use Rattle.proto_lex.proofs.LiteralExact.{literal_exact}
 use Rattle.proto_lex.proofs.PiecesLemmas.{piece_bounds}
-use Rattle.proto_lex.proofs.PieceExact.{begins_number-append, number_place, integer_begins, float_begins, string_exact, piece_exact}
+use Rattle.proto_lex.proofs.PieceExact.{begins_number-append, number_place, integer_begins, float_begins, string_exact}
+use Rattle.proto_lex.proofs.PieceExact.{piece_exact}
 use Rattle.proto_lex.proofs.NumberLemmas.{digits_start}
 
 -- No longer spelling of a token stands at its place.
 
 -- a run takes each letter, digit, `_` and `.`, whatever stands before it
-run_more : (m : Bool) (last b : ℕ) (others : List ℕ) → goes_on m last b ≡ true → length (run_after m last (b ∷ others)) ≡ suc (length (run_after m b others))
+run_more : (m : Bool) (last b : ℕ) (others : List ℕ) → goes_on m last b ≡ true
+    → length (run_after m last (b ∷ others)) ≡ suc (length (run_after m b others))
 run_more m last b others e = rw e refl
 
 word_goes_on : (m : Bool) (last b : ℕ) → is_word b ≡ true → goes_on m last b ≡ true
@@ -48,13 +54,15 @@ Takes m bytes = (last : ℕ) (tail : List ℕ) → length bytes ≤ length (run_
 takes_none : (m : Bool) → Takes m []
 takes_none m = λ last tail. omega arith
 
-takes_more : (m : Bool) (b : ℕ) (others : List ℕ) → ((last : ℕ) → goes_on m last b ≡ true) → Takes m others → Takes m (b ∷ others)
+takes_more : (m : Bool) (b : ℕ) (others : List ℕ) → ((last : ℕ) → goes_on m last b ≡ true) → Takes m others
+    → Takes m (b ∷ others)
 takes_more m b others e k = λ last tail. omega (arith, run_more m last b (others ++ tail) (e last), k b tail)
 
 takes_words : (m : Bool) (bytes : List ℕ) → list_all is_word bytes ≡ true → Takes m bytes
 takes_words m [] t = takes_none m
 takes_words m (b ∷ others) t =
-    both (is_word b) (list_all is_word others) t (λ u ts. takes_more m b others (λ last. word_goes_on m last b u) (takes_words m others ts))
+    both (is_word b) (list_all is_word others) t
+    (λ u ts. takes_more m b others (λ last. word_goes_on m last b u) (takes_words m others ts))
 
 takes_digits : (m : Bool) {a b : List ℕ} → Digits a b → Takes m b → Takes m a
 takes_digits m (digit {d} {others} h) k = takes_more m d others (λ last. digit_goes_on m last d h) k
@@ -76,14 +84,18 @@ point_goes_on : (m : Bool) (last : ℕ) → goes_on m last 46 ≡ true
 point_goes_on m last = refl
 
 takes_float : {word : List ℕ} → IsFloat word → Takes true word
-takes_float (whole {bytes} {exponent} d x) = takes_digits true d (takes_more true 46 exponent (point_goes_on true) (takes_exponent x))
-takes_float (fraction {bytes} {ds} d e x) = takes_digits true d (takes_more true 46 ds (point_goes_on true) (takes_digits true e (takes_exponent x)))
+takes_float (whole {bytes} {exponent} d x) =
+    takes_digits true d (takes_more true 46 exponent (point_goes_on true) (takes_exponent x))
+takes_float (fraction {bytes} {ds} d e x) =
+    takes_digits true d (takes_more true 46 ds (point_goes_on true) (takes_digits true e (takes_exponent x)))
 takes_float (power d x) = takes_digits true d (takes_exponent x)
 takes_float (point_first {ds} d x) = takes_more true 46 ds (point_goes_on true) (takes_digits true d (takes_exponent x))
 
-digits_words : (test : ℕ → Bool) (bytes : List ℕ) → ((b : ℕ) → test b ≡ true → is_word b ≡ true) → list_all test bytes ≡ true → list_all is_word bytes ≡ true
+digits_words : (test : ℕ → Bool) (bytes : List ℕ) → ((b : ℕ) → test b ≡ true → is_word b ≡ true)
+    → list_all test bytes ≡ true → list_all is_word bytes ≡ true
 digits_words test [] k t = refl
-digits_words test (b ∷ others) k t = both (test b) (list_all test others) t (λ u ts. rw (k b u, digits_words test others k ts) refl)
+digits_words test (b ∷ others) k t =
+    both (test b) (list_all test others) t (λ u ts. rw (k b u, digits_words test others k ts) refl)
 
 nonzero_word : (b : ℕ) → (nat_le 49 b && nat_le b 57) ≡ true → is_word b ≡ true
 nonzero_word b t = grind (arith, nat_tests)
@@ -117,7 +129,8 @@ and_false : (a b : Bool) → b ≡ false → (a && b) ≡ false
 and_false true b e = e
 and_false false b e = refl
 
-digits_no_hex : {a b : List ℕ} (tail : List ℕ) → Digits a b → starts is_hex_mark (b ++ tail) ≡ false → begins_hexadecimal (a ++ tail) ≡ false
+digits_no_hex : {a b : List ℕ} (tail : List ℕ) → Digits a b → starts is_hex_mark (b ++ tail) ≡ false
+    → begins_hexadecimal (a ++ tail) ≡ false
 digits_no_hex tail (digit {d} {others} h) s = and_false (nat_eq d 48) (starts is_hex_mark (others ++ tail)) s
 digits_no_hex tail (digits {d} {ds} h r) s =
     and_false (nat_eq d 48) (starts is_hex_mark (ds ++ tail)) (hex_tail ds tail (digits_start r))
@@ -125,7 +138,8 @@ digits_no_hex tail (digits {d} {ds} h r) s =
 mark_no_hex : (e : ℕ) → is_exponent_mark e ≡ true → is_hex_mark e ≡ false
 mark_no_hex e t = grind (arith, nat_tests)
 
-exponent_no_hex : {bytes : List ℕ} (e : ℕ) (others tail : List ℕ) → bytes ≡ e ∷ others → IsExponentOrNone bytes → starts is_hex_mark (bytes ++ tail) ≡ false
+exponent_no_hex : {bytes : List ℕ} (e : ℕ) (others tail : List ℕ) → bytes ≡ e ∷ others → IsExponentOrNone bytes
+    → starts is_hex_mark (bytes ++ tail) ≡ false
 exponent_no_hex e others tail q no_exponent = absurd cc
 exponent_no_hex e others tail q (unsigned {e = d} h r) = mark_no_hex d h
 exponent_no_hex e others tail q (signed {e = d} h p r) = mark_no_hex d h
@@ -137,18 +151,22 @@ float_no_hex tail (power {bytes} {exponent} {e} d x) = digits_no_hex tail d (exp
 float_no_hex tail (point_first d x) = refl
 
 -- the run of a number is as long as its spelling at least
-run_long : (m : Bool) (word tail : List ℕ) → not (begins_hexadecimal (word ++ tail)) ≡ m → Takes m word → length word ≤ length (run_of (word ++ tail))
+run_long : (m : Bool) (word tail : List ℕ) → not (begins_hexadecimal (word ++ tail)) ≡ m → Takes m word
+    → length word ≤ length (run_of (word ++ tail))
 run_long m [] tail e k = omega arith
 run_long m (b ∷ others) tail e k =
     let most = run_most m 0 b (others ++ tail) in
-    let here : length (run_of (b ∷ (others ++ tail))) ≡ suc (length (run_after m b (others ++ tail))) = ap (λ n. suc (length (run_after n b (others ++ tail)))) e in
+    let here : length (run_of (b ∷ (others ++ tail))) ≡ suc (length (run_after m b (others ++ tail))) =
+    ap (λ n. suc (length (run_after n b (others ++ tail)))) e in
     omega (arith, here, most, k 0 tail)
   where
-    run_most : (m : Bool) (last b : ℕ) (xs : List ℕ) → length (run_after m last (b ∷ xs)) ≤ suc (length (run_after m b xs))
-    run_most m last b xs = elim (goes_on m last b) as (λ t. length (cond t (b ∷ run_after m b xs) []) ≤ suc (length (run_after m b xs))) [
-      | true ↦ omega arith
-      | false ↦ omega arith
-    ]
+    run_most : (m : Bool) (last b : ℕ) (xs : List ℕ)
+        → length (run_after m last (b ∷ xs)) ≤ suc (length (run_after m b xs))
+    run_most m last b xs = elim (goes_on m last b) as
+        (λ t. length (cond t (b ∷ run_after m b xs) []) ≤ suc (length (run_after m b xs))) [
+          | true ↦ omega arith
+          | false ↦ omega arith
+        ]
 
 numbered_len : (at : ℕ) (o : Option TokenKind) (len : ℕ) (p : Piece) → numbered at o len ≡ Ok p → p.len ≡ len
 numbered_len at None len p e = err_not_ok e
@@ -158,7 +176,8 @@ number_len : (at : ℕ) (bytes : List ℕ) (p : Piece) → number_at at bytes �
 unfolding number_at
 number_len at bytes p e = numbered_len at (number_kind (run_of bytes)) (length (run_of bytes)) p e
 
-number_longest : (at : ℕ) (m : Bool) (word tail : List ℕ) (p : Piece) → begins_number word ≡ true → not (begins_hexadecimal (word ++ tail)) ≡ m → Takes m word
+number_longest : (at : ℕ) (m : Bool) (word tail : List ℕ) (p : Piece) → begins_number word ≡ true
+    → not (begins_hexadecimal (word ++ tail)) ≡ m → Takes m word
     → piece_at at (word ++ tail) ≡ Ok p → length word ≤ p.len
 number_longest at m word tail p t e k q =
     omega (
@@ -167,28 +186,33 @@ number_longest at m word tail p t e k q =
       number_len at (word ++ tail) p (sym (number_place at (word ++ tail) (begins_number-append word tail t)) ∙ q),
     )
 
-prefix_long : (test : ℕ → Bool) (word tail : List ℕ) → list_all test word ≡ true → length word ≤ prefix_len test (word ++ tail)
+prefix_long : (test : ℕ → Bool) (word tail : List ℕ) → list_all test word ≡ true
+    → length word ≤ prefix_len test (word ++ tail)
 prefix_long test [] tail t = omega arith
 prefix_long test (b ∷ others) tail t =
     both (test b) (list_all test others) t (λ u ts. rw u (omega (arith, prefix_long test others tail ts)))
 
-identifier_len : (at b : ℕ) (others : List ℕ) (p : Piece) → is_letter b ≡ true → piece_at at (b ∷ others) ≡ Ok p → p.len ≡ 1 + prefix_len is_word others
+identifier_len : (at b : ℕ) (others : List ℕ) (p : Piece) → is_letter b ≡ true → piece_at at (b ∷ others) ≡ Ok p
+    → p.len ≡ 1 + prefix_len is_word others
 unfolding piece_at
 identifier_len at b others p t e =
     let q : Piece = token kind.Identifier (1 + prefix_len is_word others) in
     ap (λ (r : Piece). r.len) (sym (same_ok q p (Ok q) refl (rw (letter_not_blank b t, t) at e)))
 
 -- what is read at a place is as long as any spelling there
-longest : (at : ℕ) {k : TokenKind} {word : List ℕ} (tail : List ℕ) (p : Piece) → Spells k word → piece_at at (word ++ tail) ≡ Ok p → length word ≤ p.len
+longest : (at : ℕ) {k : TokenKind} {word : List ℕ} (tail : List ℕ) (p : Piece) → Spells k word
+    → piece_at at (word ++ tail) ≡ Ok p → length word ≤ p.len
 longest at tail p (identifier {b} {others} t h) e =
     omega (arith, identifier_len at b (others ++ tail) p t e, prefix_long is_word others tail h)
 longest at tail p (integer {word} i) e =
-    number_longest at (not (begins_hexadecimal (word ++ tail))) word tail p (integer_begins i) refl (takes_words _ word (integer_words i)) e
+    number_longest at (not (begins_hexadecimal (word ++ tail))) word tail p (integer_begins i) refl
+    (takes_words _ word (integer_words i)) e
 longest at tail p (float {word} f) e =
     number_longest at true word tail p (float_begins f) (rw (float_no_hex tail f) refl) (takes_float f) e
 longest at tail p (literal {quote} {others} q r) e =
     let s : Piece = token kind.StringLiteral (suc (length others)) in
-    let same : s ≡ p = same_ok s p (piece_at at (quote ∷ (others ++ tail))) (string_exact at quote others tail q (literal_exact quote at q r 1 tail)) e in
+    let same : s ≡ p = same_ok s p (piece_at at (quote ∷ (others ++ tail)))
+    (string_exact at quote others tail q (literal_exact quote at q r 1 tail)) e in
     omega (arith, ap (λ (r : Piece). r.len) same)
 longest at tail p (sign {b} t) e = omega (arith, (piece_bounds at (b ∷ tail) p e).0)
 
@@ -196,8 +220,10 @@ no_length : (more : List ℕ) → length more ≡ 0 → more ≡ []
 no_length [] e = refl
 no_length (b ∷ more) e = absurd (omega arith)
 
-pub no_longer : (k other : TokenKind) (word rest more tail : List ℕ) → IsToken k word rest → rest ≡ more ++ tail → Spells other (word ++ more) → more ≡ []
+pub no_longer : (k other : TokenKind) (word rest more tail : List ℕ) → IsToken k word rest → rest ≡ more ++ tail
+    → Spells other (word ++ more) → more ≡ []
 no_longer k other word rest more tail t e s =
     let split : word ++ rest ≡ (word ++ more) ++ tail = ap (λ xs. word ++ xs) e ∙ sym (append_assoc word more tail) in
-    let read = subst (λ (xs : List ℕ). piece_at 0 xs ≡ Ok (token k (length word))) split (piece_exact 0 (piece.Token k) word rest t) in
+    let read = subst (λ (xs : List ℕ). piece_at 0 xs ≡ Ok (token k (length word))) split
+    (piece_exact 0 (piece.Token k) word rest t) in
     no_length more (omega (arith, longest 0 tail (token k (length word)) s read, length-append word more))

@@ -1,11 +1,18 @@
-use Rattle.std.proofs.Common.{◌≡◌, ℕ, true, false, cond, nat_eq, List, [], ◌∷◌, refl, sym, ◌∙◌, subst, eqb-true, ◌+◌, ◌-◌, ◌≤◌, Bool, not, length, drop, take, get_or, ap, arith, add-one}
+use Rattle.std.proofs.Common.{◌≡◌, ℕ, true, false, cond, nat_eq, List, [], ◌∷◌, refl, sym, ◌∙◌, subst, eqb-true, ◌+◌}
+use Rattle.std.proofs.Common.{◌-◌, ◌≤◌, Bool, not, length, drop, take, get_or, ap, arith, add-one}
 use Rattle.std.specs.List.{list_all}
 use Rattle.proto_lex.specs.Bytes.{is_digit, is_octal_digit, is_hex_mark, is_plus_or_minus, is_exponent_mark, starts}
-use Rattle.proto_lex.specs.Numbers.{IsInteger, decimal, octal, hexadecimal, Digits, digit, digits, IsExponentOrNone, no_exponent, unsigned, signed, IsFloat, whole, fraction, power, point_first, goes_on, run_after, run_of, begins_hexadecimal}
-use Rattle.proto_lex.specs.Reading.{past, are_digits, are_hex_digits, is_zero_integer, is_integer, past_sign, is_exponent_or_none, ends_fraction, ends_whole, is_float}
+use Rattle.proto_lex.specs.Numbers.{IsInteger, decimal, octal, hexadecimal, Digits, digit, digits, IsExponentOrNone}
+use Rattle.proto_lex.specs.Numbers.{no_exponent, unsigned, signed, IsFloat, whole, fraction, power, point_first}
+use Rattle.proto_lex.specs.Numbers.{goes_on, run_after, run_of, begins_hexadecimal}
+use Rattle.proto_lex.specs.Reading.{past, are_digits, are_hex_digits, is_zero_integer, is_integer, past_sign}
+use Rattle.proto_lex.specs.Reading.{is_exponent_or_none, ends_fraction, ends_whole, is_float}
 use Rattle.proto_lex.proofs.ReadLemmas.{chosen, both, after-cons}
 use Rattle.proto_lex.proofs.PrefixLemmas.{past-cons, past-stop, past-all}
-use Rattle.proto_lex.proofs.ByteLemmas.{nonzero_not_zero, nonzero_is_digit, digit_nonzero, octal_not_hex_mark, octal_is_digit, digit_not_point, digit_not_plus_or_minus, exponent_mark_not_digit, exponent_mark_not_point, hex_mark_not_digit, hex_mark_not_point, hex_mark_not_exponent_mark}
+use Rattle.proto_lex.proofs.ByteLemmas.{nonzero_not_zero, nonzero_is_digit, digit_nonzero, octal_not_hex_mark}
+use Rattle.proto_lex.proofs.ByteLemmas.{octal_is_digit, digit_not_point, digit_not_plus_or_minus}
+use Rattle.proto_lex.proofs.ByteLemmas.{exponent_mark_not_digit, exponent_mark_not_point, hex_mark_not_digit}
+use Rattle.proto_lex.proofs.ByteLemmas.{hex_mark_not_point, hex_mark_not_exponent_mark}
 
 -- The tests of numbers accept exactly the forms of numbers.
 
@@ -46,8 +53,10 @@ digits_past (digits {d} {ds} h r) s = past-cons is_digit d ds h ∙ digits_past 
 digits_found : (a : List ℕ) → starts is_digit a ≡ true → Digits a (past is_digit a)
 digits_found [] e = absurd cc
 digits_found (d ∷ others) e =
-    elim (starts is_digit others) as (λ t. starts is_digit others ≡ t → Digits (d ∷ others) (past is_digit (d ∷ others))) [
-      | true ↦ λ s. subst (λ (left : List ℕ). Digits (d ∷ others) left) (sym (past-cons is_digit d others e)) (digits e (digits_found others s))
+    elim (starts is_digit others) as
+    (λ t. starts is_digit others ≡ t → Digits (d ∷ others) (past is_digit (d ∷ others))) [
+      | true ↦ λ s. subst (λ (left : List ℕ). Digits (d ∷ others) left) (sym (past-cons is_digit d others e))
+          (digits e (digits_found others s))
       | false ↦ λ s. subst (λ (left : List ℕ). Digits (d ∷ others) left)
           (sym (past-cons is_digit d others e ∙ past-stop is_digit others s)) (digit e)
     ] refl
@@ -70,17 +79,20 @@ are_digits_exact (digits {d} {ds} h r) e = rw h (are_digits-all ds (are_digits_e
 
 -- exponents
 
-mark_found : (e : ℕ) (others : List ℕ) → is_exponent_mark e ≡ true → are_digits (past_sign others) ≡ true → IsExponentOrNone (e ∷ others)
+mark_found : (e : ℕ) (others : List ℕ) → is_exponent_mark e ≡ true → are_digits (past_sign others) ≡ true
+    → IsExponentOrNone (e ∷ others)
 mark_found e [] h x = absurd cc
 mark_found e (s ∷ ds) h x =
-    elim (is_plus_or_minus s) as (λ t. is_plus_or_minus s ≡ t → are_digits (cond t ds (s ∷ ds)) ≡ true → IsExponentOrNone (e ∷ (s ∷ ds))) [
+    elim (is_plus_or_minus s) as
+    (λ t. is_plus_or_minus s ≡ t → are_digits (cond t ds (s ∷ ds)) ≡ true → IsExponentOrNone (e ∷ (s ∷ ds))) [
       | true ↦ λ p y. signed h p (are_digits_found ds y)
       | false ↦ λ p y. unsigned h (are_digits_found (s ∷ ds) y)
     ] refl x
 
 exponent_found : (bytes : List ℕ) → is_exponent_or_none bytes ≡ true → IsExponentOrNone bytes
 exponent_found [] x = no_exponent
-exponent_found (e ∷ others) x = both (is_exponent_mark e) (are_digits (past_sign others)) x (λ h y. mark_found e others h y)
+exponent_found (e ∷ others) x =
+    both (is_exponent_mark e) (are_digits (past_sign others)) x (λ h y. mark_found e others h y)
 
 past_sign-digits : {a b : List ℕ} → Digits a b → past_sign a ≡ a
 past_sign-digits (digit {d} h) = rw (digit_not_plus_or_minus d h) refl
@@ -96,14 +108,16 @@ exponent_start no_exponent = refl
 exponent_start (unsigned {e} h r) = exponent_mark_not_digit e h
 exponent_start (signed {e} h p r) = exponent_mark_not_digit e h
 
-exponent_first : {bytes : List ℕ} → IsExponentOrNone bytes → (e : ℕ) (others : List ℕ) → bytes ≡ e ∷ others → is_exponent_mark e ≡ true
+exponent_first : {bytes : List ℕ} → IsExponentOrNone bytes → (e : ℕ) (others : List ℕ) → bytes ≡ e ∷ others
+    → is_exponent_mark e ≡ true
 exponent_first no_exponent e others q = absurd cc
 exponent_first (unsigned {e = d} h r) e others q = let same : d ≡ e = cc in rw (← same) h
 exponent_first (signed {e = d} h p r) e others q = let same : d ≡ e = cc in rw (← same) h
 
 -- floating-point numbers
 
-fraction_found : {bytes : List ℕ} (others : List ℕ) → Digits bytes (46 ∷ others) → ends_fraction others ≡ true → IsFloat bytes
+fraction_found : {bytes : List ℕ} (others : List ℕ) → Digits bytes (46 ∷ others) → ends_fraction others ≡ true
+    → IsFloat bytes
 fraction_found {bytes} others d x =
     elim (starts is_digit others) as (λ t. starts is_digit others ≡ t → IsFloat bytes) [
       | true ↦ λ s. fraction d (digits_found others s) (exponent_found _ x)
@@ -122,12 +136,15 @@ float_found [] e = absurd cc
 float_found (b ∷ others) e =
     chosen (nat_eq b 46) e
     (λ t x. both (starts is_digit others) (ends_fraction others) x (λ s f.
-    subst (λ (c : ℕ). IsFloat (c ∷ others)) (sym (eqb-true b 46 t)) (point_first (digits_found others s) (exponent_found _ f))))
+    subst (λ (c : ℕ). IsFloat (c ∷ others)) (sym (eqb-true b 46 t))
+    (point_first (digits_found others s) (exponent_found _ f))))
     (λ t x. both (is_digit b) (ends_whole (past is_digit others)) x (λ h w.
     ends_found (past is_digit others)
-    (subst (λ (left : List ℕ). Digits (b ∷ others) left) (past-cons is_digit b others h) (digits_found (b ∷ others) h)) w))
+    (subst (λ (left : List ℕ). Digits (b ∷ others) left) (past-cons is_digit b others h) (digits_found (b ∷ others) h))
+    w))
 
-digits_exact : {bytes rest : List ℕ} → Digits bytes rest → starts is_digit rest ≡ false → ends_whole rest ≡ true → is_float bytes ≡ true
+digits_exact : {bytes rest : List ℕ} → Digits bytes rest → starts is_digit rest ≡ false → ends_whole rest ≡ true
+    → is_float bytes ≡ true
 digits_exact (digit {d} {others} h) s w = rw (digit_not_point d h, h, past-stop is_digit others s) w
 digits_exact (digits {d} {ds} h r) s w = rw (digit_not_point d h, h, digits_past r s) w
 
@@ -135,7 +152,8 @@ ends_exact : {ds exponent : List ℕ} → Digits ds exponent → IsExponentOrNon
 ends_exact d x = rw (digits_past d (exponent_start x)) (exponent_exact x)
 
 pub float_exact : {run : List ℕ} → IsFloat run → is_float run ≡ true
-float_exact (whole {bytes} {exponent} d x) = digits_exact d refl (rw (past-stop is_digit exponent (exponent_start x)) (exponent_exact x))
+float_exact (whole {bytes} {exponent} d x) =
+    digits_exact d refl (rw (past-stop is_digit exponent (exponent_start x)) (exponent_exact x))
 float_exact (fraction d ds x) = digits_exact d refl (ends_exact ds x)
 float_exact (power {bytes} {exponent} {e} d x) =
     let mark = exponent_first x e exponent refl in
@@ -146,14 +164,19 @@ float_exact (point_first d x) = rw (digits_start d) (ends_exact d x)
 
 all_octal : (ds : List ℕ) → list_all is_octal_digit ds ≡ true → list_all is_digit ds ≡ true
 all_octal [] h = refl
-all_octal (d ∷ ds) h = both (is_octal_digit d) (list_all is_octal_digit ds) h (λ t ts. rw (octal_is_digit d t) (all_octal ds ts))
+all_octal (d ∷ ds) h = both (is_octal_digit d) (list_all is_octal_digit ds) h
+    (λ t ts. rw (octal_is_digit d t) (all_octal ds ts))
 
 integer_no_float : {run : List ℕ} → IsInteger run → is_float run ≡ false
 integer_no_float (decimal {d} {ds} h hs) =
     rw (digit_not_point d (nonzero_is_digit d h), nonzero_is_digit d h, past-all is_digit ds hs) refl
 integer_no_float (octal {ds} h) = rw (past-all is_digit ds (all_octal ds h)) refl
 integer_no_float (hexadecimal {x} {d} {ds} t h) =
-    rw (past-stop is_digit (x ∷ (d ∷ ds)) (hex_mark_not_digit x t), hex_mark_not_point x t, hex_mark_not_exponent_mark x t) refl
+    rw (
+      past-stop is_digit (x ∷ (d ∷ ds)) (hex_mark_not_digit x t),
+      hex_mark_not_point x t,
+      hex_mark_not_exponent_mark x t,
+    ) refl
 
 pub float_no_integer : {run : List ℕ} → IsFloat run → is_integer run ≡ false
 float_no_integer {run} f =
@@ -163,16 +186,20 @@ float_no_integer {run} f =
     ] refl
 
 -- a run is the front of the bytes
-pub run_after-front : (m : Bool) (last : ℕ) (bytes : List ℕ) → take (length (run_after m last bytes)) bytes ≡ run_after m last bytes
+pub run_after-front : (m : Bool) (last : ℕ) (bytes : List ℕ)
+    → take (length (run_after m last bytes)) bytes ≡ run_after m last bytes
 run_after-front m last [] = refl
-run_after-front m last (b ∷ others) = elim (goes_on m last b) as (λ t. take (length (cond t (b ∷ run_after m b others) [])) (b ∷ others) ≡ cond t (b ∷ run_after m b others) []) [
-  | true ↦ ap (λ xs. b ∷ xs) (run_after-front m b others)
-  | false ↦ refl
-]
+run_after-front m last (b ∷ others) =
+    elim (goes_on m last b) as
+    (λ t. take (length (cond t (b ∷ run_after m b others) [])) (b ∷ others) ≡ cond t (b ∷ run_after m b others) []) [
+      | true ↦ ap (λ xs. b ∷ xs) (run_after-front m b others)
+      | false ↦ refl
+    ]
 
 -- the run of bytes, from the length of what follows the first
 pub run_of-take : (bytes : List ℕ) (len : ℕ) → 1 ≤ length bytes
-    → len ≡ length (run_after (not (begins_hexadecimal bytes)) (get_or bytes 0 0) (take (length bytes - 1) (drop 1 bytes)))
+    → len ≡ length (run_after (not (begins_hexadecimal bytes)) (get_or bytes 0 0)
+    (take (length bytes - 1) (drop 1 bytes)))
     → take (len + 1) bytes ≡ run_of bytes
 run_of-take [] len h e = absurd (omega arith)
 run_of-take (b ∷ others) len h e = rw (e, after-cons b others, add-one) (ap (λ xs. b ∷ xs) (run_after-front _ b others))

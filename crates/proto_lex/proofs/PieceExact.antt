@@ -1,7 +1,9 @@
-use Rattle.std.proofs.Common.{◌≡◌, ℕ, suc, ◌+◌, ◌<◌, true, false, ◌||◌, ◌&&◌, nat_eq, Some, Ok, List, [], ◌∷◌, ◌++◌, length, refl, ◌∙◌, arith, eqb-true}
+use Rattle.std.proofs.Common.{◌≡◌, ℕ, suc, ◌+◌, ◌<◌, true, false, ◌||◌, ◌&&◌, nat_eq, Some, Ok, List, [], ◌∷◌, ◌++◌}
+use Rattle.std.proofs.Common.{length, refl, ◌∙◌, arith, eqb-true}
 use Rattle.std.proofs.lemmas.Bool.Decides.{nat_tests}
 use Rattle.proto_lex.specs.Bytes.{is_digit, is_word, is_quote, starts}
-use Rattle.proto_lex.specs.Numbers.{IsInteger, decimal, octal, hexadecimal, IsFloat, whole, fraction, power, point_first, run_of, begins_number}
+use Rattle.proto_lex.specs.Numbers.{IsInteger, decimal, octal, hexadecimal, IsFloat, whole, fraction, power}
+use Rattle.proto_lex.specs.Numbers.{point_first, run_of, begins_number}
 use Rattle.proto_lex.specs.Comments.{IsComment, line, block}
 use Rattle.proto_lex.specs.Lexes.{sign_kind, Spells, identifier, integer, float, literal, sign, IsWhole}
 use Rattle.proto_lex.specs.Reading.{◌>>=◌, is_in_line, token, number_at, literal_at, slash_at, piece_at}
@@ -12,7 +14,8 @@ use Rattle.proto_lex.specs.declared.token.TokenKind.TheVariants as kind
 use Rattle.proto_lex.specs.declared.token.CommentKind.{CommentKind}
 use Rattle.proto_lex.proofs.ReadLemmas.{both, either}
 use Rattle.proto_lex.proofs.PrefixLemmas.{prefix_exact, one_more}
-use Rattle.proto_lex.proofs.ByteLemmas.{letter_not_blank, digit_not_blank, digit_not_letter, quote_not_blank, quote_not_letter, quote_not_digit, quote_not_point, nonzero_is_digit}
+use Rattle.proto_lex.proofs.ByteLemmas.{letter_not_blank, digit_not_blank, digit_not_letter, quote_not_blank}
+use Rattle.proto_lex.proofs.ByteLemmas.{quote_not_letter, quote_not_digit, quote_not_point, nonzero_is_digit}
 use Rattle.proto_lex.proofs.NumberLemmas.{integer_exact, float_exact, float_no_integer, digits_start}
 use Rattle.proto_lex.proofs.LiteralExact.{literal_exact}
 use Rattle.proto_lex.proofs.CommentLemmas.{block_exact}
@@ -67,7 +70,8 @@ float_at at word rest f w = rw (w, float_no_integer f, float_exact f) refl
 
 -- signs
 
-slash_exact : (at : ℕ) (rest : List ℕ) → starts (λ b. nat_eq b 47 || nat_eq b 42) rest ≡ false → slash_at at rest ≡ Ok (token kind.Slash 1)
+slash_exact : (at : ℕ) (rest : List ℕ) → starts (λ b. nat_eq b 47 || nat_eq b 42) rest ≡ false
+    → slash_at at rest ≡ Ok (token kind.Slash 1)
 slash_exact at [] h = refl
 slash_exact at (c ∷ rest) h = rw (not_slash c h, not_star c h) refl
   where
@@ -82,7 +86,8 @@ sign_exact : (at b : ℕ) (k : TokenKind) (rest : List ℕ) → sign_kind b ≡ 
 unfolding piece_at
 sign_exact at b k rest e =
     sign_cases (λ c j. IsWhole j (c ∷ []) rest → piece_at at (c ∷ rest) ≡ Ok (token j 1)) b k e
-    (λ _. refl) (λ _. refl) (λ _. refl) (λ _. refl) (λ _. refl) (λ _. refl) (λ _. refl) (λ _. refl) (λ _. refl) (λ _. refl)
+    (λ _. refl) (λ _. refl) (λ _. refl) (λ _. refl) (λ _. refl) (λ _. refl) (λ _. refl) (λ _. refl) (λ _. refl)
+    (λ _. refl)
     (λ _. refl) (λ w. rw w refl) (λ _. refl) (λ _. refl) (λ _. refl) (λ w. slash_exact at rest w)
 
 -- strings
@@ -95,7 +100,8 @@ pub quote_place : (at b : ℕ) (others : List ℕ) → is_quote b ≡ true
 unfolding piece_at
 quote_place at b others q = rw (quote_not_blank b q, quote_not_letter b q, quote_no_number b others q, q) refl
 
-pub string_exact : (at b : ℕ) (others rest : List ℕ) → is_quote b ≡ true → (literal_at b at 0 1 (others ++ rest) ≡ Ok (1 + length others))
+pub string_exact : (at b : ℕ) (others rest : List ℕ) → is_quote b ≡ true
+    → (literal_at b at 0 1 (others ++ rest) ≡ Ok (1 + length others))
     → piece_at at (b ∷ (others ++ rest)) ≡ Ok (token kind.StringLiteral (suc (length others)))
 string_exact at b others rest q e = quote_place at b (others ++ rest) q ∙ rw (e, one_more (length others)) refl
 

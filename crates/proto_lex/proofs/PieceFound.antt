@@ -1,4 +1,5 @@
-use Rattle.std.proofs.Common.{◌≡◌, ℕ, ◌+◌, true, false, ◌||◌, nat_eq, Option, Some, None, Ok, List, [], ◌∷◌, ◌++◌, length, take, drop, refl, sym, ap, subst, arith, eqb-true}
+use Rattle.std.proofs.Common.{◌≡◌, ℕ, ◌+◌, true, false, ◌||◌, nat_eq, Option, Some, None, Ok, List, [], ◌∷◌, ◌++◌}
+use Rattle.std.proofs.Common.{length, take, drop, refl, sym, ap, subst, arith, eqb-true}
 use Rattle.std.proofs.lemmas.Bool.Decides.{nat_tests}
 use Rattle.std.proofs.lemmas.List.{take-append-drop}
 use Rattle.std.proofs.lemmas.List.Folds.{length-prefix_len}
@@ -8,7 +9,8 @@ use Rattle.proto_lex.specs.Bytes.{is_blank, is_letter, is_word, is_quote, starts
 use Rattle.proto_lex.specs.Numbers.{run_of, begins_number}
 use Rattle.proto_lex.specs.Comments.{IsComment, line, block}
 use Rattle.proto_lex.specs.Lexes.{sign_kind, identifier, integer, float, literal, sign, IsWhole, IsToken}
-use Rattle.proto_lex.specs.Reading.{◌>>=◌, is_in_line, is_integer, is_float, number_kind, token, numbered, number_at, literal_at, block_at, blocked, past_first, slash_at, signed, piece_at}
+use Rattle.proto_lex.specs.Reading.{◌>>=◌, is_in_line, is_integer, is_float, number_kind, token, numbered, number_at}
+use Rattle.proto_lex.specs.Reading.{literal_at, block_at, blocked, past_first, slash_at, signed, piece_at}
 use Rattle.proto_lex.specs.declared.lexer.piece.Piece.{Piece}
 use Rattle.proto_lex.specs.declared.lexer.piece.PieceKind.{PieceKind}
 use Rattle.proto_lex.specs.declared.lexer.piece.PieceKind.TheVariants as piece
@@ -39,8 +41,10 @@ pub record Begins (p : Piece) (bytes : List ℕ) : Type 0 where
 
 -- the signs, one by one
 pub sign_cases : (P : ℕ → TokenKind → Type 0) (b : ℕ) (k : TokenKind) → sign_kind b ≡ Some k
-    → P 59 kind.Semicolon → P 61 kind.Equals → P 123 kind.OpenBrace → P 125 kind.CloseBrace → P 91 kind.OpenBracket → P 93 kind.CloseBracket
-    → P 40 kind.OpenParenthesis → P 41 kind.CloseParenthesis → P 60 kind.Less → P 62 kind.Greater → P 44 kind.Comma → P 46 kind.Dot
+    → P 59 kind.Semicolon → P 61 kind.Equals → P 123 kind.OpenBrace → P 125 kind.CloseBrace → P 91 kind.OpenBracket
+    → P 93 kind.CloseBracket
+    → P 40 kind.OpenParenthesis → P 41 kind.CloseParenthesis → P 60 kind.Less → P 62 kind.Greater → P 44 kind.Comma
+    → P 46 kind.Dot
     → P 58 kind.Colon → P 43 kind.Plus → P 45 kind.Minus → P 47 kind.Slash → P b k
 sign_cases P b k e p1 p2 p3 p4 p5 p6 p7 p8 p9 p10 p11 p12 p13 p14 p15 p16 =
     chosen (nat_eq b 59) e (λ t x. is b k 59 kind.Semicolon t x p1) (λ _ e2.
@@ -61,19 +65,24 @@ sign_cases P b k e p1 p2 p3 p4 p5 p6 p7 p8 p9 p10 p11 p12 p13 p14 p15 p16 =
     chosen (nat_eq b 47) e16 (λ t x. is b k 47 kind.Slash t x p16) (λ _ x. absurd (none-some _ x)))))))))))))))))
   where
     is : (b : ℕ) (k : TokenKind) (c : ℕ) (j : TokenKind) → nat_eq b c ≡ true → Some j ≡ Some k → P c j → P b k
-    is b k c j t x p = subst (λ (i : TokenKind). P b i) (same_Some _ _ x) (subst (λ (a : ℕ). P a j) (sym (eqb-true b c t)) p)
+    is b k c j t x p = subst (λ (i : TokenKind). P b i) (same_Some _ _ x)
+        (subst (λ (a : ℕ). P a j) (sym (eqb-true b c t)) p)
 
 -- numbers
 
-kind_found : (run rest : List ℕ) (k : TokenKind) → number_kind run ≡ Some k → run_of (run ++ rest) ≡ run → IsToken k run rest
+kind_found : (run rest : List ℕ) (k : TokenKind) → number_kind run ≡ Some k → run_of (run ++ rest) ≡ run
+    → IsToken k run rest
 kind_found run rest k e w =
     chosen (is_integer run) e
-    (λ t x. subst (λ (j : TokenKind). IsToken j run rest) (same_Some _ _ x) (record { spelled = integer (integer_found run t); whole = w })) (λ _ x.
+    (λ t x. subst (λ (j : TokenKind). IsToken j run rest) (same_Some _ _ x)
+    (record { spelled = integer (integer_found run t); whole = w })) (λ _ x.
     chosen (is_float run) x
-    (λ t y. subst (λ (j : TokenKind). IsToken j run rest) (same_Some _ _ y) (record { spelled = float (float_found run t); whole = w }))
+    (λ t y. subst (λ (j : TokenKind). IsToken j run rest) (same_Some _ _ y)
+    (record { spelled = float (float_found run t); whole = w }))
     (λ _ y. absurd (none-some _ y)))
 
-numbered_found : (at : ℕ) (o : Option TokenKind) (len : ℕ) (p : Piece) → numbered at o len ≡ Ok p → (k : TokenKind) × (o ≡ Some k) × (token k len ≡ p)
+numbered_found : (at : ℕ) (o : Option TokenKind) (len : ℕ) (p : Piece) → numbered at o len ≡ Ok p
+    → (k : TokenKind) × (o ≡ Some k) × (token k len ≡ p)
 numbered_found at None len p e = err_not_ok e
 numbered_found at (Some k) len p e = (k, refl, same_ok (token k len) p (Ok (token k len)) refl e)
 
@@ -83,7 +92,8 @@ number_found at bytes p e =
     let run = run_of bytes in
     let rest = drop (length (run_of bytes)) bytes in
     let m = numbered_found at (number_kind run) (length run) p e in
-    let parts : run ++ rest ≡ bytes = subst (λ (w : List ℕ). w ++ rest ≡ bytes) (run_of-front bytes) (take-append-drop (length run) bytes) in
+    let parts : run ++ rest ≡ bytes =
+    subst (λ (w : List ℕ). w ++ rest ≡ bytes) (run_of-front bytes) (take-append-drop (length run) bytes) in
     subst (λ (q : Piece). Begins q bytes) m.2 (record {
       word = run;
       rest = rest;
@@ -100,7 +110,8 @@ line_found [] t = absurd cc
 line_found (c ∷ others) t =
     let same : 47 ≡ c = eqb-true 47 c t in
     let n = prefix_len is_in_line others in
-    let counted : length (47 ∷ (47 ∷ take n others)) ≡ 1 + (1 + n) = omega (arith, length-prefix_len is_in_line others) in
+    let counted : length (47 ∷ (47 ∷ take n others)) ≡ 1 + (1 + n) =
+    omega (arith, length-prefix_len is_in_line others) in
     rw (← same) (record {
       word = 47 ∷ (47 ∷ take n others);
       rest = drop n others;
@@ -115,7 +126,8 @@ blocked_found at None p e = err_not_ok e
 blocked_found at (Some len) p e =
     let q : Piece = record { kind = piece.Comment comment.Block; len = len } in (len, refl, same_ok q p (Ok q) refl e)
 
-closed_found : (at : ℕ) (others : List ℕ) (p : Piece) → starts (nat_eq 42) others ≡ true → blocked at (block_at 2 (past_first others)) ≡ Ok p
+closed_found : (at : ℕ) (others : List ℕ) (p : Piece) → starts (nat_eq 42) others ≡ true
+    → blocked at (block_at 2 (past_first others)) ≡ Ok p
     → Begins p (47 ∷ others)
 closed_found at [] p t e = absurd cc
 closed_found at (c ∷ others) p t e =
@@ -147,7 +159,8 @@ slash_found at others p e =
     (λ t x. subst (λ (r : Piece). Begins r (47 ∷ others)) (same_ok q p (Ok q) refl x) (line_found others t)) (λ n x.
     chosen (starts (nat_eq 42) others) x
     (λ t y. closed_found at others p t y)
-    (λ m y. subst (λ (r : Piece). Begins r (47 ∷ others)) (same_ok (token kind.Slash 1) p (Ok (token kind.Slash 1)) refl y) (record {
+    (λ m y. subst (λ (r : Piece). Begins r (47 ∷ others))
+    (same_ok (token kind.Slash 1) p (Ok (token kind.Slash 1)) refl y) (record {
       word = 47 ∷ [];
       rest = others;
       parts = refl;
@@ -157,18 +170,22 @@ slash_found at others p e =
 
 -- the other signs
 
-sign_whole : (b : ℕ) (k : TokenKind) (rest : List ℕ) → sign_kind b ≡ Some k → nat_eq b 47 ≡ false → begins_number (b ∷ rest) ≡ false
+sign_whole : (b : ℕ) (k : TokenKind) (rest : List ℕ) → sign_kind b ≡ Some k → nat_eq b 47 ≡ false
+    → begins_number (b ∷ rest) ≡ false
     → IsWhole k (b ∷ []) rest
 sign_whole b k rest e =
     sign_cases (λ c j. nat_eq c 47 ≡ false → begins_number (c ∷ rest) ≡ false → IsWhole j (c ∷ []) rest) b k e
-    (λ _ _. tt) (λ _ _. tt) (λ _ _. tt) (λ _ _. tt) (λ _ _. tt) (λ _ _. tt) (λ _ _. tt) (λ _ _. tt) (λ _ _. tt) (λ _ _. tt)
+    (λ _ _. tt) (λ _ _. tt) (λ _ _. tt) (λ _ _. tt) (λ _ _. tt) (λ _ _. tt) (λ _ _. tt) (λ _ _. tt) (λ _ _. tt)
+    (λ _ _. tt)
     (λ _ _. tt) (λ _ h. h) (λ _ _. tt) (λ _ _. tt) (λ _ _. tt) (λ n _. absurd cc)
 
-signed_found : (at : ℕ) (o : Option TokenKind) (p : Piece) → signed at o ≡ Ok p → (k : TokenKind) × (o ≡ Some k) × (token k 1 ≡ p)
+signed_found : (at : ℕ) (o : Option TokenKind) (p : Piece) → signed at o ≡ Ok p
+    → (k : TokenKind) × (o ≡ Some k) × (token k 1 ≡ p)
 signed_found at None p e = err_not_ok e
 signed_found at (Some k) p e = (k, refl, same_ok (token k 1) p (Ok (token k 1)) refl e)
 
-sign_found : (at b : ℕ) (others : List ℕ) (p : Piece) → signed at (sign_kind b) ≡ Ok p → nat_eq b 47 ≡ false → begins_number (b ∷ others) ≡ false
+sign_found : (at b : ℕ) (others : List ℕ) (p : Piece) → signed at (sign_kind b) ≡ Ok p → nat_eq b 47 ≡ false
+    → begins_number (b ∷ others) ≡ false
     → Begins p (b ∷ others)
 sign_found at b others p e n m =
     let f = signed_found at (sign_kind b) p e in
@@ -182,7 +199,8 @@ sign_found at b others p e n m =
 
 -- identifiers and strings
 
-identifier_found : (b : ℕ) (others : List ℕ) → is_letter b ≡ true → Begins (token kind.Identifier (1 + prefix_len is_word others)) (b ∷ others)
+identifier_found : (b : ℕ) (others : List ℕ) → is_letter b ≡ true
+    → Begins (token kind.Identifier (1 + prefix_len is_word others)) (b ∷ others)
 identifier_found b others t =
     let n = prefix_len is_word others in
     let counted : length (b ∷ take n others) ≡ 1 + n = omega (arith, length-prefix_len is_word others) in
@@ -225,7 +243,8 @@ piece_found at (b ∷ others) p e =
       stands = (b, refl, t);
     })) (λ _ x.
     chosen (is_letter b) x
-    (λ t y. subst (λ (r : Piece). Begins r (b ∷ others)) (same_ok w p (Ok w) refl y) (identifier_found b others t)) (λ _ y.
+    (λ t y. subst (λ (r : Piece). Begins r (b ∷ others)) (same_ok w p (Ok w) refl y) (identifier_found b others t))
+    (λ _ y.
     chosen (begins_number (b ∷ others)) y (λ _ z. number_found at (b ∷ others) p z) (λ m z.
     chosen (is_quote b) z (λ t v. string_found at b others p t v) (λ _ v.
     chosen (nat_eq b 47) v

@@ -1,8 +1,11 @@
 -- The steps of reading the pieces of a text.
-use Rattle.std.proofs.Common.{◌≡◌, ℕ, zero, suc, ◌+◌, ◌-◌, ◌<◌, true, false, cond, ◌&&◌, nat_eq, Ok, Err, List, [], ◌∷◌, ◌++◌, length, drop, refl, sym, ◌∙◌, ap, subst, arith, eqb-true, add-zero, ◌≤◌, Result, inr, append_assoc, length-append}
+use Rattle.std.proofs.Common.{◌≡◌, ℕ, zero, suc, ◌+◌, ◌-◌, ◌<◌, true, false, cond, ◌&&◌, nat_eq, Ok, Err, List, [], ◌∷◌}
+use Rattle.std.proofs.Common.{◌++◌, length, drop, refl, sym, ◌∙◌, ap, subst, arith, eqb-true, add-zero, ◌≤◌, Result}
+use Rattle.std.proofs.Common.{inr, append_assoc, length-append}
 use Rattle.std.proofs.lemmas.List.{drop_at, length-append, append-nil}
 use Rattle.proto_lex.specs.Lexes.{LexesFrom, at_end, blank, comment, token, Lexes, unmarked, marked, part}
-use Rattle.proto_lex.specs.Reading.{◌>>=◌, piece_at, Pieces, pieces, with_first, pieces_at, mark_len, pieces_of, Read, joined, with_last, GivesPieces}
+use Rattle.proto_lex.specs.Reading.{◌>>=◌, piece_at, Pieces, pieces, with_first, pieces_at, mark_len, pieces_of, Read}
+use Rattle.proto_lex.specs.Reading.{joined, with_last, GivesPieces}
 use Rattle.proto_lex.specs.declared.fault.LexFault.{LexFault}
 use Rattle.proto_lex.specs.declared.fault.LexFault.TheVariants.{BadByte}
 use Rattle.proto_lex.specs.declared.lexer.piece.Piece.{Piece}
@@ -26,7 +29,8 @@ pieces_skip (suc skip) at (b ∷ others) =
 
 pieces_first : (at b : ℕ) (others : List ℕ)
     → pieces_at 0 at (b ∷ others)
-    ≡ (piece_at at (b ∷ others) >>= λ p. pieces_at (p.len - 1) (at + 1) others >>= λ later. Ok (with_first p.kind at p.len later))
+    ≡ (piece_at at (b ∷ others) >>= λ p. pieces_at (p.len - 1) (at + 1) others >>= λ later. Ok
+    (with_first p.kind at p.len later))
 unfolding pieces_at
 pieces_first at b others = refl
 
@@ -36,7 +40,8 @@ drop_after (suc k) b others h = let e : suc k - 1 ≡ k = omega arith in rw e re
 
 -- a piece is listed, and then the rest
 pub pieces_step : (at : ℕ) (bytes : List ℕ) (p : Piece) → 0 < length bytes → piece_at at bytes ≡ Ok p → 0 < p.len
-    → pieces_at 0 at bytes ≡ (pieces_at 0 (at + p.len) (drop p.len bytes) >>= λ later. Ok (with_first p.kind at p.len later))
+    → pieces_at 0 at bytes ≡
+    (pieces_at 0 (at + p.len) (drop p.len bytes) >>= λ later. Ok (with_first p.kind at p.len later))
 pieces_step at [] p h e l = absurd (omega arith)
 pieces_step at (b ∷ others) p h e l =
     let n : at + 1 + (p.len - 1) ≡ at + p.len = omega arith in
@@ -46,7 +51,8 @@ pieces_step at (b ∷ others) p h e l =
     (pieces_skip (p.len - 1) (at + 1) others ∙ rw (n, drop_after p.len b others l) refl))
 
 -- a fault at a place is the text's
-pub pieces_fault : (at : ℕ) (bytes : List ℕ) (fault : LexFault) → 0 < length bytes → piece_at at bytes ≡ Err fault → pieces_at 0 at bytes ≡ Err fault
+pub pieces_fault : (at : ℕ) (bytes : List ℕ) (fault : LexFault) → 0 < length bytes → piece_at at bytes ≡ Err fault
+    → pieces_at 0 at bytes ≡ Err fault
 pieces_fault at [] fault h e = absurd (omega arith)
 pieces_fault at (b ∷ others) fault h e = pieces_first at b others ∙ bind_of_err _ e
 
@@ -63,28 +69,34 @@ joined_next : (front : Pieces) (k : PieceKind) (at len : ℕ) (r : Read Pieces)
 joined_next front k at len (Err fault) = refl
 joined_next front piece.Blank at len (Ok l) = refl
 joined_next front (piece.Comment k) at len (Ok l) =
-    ap (λ xs. Ok (pieces (front.tokens ++ l.tokens) xs)) (sym (append_assoc front.comments (record { kind = k; span = part at len } ∷ []) l.comments))
+    ap (λ xs. Ok (pieces (front.tokens ++ l.tokens) xs))
+    (sym (append_assoc front.comments (record { kind = k; span = part at len } ∷ []) l.comments))
 joined_next front (piece.Token k) at len (Ok l) =
-    ap (λ xs. Ok (pieces xs (front.comments ++ l.comments))) (sym (append_assoc front.tokens (record { kind = k; span = part at len } ∷ []) l.tokens))
+    ap (λ xs. Ok (pieces xs (front.comments ++ l.comments)))
+    (sym (append_assoc front.tokens (record { kind = k; span = part at len } ∷ []) l.tokens))
 
 -- a piece takes a byte at least, and no more than there are
-pub piece_bounds : (at : ℕ) (bytes : List ℕ) (p : Piece) → piece_at at bytes ≡ Ok p → (0 < p.len) × (p.len ≤ length bytes)
+pub piece_bounds : (at : ℕ) (bytes : List ℕ) (p : Piece) → piece_at at bytes ≡ Ok p
+    → (0 < p.len) × (p.len ≤ length bytes)
 piece_bounds at bytes p e =
     let f = piece_found at bytes p e in
     let some = stands_some p.kind f.word f.rest f.stands in
     (omega (arith, some, f.counted), omega (arith, f.counted, ap length f.parts, length-append f.word f.rest))
 
 pub goes_on : (front : Pieces) (at : ℕ) (bytes : List ℕ) (p : Piece) → 0 < length bytes → piece_at at bytes ≡ Ok p
-    → joined front (pieces_at 0 at bytes) ≡ joined (with_last front p.kind (part at p.len)) (pieces_at 0 (at + p.len) (drop p.len bytes))
+    → joined front (pieces_at 0 at bytes)
+    ≡ joined (with_last front p.kind (part at p.len)) (pieces_at 0 (at + p.len) (drop p.len bytes))
 goes_on front at bytes p h e =
     ap (joined front) (pieces_step at bytes p h e (piece_bounds at bytes p e).0)
     ∙ joined_next front p.kind at p.len (pieces_at 0 (at + p.len) (drop p.len bytes))
 
-pub stops : (front : Pieces) (at : ℕ) (bytes : List ℕ) (fault : LexFault) → 0 < length bytes → piece_at at bytes ≡ Err fault
+pub stops : (front : Pieces) (at : ℕ) (bytes : List ℕ) (fault : LexFault) → 0 < length bytes
+    → piece_at at bytes ≡ Err fault
     → joined front (pieces_at 0 at bytes) ≡ Err fault
 stops front at bytes fault h e = ap (joined front) (pieces_fault at bytes fault h e)
 
-pub ends : (front : Pieces) (at : ℕ) (bytes : List ℕ) → length bytes ≡ 0 → joined front (pieces_at 0 at bytes) ≡ Ok front
+pub ends : (front : Pieces) (at : ℕ) (bytes : List ℕ) → length bytes ≡ 0
+    → joined front (pieces_at 0 at bytes) ≡ Ok front
 ends front at bytes h =
     ap (joined front) (pieces_end at bytes h) ∙ rw (append-nil front.tokens, append-nil front.comments) refl
 
@@ -92,7 +104,8 @@ ends front at bytes h =
 pub begins : (at : ℕ) (bytes : List ℕ) → joined (pieces [] []) (pieces_at 0 at bytes) ≡ pieces_at 0 at bytes
 begins at bytes = elim (pieces_at 0 at bytes) as (λ r. joined (pieces [] []) r ≡ r) [ Ok l ↦ refl | Err fault ↦ refl ]
 
-pub starts_with : (text : List ℕ) → joined (pieces [] []) (pieces_at 0 (mark_len text) (drop (mark_len text) text)) ≡ pieces_of text
+pub starts_with : (text : List ℕ)
+    → joined (pieces [] []) (pieces_at 0 (mark_len text) (drop (mark_len text) text)) ≡ pieces_of text
 unfolding pieces_of
 starts_with text = begins (mark_len text) (drop (mark_len text) text)
 
@@ -102,15 +115,18 @@ mark_within (a ∷ []) = omega arith
 mark_within (a ∷ (b ∷ [])) = omega arith
 mark_within (a ∷ (b ∷ (c ∷ rest))) =
     elim (nat_eq a 239 && nat_eq b 187 && nat_eq c 191)
-    as (λ t. cond {A = ℕ} t 3 0 + length (drop (cond {A = ℕ} t 3 0) (a ∷ (b ∷ (c ∷ rest)))) ≡ length (a ∷ (b ∷ (c ∷ rest)))) [
+    as (λ t. cond {A = ℕ} t 3 0 + length (drop (cond {A = ℕ} t 3 0) (a ∷ (b ∷ (c ∷ rest))))
+    ≡ length (a ∷ (b ∷ (c ∷ rest)))) [
       | true ↦ omega arith
       | false ↦ omega arith
     ]
 
 -- a fault that is read is an answer
-pub gives_fault : {X : Type 0} (view : X → Pieces) (result : Result X LexFault) (fault other : LexFault) (read : Read Pieces)
+pub gives_fault : {X : Type 0} (view : X → Pieces) (result : Result X LexFault) (fault other : LexFault)
+    (read : Read Pieces)
     → result ≡ Err other → other ≡ fault → read ≡ Err fault → GivesPieces view result read
-gives_fault {X} view result fault other read e f g = subst (λ (r : Result X LexFault). GivesPieces view r read) (sym (e ∙ ap Err f)) (inr g)
+gives_fault {X} view result fault other read e f g =
+    subst (λ (r : Result X LexFault). GivesPieces view r read) (sym (e ∙ ap Err f)) (inr g)
 
 pub some_left : (n : ℕ) → nat_eq n 0 ≡ false → 0 < n
 some_left n e = grind (arith, nat_tests)

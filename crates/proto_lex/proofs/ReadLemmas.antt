@@ -1,11 +1,13 @@
 -- Readings that may fail, and tests and slices that they take apart.
-use Rattle.std.proofs.Common.{◌≡◌, ◌+◌, ◌-◌, ◌≤◌, Bool, true, false, ◌||◌, ◌&&◌, cond, Some, None, Ok, Err, List, [], ◌∷◌, length, drop, take, refl, ap, arith}
+use Rattle.std.proofs.Common.{◌≡◌, ◌+◌, ◌-◌, ◌≤◌, Bool, true, false, ◌||◌, ◌&&◌, cond, Some, None, Ok, Err, List, []}
+use Rattle.std.proofs.Common.{◌∷◌, length, drop, take, refl, ap, arith}
 use Rattle.std.proofs.lemmas.List.{take_all}
 use Rattle.proto_lex.specs.Reading.{Read, ◌>>=◌}
 use Rattle.proto_lex.specs.declared.fault.LexFault.{LexFault}
 
 -- which side a choice took
-pub chosen : {A P : Type 0} (b : Bool) {x y z : A} → cond b x y ≡ z → (b ≡ true → x ≡ z → P) → (b ≡ false → y ≡ z → P) → P
+pub chosen : {A P : Type 0} (b : Bool) {x y z : A} → cond b x y ≡ z → (b ≡ true → x ≡ z → P) → (b ≡ false → y ≡ z → P)
+    → P
 chosen true e p q = p refl e
 chosen false e p q = q refl e
 
@@ -22,7 +24,8 @@ either false b e p q = q refl e
 pub after-cons : {A : Type 0} (x : A) (xs : List A) → take (length (x ∷ xs) - 1) (drop 1 (x ∷ xs)) ≡ xs
 after-cons x xs = let e : length (x ∷ xs) - 1 ≡ length xs = omega arith in rw e (take_all (length xs) xs (omega arith))
 
-pub length-after : {A : Type 0} (xs : List A) → 1 ≤ length xs → length (take (length xs - 1) (drop 1 xs)) + 1 ≡ length xs
+pub length-after : {A : Type 0} (xs : List A) → 1 ≤ length xs
+    → length (take (length xs - 1) (drop 1 xs)) + 1 ≡ length xs
 length-after [] h = absurd (omega arith)
 length-after (x ∷ xs) h = rw (after-cons x xs) (omega arith)
 
@@ -41,7 +44,8 @@ pub err_not_ok : {A E P : Type 0} {d : E} {x : A} → Err d ≡ Ok x → P
 err_not_ok e = absurd cc
 
 -- a chain that succeeds has a first step that succeeds
-pub bind_ok : {A B : Type 0} (r : Read A) (f : A → Read B) (y : B) → (r >>= f) ≡ Ok y → (x : A) × (r ≡ Ok x) × (f x ≡ Ok y)
+pub bind_ok : {A B : Type 0} (r : Read A) (f : A → Read B) (y : B) → (r >>= f) ≡ Ok y
+    → (x : A) × (r ≡ Ok x) × (f x ≡ Ok y)
 bind_ok (Ok x) f y e = (x, refl, e)
 bind_ok (Err d) f y e = cc
 

@@ -9,7 +9,8 @@ use Rattle.proto_link.specs.Resolves.Innermost.{here, farther}
 use Rattle.proto_link.specs.Resolves.ResolvesIn.{absolute, single, compound}
 use Rattle.proto_link.specs.Laws.{OneNameAUse, OneBrokenFile}
 
-pub one_scope : {files : List File} {file : ℕ} {admits : NameKind → Bool} {word : List ℕ} {scopes : List (List ℕ)} {a b : List ℕ}
+pub one_scope : {files : List File} {file : ℕ} {admits : NameKind → Bool} {word : List ℕ} {scopes : List (List ℕ)}
+    {a b : List ℕ}
     → Innermost files file admits word scopes a → Innermost files file admits word scopes b → a ≡ b
 one_scope (here k) (here l) = refl
 one_scope (here k) (farther absent m) = absurd (absent k)
@@ -20,7 +21,8 @@ one_name : {files : List File} {file : ℕ} {dot : Bool} {words scopes : List (L
     → ResolvesIn files file dot words scopes a → ResolvesIn files file dot words scopes b → a ≡ b
 one_name (absolute k) (absolute l) = refl
 one_name (single {word = word} m) (single n) = ap (λ scope. qualified scope word) (one_scope m n)
-one_name (compound {first = first} {second = second} {others = others} m k) (compound n l) = ap (λ scope. qualified scope (dotted (first ∷ (second ∷ others)))) (one_scope m n)
+one_name (compound {first = first} {second = second} {others = others} m k) (compound n l) =
+    ap (λ scope. qualified scope (dotted (first ∷ (second ∷ others)))) (one_scope m n)
 
 pub one_name_a_use : OneNameAUse
 one_name_a_use files file type_use name other first second = one_name first second
@@ -28,5 +30,9 @@ one_name_a_use files file type_use name other first second = one_name first seco
 pub one_broken_file : OneBrokenFile
 one_broken_file files number other first second = elim (cases_order number other) [
   | inl same ↦ same
-  | inr apart ↦ elim apart [ inl less ↦ absurd (second.least number first.unread less) | inr more ↦ absurd (first.least other second.unread more) ]
+  | inr apart ↦ elim apart [
+    | inl less ↦ absurd (second.least number first.unread less)
+    | inr more ↦ absurd
+        (first.least other second.unread more)
+  ]
 ]

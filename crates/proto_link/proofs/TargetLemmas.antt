@@ -1,5 +1,7 @@
 -- What the last components of a name that a use resolves to name.
-use Rattle.std.proofs.Common.{◌≡◌, inl, inr, ℕ, ◌+◌, ◌-◌, ◌<◌, ◌≤◌, ◌==◌, Bool, true, zero, suc, List, [], ◌∷◌, ◌++◌, length, get_or, take, map, Some, None, Option, MatchOption, IsSome, refl, ap, sym, ◌∙◌, subst, cond, arith}
+use Rattle.std.proofs.Common.{◌≡◌, inl, inr, ℕ, ◌+◌, ◌-◌, ◌<◌, ◌≤◌, ◌==◌, Bool, true, zero, suc, List, [], ◌∷◌, ◌++◌}
+use Rattle.std.proofs.Common.{length, get_or, take, map, Some, None, Option, MatchOption, IsSome, refl, ap, sym, ◌∙◌}
+use Rattle.std.proofs.Common.{subst, cond, arith}
 use Rattle.std.specs.List.{slice_get, count_by}
 use Rattle.std.proofs.lemmas.Bool.{cases_lt, false≢true}
 use Rattle.std.proofs.lemmas.Option.{slice_get-get_or, slice_get_within}
@@ -37,21 +39,28 @@ use Rattle.proto_visibility.proofs.FactLemmas.{one_list_of_facts}
 
 -- ---- prefixes
 
-longer_of : (ts : List (List ℕ)) (i : ℕ) (x : List ℕ) → i < length ts → x ≡ get_or ts i x → longer (dotted (take i ts)) i x ≡ dotted (take (i + 1) ts)
+longer_of : (ts : List (List ℕ)) (i : ℕ) (x : List ℕ) → i < length ts → x ≡ get_or ts i x
+    → longer (dotted (take i ts)) i x ≡ dotted (take (i + 1) ts)
 longer_of [] i x within is = absurd (omega (arith, within))
 longer_of (t ∷ ts) zero x within is = is
 longer_of (t ∷ ts) (suc i) x within is =
     let next : suc i + 1 ≡ suc (i + 1) = omega arith in
-    let more : take (i + 1) ts ≡ take i ts ++ x ∷ [] = take_more ts i x (omega (arith, within)) ∙ ap (λ y. take i ts ++ y ∷ []) (sym is) in
-    sym (join_push 46 t x (take i ts)) ∙ (ap (λ ys. dotted (t ∷ ys)) (sym more) ∙ ap (λ n. dotted (take n (t ∷ ts))) (sym next))
+    let more : take (i + 1) ts ≡ take i ts ++ x ∷ [] =
+    take_more ts i x (omega (arith, within)) ∙ ap (λ y. take i ts ++ y ∷ []) (sym is) in
+    sym (join_push 46 t x (take i ts))
+    ∙ (ap (λ ys. dotted (t ∷ ys)) (sym more) ∙ ap (λ n. dotted (take n (t ∷ ts))) (sym next))
 
-pub prefix_longer : (name : List ℕ) (components : List (Bor (List ℕ))) (i : ℕ) (d : Bor (List ℕ)) (old new : List ℕ) → map (λ c. c.now) components ≡ components_of name → i < length components
+pub prefix_longer : (name : List ℕ) (components : List (Bor (List ℕ))) (i : ℕ) (d : Bor (List ℕ)) (old new : List ℕ)
+    → map (λ c. c.now) components ≡ components_of name → i < length components
     → old ≡ prefix_of name i → new ≡ longer old i (get_or components i d).now → new ≡ prefix_of name (i + 1)
 prefix_longer name components i d old new are within so_far pushed =
     let x = (get_or components i d).now in
     let size = length-map components (λ (c : Bor (List ℕ)). c.now) in
-    let is : x ≡ get_or (map (λ (c : Bor (List ℕ)). c.now) components) i x = sym (get_or-map (λ (c : Bor (List ℕ)). c.now) components i d x within) in
-    pushed ∙ (ap (λ t. longer t i x) so_far ∙ longer_of (components_of name) i x (omega (arith, within, size, ap length are)) (subst (λ cs. x ≡ get_or cs i x) are is))
+    let is : x ≡ get_or (map (λ (c : Bor (List ℕ)). c.now) components) i x =
+    sym (get_or-map (λ (c : Bor (List ℕ)). c.now) components i d x within) in
+    pushed ∙ (ap (λ t. longer t i x) so_far
+    ∙ longer_of (components_of name) i x (omega (arith, within, size, ap length are))
+    (subst (λ cs. x ≡ get_or cs i x) are is))
 
 -- ---- a name that a use resolves to has its components
 
@@ -67,50 +76,67 @@ words_fit (word ∷ []) = omega (arith, length-slice_split is_dot word)
 words_fit (word ∷ (next ∷ others)) =
     let behind = dotted (next ∷ others) in
     let rest = words_fit (next ∷ others) in
-    let counted : count_by is_dot (word ++ 46 ∷ behind) ≡ count_by is_dot word + (1 + count_by is_dot behind) = sum_by-append ones word (46 ∷ behind) ∙ ap (λ n. count_by is_dot word + n) (sum_by-cons ones 46 behind) in
+    let counted : count_by is_dot (word ++ 46 ∷ behind) ≡ count_by is_dot word + (1 + count_by is_dot behind) =
+    sum_by-append ones word (46 ∷ behind) ∙ ap (λ n. count_by is_dot word + n) (sum_by-cons ones 46 behind) in
     omega (arith, rest, counted, length-slice_split is_dot behind, length-slice_split is_dot (word ++ 46 ∷ behind))
 
 qualified_fit : (scope name : List ℕ) → length (components_of name) ≤ length (components_of (qualified scope name))
 qualified_fit [] name = omega arith
 qualified_fit (byte ∷ scope) name =
-    let counted : count_by is_dot ((byte ∷ scope) ++ 46 ∷ name) ≡ count_by is_dot (byte ∷ scope) + (1 + count_by is_dot name) = sum_by-append ones (byte ∷ scope) (46 ∷ name) ∙ ap (λ n. count_by is_dot (byte ∷ scope) + n) (sum_by-cons ones 46 name) in
+    let counted : count_by is_dot ((byte ∷ scope) ++ 46 ∷ name)
+    ≡ count_by is_dot (byte ∷ scope) + (1 + count_by is_dot name) =
+    sum_by-append ones (byte ∷ scope) (46 ∷ name)
+    ∙ ap (λ n. count_by is_dot (byte ∷ scope) + n) (sum_by-cons ones 46 name) in
     omega (arith, counted, length-slice_split is_dot name, length-slice_split is_dot ((byte ∷ scope) ++ 46 ∷ name))
 
-fits : {files : List File} {file : ℕ} {dot : Bool} {words scopes : List (List ℕ)} {name : List ℕ} → ResolvesIn files file dot words scopes name → length words ≤ length (components_of name)
+fits : {files : List File} {file : ℕ} {dot : Bool} {words scopes : List (List ℕ)} {name : List ℕ}
+    → ResolvesIn files file dot words scopes name → length words ≤ length (components_of name)
 fits (absolute {words = words} known) = words_fit words
 fits (single {word = word} {scope = scope} innermost) = omega (arith, words_fit (word ∷ []), qualified_fit scope word)
 fits (compound {first = first} {second = second} {scope = scope} {others = others} innermost known) =
     omega (arith, words_fit (first ∷ (second ∷ others)), qualified_fit scope (dotted (first ∷ (second ∷ others))))
 
-pub used_fit : (files : List File) (file : ℕ) (type_use : Use) (name : List ℕ) → Resolves files file type_use name → length type_use.components ≤ length (components_of name)
-used_fit files file type_use name r = omega (arith, fits r, length-map type_use.components (λ component. component.name))
+pub used_fit : (files : List File) (file : ℕ) (type_use : Use) (name : List ℕ) → Resolves files file type_use name
+    → length type_use.components ≤ length (components_of name)
+used_fit files file type_use name r =
+    omega (arith, fits r, length-map type_use.components (λ component. component.name))
 
 -- ---- and is that of a type
 
-known_there : {files : List File} {file : ℕ} {admits : NameKind → Bool} {word : List ℕ} {scopes : List (List ℕ)} {scope : List ℕ} → Innermost files file admits word scopes scope → KnowsAs files file admits (qualified scope word)
+known_there : {files : List File} {file : ℕ} {admits : NameKind → Bool} {word : List ℕ} {scopes : List (List ℕ)}
+    {scope : List ℕ} → Innermost files file admits word scopes scope → KnowsAs files file admits (qualified scope word)
 known_there (here known) = known
 known_there (farther absent innermost) = known_there innermost
 
-is_of_type : {files : List File} {file : ℕ} {dot : Bool} {words scopes : List (List ℕ)} {name : List ℕ} → ResolvesIn files file dot words scopes name → KnowsAs files file is_type name
+is_of_type : {files : List File} {file : ℕ} {dot : Bool} {words scopes : List (List ℕ)} {name : List ℕ}
+    → ResolvesIn files file dot words scopes name → KnowsAs files file is_type name
 is_of_type (absolute known) = known
 is_of_type (single innermost) = known_there innermost
 is_of_type (compound innermost known) = known
 
-pub resolved_type : (files : List File) (file : ℕ) (type_use : Use) (name : List ℕ) → Resolves files file type_use name → KnowsAs files file is_type name
+pub resolved_type : (files : List File) (file : ℕ) (type_use : Use) (name : List ℕ) → Resolves files file type_use name
+    → KnowsAs files file is_type name
 resolved_type files file type_use name r = is_of_type r
 
 -- ---- its prefixes are entities of the file that declares it
 
-prefix_entity : {facts : Facts} {name : List ℕ} {kind : NameKind} → PrefixesAreEntities facts → Gives facts name kind → is_type kind ≡ true → (count : ℕ) → 0 < count → count ≤ length (components_of name) → IsEntity facts (prefix_of name count)
+prefix_entity : {facts : Facts} {name : List ℕ} {kind : NameKind} → PrefixesAreEntities facts → Gives facts name kind
+    → is_type kind ≡ true → (count : ℕ) → 0 < count → count ≤ length (components_of name)
+    → IsEntity facts (prefix_of name count)
 prefix_entity {facts = facts} prefixes (gives_declared {declaration = d} listed) admitted count some few =
-    All-contains (λ (declaration : Declaration). (n : ℕ) → 0 < n → n ≤ length (components_of declaration.full_name) → IsEntity facts (prefix_of declaration.full_name n)) facts.declarations d prefixes listed count some few
+    All-contains (λ (declaration : Declaration). (n : ℕ) → 0 < n → n ≤ length (components_of declaration.full_name)
+    → IsEntity facts (prefix_of declaration.full_name n)) facts.declarations d prefixes listed count some few
 prefix_entity prefixes (gives_packaged prefix) admitted count some few = absurd (false≢true admitted)
 
-pub prefix_is_entity : (facts : Facts) (name prefix : List ℕ) (components : List (Bor (List ℕ))) (i : ℕ) → PrefixesAreEntities facts → GivesAs is_type name facts → map (λ c. c.now) components ≡ components_of name → i < length components
+pub prefix_is_entity : (facts : Facts) (name prefix : List ℕ) (components : List (Bor (List ℕ))) (i : ℕ)
+    → PrefixesAreEntities facts → GivesAs is_type name facts → map (λ c. c.now) components ≡ components_of name
+    → i < length components
     → prefix ≡ prefix_of name (i + 1) → IsEntity facts prefix
 prefix_is_entity facts name prefix components i prefixes gives are within is =
     let size = length-map components (λ (c : Bor (List ℕ)). c.now) in
-    subst (IsEntity facts) (sym is) (prefix_entity prefixes gives.gives gives.admitted (i + 1) (omega arith) (omega (arith, within, size, ap length are)))
+    subst (IsEntity facts) (sym is)
+    (prefix_entity prefixes gives.gives gives.admitted (i + 1) (omega arith)
+    (omega (arith, within, size, ap length are)))
 
 -- ---- the parts so far
 
@@ -121,15 +147,22 @@ module _ (number : ℕ) (facts : Facts) (name : List ℕ) (skipped : ℕ) where
   -- what the components from there on name, of the first so many
   pub record AreParts (count : ℕ) (parts : List Entity) : Type 0 where
     pub size : length parts ≡ count - skipped
-    pub each : (j : ℕ) (part : Entity) → slice_get parts j ≡ Some part → IsEntityOf number facts (prefix_of name (skipped + j + 1)) (skipped + j + 1) part
+    pub each : (j : ℕ) (part : Entity) → slice_get parts j ≡ Some part
+        → IsEntityOf number facts (prefix_of name (skipped + j + 1)) (skipped + j + 1) part
 
   pub parts_none : AreParts 0 []
-  parts_none = record { size = omega arith; each = λ j part at. absurd (omega (arith, slice_get_within {A = Entity} [] j part at)) }
+  parts_none = record {
+    size = omega arith;
+    each = λ j part at. absurd (omega (arith, slice_get_within {A = Entity} [] j part at));
+  }
 
-  pub parts_skip : (count : ℕ) (parts : List Entity) → count < skipped → AreParts count parts → AreParts (count + 1) parts
+  pub parts_skip : (count : ℕ) (parts : List Entity) → count < skipped → AreParts count parts
+      → AreParts (count + 1) parts
   parts_skip count parts before so_far = record { size = omega (arith, so_far.size); each = so_far.each }
 
-  pub parts_more : (count : ℕ) (parts : List Entity) (prefix : List ℕ) (part : Entity) → skipped ≤ count → prefix ≡ prefix_of name (count + 1) → IsEntityOf number facts prefix (count + 1) part → AreParts count parts → AreParts (count + 1) (parts ++ part ∷ [])
+  pub parts_more : (count : ℕ) (parts : List Entity) (prefix : List ℕ) (part : Entity) → skipped ≤ count
+      → prefix ≡ prefix_of name (count + 1) → IsEntityOf number facts prefix (count + 1) part → AreParts count parts
+      → AreParts (count + 1) (parts ++ part ∷ [])
   parts_more count parts prefix part behind is entity so_far = record {
     size = omega (arith, length_push parts part, so_far.size);
     each = λ j one at. elim (cases_lt j (length parts)) [
@@ -137,50 +170,79 @@ module _ (number : ℕ) (facts : Facts) (name : List ℕ) (skipped : ℕ) where
       | inr last ↦ (
           let within = slice_get_within (parts ++ part ∷ []) j one at in
           let here_it : j ≡ length parts = omega (arith, length_push parts part) in
-          let stands : slice_get (parts ++ part ∷ []) j ≡ Some part = slice_get-get_or (parts ++ part ∷ []) j part within ∙ ap Some (get_or_push parts part part j (sym here_it)) in
+          let stands : slice_get (parts ++ part ∷ []) j ≡ Some part =
+          slice_get-get_or (parts ++ part ∷ []) j part within
+          ∙ ap Some (get_or_push parts part part j (sym here_it)) in
           let same : one ≡ part = one_Entity one part (sym at ∙ stands) in
           let index : count + 1 ≡ skipped + j + 1 = omega (arith, so_far.size) in
-          subst (λ n. IsEntityOf number facts (prefix_of name n) n one) index (subst (λ f. IsEntityOf number facts f (count + 1) one) is (subst (IsEntityOf number facts prefix (count + 1)) (sym same) entity)))
+          subst (λ n. IsEntityOf number facts (prefix_of name n) n one) index
+          (subst (λ f. IsEntityOf number facts f (count + 1) one) is
+          (subst (IsEntityOf number facts prefix (count + 1)) (sym same) entity)))
     ];
   }
 
-pub parts_all : (number : ℕ) (facts : Facts) (name : List ℕ) (components : List (Bor (List ℕ))) (used skipped count : ℕ) (parts : List Entity) → map (λ c. c.now) components ≡ components_of name → used ≤ length (components_of name)
-    → skipped ≡ length components - used → count ≡ length components → AreParts number facts name skipped count parts → AreEntitiesOf number facts name used parts
+pub parts_all : (number : ℕ) (facts : Facts) (name : List ℕ) (components : List (Bor (List ℕ))) (used skipped count : ℕ)
+    (parts : List Entity) → map (λ c. c.now) components ≡ components_of name → used ≤ length (components_of name)
+    → skipped ≡ length components - used → count ≡ length components → AreParts number facts name skipped count parts
+    → AreEntitiesOf number facts name used parts
 parts_all number facts name components used skipped count parts are few skip all so_far =
-    let size : length components ≡ length (components_of name) = sym (length-map components (λ (c : Bor (List ℕ)). c.now)) ∙ ap length are in
+    let size : length components ≡ length (components_of name) =
+    sym (length-map components (λ (c : Bor (List ℕ)). c.now)) ∙ ap length are in
     let skip_is : skipped ≡ length (components_of name) - used = skip ∙ ap (λ n. n - used) size in
     record {
       one_each = omega (arith, so_far.size, size, few, skip_is, all);
-      each = λ j part at. subst (λ n. IsEntityOf number facts (prefix_of name (n + j + 1)) (n + j + 1) part) skip_is (so_far.each j part at);
+      each = λ j part at. subst (λ n. IsEntityOf number facts (prefix_of name (n + j + 1)) (n + j + 1) part) skip_is
+          (so_far.each j part at);
     }
 
 -- ---- and what a file knows by them
 
-module _ (files : List File) (file seen : ℕ) (facts : Facts) (sees : Sees files file seen) (has : HasFacts files seen facts) where
-  named : (name : List ℕ) (count : ℕ) (part : Entity) → IsEntityOf seen facts (prefix_of name count) count part → IsNamed files file name count part
-  named name count part (packaged prefix) = named_packaged (subst (λ n. Knows files file n OfPackage) (sym prefix.3) (known_packaged sees has prefix.1 prefix.2))
+module _ (files : List File) (file seen : ℕ) (facts : Facts) (sees : Sees files file seen)
+    (has : HasFacts files seen facts) where
+  named : (name : List ℕ) (count : ℕ) (part : Entity) → IsEntityOf seen facts (prefix_of name count) count part
+      → IsNamed files file name count part
+  named name count part (packaged prefix) =
+      named_packaged (subst (λ n. Knows files file n OfPackage) (sym prefix.3)
+      (known_packaged sees has prefix.1 prefix.2))
   named name count part (declared stands is) = named_declared sees has stands is
 
-  pub all_named : (name : List ℕ) (count : ℕ) (parts : List Entity) → AreEntitiesOf seen facts name count parts → AreNamed files file name count parts
-  all_named name count parts are = record { one_each = are.one_each; named = λ j part at. named name (length (components_of name) - count + j + 1) part (are.each j part at) }
+  pub all_named : (name : List ℕ) (count : ℕ) (parts : List Entity) → AreEntitiesOf seen facts name count parts
+      → AreNamed files file name count parts
+  all_named name count parts are =
+      record {
+        one_each = are.one_each;
+        named = λ j part at. named name (length (components_of name) - count + j + 1) part (are.each j part at);
+      }
 
 -- ---- so they are a target
 
 module _ (files : List File) (file : ℕ) (type_use : Use) where
-  target_made : (name : List ℕ) (parts : List Entity) → Resolves files file type_use name → AreNamed files file name (length type_use.components) parts
+  target_made : (name : List ℕ) (parts : List Entity) → Resolves files file type_use name
+      → AreNamed files file name (length type_use.components) parts
       → IsTarget files file type_use (record { name = name; parts = parts })
   target_made name parts resolves are =
       let few = used_fit files file type_use name resolves in
-      record { resolves = resolves; skipped = length (components_of name) - length type_use.components; split = omega (arith, few); one_each = are.one_each; named = are.named }
+      record {
+        resolves = resolves;
+        skipped = length (components_of name) - length type_use.components;
+        split = omega (arith, few);
+        one_each = are.one_each;
+        named = are.named;
+      }
 
-  pub target_is : (name spelled whole : List ℕ) (used : List Component) (parts all : List Entity) → Resolves files file type_use name → spelled ≡ name → used ≡ type_use.components
-      → AreNamed files file spelled (length used) parts → whole ≡ name → all ≡ parts → IsTarget files file type_use (record { name = whole; parts = all })
+  pub target_is : (name spelled whole : List ℕ) (used : List Component) (parts all : List Entity)
+      → Resolves files file type_use name → spelled ≡ name → used ≡ type_use.components
+      → AreNamed files file spelled (length used) parts → whole ≡ name → all ≡ parts
+      → IsTarget files file type_use (record { name = whole; parts = all })
   target_is name spelled whole used parts all resolves spelled_is used_is are whole_is all_is =
-      let its_use : AreNamed files file spelled (length type_use.components) parts = subst (λ (cs : List Component). AreNamed files file spelled (length cs) parts) used_is are in
-      let its_name : AreNamed files file name (length type_use.components) parts = subst (λ (n : List ℕ). AreNamed files file n (length type_use.components) parts) spelled_is its_use in
+      let its_use : AreNamed files file spelled (length type_use.components) parts =
+      subst (λ (cs : List Component). AreNamed files file spelled (length cs) parts) used_is are in
+      let its_name : AreNamed files file name (length type_use.components) parts =
+      subst (λ (n : List ℕ). AreNamed files file n (length type_use.components) parts) spelled_is its_use in
       let made = target_made name parts resolves its_name in
       subst (λ (n : List ℕ). IsTarget files file type_use (record { name = n; parts = all })) (sym whole_is)
-      (subst (λ (ps : List Entity). IsTarget files file type_use (record { name = name; parts = ps })) (sym all_is) made)
+      (subst (λ (ps : List Entity). IsTarget files file type_use (record { name = name; parts = ps }))
+      (sym all_is) made)
 
 -- ---- the file that declares it
 
@@ -188,16 +250,23 @@ pub some_seen : {P : Type 0} (Q : ℕ → Type 0) (found : Option ℕ) → Match
 some_seen Q None none p = absurd (none p)
 some_seen Q (Some number) some p = refl
 
-pub facts_known : (files : List File) (file : ℕ) (admits : NameKind → Bool) (name : List ℕ) (seen : ℕ) → (s : SeesGiving files file admits name seen) → HasFacts files seen s.giving.gives.facts
-facts_known files file admits name seen s = record { file = s.giving.file; numbered = s.giving.numbered; known = s.giving.gives.known }
+pub facts_known : (files : List File) (file : ℕ) (admits : NameKind → Bool) (name : List ℕ) (seen : ℕ)
+    → (s : SeesGiving files file admits name seen) → HasFacts files seen s.giving.gives.facts
+facts_known files file admits name seen s =
+    record { file = s.giving.file; numbered = s.giving.numbered; known = s.giving.gives.known }
 
-pub some_facts : {S : Type 0} (Q : S → Type 0) (files : List File) (seen : ℕ) (facts : Facts) (found : Option S) → HasFacts files seen facts → MatchOption found ((other : Facts) → HasFacts files seen other → ⊥) Q → IsSome found
+pub some_facts : {S : Type 0} (Q : S → Type 0) (files : List File) (seen : ℕ) (facts : Facts) (found : Option S)
+    → HasFacts files seen facts → MatchOption found ((other : Facts) → HasFacts files seen other → ⊥) Q → IsSome found
 some_facts Q files seen facts None has none = absurd (none facts has)
 some_facts Q files seen facts (Some other) has some = refl
 
-pub seen_within_files : (files : List File) (file : ℕ) (admits : NameKind → Bool) (name : List ℕ) (seen : ℕ) → SeesGiving files file admits name seen → seen < length files
+pub seen_within_files : (files : List File) (file : ℕ) (admits : NameKind → Bool) (name : List ℕ) (seen : ℕ)
+    → SeesGiving files file admits name seen → seen < length files
 seen_within_files files file admits name seen s = slice_get_within files seen s.giving.file s.giving.numbered
 
-pub gives_there : (files : List File) (file : ℕ) (admits : NameKind → Bool) (name : List ℕ) (seen : ℕ) (facts : Facts) → SeesGiving files file admits name seen → HasFacts files seen facts → GivesAs admits name facts
+pub gives_there : (files : List File) (file : ℕ) (admits : NameKind → Bool) (name : List ℕ) (seen : ℕ) (facts : Facts)
+    → SeesGiving files file admits name seen → HasFacts files seen facts → GivesAs admits name facts
 gives_there files file admits name seen facts s has =
-    subst (GivesAs admits name) (one_list_of_facts files seen s.giving.gives.facts facts (facts_known files file admits name seen s) has) s.giving.gives.gives
+    subst (GivesAs admits name)
+    (one_list_of_facts files seen s.giving.gives.facts facts (facts_known files file admits name seen s) has)
+    s.giving.gives.gives

@@ -21,7 +21,8 @@ use Rattle.proto_visibility.specs.Kept.{Omissions, AreOmissions}
 
 -- a use names one type at most
 abbrev pub OneNameAUse : Type 0
-OneNameAUse = (files : List File) (file : ℕ) (type_use : Use) (name other : List ℕ) → Resolves files file type_use name → Resolves files file type_use other → name ≡ other
+OneNameAUse = (files : List File) (file : ℕ) (type_use : Use) (name other : List ℕ) → Resolves files file type_use name
+    → Resolves files file type_use other → name ≡ other
 
 -- there is one least file that counts and has no facts
 abbrev pub OneBrokenFile : Type 0
@@ -47,34 +48,43 @@ pub record HasPackage (files : List File) (name : List ℕ) : Type 0 where
 
 -- without a clash a full name is that of one declaration at most, or names packages alone
 abbrev pub OneDeclarationAName : Type 0
-OneDeclarationAName = (files : List File) → HaveOrigins files → NoClash files → (number index other its : ℕ) (a b : Declaration)
-    → IsDeclaredAt files number index a → IsDeclaredAt files other its b → a.full_name ≡ b.full_name → (number ≡ other) × (index ≡ its)
+OneDeclarationAName = (files : List File) → HaveOrigins files → NoClash files
+    → (number index other its : ℕ) (a b : Declaration)
+    → IsDeclaredAt files number index a → IsDeclaredAt files other its b → a.full_name ≡ b.full_name
+    → (number ≡ other) × (index ≡ its)
 
 abbrev pub NoPackageIsDeclared : Type 0
-NoPackageIsDeclared = (files : List File) → HaveOrigins files → NoClash files → (number index : ℕ) (declaration : Declaration)
+NoPackageIsDeclared = (files : List File) → HaveOrigins files → NoClash files
+    → (number index : ℕ) (declaration : Declaration)
     → IsDeclaredAt files number index declaration → HasPackage files declaration.full_name → ⊥
 
 -- so a source knows one entity at most by a name's first components
 abbrev pub OneEntityAName : Type 0
-OneEntityAName = (files : List File) → HaveOrigins files → NoClash files → (source : ℕ) → IsSource files source → (name : List ℕ) (count : ℕ) (a b : Entity)
+OneEntityAName = (files : List File) → HaveOrigins files → NoClash files → (source : ℕ) → IsSource files source
+    → (name : List ℕ) (count : ℕ) (a b : Entity)
     → IsNamed files source name count a → IsNamed files source name count b → a ≡ b
 
 -- and a use in a source has one target at most
 abbrev pub OneTargetAUse : Type 0
-OneTargetAUse = (files : List File) → HaveOrigins files → NoClash files → (source : ℕ) → IsSource files source → (type_use : Use) (a b : Target)
+OneTargetAUse = (files : List File) → HaveOrigins files → NoClash files → (source : ℕ) → IsSource files source
+    → (type_use : Use) (a b : Target)
     → IsTarget files source type_use a → IsTarget files source type_use b → a ≡ b
 
 -- there is one first clash, and one first import of a file that isn't there
 abbrev pub OneClash : Type 0
-OneClash = (files : List File) → HaveOrigins files → (first second other its : FilePlace) → Clash files first second → Clash files other its → (first ≡ other) × (second ≡ its)
+OneClash = (files : List File) → HaveOrigins files → (first second other its : FilePlace) → Clash files first second
+    → Clash files other its → (first ≡ other) × (second ≡ its)
 
 abbrev pub OneAbsence : Type 0
-OneAbsence = (files : List File) → HaveOrigins files → (place other : FilePlace) → Absent files place → Absent files other → place ≡ other
+OneAbsence = (files : List File) → HaveOrigins files → (place other : FilePlace) → Absent files place
+    → Absent files other → place ≡ other
 
 -- what is left out of files with faults is one list, each for one reason
 abbrev pub OneOmissionList : Type 0
-OneOmissionList = (files : List File) → HaveOrigins files → (omissions others : Omissions) → AreOmissions files omissions → AreOmissions files others → omissions ≡ others
+OneOmissionList = (files : List File) → HaveOrigins files → (omissions others : Omissions)
+    → AreOmissions files omissions → AreOmissions files others → omissions ≡ others
 
 -- so files that can't be linked are refused for one reason, but for memory
 abbrev pub OneRefusal : Type 0
-OneRefusal = (files : List File) → HaveOrigins files → (a b : LinkFault) → MayRefuse files a → MayRefuse files b → a ≢ Memory → b ≢ Memory → a ≡ b
+OneRefusal = (files : List File) → HaveOrigins files → (a b : LinkFault) → MayRefuse files a → MayRefuse files b
+    → a ≢ Memory → b ≢ Memory → a ≡ b

@@ -6,7 +6,8 @@ use Rattle.proto_decl.specs.Facts.{Facts}
 use Rattle.proto_decl.specs.declared.type_use.Use.{Use}
 use Rattle.proto_decl.specs.declared.declaration.Declaration.{Declaration}
 use Rattle.proto_visibility.specs.declared.fault.LinkFault.{LinkFault}
-use Rattle.proto_visibility.specs.declared.fault.LinkFault.TheVariants.{Broken, Duplicate, MissingImport, Unresolved, Memory}
+use Rattle.proto_visibility.specs.declared.fault.LinkFault.TheVariants.{Broken, Duplicate, MissingImport, Unresolved}
+use Rattle.proto_visibility.specs.declared.fault.LinkFault.TheVariants.{Memory}
 use Rattle.proto_visibility.specs.declared.entities.Entity.{Entity}
 use Rattle.proto_visibility.specs.declared.entities.Entity.TheVariants.{Package, Declared}
 use Rattle.proto_link.specs.declared.target.Target.{Target}
@@ -20,7 +21,8 @@ use Rattle.proto_link.specs.Resolves.{Resolves}
 pub data IsNamed (files : List File) (file : ℕ) (name : List ℕ) (count : ℕ) : Entity → Type 0 where
   packaged : Knows files file (prefix_of name count) OfPackage → IsNamed files file name count (Package count)
   declared : {seen index : ℕ} {facts : Facts} {declaration : Declaration}
-      → Sees files file seen → HasFacts files seen facts → slice_get facts.declarations index ≡ Some declaration → declaration.full_name ≡ prefix_of name count
+      → Sees files file seen → HasFacts files seen facts → slice_get facts.declarations index ≡ Some declaration
+      → declaration.full_name ≡ prefix_of name count
       → IsNamed files file name count (Declared seen index)
 
 -- Of a use with k components that resolves to a full name of m, the name's first ones, m less k, are skipped: component
@@ -39,7 +41,8 @@ IsUnresolved files file type_use = (name : List ℕ) → Resolves files file typ
 
 -- A use is refused where it names no type, at the place of the whole use. Of memory nothing is said.
 abbrev pub MayRefuseUse : List File → ℕ → Use → LinkFault → Type 0
-MayRefuseUse files file type_use (Unresolved place) = IsUnresolved files file type_use × (place ≡ record { file = file; span = type_use.span })
+MayRefuseUse files file type_use (Unresolved place) =
+    IsUnresolved files file type_use × (place ≡ record { file = file; span = type_use.span })
 MayRefuseUse files file type_use (Broken number) = ⊥
 MayRefuseUse files file type_use (Duplicate first second) = ⊥
 MayRefuseUse files file type_use (MissingImport place) = ⊥

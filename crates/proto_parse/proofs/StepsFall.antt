@@ -11,34 +11,46 @@ use Rattle.proto_parse.specs.Reading.Files.{stripped_at, path_literal_at, statem
 use Rattle.std.proofs.lemmas.Option.{same_Some}
 use Rattle.proto_grammar.proofs.OptionSteps.{guard_some}
 use Rattle.proto_grammar.proofs.UntilLemmas.{Falls, adding-falls}
-use Rattle.proto_parse.proofs.Found.Messages.{enum_item_found, oneof_item_found, extend_item_found, message_item_found, message_found, method_item_found, service_item_found}
+use Rattle.proto_parse.proofs.Found.Messages.{enum_item_found, oneof_item_found, extend_item_found, message_item_found}
+use Rattle.proto_parse.proofs.Found.Messages.{message_found, method_item_found, service_item_found}
 use Rattle.proto_parse.proofs.Found.Files.{path_literal_found, statement_found}
-use Rattle.proto_parse.proofs.Shorter.{enum_item_shorter, oneof_item_shorter, extend_item_shorter, message_item_shorter, message_shorter, method_item_shorter, service_item_shorter, path_literal_shorter, statement_shorter}
+use Rattle.proto_parse.proofs.Shorter.{enum_item_shorter, oneof_item_shorter, extend_item_shorter, message_item_shorter}
+use Rattle.proto_parse.proofs.Shorter.{message_shorter, method_item_shorter, service_item_shorter, path_literal_shorter}
+use Rattle.proto_parse.proofs.Shorter.{statement_shorter}
 
 pub enum_items_fall : (custom : CustomOptions) → Falls (adding (enum_item_at custom))
-enum_items_fall custom = adding-falls (enum_item_at custom) (λ tokens x e. enum_item_shorter custom tokens x.1 x.0 (enum_item_found custom tokens x e))
+enum_items_fall custom =
+    adding-falls (enum_item_at custom)
+    (λ tokens x e. enum_item_shorter custom tokens x.1 x.0 (enum_item_found custom tokens x e))
 
 pub oneof_items_fall : (custom : CustomOptions) → Falls (adding (oneof_item_at custom))
-oneof_items_fall custom = adding-falls (oneof_item_at custom) (λ tokens x e. oneof_item_shorter custom tokens x.1 x.0 (oneof_item_found custom tokens x e))
+oneof_items_fall custom =
+    adding-falls (oneof_item_at custom)
+    (λ tokens x e. oneof_item_shorter custom tokens x.1 x.0 (oneof_item_found custom tokens x e))
 
 pub extend_items_fall : Falls (passing extend_item_at)
 extend_items_fall s tokens x e = extend_item_shorter tokens x.1 (extend_item_found tokens x e)
 
-pub message_items_fall : (custom : CustomOptions) (levels : ℕ) → Falls (adding (message_item_at custom (message_at custom levels)))
+pub message_items_fall : (custom : CustomOptions) (levels : ℕ)
+    → Falls (adding (message_item_at custom (message_at custom levels)))
 message_items_fall custom levels =
     adding-falls (message_item_at custom (message_at custom levels))
     (λ tokens x e.
     message_item_shorter custom (IsMessage custom levels) (message_shorter custom levels) tokens x.1 x.0
-    (message_item_found custom (message_at custom levels) (IsMessage custom levels) (message_found custom levels) tokens x e))
+    (message_item_found custom (message_at custom levels) (IsMessage custom levels)
+    (message_found custom levels) tokens x e))
 
 pub method_items_fall : (custom : CustomOptions) → Falls (passing (method_item_at custom))
 method_items_fall custom s tokens x e = method_item_shorter custom tokens x.1 (method_item_found custom tokens x e)
 
 pub service_items_fall : (custom : CustomOptions) → Falls (adding (service_item_at custom))
-service_items_fall custom = adding-falls (service_item_at custom) (λ tokens x e. service_item_shorter custom tokens x.1 x.0 (service_item_found custom tokens x e))
+service_items_fall custom =
+    adding-falls (service_item_at custom)
+    (λ tokens x e. service_item_shorter custom tokens x.1 x.0 (service_item_found custom tokens x e))
 
 pub path_literals_fall : Falls (adding path_literal_at)
-path_literals_fall = adding-falls path_literal_at (λ tokens x e. path_literal_shorter tokens x.1 x.0 (path_literal_found tokens x e))
+path_literals_fall = adding-falls path_literal_at
+    (λ tokens x e. path_literal_shorter tokens x.1 x.0 (path_literal_found tokens x e))
 
 pub stripped_falls : Falls stripped_at
 unfolding stripped_at

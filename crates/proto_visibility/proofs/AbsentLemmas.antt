@@ -1,12 +1,15 @@
 -- The first import that isn't there.
-use Rattle.std.proofs.Common.{◌≡◌, ◌↔◌, ◌⊎◌, inl, inr, ℕ, ◌+◌, ◌<◌, ◌≤◌, Bool, true, false, IsTrue, not, ◌||◌, ◌&&◌, zero, suc, List, [], ◌∷◌, ◌++◌, if◌then◌else◌, length, get_or, map, take, Option, Some, None, refl, ap, sym, ◌∙◌, subst, arith}
+use Rattle.std.proofs.Common.{◌≡◌, ◌↔◌, ◌⊎◌, inl, inr, ℕ, ◌+◌, ◌<◌, ◌≤◌, Bool, true, false, IsTrue, not, ◌||◌, ◌&&◌}
+use Rattle.std.proofs.Common.{zero, suc, List, [], ◌∷◌, ◌++◌, if◌then◌else◌, length, get_or, map, take, Option, Some}
+use Rattle.std.proofs.Common.{None, refl, ap, sym, ◌∙◌, subst, arith}
 use Rattle.std.specs.List.{Contains, slice_get, flat_map}
 use Rattle.std.specs.List.Sorted.{IsStrictlyIncreasing}
 use Rattle.std.specs.Option.{is_none}
 use Rattle.std.proofs.lemmas.Bool.{cases_lt, cases_Bool, false≢true, and_parts, or_cases}
 use Rattle.std.proofs.lemmas.Option.{slice_get_within, slice_get-get_or, slice_get-map, get_or_from_slice_get}
 use Rattle.std.proofs.lemmas.List.{get_or_default, take_all, flat_map_more}
-use Rattle.std.proofs.lemmas.List.Elements.{Contains-get_or, Contains-append_left, Contains-append_right, Contains-append_cases}
+use Rattle.std.proofs.lemmas.List.Elements.{Contains-get_or, Contains-append_left, Contains-append_right}
+use Rattle.std.proofs.lemmas.List.Elements.{Contains-append_cases}
 use Rattle.proto_lex.specs.declared.span.Span.{Span}
 use Rattle.proto_lex.specs.Lexed.{AreInOrder}
 use Rattle.proto_decl.specs.Facts.{Facts, ImportsInOrder}
@@ -19,12 +22,15 @@ use Rattle.proto_visibility.specs.Sees.SeesBy.{itself}
 use Rattle.proto_visibility.specs.Items.{Before}
 use Rattle.proto_visibility.specs.Absences.{IsNeeded, IsMissing, Absent, NoAbsent, AreMissing}
 use Rattle.proto_visibility.specs.Absences.IsNeeded.{of_source, of_included}
-use Rattle.proto_visibility.specs.Tables.ImportTables.{imports_in, imports_of, is_absent, absent_at, absents_of, absents_at, NoneIsAbsent, IsFirstAbsent}
+use Rattle.proto_visibility.specs.Tables.ImportTables.{imports_in, imports_of, is_absent, absent_at, absents_of}
+use Rattle.proto_visibility.specs.Tables.ImportTables.{absents_at, NoneIsAbsent, IsFirstAbsent}
 use Rattle.proto_visibility.proofs.FileRowLemmas.{not_falling}
 
 -- ---- imports in order
 
-behind_place : (imports : List Imported) (place k : ℕ) (import : Imported) → AreInOrder place (map (λ imported. imported.span) imports) → slice_get imports k ≡ Some import → place ≤ import.span.start
+behind_place : (imports : List Imported) (place k : ℕ) (import : Imported)
+    → AreInOrder place (map (λ imported. imported.span) imports) → slice_get imports k ≡ Some import
+    → place ≤ import.span.start
 behind_place [] place k import order stands = absurd (cc)
 behind_place (one ∷ imports) place zero import order stands =
     let same : one ≡ import = one_Imported one import stands in
@@ -35,7 +41,9 @@ behind_place (one ∷ imports) place zero import order stands =
 behind_place (one ∷ imports) place (suc k) import order stands =
     let rest = behind_place imports one.span.end k import order.2 stands in omega (arith, order.0, order.1)
 
-starts_rise : (imports : List Imported) (place j k : ℕ) (a b : Imported) → AreInOrder place (map (λ imported. imported.span) imports) → slice_get imports j ≡ Some a → slice_get imports k ≡ Some b → j ≤ k → a.span.start ≤ b.span.start
+starts_rise : (imports : List Imported) (place j k : ℕ) (a b : Imported)
+    → AreInOrder place (map (λ imported. imported.span) imports) → slice_get imports j ≡ Some a
+    → slice_get imports k ≡ Some b → j ≤ k → a.span.start ≤ b.span.start
 starts_rise [] place j k a b order at there h = absurd (cc)
 starts_rise (one ∷ imports) place zero zero a b order at there h =
     let same : a ≡ b = both a b (sym at ∙ there) in
@@ -51,7 +59,8 @@ starts_rise (one ∷ imports) place zero (suc k) a b order at there h =
     both : (x y : Imported) → Some x ≡ Some y → x ≡ y
     both x y e = cc
 starts_rise (one ∷ imports) place (suc j) zero a b order at there h = absurd (omega arith)
-starts_rise (one ∷ imports) place (suc j) (suc k) a b order at there h = starts_rise imports one.span.end j k a b order.2 at there (omega arith)
+starts_rise (one ∷ imports) place (suc j) (suc k) a b order at there h =
+    starts_rise imports one.span.end j k a b order.2 at there (omega arith)
 
 -- ---- lists of lists
 
@@ -78,12 +87,15 @@ given_by : {X A : Type 0} (f : X → List A) (xs : List X) (y : A) → Contains 
 given_by f [] y there = absurd (omega (arith, there.1))
 given_by f (x ∷ xs) y there = elim (Contains-append_cases (f x) (flat_map f xs) y there) [
   | inl here ↦ record { x = x; index = zero; stands = refl; given = here }
-  | inr later ↦ (let by = given_by f xs y later in record { x = by.x; index = suc by.index; stands = by.stands; given = by.given })
+  | inr later ↦ (let by = given_by f xs y later in
+      record { x = by.x; index = suc by.index; stands = by.stands; given = by.given })
 ]
 
-gives : {X A : Type 0} (f : X → List A) (xs : List X) (k : ℕ) (x : X) (y : A) → slice_get xs k ≡ Some x → Contains (f x) y → Contains (flat_map f xs) y
+gives : {X A : Type 0} (f : X → List A) (xs : List X) (k : ℕ) (x : X) (y : A) → slice_get xs k ≡ Some x
+    → Contains (f x) y → Contains (flat_map f xs) y
 gives f [] k x y e given = absurd (cc)
-gives f (z ∷ zs) zero x y e given = Contains-append_left (f z) (flat_map f zs) y (subst (λ w. Contains (f w) y) (sym (one z x e)) given)
+gives f (z ∷ zs) zero x y e given =
+    Contains-append_left (f z) (flat_map f zs) y (subst (λ w. Contains (f w) y) (sym (one z x e)) given)
   where
     one : {Z : Type 0} (a b : Z) → Some a ≡ Some b → a ≡ b
     one a b h = cc
@@ -95,12 +107,15 @@ take_next (y ∷ ys) zero x e = let same : y ≡ x = one y x e in ap (λ z. z �
   where
     one : {Z : Type 0} (a b : Z) → Some a ≡ Some b → a ≡ b
     one a b h = cc
-take_next (y ∷ ys) (suc k) x e = let next : suc k + 1 ≡ suc (k + 1) = omega arith in rw next (ap (λ zs. y ∷ zs) (take_next ys k x e))
+take_next (y ∷ ys) (suc k) x e = let next : suc k + 1 ≡ suc (k + 1) = omega arith in
+    rw next (ap (λ zs. y ∷ zs) (take_next ys k x e))
 
 -- what one more gives
-pub given_next : {X A : Type 0} (f : X → List A) (xs : List X) (k : ℕ) (x : X) (old new : List A) → slice_get xs k ≡ Some x → old ≡ flat_map f (take k xs) → new ≡ old ++ f x → new ≡ flat_map f (take (k + 1) xs)
+pub given_next : {X A : Type 0} (f : X → List A) (xs : List X) (k : ℕ) (x : X) (old new : List A)
+    → slice_get xs k ≡ Some x → old ≡ flat_map f (take k xs) → new ≡ old ++ f x → new ≡ flat_map f (take (k + 1) xs)
 given_next f xs k x old new stands before now =
-    now ∙ (ap (λ ys. ys ++ f x) before ∙ (flat_map_more f [] (take k xs) x ∙ ap (flat_map f) (sym (take_next xs k x stands))))
+    now ∙ (ap (λ ys. ys ++ f x) before
+    ∙ (flat_map_more f [] (take k xs) x ∙ ap (flat_map f) (sym (take_next xs k x stands))))
 
 if_so : {X : Type 0} (b : Bool) (x y : X) → Contains (if b then x ∷ [] else []) y → (b ≡ true) × (x ≡ y)
 if_so true x y there = (refl, only x y there)
@@ -114,17 +129,21 @@ so false x y e same = absurd (false≢true e)
 
 -- in the first so many files of the row no import is absent
 abbrev pub NoneUpTo : List File → (List ℕ → Option ℕ) → (row : List ℕ) → (count : ℕ) → Type 0
-NoneUpTo files number row count = (k : ℕ) (file : File) → k < count → slice_get files (get_or row k 0) ≡ Some file → NoneIsAbsent number file.is_included (imports_of file)
+NoneUpTo files number row count = (k : ℕ) (file : File) → k < count → slice_get files (get_or row k 0) ≡ Some file
+    → NoneIsAbsent number file.is_included (imports_of file)
 
-module _ (files : List File) (number : List ℕ → Option ℕ) (numbered : (path : List ℕ) (k : ℕ) → (number path ≡ Some k) ↔ HasPathAt files path k) where
+module _ (files : List File) (number : List ℕ → Option ℕ)
+    (numbered : (path : List ℕ) (k : ℕ) → (number path ≡ Some k) ↔ HasPathAt files path k) where
   has_path : (path : List ℕ) → HasPath files path → is_none (number path) ≡ false
   has_path path there =
-      let at : slice_get (map (λ file. file.path) files) there.0 ≡ Some path = slice_get-get_or (map (λ file. file.path) files) there.0 path there.1 ∙ ap Some there.2 in
+      let at : slice_get (map (λ file. file.path) files) there.0 ≡ Some path =
+      slice_get-get_or (map (λ file. file.path) files) there.0 path there.1 ∙ ap Some there.2 in
       let file = file_with files there.0 path at in
       let found = (numbered path there.0).1 file in
       ap is_none found
     where
-      file_with : (fs : List File) (k : ℕ) (p : List ℕ) → slice_get (map (λ file. file.path) fs) k ≡ Some p → (file : File) × (slice_get fs k ≡ Some file) × (file.path ≡ p)
+      file_with : (fs : List File) (k : ℕ) (p : List ℕ) → slice_get (map (λ file. file.path) fs) k ≡ Some p
+          → (file : File) × (slice_get fs k ≡ Some file) × (file.path ≡ p)
       file_with [] k p e = absurd (cc)
       file_with (f ∷ fs) zero p e = (f, refl, one f.path p e)
         where
@@ -147,7 +166,8 @@ module _ (files : List File) (number : List ℕ → Option ℕ) (numbered : (pat
 
       path_at : (file : File) (k : ℕ) → slice_get files k ≡ Some file → file.path ≡ path → HasPath files path
       path_at file k stands is =
-          let at : slice_get (map (λ f. f.path) files) k ≡ Some file.path = slice_get-map (λ f. f.path) files k ∙ ap (option_map_path) stands in
+          let at : slice_get (map (λ f. f.path) files) k ≡ Some file.path =
+          slice_get-map (λ f. f.path) files k ∙ ap (option_map_path) stands in
           let within = slice_get_within (map (λ f. f.path) files) k file.path at in
           (k, within, get_or_from_slice_get (map (λ f. f.path) files) k file.path path at ∙ is)
         where
@@ -155,7 +175,8 @@ module _ (files : List File) (number : List ℕ → Option ℕ) (numbered : (pat
           option_map_path None = None
           option_map_path (Some f) = Some f.path
 
-  pub path_iff : (path : List ℕ) (found : Bool) → found ≡ not (is_none (number path)) → IsTrue found ↔ HasPath files path
+  pub path_iff : (path : List ℕ) (found : Bool) → found ≡ not (is_none (number path)) → IsTrue found
+      ↔ HasPath files path
   path_iff path found is = (
     λ t. path_if path (not_true (is_none (number path)) (sym is ∙ t)),
     λ there. is ∙ ap not (has_path path there),
@@ -166,12 +187,15 @@ module _ (files : List File) (number : List ℕ → Option ℕ) (numbered : (pat
       not_true false e = refl
 
   -- the needed imports that miss a file are the absent ones of the files that count
-  needed_from : (file : File) (k : ℕ) (facts : Facts) (import : Imported) → Counts files k → slice_get files k ≡ Some file → file.facts ≡ Some facts → Contains facts.imports import
+  needed_from : (file : File) (k : ℕ) (facts : Facts) (import : Imported) → Counts files k
+      → slice_get files k ≡ Some file → file.facts ≡ Some facts → Contains facts.imports import
       → (not file.is_included || is_public import.kind) ≡ true → IsNeeded files k import
-  needed_from file k facts import counts stands known listed needed = elim (or_cases (not file.is_included) (is_public import.kind) needed) [
-    | inl source ↦ of_source (record { file = file; numbered = stands; source = is_false file.is_included source }) (record { file = file; numbered = stands; known = known }) listed
-    | inr public ↦ of_included counts (record { file = file; numbered = stands; known = known }) listed public
-  ]
+  needed_from file k facts import counts stands known listed needed =
+      elim (or_cases (not file.is_included) (is_public import.kind) needed) [
+        | inl source ↦ of_source (record { file = file; numbered = stands; source = is_false file.is_included source })
+            (record { file = file; numbered = stands; known = known }) listed
+        | inr public ↦ of_included counts (record { file = file; numbered = stands; known = known }) listed public
+      ]
     where
       is_false : (b : Bool) → not b ≡ true → b ≡ false
       is_false true e = sym e
@@ -198,7 +222,8 @@ module _ (files : List File) (number : List ℕ → Option ℕ) (numbered : (pat
         file = is.file;
         stands = is.numbered;
         counts = seen is itself;
-        listed = subst (λ f. Contains (imports_in f) import) (sym (ap (λ (f : File). f.facts) same ∙ known.known)) listed;
+        listed = subst (λ f. Contains (imports_in f) import)
+            (sym (ap (λ (f : File). f.facts) same ∙ known.known)) listed;
         needed = subst (λ b. (not b || is_public import.kind) ≡ true) (sym is.source) refl;
       }
   needs k import (of_included counts known listed public) = record {
@@ -214,14 +239,21 @@ module _ (files : List File) (number : List ℕ → Option ℕ) (numbered : (pat
       last false = refl
 
   -- a missing import is an absent one at some index of its file
-  index_of : (place : FilePlace) (m : IsMissing files place) → (file : File) × (slice_get files place.file ≡ Some file) × Counts files place.file
-      × ((index : ℕ) × (slice_get (imports_of file) index ≡ Some m.import) × (is_absent number file.is_included m.import ≡ true))
+  index_of : (place : FilePlace) (m : IsMissing files place)
+      → (file : File) × (slice_get files place.file ≡ Some file) × Counts files place.file
+      × ((index : ℕ) × (slice_get (imports_of file) index ≡ Some m.import)
+      × (is_absent number file.is_included m.import ≡ true))
   index_of place m =
       let n = needs place.file m.import m.needed in (
         n.file,
         n.stands,
         n.counts,
-        (n.listed.0, slice_get-get_or (imports_of n.file) n.listed.0 m.import n.listed.1 ∙ ap Some n.listed.2, both (not n.file.is_included || is_public m.import.kind) (is_none (number m.import.path)) n.needed (none_if m)),
+        (
+          n.listed.0,
+          slice_get-get_or (imports_of n.file) n.listed.0 m.import n.listed.1 ∙ ap Some n.listed.2,
+          both (not n.file.is_included || is_public m.import.kind) (is_none (number m.import.path)) n.needed
+              (none_if m),
+        ),
       )
     where
       both : (x y : Bool) → x ≡ true → y ≡ true → (x && y) ≡ true
@@ -229,9 +261,11 @@ module _ (files : List File) (number : List ℕ → Option ℕ) (numbered : (pat
       both false y h e = absurd (false≢true h)
 
       none_if : (n : IsMissing files place) → is_none (number n.import.path) ≡ true
-      none_if n = elim (cases_Bool (is_none (number n.import.path))) [ inl t ↦ t | inr f ↦ absurd (n.missing (path_if n.import.path f)) ]
+      none_if n = elim (cases_Bool (is_none (number n.import.path)))
+          [ inl t ↦ t | inr f ↦ absurd (n.missing (path_if n.import.path f)) ]
 
-  facts_at : (f : File) (import : Imported) → Contains (imports_of f) import → (facts : Facts) × (f.facts ≡ Some facts) × Contains facts.imports import
+  facts_at : (f : File) (import : Imported) → Contains (imports_of f) import
+      → (facts : Facts) × (f.facts ≡ Some facts) × Contains facts.imports import
   facts_at f import there = elim (cases f.facts) [
     | inl absent ↦ absurd (omega (arith, (subst (λ g. Contains (imports_in g) import) absent there).1))
     | inr some ↦ (some.0, some.1, subst (λ g. Contains (imports_in g) import) some.1 there)
@@ -242,23 +276,32 @@ module _ (files : List File) (number : List ℕ → Option ℕ) (numbered : (pat
       cases (Some x) = inr (x, refl)
 
   -- an import that is absent misses a file
-  missing_at : (file : File) (k : ℕ) (import : Imported) → Counts files k → slice_get files k ≡ Some file → Contains (imports_of file) import → is_absent number file.is_included import ≡ true
+  missing_at : (file : File) (k : ℕ) (import : Imported) → Counts files k → slice_get files k ≡ Some file
+      → Contains (imports_of file) import → is_absent number file.is_included import ≡ true
       → IsMissing files (record { file = k; span = import.span })
   missing_at file k import counts stands listed absent =
       let parts = and_parts (not file.is_included || is_public import.kind) (is_none (number import.path)) absent in
       let facts = facts_at file import listed in
-      record { import = import; needed = needed_from file k facts.0 import counts stands facts.1 facts.2 parts.0; stands = refl; missing = no_path import.path parts.1 }
+      record {
+        import = import;
+        needed = needed_from file k facts.0 import counts stands facts.1 facts.2 parts.0;
+        stands = refl;
+        missing = no_path import.path parts.1;
+      }
 
   -- ---- the search along the row of those that count
 
   module _ (row : List ℕ) (counted : (k : ℕ) → Contains row k ↔ Counts files k) where
     place_in_row : (k : ℕ) → Counts files k → (i : ℕ) × (i < length row) × (get_or row i 0 ≡ k)
-    place_in_row k counts = let there = (counted k).1 counts in (there.0, there.1, get_or_default row there.0 0 k there.1 ∙ there.2)
+    place_in_row k counts = let there = (counted k).1 counts in
+        (there.0, there.1, get_or_default row there.0 0 k there.1 ∙ there.2)
 
-    not_in_front : (count : ℕ) (place : FilePlace) → NoneUpTo files number row count → (m : IsMissing files place) → (i : ℕ) → i < count → get_or row i 0 ≡ place.file → ⊥
+    not_in_front : (count : ℕ) (place : FilePlace) → NoneUpTo files number row count → (m : IsMissing files place)
+        → (i : ℕ) → i < count → get_or row i 0 ≡ place.file → ⊥
     not_in_front count place none m i h is =
         let at = index_of place m in
-        let absent = none i at.0 h (ap (slice_get files) is ∙ at.1) at.3.0 m.import (slice_get_within (imports_of at.0) at.3.0 m.import at.3.1) at.3.1 in
+        let absent = none i at.0 h (ap (slice_get files) is ∙ at.1) at.3.0 m.import
+        (slice_get_within (imports_of at.0) at.3.0 m.import at.3.1) at.3.1 in
         false≢true (sym absent ∙ at.3.2)
 
     pub none_absent : (count : ℕ) → length row ≤ count → NoneUpTo files number row count → NoAbsent files
@@ -267,7 +310,9 @@ module _ (files : List File) (number : List ℕ → Option ℕ) (numbered : (pat
         let i = place_in_row place.file at.2 in
         not_in_front count place none m i.0 (omega (arith, i.1)) i.2
 
-    pub none_more : (count : ℕ) (file : File) (k : ℕ) → k ≡ get_or row count 0 → slice_get files k ≡ Some file → NoneIsAbsent number file.is_included (imports_of file) → NoneUpTo files number row count → NoneUpTo files number row (count + 1)
+    pub none_more : (count : ℕ) (file : File) (k : ℕ) → k ≡ get_or row count 0 → slice_get files k ≡ Some file
+        → NoneIsAbsent number file.is_included (imports_of file) → NoneUpTo files number row count
+        → NoneUpTo files number row (count + 1)
     none_more count file k is stands here none i other h at = elim (cases_lt i count) [
       | inl before ↦ none i other before at
       | inr last ↦ (
@@ -276,11 +321,15 @@ module _ (files : List File) (number : List ℕ → Option ℕ) (numbered : (pat
           subst (λ f. NoneIsAbsent number f.is_included (imports_of f)) equal here)
     ]
 
-    pub is_absent_place : (count : ℕ) (file : File) (k : ℕ) (span : Span) → IsStrictlyIncreasing row → count < length row → k ≡ get_or row count 0 → slice_get files k ≡ Some file
-        → NoneUpTo files number row count → ImportsInOrder (imports_of file) → IsFirstAbsent number file.is_included (imports_of file) span → Absent files (record { file = k; span = span })
+    pub is_absent_place : (count : ℕ) (file : File) (k : ℕ) (span : Span) → IsStrictlyIncreasing row
+        → count < length row → k ≡ get_or row count 0 → slice_get files k ≡ Some file
+        → NoneUpTo files number row count → ImportsInOrder (imports_of file)
+        → IsFirstAbsent number file.is_included (imports_of file) span → Absent files (record { file = k; span = span })
     is_absent_place count file k span rises within is stands none order first =
-        let counts : Counts files k = (counted k).0 (subst (Contains row) (sym is) (Contains-get_or row count 0 within)) in
-        let parts = and_parts (not file.is_included || is_public first.import.kind) (is_none (number first.import.path)) first.absent in
+        let counts : Counts files k =
+        (counted k).0 (subst (Contains row) (sym is) (Contains-get_or row count 0 within)) in
+        let parts = and_parts (not file.is_included || is_public first.import.kind)
+        (is_none (number first.import.path)) first.absent in
         let facts = facts_at file first.import (contained (imports_of file) first.index first.import first.stands) in
         record {
           missing = record {
@@ -292,16 +341,20 @@ module _ (files : List File) (number : List ℕ → Option ℕ) (numbered : (pat
           least = λ other m before. least other m before;
         }
       where
-        same_file : (other : FilePlace) → (m : IsMissing files other) → other.file ≡ k → other.span.start < span.start → ⊥
+        same_file : (other : FilePlace) → (m : IsMissing files other) → other.file ≡ k → other.span.start < span.start
+            → ⊥
         same_file other m here less =
             let at = index_of other m in
             let equal : at.0 ≡ file = one_File at.0 file (sym at.1 ∙ (ap (slice_get files) here ∙ stands)) in
-            let stands_at : slice_get (imports_of file) at.3.0 ≡ Some m.import = subst (λ f. slice_get (imports_of f) at.3.0 ≡ Some m.import) equal at.3.1 in
-            let absent_at : is_absent number file.is_included m.import ≡ true = subst (λ f. is_absent number f.is_included m.import ≡ true) equal at.3.2 in
+            let stands_at : slice_get (imports_of file) at.3.0 ≡ Some m.import =
+            subst (λ f. slice_get (imports_of f) at.3.0 ≡ Some m.import) equal at.3.1 in
+            let absent_at : is_absent number file.is_included m.import ≡ true =
+            subst (λ f. is_absent number f.is_included m.import ≡ true) equal at.3.2 in
             elim (cases_lt at.3.0 first.index) [
               | inl prefix ↦ false≢true (sym (first.first at.3.0 m.import prefix stands_at) ∙ absent_at)
               | inr behind ↦ (
-                  let rise = starts_rise (imports_of file) 0 first.index at.3.0 first.import m.import order first.stands stands_at behind in
+                  let rise = starts_rise (imports_of file) 0 first.index at.3.0 first.import m.import order first.stands
+                  stands_at behind in
                   let a = ap (λ (s : Span). s.start) first.place in
                   let b = ap (λ (s : Span). s.start) m.stands in
                   omega arith)
@@ -330,16 +383,23 @@ module _ (files : List File) (number : List ℕ → Option ℕ) (numbered : (pat
           gives (absents_at files number) row in_row.0 place.file place (at_contained row place.file in_row)
           (subst (λ o. Contains (absents_of number place.file o) place) (sym at.1)
           (gives (absent_at number at.0.is_included place.file) (imports_of at.0) at.3.0 m.import place at.3.1
-          (so (is_absent number at.0.is_included m.import) (record { file = place.file; span = m.import.span }) place at.3.2 (λ i. record { file = place.file; span = m.stands i })))),
+          (so (is_absent number at.0.is_included m.import)
+          (record { file = place.file; span = m.import.span }) place at.3.2
+          (λ i. record { file = place.file; span = m.stands i })))),
     )
       where
-        of_file : (k : ℕ) → Counts files k → (of : Option File) → slice_get files k ≡ of → Contains (absents_of number k of) place → IsMissing files place
+        of_file : (k : ℕ) → Counts files k → (of : Option File) → slice_get files k ≡ of
+            → Contains (absents_of number k of) place → IsMissing files place
         of_file k counts None stands there = absurd (omega (arith, there.1))
         of_file k counts (Some file) stands there =
             let by = given_by (absent_at number file.is_included k) (imports_of file) place there in
-            let is = if_so (is_absent number file.is_included by.x) (record { file = k; span = by.x.span }) place by.given in
-            subst (IsMissing files) is.1 (missing_at file k by.x counts stands (contained (imports_of file) by.index by.x by.stands) is.0)
+            let is = if_so (is_absent number file.is_included by.x)
+            (record { file = k; span = by.x.span }) place by.given in
+            subst (IsMissing files) is.1
+            (missing_at file k by.x counts stands (contained (imports_of file) by.index by.x by.stands) is.0)
 
-    pub all_missing : (count : ℕ) (places : List FilePlace) → length row ≤ count → places ≡ flat_map (absents_at files number) (take count row) → AreMissing files places
+    pub all_missing : (count : ℕ) (places : List FilePlace) → length row ≤ count
+        → places ≡ flat_map (absents_at files number) (take count row) → AreMissing files places
     all_missing count places all is =
-        subst (AreMissing files) (sym (is ∙ ap (flat_map (absents_at files number)) (take_all count row all))) are_missing
+        subst (AreMissing files)
+        (sym (is ∙ ap (flat_map (absents_at files number)) (take_all count row all))) are_missing

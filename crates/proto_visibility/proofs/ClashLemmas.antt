@@ -1,5 +1,6 @@
 -- The first clash of names, over items in order of place.
-use Rattle.std.proofs.Common.{◌≡◌, ◌↔◌, ◌⊎◌, inl, inr, ℕ, ◌+◌, ◌<◌, ◌≤◌, Bool, true, false, ◌||◌, List, length, Option, Some, None, MatchOption, is_some, cond, refl, ap, sym, ◌∙◌, subst, arith}
+use Rattle.std.proofs.Common.{◌≡◌, ◌↔◌, ◌⊎◌, inl, inr, ℕ, ◌+◌, ◌<◌, ◌≤◌, Bool, true, false, ◌||◌, List, length, Option}
+use Rattle.std.proofs.Common.{Some, None, MatchOption, is_some, cond, refl, ap, sym, ◌∙◌, subst, arith}
 use Rattle.std.specs.List.{Contains, slice_get}
 use Rattle.std.specs.Str.{bytes_eq}
 use Rattle.std.specs.HashMap.{HashMap}
@@ -10,7 +11,8 @@ use Rattle.std.proofs.lemmas.Slice.Eq.{bytes_eq-Decides}
 use Rattle.proto_visibility.specs.declared.place.FilePlace.{FilePlace}
 use Rattle.proto_visibility.specs.Items.{Before, Item}
 use Rattle.proto_visibility.specs.Clashes.{Excludes, ClashBy, NoClashBy}
-use Rattle.proto_visibility.specs.Tables.NameTables.{AreInPlace, HasNone, IsFirstNamed, AreFirst, place_if_declared, clash_with}
+use Rattle.proto_visibility.specs.Tables.NameTables.{AreInPlace, HasNone, IsFirstNamed, AreFirst, place_if_declared}
+use Rattle.proto_visibility.specs.Tables.NameTables.{clash_with}
 use Rattle.proto_visibility.specs.Tables.ImportTables.{number_in}
 
 -- ---- places
@@ -28,24 +30,30 @@ pub contained_at : (items : List Item) (item : Item) → Contains items item →
 contained_at items item there = (there.0, slice_get-get_or items there.0 item there.1 ∙ ap Some there.2)
 
 pub contains_at : (items : List Item) (k : ℕ) (item : Item) → slice_get items k ≡ Some item → Contains items item
-contains_at items k item stands = (k, slice_get_within items k item stands, get_or_from_slice_get items k item item stands)
+contains_at items k item stands =
+    (k, slice_get_within items k item stands, get_or_from_slice_get items k item item stands)
 
 module _ (items : List Item) (placed : AreInPlace items) where
-  pub in_order : (j k : ℕ) (a b : Item) → slice_get items j ≡ Some a → slice_get items k ≡ Some b → Before a.place b.place → j < k
+  pub in_order : (j k : ℕ) (a b : Item) → slice_get items j ≡ Some a → slice_get items k ≡ Some b
+      → Before a.place b.place → j < k
   in_order j k a b at there before = elim (cases_order j k) [
     | inl same ↦ (
         let equal : a ≡ b = one_Item a b (sym at ∙ (ap (slice_get items) same ∙ there)) in
         let itself = subst (λ (x : Item). Before x.place b.place) equal before in
         absurd (never_both b.place b.place itself itself))
-    | inr apart ↦ elim apart [ inl less ↦ less | inr more ↦ absurd (never_both a.place b.place before (placed k j b a more there at)) ]
+    | inr apart ↦ elim apart
+        [ inl less ↦ less | inr more ↦ absurd (never_both a.place b.place before (placed k j b a more there at)) ]
   ]
 
-  pub one_index : (j k : ℕ) (a b : Item) → slice_get items j ≡ Some a → slice_get items k ≡ Some b → a.place ≡ b.place → j ≡ k
+  pub one_index : (j k : ℕ) (a b : Item) → slice_get items j ≡ Some a → slice_get items k ≡ Some b → a.place ≡ b.place
+      → j ≡ k
   one_index j k a b at there same = elim (cases_order j k) [
     | inl is ↦ is
     | inr apart ↦ elim apart [
-      | inl less ↦ (let before = subst (λ p. Before p b.place) same (placed j k a b less at there) in absurd (never_both b.place b.place before before))
-      | inr more ↦ (let before = subst (λ p. Before b.place p) same (placed k j b a more there at) in absurd (never_both b.place b.place before before))
+      | inl less ↦ (let before = subst (λ p. Before p b.place) same (placed j k a b less at there) in
+          absurd (never_both b.place b.place before before))
+      | inr more ↦ (let before = subst (λ p. Before b.place p) same (placed k j b a more there at) in
+          absurd (never_both b.place b.place before before))
     ]
   ]
 
@@ -53,20 +61,28 @@ module _ (items : List Item) (placed : AreInPlace items) where
 
 -- no two of the first so many items have one name where one is a declaration
 abbrev pub NoneClash : List Item → (count : ℕ) → Type 0
-NoneClash items count = (j k : ℕ) (a b : Item) → j < k → k < count → slice_get items j ≡ Some a → slice_get items k ≡ Some b → a.full_name ≡ b.full_name → (a.is_declaration || b.is_declaration) ≡ false
+NoneClash items count = (j k : ℕ) (a b : Item) → j < k → k < count → slice_get items j ≡ Some a
+    → slice_get items k ≡ Some b → a.full_name ≡ b.full_name → (a.is_declaration || b.is_declaration) ≡ false
 
-pub clash_at : (items : List Item) (first : Option ℕ) (item : Item) (place : FilePlace) → clash_with items first item ≡ Some place
-    → (k : ℕ) × (a : Item) × (first ≡ Some k) × (slice_get items k ≡ Some a) × (a.place ≡ place) × ((a.is_declaration || item.is_declaration) ≡ true)
+pub clash_at : (items : List Item) (first : Option ℕ) (item : Item) (place : FilePlace)
+    → clash_with items first item ≡ Some place
+    → (k : ℕ) × (a : Item) × (first ≡ Some k) × (slice_get items k ≡ Some a) × (a.place ≡ place)
+    × ((a.is_declaration || item.is_declaration) ≡ true)
 clash_at items None item place e = absurd (cc)
 clash_at items (Some k) item place e = elim (cases (slice_get items k)) [
   | inl absent ↦ (let wrong : None ≡ Some place = sym (ap (λ o. place_if_declared o item) absent) ∙ e in absurd (cc))
   | inr some ↦ (
-      let told : cond (some.0.is_declaration || item.is_declaration) (Some some.0.place) None ≡ Some place = sym (ap (λ o. place_if_declared o item) some.1) ∙ e in
+      let told : cond (some.0.is_declaration || item.is_declaration) (Some some.0.place) None ≡ Some place =
+      sym (ap (λ o. place_if_declared o item) some.1) ∙ e in
       elim (cases_Bool (some.0.is_declaration || item.is_declaration)) [
         | inl declares ↦ (
-            let same : Some some.0.place ≡ Some place = sym (cond-true (some.0.is_declaration || item.is_declaration) (Some some.0.place) None declares) ∙ told in
+            let same : Some some.0.place ≡ Some place =
+            sym (cond-true (some.0.is_declaration || item.is_declaration) (Some some.0.place) None declares) ∙ told
+            in
             (k, some.0, refl, some.1, one_place some.0.place place same, declares))
-        | inr neither ↦ (let wrong : None ≡ Some place = sym (cond-false (some.0.is_declaration || item.is_declaration) (Some some.0.place) None neither) ∙ told in absurd (cc))
+        | inr neither ↦ (let wrong : None ≡ Some place =
+            sym (cond-false (some.0.is_declaration || item.is_declaration) (Some some.0.place) None neither) ∙ told in
+            absurd (cc))
       ])
 ]
   where
@@ -77,37 +93,51 @@ clash_at items (Some k) item place e = elim (cases (slice_get items k)) [
     one_place : (a b : FilePlace) → Some a ≡ Some b → a ≡ b
     one_place a b h = cc
 
-pub no_clash_at : (items : List Item) (item : Item) (k : ℕ) (a : Item) → ((place : FilePlace) → clash_with items (Some k) item ≡ Some place → ⊥) → slice_get items k ≡ Some a → (a.is_declaration || item.is_declaration) ≡ false
+pub no_clash_at : (items : List Item) (item : Item) (k : ℕ) (a : Item)
+    → ((place : FilePlace) → clash_with items (Some k) item ≡ Some place → ⊥) → slice_get items k ≡ Some a
+    → (a.is_declaration || item.is_declaration) ≡ false
 no_clash_at items item k a missing stands = elim (cases_Bool (a.is_declaration || item.is_declaration)) [
-  | inl declares ↦ absurd (missing a.place (ap (λ o. place_if_declared o item) stands ∙ cond-true (a.is_declaration || item.is_declaration) (Some a.place) None declares))
+  | inl declares ↦ absurd (missing a.place
+      (ap (λ o. place_if_declared o item) stands
+      ∙ cond-true (a.is_declaration || item.is_declaration) (Some a.place) None declares))
   | inr neither ↦ neither
 ]
 
--- the first item with the name of the one at hand, if there is one, and no clash with it: so there is missing with any before it
-pub none_clash_more : (items : List Item) (count : ℕ) (item : Item) (first : Option ℕ) → slice_get items count ≡ Some item
+-- the first item with the name of the one at hand, if there is one, and no clash with it: so there is missing with any
+-- before it
+pub none_clash_more : (items : List Item) (count : ℕ) (item : Item) (first : Option ℕ)
+    → slice_get items count ≡ Some item
     → MatchOption first (HasNone items count item.full_name) (IsFirstNamed items count item.full_name)
-    → ((place : FilePlace) → clash_with items first item ≡ Some place → ⊥) → NoneClash items count → NoneClash items (count + 1)
-none_clash_more items count item first stands is missing so_far j k a b less within at there name = elim (cases_lt k count) [
-  | inl before ↦ so_far j k a b less before at there name
-  | inr last ↦ (
-      let here : k ≡ count = omega arith in
-      let same : b ≡ item = one_Item b item (sym there ∙ (ap (slice_get items) here ∙ stands)) in
-      let named : a.full_name ≡ item.full_name = name ∙ ap (λ (x : Item). x.full_name) same in
-      subst (λ (x : Item). (a.is_declaration || x.is_declaration) ≡ false) (sym same) (with_first first is missing named))
-]
+    → ((place : FilePlace) → clash_with items first item ≡ Some place → ⊥) → NoneClash items count
+    → NoneClash items (count + 1)
+none_clash_more items count item first stands is missing so_far j k a b less within at there name =
+    elim (cases_lt k count) [
+      | inl before ↦ so_far j k a b less before at there name
+      | inr last ↦ (
+          let here : k ≡ count = omega arith in
+          let same : b ≡ item = one_Item b item (sym there ∙ (ap (slice_get items) here ∙ stands)) in
+          let named : a.full_name ≡ item.full_name = name ∙ ap (λ (x : Item). x.full_name) same in
+          subst (λ (x : Item). (a.is_declaration || x.is_declaration) ≡ false) (sym same)
+          (with_first first is missing named))
+    ]
   where
     j_before : j < count
     j_before = omega arith
 
-    with_first : (o : Option ℕ) → MatchOption o (HasNone items count item.full_name) (IsFirstNamed items count item.full_name)
-        → ((place : FilePlace) → clash_with items o item ≡ Some place → ⊥) → a.full_name ≡ item.full_name → (a.is_declaration || item.is_declaration) ≡ false
+    with_first : (o : Option ℕ)
+        → MatchOption o (HasNone items count item.full_name) (IsFirstNamed items count item.full_name)
+        → ((place : FilePlace) → clash_with items o item ≡ Some place → ⊥) → a.full_name ≡ item.full_name
+        → (a.is_declaration || item.is_declaration) ≡ false
     with_first None has_none missing named = absurd (has_none j a j_before at named)
     with_first (Some m) f missing named =
-        let neither = or_parts f.item.is_declaration item.is_declaration (no_clash_at items item m f.item missing f.stands) in
+        let neither = or_parts f.item.is_declaration item.is_declaration
+        (no_clash_at items item m f.item missing f.stands) in
         or_false a.is_declaration item.is_declaration (elim (cases_order m j) [
-          | inl equal ↦ (let one : f.item ≡ a = one_Item f.item a (sym f.stands ∙ (ap (slice_get items) equal ∙ at)) in sym (ap (λ (x : Item). x.is_declaration) one) ∙ neither.0)
+          | inl equal ↦ (let one : f.item ≡ a = one_Item f.item a (sym f.stands ∙ (ap (slice_get items) equal ∙ at)) in
+              sym (ap (λ (x : Item). x.is_declaration) one) ∙ neither.0)
           | inr apart ↦ elim apart [
-            | inl later ↦ (or_parts f.item.is_declaration a.is_declaration (so_far m j f.item a later j_before f.stands at (f.named ∙ sym named))).1
+            | inl later ↦ (or_parts f.item.is_declaration a.is_declaration
+                (so_far m j f.item a later j_before f.stands at (f.named ∙ sym named))).1
             | inr earlier ↦ absurd (f.first j a earlier at named)
           ]
         ]) neither.1
@@ -117,14 +147,17 @@ none_clash_more items count item first stands is missing so_far j k a b less wit
         or_false false y h e = e
 
 -- the clash that is found is the first
-pub is_clash : (items : List Item) (count : ℕ) (item : Item) (first : Option ℕ) (place : FilePlace) → AreInPlace items → slice_get items count ≡ Some item
+pub is_clash : (items : List Item) (count : ℕ) (item : Item) (first : Option ℕ) (place : FilePlace) → AreInPlace items
+    → slice_get items count ≡ Some item
     → MatchOption first (HasNone items count item.full_name) (IsFirstNamed items count item.full_name)
     → clash_with items first item ≡ Some place → NoneClash items count → ClashBy (Contains items) place item.place
 is_clash items count item first place placed stands is found so_far =
     let at = clash_at items first item place found in
-    by_first at (subst (λ o. MatchOption o (HasNone items count item.full_name) (IsFirstNamed items count item.full_name)) at.2 is)
+    by_first at (subst (λ o. MatchOption o (HasNone items count item.full_name)
+    (IsFirstNamed items count item.full_name)) at.2 is)
   where
-    by_first : (at : (k : ℕ) × (a : Item) × (first ≡ Some k) × (slice_get items k ≡ Some a) × (a.place ≡ place) × ((a.is_declaration || item.is_declaration) ≡ true))
+    by_first : (at : (k : ℕ) × (a : Item) × (first ≡ Some k) × (slice_get items k ≡ Some a) × (a.place ≡ place)
+        × ((a.is_declaration || item.is_declaration) ≡ true))
         → IsFirstNamed items count item.full_name at.0 → ClashBy (Contains items) place item.place
     by_first at f =
         let same : f.item ≡ at.1 = one_Item f.item at.1 (sym f.stands ∙ at.3) in
@@ -151,11 +184,13 @@ is_clash items count item first place placed stands is found so_far =
               let jb = contained_at items b e.second_is in
               let is_last = one_index items placed jb.0 count b item jb.1 stands here in
               let equal : b ≡ item = one_Item b item (sym jb.1 ∙ (ap (slice_get items) is_last ∙ stands)) in
-              let prefix = in_order items placed ja.0 at.0 a at.1 ja.1 at.3 (subst (λ p. Before a.place p) (sym at.4) before) in
+              let prefix = in_order items placed ja.0 at.0 a at.1 ja.1 at.3
+              (subst (λ p. Before a.place p) (sym at.4) before) in
               f.first ja.0 a prefix ja.1 (e.one_name ∙ ap (λ (x : Item). x.full_name) equal);
         }
 
-pub no_clash : (items : List Item) (count : ℕ) → AreInPlace items → length items ≤ count → NoneClash items count → NoClashBy (Contains items)
+pub no_clash : (items : List Item) (count : ℕ) → AreInPlace items → length items ≤ count → NoneClash items count
+    → NoClashBy (Contains items)
 no_clash items count placed all so_far a b e =
     let ja = contained_at items a e.first_is in
     let jb = contained_at items b e.second_is in
@@ -165,7 +200,8 @@ no_clash items count placed all so_far a b e =
 
 -- ---- the map of names
 
-more_none : (items : List Item) (count : ℕ) (item : Item) (name : List ℕ) → slice_get items count ≡ Some item → (item.full_name ≡ name → ⊥) → HasNone items count name → HasNone items (count + 1) name
+more_none : (items : List Item) (count : ℕ) (item : Item) (name : List ℕ) → slice_get items count ≡ Some item
+    → (item.full_name ≡ name → ⊥) → HasNone items count name → HasNone items (count + 1) name
 more_none items count item name stands other missing k x h at named = elim (cases_lt k count) [
   | inl before ↦ missing k x before at named
   | inr last ↦ (
@@ -174,52 +210,92 @@ more_none items count item name stands other missing k x h at named = elim (case
       other (sym (ap (λ (y : Item). y.full_name) same) ∙ named))
 ]
 
-more_first : (items : List Item) (count : ℕ) (name : List ℕ) (k : ℕ) → IsFirstNamed items count name k → IsFirstNamed items (count + 1) name k
-more_first items count name k f = record { item = f.item; stands = f.stands; named = f.named; within = let w = f.within in omega arith; first = f.first }
+more_first : (items : List Item) (count : ℕ) (name : List ℕ) (k : ℕ) → IsFirstNamed items count name k
+    → IsFirstNamed items (count + 1) name k
+more_first items count name k f =
+    record {
+      item = f.item;
+      stands = f.stands;
+      named = f.named;
+      within = let w = f.within in
+          omega arith;
+      first = f.first;
+    }
 
-at_name : (items : List Item) (count : ℕ) (item : Item) (name : List ℕ) (o : Option ℕ) → slice_get items count ≡ Some item → (item.full_name ≡ name → ⊥)
-    → MatchOption o (HasNone items count name) (IsFirstNamed items count name) → MatchOption o (HasNone items (count + 1) name) (IsFirstNamed items (count + 1) name)
+at_name : (items : List Item) (count : ℕ) (item : Item) (name : List ℕ) (o : Option ℕ)
+    → slice_get items count ≡ Some item → (item.full_name ≡ name → ⊥)
+    → MatchOption o (HasNone items count name) (IsFirstNamed items count name)
+    → MatchOption o (HasNone items (count + 1) name) (IsFirstNamed items (count + 1) name)
 at_name items count item name None stands other h = more_none items count item name stands other h
 at_name items count item name (Some k) stands other h = more_first items count name k h
 
 -- the map after the item at hand: as it was where its name is known, and else with its index
-pub first_more : {S : Type 0} (items : List Item) (count : ℕ) (item : Item) (first : Option ℕ) (old new : HashMap (Bor (List ℕ)) ℕ S) → slice_get items count ≡ Some item → first ≡ number_in old item.full_name
-    → ((other : List ℕ) → number_in new other ≡ cond (is_some first) (number_in old other) (cond (bytes_eq item.full_name other) (Some count) (number_in old other)))
+pub first_more : {S : Type 0} (items : List Item) (count : ℕ) (item : Item) (first : Option ℕ)
+    (old new : HashMap (Bor (List ℕ)) ℕ S) → slice_get items count ≡ Some item → first ≡ number_in old item.full_name
+    → ((other : List ℕ) → number_in new other
+    ≡ cond (is_some first) (number_in old other)
+    (cond (bytes_eq item.full_name other) (Some count) (number_in old other)))
     → AreFirst items count old → AreFirst items (count + 1) new
 first_more items count item first old new stands is after so_far name = by_first first is after
   where
     by_first : (o : Option ℕ) → o ≡ number_in old item.full_name
-        → ((other : List ℕ) → number_in new other ≡ cond (is_some o) (number_in old other) (cond (bytes_eq item.full_name other) (Some count) (number_in old other)))
+        → ((other : List ℕ) → number_in new other
+        ≡ cond (is_some o) (number_in old other)
+        (cond (bytes_eq item.full_name other) (Some count) (number_in old other)))
         → MatchOption (number_in new name) (HasNone items (count + 1) name) (IsFirstNamed items (count + 1) name)
     by_first None told update = elim (cases_Bool (bytes_eq item.full_name name)) [
       | inl same ↦ (
-          let now : number_in new name ≡ Some count = update name ∙ cond-true (bytes_eq item.full_name name) (Some count) (number_in old name) same in
+          let now : number_in new name ≡ Some count =
+          update name ∙ cond-true (bytes_eq item.full_name name) (Some count) (number_in old name) same in
           let named : item.full_name ≡ name = (bytes_eq-Decides item.full_name name).0 same in
-          let missing : HasNone items count item.full_name = subst (λ o. MatchOption o (HasNone items count item.full_name) (IsFirstNamed items count item.full_name)) (sym told) (so_far item.full_name) in
+          let missing : HasNone items count item.full_name =
+          subst (λ o. MatchOption o (HasNone items count item.full_name) (IsFirstNamed items count item.full_name))
+          (sym told) (so_far item.full_name) in
           subst (λ o. MatchOption o (HasNone items (count + 1) name) (IsFirstNamed items (count + 1) name)) (sym now)
-          (record { item = item; stands = stands; named = named; within = omega arith; first = subst (HasNone items count) named missing }))
+          (record {
+            item = item;
+            stands = stands;
+            named = named;
+            within = omega arith;
+            first = subst (HasNone items count) named missing;
+          }))
       | inr apart ↦ (
-          let now : number_in new name ≡ number_in old name = update name ∙ cond-false (bytes_eq item.full_name name) (Some count) (number_in old name) apart in
+          let now : number_in new name ≡ number_in old name =
+          update name ∙ cond-false (bytes_eq item.full_name name) (Some count) (number_in old name) apart in
           subst (λ o. MatchOption o (HasNone items (count + 1) name) (IsFirstNamed items (count + 1) name)) (sym now)
-          (at_name items count item name (number_in old name) stands (λ e. false≢true (sym apart ∙ (bytes_eq-Decides item.full_name name).1 e)) (so_far name)))
+          (at_name items count item name (number_in old name) stands
+          (λ e. false≢true (sym apart ∙ (bytes_eq-Decides item.full_name name).1 e)) (so_far name)))
     ]
     by_first (Some k) told update = elim (cases_Bool (bytes_eq item.full_name name)) [
       | inl same ↦ (
           let named : item.full_name ≡ name = (bytes_eq-Decides item.full_name name).0 same in
           let now : number_in new name ≡ Some k = update name ∙ sym (told ∙ ap (number_in old) named) in
-          let known : IsFirstNamed items count name k = subst (λ o. MatchOption o (HasNone items count name) (IsFirstNamed items count name)) (sym (told ∙ ap (number_in old) named)) (so_far name) in
-          subst (λ o. MatchOption o (HasNone items (count + 1) name) (IsFirstNamed items (count + 1) name)) (sym now) (more_first items count name k known))
+          let known : IsFirstNamed items count name k =
+          subst (λ o. MatchOption o (HasNone items count name) (IsFirstNamed items count name))
+          (sym (told ∙ ap (number_in old) named)) (so_far name) in
+          subst (λ o. MatchOption o (HasNone items (count + 1) name) (IsFirstNamed items (count + 1) name)) (sym now)
+          (more_first items count name k known))
       | inr apart ↦
-          subst (λ o. MatchOption o (HasNone items (count + 1) name) (IsFirstNamed items (count + 1) name)) (sym (update name))
-          (at_name items count item name (number_in old name) stands (λ e. false≢true (sym apart ∙ (bytes_eq-Decides item.full_name name).1 e)) (so_far name))
+          subst (λ o. MatchOption o (HasNone items (count + 1) name) (IsFirstNamed items (count + 1) name))
+          (sym (update name))
+          (at_name items count item name (number_in old name) stands
+          (λ e. false≢true (sym apart ∙ (bytes_eq-Decides item.full_name name).1 e)) (so_far name))
     ]
 
 -- ---- the same items by another word
 
 excludes_by : {I J : Item → Type 0} → ((item : Item) → I item → J item) → (a b : Item) → Excludes I a b → Excludes J a b
-excludes_by change a b e = record { first_is = change a e.first_is; second_is = change b e.second_is; ordered = e.ordered; one_name = e.one_name; declares = e.declares }
+excludes_by change a b e =
+    record {
+      first_is = change a e.first_is;
+      second_is = change b e.second_is;
+      ordered = e.ordered;
+      one_name = e.one_name;
+      declares = e.declares;
+    }
 
-pub clash_by : {I J : Item → Type 0} → ((item : Item) → I item ↔ J item) → (first second : FilePlace) → ClashBy I first second → ClashBy J first second
+pub clash_by : {I J : Item → Type 0} → ((item : Item) → I item ↔ J item) → (first second : FilePlace)
+    → ClashBy I first second → ClashBy J first second
 clash_by same first second clash = record {
   earlier = clash.earlier;
   later = clash.later;
@@ -233,7 +309,9 @@ clash_by same first second clash = record {
 pub no_clash_by : {I J : Item → Type 0} → ((item : Item) → I item ↔ J item) → NoClashBy I → NoClashBy J
 no_clash_by same clear a b e = clear a b (excludes_by (λ item. (same item).1) a b e)
 
-pub clash_of_items : {I J : Item → Type 0} → ((item : Item) → I item ↔ J item) → (clash : Option (FilePlace × FilePlace))
-    → MatchOption clash (NoClashBy I) (λ places. ClashBy I places.0 places.1) → MatchOption clash (NoClashBy J) (λ places. ClashBy J places.0 places.1)
+pub clash_of_items : {I J : Item → Type 0} → ((item : Item) → I item ↔ J item)
+    → (clash : Option (FilePlace × FilePlace))
+    → MatchOption clash (NoClashBy I) (λ places. ClashBy I places.0 places.1)
+    → MatchOption clash (NoClashBy J) (λ places. ClashBy J places.0 places.1)
 clash_of_items same None clear = no_clash_by same clear
 clash_of_items same (Some places) clash = clash_by same places.0 places.1 clash

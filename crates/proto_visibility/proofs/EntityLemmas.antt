@@ -23,28 +23,36 @@ use Rattle.proto_visibility.proofs.FactLemmas.{one_list_of_facts}
 abbrev pub has_name : List ℕ → Declaration → Bool
 has_name name declaration = bytes_eq declaration.full_name name
 
-pub found_entity : (number : ℕ) (facts : Facts) (name : List ℕ) (count index : ℕ) → position (has_name name) facts.declarations ≡ Some index → IsEntityOf number facts name count (Declared number index)
+pub found_entity : (number : ℕ) (facts : Facts) (name : List ℕ) (count index : ℕ)
+    → position (has_name name) facts.declarations ≡ Some index
+    → IsEntityOf number facts name count (Declared number index)
 found_entity number facts name count index found =
     let at = found_at (has_name name) facts.declarations index found in
     declared at.1 ((bytes_eq-Decides at.0.full_name name).0 at.2)
 
-prefix_if : (facts : Facts) (name n : List ℕ) → n ≡ name → position (has_name name) facts.declarations ≡ None → IsEntity facts n → IsPrefix facts.package_name n
+prefix_if : (facts : Facts) (name n : List ℕ) → n ≡ name → position (has_name name) facts.declarations ≡ None
+    → IsEntity facts n → IsPrefix facts.package_name n
 prefix_if facts name n same none (entity_packaged {count = count} some few) = (count, some, few, refl)
 prefix_if facts name n same none (entity_declared {declaration = d} there) =
     let fails = position-none (has_name name) facts.declarations none there.0 d there.1 in
     absurd (false≢true (sym fails ∙ (ap (has_name name) there.2 ∙ (bytes_eq-Decides d.full_name name).1 same)))
 
-pub package_entity : (number : ℕ) (facts : Facts) (name : List ℕ) (count : ℕ) → position (has_name name) facts.declarations ≡ None → IsEntity facts name → IsEntityOf number facts name count (Package count)
+pub package_entity : (number : ℕ) (facts : Facts) (name : List ℕ) (count : ℕ)
+    → position (has_name name) facts.declarations ≡ None → IsEntity facts name
+    → IsEntityOf number facts name count (Package count)
 package_entity number facts name count none is = packaged (prefix_if facts name name refl none is)
 
-pub listed_entity : (number : ℕ) (facts : Facts) (names : Names) (name : List ℕ) (count index : ℕ) → AreNamesOf number facts names
-    → (one : DeclaredAt) × Contains (listed_at names.declared name) one × (one.file ≡ number) × (one.index ≡ index) → IsEntityOf number facts name count (Declared number index)
+pub listed_entity : (number : ℕ) (facts : Facts) (names : Names) (name : List ℕ) (count index : ℕ)
+    → AreNamesOf number facts names
+    → (one : DeclaredAt) × Contains (listed_at names.declared name) one × (one.file ≡ number) × (one.index ≡ index)
+    → IsEntityOf number facts name count (Declared number index)
 listed_entity number facts names name count index are listed =
     let d = are.declared name listed.0 listed.1 listed.2 in
     declared (subst (λ i. slice_get facts.declarations i ≡ Some d.0) listed.3 d.1) d.2
 
 -- the tables of all files, seen from one
-pub names_of_file : (files : List File) (names : Names) (number : ℕ) (facts : Facts) → AreNames files names → HasFacts files number facts → AreNamesOf number facts names
+pub names_of_file : (files : List File) (names : Names) (number : ℕ) (facts : Facts) → AreNames files names
+    → HasFacts files number facts → AreNamesOf number facts names
 names_of_file files names number facts are has = record {
   declared = λ name one there here.
       let at = (are.declared name one).0 there in
@@ -52,11 +60,20 @@ names_of_file files names number facts are has = record {
       let its = by.2 in
       let d = its.3 in
       let file_is : at.0 ≡ number = ap (λ (x : DeclaredAt). x.file) (sym d.is) ∙ here in
-      let same : its.0 ≡ facts = one_list_of_facts files number its.0 facts (record { file = by.0; numbered = subst (λ n. slice_get files n ≡ Some by.0) file_is by.1; known = its.1 }) has in
-      let index : its.2 ≡ one.index = ap (λ (x : DeclaredAt). x.index) (sym d.is) in
-      (d.declaration, subst (λ i. slice_get facts.declarations i ≡ Some d.declaration) index (subst (λ (f : Facts). slice_get f.declarations its.2 ≡ Some d.declaration) same d.stands), d.named);
+      let same : its.0 ≡ facts =
+      one_list_of_facts files number its.0 facts
+      (record { file = by.0; numbered = subst (λ n. slice_get files n ≡ Some by.0) file_is by.1; known = its.1 })
+      has in
+      let index : its.2 ≡ one.index = ap (λ (x : DeclaredAt). x.index) (sym d.is) in (
+        d.declaration,
+        subst (λ i. slice_get facts.declarations i ≡ Some d.declaration) index
+            (subst (λ (f : Facts). slice_get f.declarations its.2 ≡ Some d.declaration) same d.stands),
+        d.named,
+      );
   packaged = λ name there.
       let prefix = (are.packaged name number).0 there in
-      subst (λ (f : Facts). IsPrefix f.package_name name) (one_list_of_facts files number prefix.1 facts (record { file = prefix.0; numbered = prefix.2; known = prefix.3 }) has) prefix.4;
+      subst (λ (f : Facts). IsPrefix f.package_name name)
+      (one_list_of_facts files number prefix.1 facts
+      (record { file = prefix.0; numbered = prefix.2; known = prefix.3 }) has) prefix.4;
   in_order = are.in_order;
 }

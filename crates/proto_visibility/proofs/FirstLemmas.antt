@@ -1,17 +1,20 @@
 -- The first item of a list that passes a test.
-use Rattle.std.proofs.Common.{◌≡◌, inl, inr, ℕ, ◌<◌, ◌≤◌, Bool, true, false, List, [], ◌∷◌, length, get_or, Some, None, subst, arith, position}
+use Rattle.std.proofs.Common.{◌≡◌, inl, inr, ℕ, ◌<◌, ◌≤◌, Bool, true, false, List, [], ◌∷◌, length, get_or, Some, None}
+use Rattle.std.proofs.Common.{subst, arith, position}
 use Rattle.std.specs.List.{Contains, slice_get, position_or_len}
 use Rattle.std.proofs.lemmas.Bool.Decides.{nat_tests}
 use Rattle.std.proofs.lemmas.Option.{slice_get_within, get_or_from_slice_get, slice_get_cases}
 use Rattle.std.proofs.lemmas.List.Sums.{fails_before_first}
 use Rattle.std.proofs.lemmas.List.Quantifiers.{position-Some}
 
-pub position-none : {X : Type 0} (p : X → Bool) (xs : List X) → position p xs ≡ None → (k : ℕ) (d : X) → k < length xs → p (get_or xs k d) ≡ false
+pub position-none : {X : Type 0} (p : X → Bool) (xs : List X) → position p xs ≡ None → (k : ℕ) (d : X) → k < length xs
+    → p (get_or xs k d) ≡ false
 position-none p xs e k d within =
     let far : length xs ≤ position_or_len p xs = grind (arith, nat_tests) in
     fails_before_first p xs k d (omega arith)
 
-pub found_at : {X : Type 0} (p : X → Bool) (xs : List X) (i : ℕ) → position p xs ≡ Some i → (x : X) × (slice_get xs i ≡ Some x) × (p x ≡ true)
+pub found_at : {X : Type 0} (p : X → Bool) (xs : List X) (i : ℕ) → position p xs ≡ Some i
+    → (x : X) × (slice_get xs i ≡ Some x) × (p x ≡ true)
 found_at p xs i e = elim (slice_get_cases xs i).1 [
   | inl at ↦ (at.0, at.2, subst (λ y. p y ≡ true) at.3 (position-Some p xs i at.0 e).1)
   | inr past ↦ absurd (by xs e past.0)

@@ -8,12 +8,15 @@ use Rattle.proto_visibility.specs.Files.{File, HasFacts, HaveOrigins}
 
 -- so are those of the first so many files
 abbrev pub HaveOriginsUpTo : List File → (count : ℕ) → Type 0
-HaveOriginsUpTo files count = (number : ℕ) (facts : Facts) → number < count → HasFacts files number facts → AreOfSomeFile facts
+HaveOriginsUpTo files count = (number : ℕ) (facts : Facts) → number < count → HasFacts files number facts
+    → AreOfSomeFile facts
 
 one_File : (a b : File) → Some a ≡ Some b → a ≡ b
 one_File a b e = cc
 
-pub origins_more : (files : List File) (count : ℕ) (file : File) → slice_get files count ≡ Some file → ((facts : Facts) → file.facts ≡ Some facts → AreOfSomeFile facts) → HaveOriginsUpTo files count → HaveOriginsUpTo files (count + 1)
+pub origins_more : (files : List File) (count : ℕ) (file : File) → slice_get files count ≡ Some file
+    → ((facts : Facts) → file.facts ≡ Some facts → AreOfSomeFile facts) → HaveOriginsUpTo files count
+    → HaveOriginsUpTo files (count + 1)
 origins_more files count file stands its so_far number facts within has = elim (cases_lt number count) [
   | inl before ↦ so_far number facts before has
   | inr last ↦ (
@@ -22,5 +25,7 @@ origins_more files count file stands its so_far number facts within has = elim (
       its facts (ap (λ (f : File). f.facts) (sym one) ∙ has.known))
 ]
 
-pub origins_all : (files : List File) (count : ℕ) → length files ≤ count → HaveOriginsUpTo files count → HaveOrigins files
-origins_all files count all so_far number facts has = so_far number facts (omega (arith, all, slice_get_within files number has.file has.numbered)) has
+pub origins_all : (files : List File) (count : ℕ) → length files ≤ count → HaveOriginsUpTo files count
+    → HaveOrigins files
+origins_all files count all so_far number facts has =
+    so_far number facts (omega (arith, all, slice_get_within files number has.file has.numbered)) has

@@ -1,5 +1,6 @@
 -- The marks of a search over files.
-use Rattle.std.proofs.Common.{◌≡◌, inl, inr, ℕ, ◌<◌, ◌≤◌, Bool, true, false, ◌||◌, List, [], ◌∷◌, ◌++◌, length, get_or, set, eqb, Some, refl, ap, sym, ◌∙◌, subst, arith, All}
+use Rattle.std.proofs.Common.{◌≡◌, inl, inr, ℕ, ◌<◌, ◌≤◌, Bool, true, false, ◌||◌, List, [], ◌∷◌, ◌++◌, length, get_or}
+use Rattle.std.proofs.Common.{set, eqb, Some, refl, ap, sym, ◌∙◌, subst, arith, All}
 use Rattle.std.specs.List.{IsDistinct, list_any}
 use Rattle.std.proofs.lemmas.Cmp.{nat_eq_equiv}
 use Rattle.std.proofs.lemmas.Bool.{false≢true, cases_eq, eqb-true, eq-eqb, ne_eqb, false_from_ne_true}
@@ -16,7 +17,8 @@ unfolding IsDistinct
 distinct_none = tt
 
 -- no file is marked
-pub marked_none : (marks : List Bool) → ((number : ℕ) → number < length marks → get_or marks number false ≡ true → ⊥) → AreMarked marks []
+pub marked_none : (marks : List Bool) → ((number : ℕ) → number < length marks → get_or marks number false ≡ true → ⊥)
+    → AreMarked marks []
 marked_none marks clear = record {
   marked = λ number h. false_from_ne_true (get_or marks number false) (clear number h);
   distinct = distinct_none;
@@ -27,16 +29,22 @@ pub marked_at_first : (marks : List Bool) → All (λ mark. mark ≡ false) mark
 marked_at_first marks clear = marked_none marks (λ number h t. false≢true (sym (clear number false h) ∙ t))
 
 mark_stays : (marks : List Bool) (found : List ℕ) (number : ℕ) → AreMarked marks found → number < length marks
-    → (other : ℕ) → other < length marks → get_or (set marks number true) other false ≡ list_any (eqb other) (found ++ number ∷ [])
+    → (other : ℕ) → other < length marks
+    → get_or (set marks number true) other false ≡ list_any (eqb other) (found ++ number ∷ [])
 mark_stays marks found number m h other k = elim (cases_eq other number) [
   | inl same ↦ (
-      let there : get_or (set marks number true) other false ≡ true = subst (λ n. get_or (set marks number true) n false ≡ true) (sym same) (get_or-set_same marks number true false h) in
+      let there : get_or (set marks number true) other false ≡ true =
+      subst (λ n. get_or (set marks number true) n false ≡ true) (sym same)
+      (get_or-set_same marks number true false h) in
       let equal : eqb other number ≡ true = eq-eqb other number same in
-      there ∙ sym (list_any-append (eqb other) found (number ∷ []) ∙ simp equal (last_true (list_any (eqb other) found))))
+      there ∙ sym (list_any-append (eqb other) found (number ∷ [])
+      ∙ simp equal (last_true (list_any (eqb other) found))))
   | inr apart ↦ (
       let there = get_or-set_other marks number other true false apart in
       let differ : eqb other number ≡ false = ne_eqb other number apart in
-      there ∙ (m.marked other k ∙ sym (list_any-append (eqb other) found (number ∷ []) ∙ simp differ (last_false (list_any (eqb other) found)))))
+      there ∙ (m.marked other k
+      ∙ sym (list_any-append (eqb other) found (number ∷ [])
+      ∙ simp differ (last_false (list_any (eqb other) found)))))
 ]
   where
     last_true : (b : Bool) → (b || (true || false)) ≡ true
@@ -48,39 +56,48 @@ mark_stays marks found number m h other k = elim (cases_eq other number) [
     last_false false = refl
 
 -- one more file is found
-pub marked_more : (marks : List Bool) (found : List ℕ) (number : ℕ) → AreMarked marks found → number < length marks → get_or marks number false ≡ false
+pub marked_more : (marks : List Bool) (found : List ℕ) (number : ℕ) → AreMarked marks found → number < length marks
+    → get_or marks number false ≡ false
     → AreMarked (set marks number true) (found ++ number ∷ [])
 marked_more marks found number m h unmarked =
     let same = length-set marks number true in
     record {
       marked = λ other k. mark_stays marks found number m h other (omega arith);
       distinct = IsDistinct-push nat_eq_equiv found number m.distinct (sym (m.marked number h) ∙ unmarked);
-      below = All-weaker (λ n. n < length marks) (λ n. n < length (set marks number true)) (λ n k. omega arith) (found ++ number ∷ []) (All-push (λ n. n < length marks) found number m.below h);
+      below = All-weaker (λ n. n < length marks) (λ n. n < length (set marks number true)) (λ n k. omega arith)
+          (found ++ number ∷ []) (All-push (λ n. n < length marks) found number m.below h);
     }
 
 -- as many files are found as there are, at most
 pub few_found : (marks : List Bool) (found : List ℕ) → AreMarked marks found → length found ≤ length marks
 few_found marks found m =
-    length-le_from_distinct_below found (length marks) m.distinct (λ q e. All-contains (λ n. n < length marks) found q m.below (Contains-from_any eqb-true q found e))
+    length-le_from_distinct_below found (length marks) m.distinct
+    (λ q e. All-contains (λ n. n < length marks) found q m.below (Contains-from_any eqb-true q found e))
 
 -- a mark stands only where the file is among these, which are still to be cleared
 abbrev pub StandsFor : List Bool → List ℕ → Type 0
-StandsFor marks left = (number : ℕ) → number < length marks → get_or marks number false ≡ true → list_any (eqb number) left ≡ true
+StandsFor marks left = (number : ℕ) → number < length marks → get_or marks number false ≡ true
+    → list_any (eqb number) left ≡ true
 
 pub stands_at_first : (marks : List Bool) (found : List ℕ) → AreMarked marks found → StandsFor marks found
 stands_at_first marks found m number h t = sym (m.marked number h) ∙ t
 
 -- the last of those found is cleared
-pub stands_less : (marks : List Bool) (found left : List ℕ) (number : ℕ) → found ≡ left ++ number ∷ [] → number < length marks → StandsFor marks found → StandsFor (set marks number false) left
+pub stands_less : (marks : List Bool) (found left : List ℕ) (number : ℕ) → found ≡ left ++ number ∷ []
+    → number < length marks → StandsFor marks found → StandsFor (set marks number false) left
 stands_less marks found left number parted k stands other o t = elim (cases_eq other number) [
-  | inl same ↦ absurd (false≢true (sym (subst (λ n. get_or (set marks number false) n false ≡ false) (sym same) (get_or-set_same marks number false false k)) ∙ t))
+  | inl same ↦ absurd (false≢true
+      (sym (subst (λ n. get_or (set marks number false) n false ≡ false) (sym same)
+      (get_or-set_same marks number false false k)) ∙ t))
   | inr apart ↦ (
       let size = length-set marks number false in
       let before : get_or marks other false ≡ true = sym (get_or-set_other marks number other false false apart) ∙ t in
       let there : list_any (eqb other) found ≡ true = stands other (omega arith) before in
-      let parts : list_any (eqb other) found ≡ (list_any (eqb other) left || list_any (eqb other) (number ∷ [])) = ap (list_any (eqb other)) parted ∙ list_any-append (eqb other) left (number ∷ []) in
+      let parts : list_any (eqb other) found ≡ (list_any (eqb other) left || list_any (eqb other) (number ∷ [])) =
+      ap (list_any (eqb other)) parted ∙ list_any-append (eqb other) left (number ∷ []) in
       let differ : eqb other number ≡ false = ne_eqb other number apart in
-      first_true (list_any (eqb other) left) (sym (parts ∙ ap (λ b. list_any (eqb other) left || (b || false)) differ) ∙ there))
+      first_true (list_any (eqb other) left)
+      (sym (parts ∙ ap (λ b. list_any (eqb other) left || (b || false)) differ) ∙ there))
 ]
   where
     first_true : (b : Bool) → (b || (false || false)) ≡ true → b ≡ true
@@ -88,13 +105,20 @@ stands_less marks found left number parted k stands other o t = elim (cases_eq o
     first_true false e = e
 
 -- and what is left is in range, as it was
-pub below_less : (marks : List Bool) (found left : List ℕ) (number : ℕ) → found ≡ left ++ number ∷ [] → All (λ n. n < length marks) found
+pub below_less : (marks : List Bool) (found left : List ℕ) (number : ℕ) → found ≡ left ++ number ∷ []
+    → All (λ n. n < length marks) found
     → (number < length marks) × All (λ n. n < length (set marks number false)) left
 below_less marks found left number parted below =
     let parts = All-pop (λ n. n < length marks) found left (Some number) parted below in
-    let size = length-set marks number false in
-    (parts.1, All-weaker (λ n. n < length marks) (λ n. n < length (set marks number false)) (λ n k. omega arith) left parts.0)
+    let size = length-set marks number false in (
+      parts.1,
+      All-weaker (λ n. n < length marks) (λ n. n < length (set marks number false))
+          (λ n k. omega arith) left parts.0,
+    )
 
-pub cleared : (marks : List Bool) (found left : List ℕ) → found ≡ left ++ [] → StandsFor marks found → left ≡ [] → AreMarked marks left
+pub cleared : (marks : List Bool) (found left : List ℕ) → found ≡ left ++ [] → StandsFor marks found → left ≡ []
+    → AreMarked marks left
 cleared marks found left parted stands none =
-    subst (AreMarked marks) (sym none) (marked_none marks (λ number k t. false≢true (sym (ap (list_any (eqb number)) (parted ∙ ap (λ xs. xs ++ []) none)) ∙ stands number k t)))
+    subst (AreMarked marks) (sym none)
+    (marked_none marks (λ number k t. false≢true
+    (sym (ap (list_any (eqb number)) (parted ∙ ap (λ xs. xs ++ []) none)) ∙ stands number k t)))

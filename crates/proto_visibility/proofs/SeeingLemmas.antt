@@ -1,10 +1,12 @@
 -- A search along the steps of a table finds what a file sees.
-use Rattle.std.proofs.Common.{◌≡◌, ◌↔◌, ◌⊎◌, inl, inr, ℕ, ◌+◌, ◌<◌, ◌≤◌, Bool, true, false, zero, suc, List, [], ◌∷◌, ◌++◌, length, get_or, eqb, Some, None, refl, ap, sym, ◌∙◌, subst, arith, All}
+use Rattle.std.proofs.Common.{◌≡◌, ◌↔◌, ◌⊎◌, inl, inr, ℕ, ◌+◌, ◌<◌, ◌≤◌, Bool, true, false, zero, suc, List, [], ◌∷◌}
+use Rattle.std.proofs.Common.{◌++◌, length, get_or, eqb, Some, None, refl, ap, sym, ◌∙◌, subst, arith, All}
 use Rattle.std.specs.List.{Contains, list_any, slice_get}
 use Rattle.std.proofs.lemmas.Bool.{cases_lt, cases_Bool, eqb-true, cond-true, cond-false}
 use Rattle.std.proofs.lemmas.Option.{slice_get-get_or, slice_get_within, get_or_from_slice_get}
 use Rattle.std.proofs.lemmas.List.{length-append, append_assoc, append-nil, length_push, get_or_push}
-use Rattle.std.proofs.lemmas.List.Elements.{All-nil, All-cons, All-push, All-contains, All-head, All-tail, Contains-append_left, Contains-append_cases, Contains-push, Contains-get_or}
+use Rattle.std.proofs.lemmas.List.Elements.{All-nil, All-cons, All-push, All-contains, All-head, All-tail}
+use Rattle.std.proofs.lemmas.List.Elements.{Contains-append_left, Contains-append_cases, Contains-push, Contains-get_or}
 use Rattle.std.proofs.lemmas.Map.Views.{Contains-from_any}
 use Rattle.proto_visibility.specs.declared.import_table.Steps.{Steps}
 use Rattle.proto_visibility.specs.Sees.{LeadsTo, SeesBy}
@@ -15,9 +17,13 @@ use Rattle.proto_visibility.specs.Tables.Visits.{visit, visit_all}
 
 -- ---- what visits do
 
-visit_cases : (found : List ℕ) (number : ℕ) → (visit found number ≡ found ++ number ∷ []) ⊎ ((visit found number ≡ found) × Contains found number)
+visit_cases : (found : List ℕ) (number : ℕ)
+    → (visit found number ≡ found ++ number ∷ []) ⊎ ((visit found number ≡ found) × Contains found number)
 visit_cases found number = elim (cases_Bool (list_any (eqb number) found)) [
-  | inl there ↦ inr (cond-true (list_any (eqb number) found) found (found ++ number ∷ []) there, Contains-from_any eqb-true number found there)
+  | inl there ↦ inr (
+    cond-true (list_any (eqb number) found) found (found ++ number ∷ []) there,
+    Contains-from_any eqb-true number found there,
+  )
   | inr absent ↦ inl (cond-false (list_any (eqb number) found) found (found ++ number ∷ []) absent)
 ]
 
@@ -47,20 +53,25 @@ visits_add found (number ∷ numbers) =
     let others = visits_add (visit found number) numbers in
     (one.0 ++ others.0, others.1 ∙ (ap (λ xs. xs ++ others.0) one.1 ∙ append_assoc found one.0 others.0))
 
-pub visits_keep : (found numbers : List ℕ) (number : ℕ) → Contains found number → Contains (visit_all found numbers) number
+pub visits_keep : (found numbers : List ℕ) (number : ℕ) → Contains found number
+    → Contains (visit_all found numbers) number
 visits_keep found numbers number there =
     let added = visits_add found numbers in
     subst (λ xs. Contains xs number) (sym added.1) (Contains-append_left found added.0 number there)
 
-pub visits_of : (P : ℕ → Type 0) (found numbers : List ℕ) → All P found → All P numbers → All P (visit_all found numbers)
+pub visits_of : (P : ℕ → Type 0) (found numbers : List ℕ) → All P found → All P numbers
+    → All P (visit_all found numbers)
 visits_of P found [] each others = each
 visits_of P found (number ∷ numbers) each others =
-    visits_of P (visit found number) numbers (visit_all_of P found number each (All-head P number numbers others)) (All-tail P number numbers others)
+    visits_of P (visit found number) numbers (visit_all_of P found number each (All-head P number numbers others))
+    (All-tail P number numbers others)
 
-pub visits_find : (found numbers : List ℕ) (number : ℕ) → Contains numbers number → Contains (visit_all found numbers) number
+pub visits_find : (found numbers : List ℕ) (number : ℕ) → Contains numbers number
+    → Contains (visit_all found numbers) number
 visits_find found [] number there = absurd (omega (arith, there.1))
 visits_find found (first ∷ numbers) number there = elim (Contains-append_cases (first ∷ []) numbers number there) [
-  | inl one ↦ visits_keep (visit found first) numbers number (subst (λ n. Contains (visit found first) n) (only first number one) (visit_finds found first))
+  | inl one ↦ visits_keep (visit found first) numbers number
+      (subst (λ n. Contains (visit found first) n) (only first number one) (visit_finds found first))
   | inr other ↦ visits_find (visit found first) numbers number other
 ]
   where
@@ -73,7 +84,8 @@ slice_get_prefix [] ys k h = absurd (omega arith)
 slice_get_prefix (x ∷ xs) ys zero h = refl
 slice_get_prefix (x ∷ xs) ys (suc k) h = slice_get_prefix xs ys k (omega arith)
 
-visits_stay : (found numbers : List ℕ) (k : ℕ) → k < length found → slice_get (visit_all found numbers) k ≡ slice_get found k
+visits_stay : (found numbers : List ℕ) (k : ℕ) → k < length found
+    → slice_get (visit_all found numbers) k ≡ slice_get found k
 visits_stay found numbers k h =
     let added = visits_add found numbers in
     ap (λ xs. slice_get xs k) added.1 ∙ slice_get_prefix found added.0 k h
@@ -90,17 +102,21 @@ pub record Reaches (table : List Steps) (file done : ℕ) (numbers : List ℕ) :
   pub sound : All (SeesBy (HasStep table) file) numbers
   pub own : Contains numbers file
   pub plain : (other : ℕ) → HasStep table file false other → Contains numbers other
-  pub closed : (k number other : ℕ) → k < done → slice_get numbers k ≡ Some number → HasStep table number true other → Contains numbers other
+  pub closed : (k number other : ℕ) → k < done → slice_get numbers k ≡ Some number → HasStep table number true other
+      → Contains numbers other
   pub behind : done ≤ length numbers
 
-one_step : (table : List Steps) (file : ℕ) (steps : Steps) → slice_get table file ≡ Some steps → (publicly : Bool) (other : ℕ) → HasStep table file publicly other → Contains (targets steps publicly) other
+one_step : (table : List Steps) (file : ℕ) (steps : Steps) → slice_get table file ≡ Some steps
+    → (publicly : Bool) (other : ℕ) → HasStep table file publicly other → Contains (targets steps publicly) other
 one_step table file steps stands publicly other step =
     let same : Some step.steps ≡ Some steps = sym step.stands ∙ stands in
     let equal : step.steps ≡ steps = cc in
     subst (λ s. Contains (targets s publicly) other) equal step.listed
 
-each_step : (table : List Steps) (file : ℕ) (steps : Steps) → slice_get table file ≡ Some steps → (publicly : Bool) → All (HasStep table file publicly) (targets steps publicly)
-each_step table file steps stands publicly k d h = record { steps = steps; stands = stands; listed = Contains-get_or (targets steps publicly) k d h }
+each_step : (table : List Steps) (file : ℕ) (steps : Steps) → slice_get table file ≡ Some steps → (publicly : Bool)
+    → All (HasStep table file publicly) (targets steps publicly)
+each_step table file steps stands publicly k d h =
+    record { steps = steps; stands = stands; listed = Contains-get_or (targets steps publicly) k d h }
 
 All-implies : {X : Type 0} (P Q : X → Type 0) → ((x : X) → P x → Q x) → (xs : List X) → All P xs → All Q xs
 All-implies P Q f xs each k d h = f (get_or xs k d) (each k d h)
@@ -113,15 +129,18 @@ sees_more : {I : ℕ → Bool → ℕ → Type 0} {a b c : ℕ} → SeesBy I a b
 sees_more itself step = import step at_once
 sees_more (import first rest) step = import first (leads_more rest step)
 
-pub reaches_first : (table : List Steps) (file : ℕ) (steps : Steps) → slice_get table file ≡ Some steps → Reaches table file 0 (visit_all (visit [] file) steps.plain.items)
+pub reaches_first : (table : List Steps) (file : ℕ) (steps : Steps) → slice_get table file ≡ Some steps
+    → Reaches table file 0 (visit_all (visit [] file) steps.plain.items)
 reaches_first table file steps stands =
     let own : Contains (file ∷ []) file = Contains-push [] file in
     record {
       sound = visits_of (SeesBy (HasStep table) file) (file ∷ []) steps.plain.items
           (All-cons (SeesBy (HasStep table) file) file [] itself (All-nil (SeesBy (HasStep table) file)))
-          (All-implies (HasStep table file false) (SeesBy (HasStep table) file) (λ other step. import step at_once) steps.plain.items (each_step table file steps stands false));
+          (All-implies (HasStep table file false) (SeesBy (HasStep table) file)
+          (λ other step. import step at_once) steps.plain.items (each_step table file steps stands false));
       own = visits_keep (file ∷ []) steps.plain.items file own;
-      plain = λ other step. visits_find (file ∷ []) steps.plain.items other (one_step table file steps stands false other step);
+      plain = λ other step. visits_find (file ∷ []) steps.plain.items other
+          (one_step table file steps stands false other step);
       closed = λ k number other h. absurd (omega arith);
       behind = omega arith;
     }
@@ -131,53 +150,72 @@ pub reaches_more : (table : List Steps) (file done : ℕ) (numbers : List ℕ) (
     → Reaches table file (done + 1) (visit_all numbers steps.public.items)
 reaches_more table file done numbers next steps so_far is stands =
     let within : done < length numbers = slice_get_within numbers done next is in
-    let seen : SeesBy (HasStep table) file next = subst (SeesBy (HasStep table) file) (get_or_from_slice_get numbers done next next is) (so_far.sound done next within) in
+    let seen : SeesBy (HasStep table) file next =
+    subst (SeesBy (HasStep table) file) (get_or_from_slice_get numbers done next next is)
+    (so_far.sound done next within) in
     let grown = visits_grow numbers steps.public.items in
     record {
       sound = visits_of (SeesBy (HasStep table) file) numbers steps.public.items so_far.sound
-          (All-implies (HasStep table next true) (SeesBy (HasStep table) file) (λ other step. sees_more seen step) steps.public.items (each_step table next steps stands true));
+          (All-implies (HasStep table next true) (SeesBy (HasStep table) file)
+          (λ other step. sees_more seen step) steps.public.items (each_step table next steps stands true));
       own = visits_keep numbers steps.public.items file so_far.own;
       plain = λ other step. visits_keep numbers steps.public.items other (so_far.plain other step);
       closed = λ k number other h here step.
-          let there : slice_get numbers k ≡ Some number = sym (visits_stay numbers steps.public.items k (omega arith)) ∙ here in
+          let there : slice_get numbers k ≡ Some number =
+          sym (visits_stay numbers steps.public.items k (omega arith)) ∙ here in
           elim (cases_lt k done) [
             | inl before ↦ visits_keep numbers steps.public.items other (so_far.closed k number other before there step)
             | inr last ↦ (
                 let at : k ≡ done = omega arith in
                 let same : Some next ≡ Some number = sym is ∙ (ap (slice_get numbers) (sym at) ∙ there) in
                 let equal : number ≡ next = cc in
-                visits_find numbers steps.public.items other (one_step table next steps stands true other (subst (λ n. HasStep table n true other) equal step)))
+                visits_find numbers steps.public.items other
+                (one_step table next steps stands true other (subst (λ n. HasStep table n true other) equal step)))
           ];
       behind = omega arith;
     }
 
-module _ (table : List Steps) (numbers : List ℕ) (closed : (number other : ℕ) → Contains numbers number → HasStep table number true other → Contains numbers other) where
-  leads_within : {number other : ℕ} → LeadsTo (HasStep table) number other → Contains numbers number → Contains numbers other
-  leads_within at_once there = there
-  leads_within (through {file = a} {next = b} step rest) there = leads_within rest (closed a b there step)
+module _ (table : List Steps) (numbers : List ℕ)
+    (closed : (number other : ℕ) → Contains numbers number → HasStep table number true other → Contains numbers other)
+  where
+    leads_within : {number other : ℕ} → LeadsTo (HasStep table) number other → Contains numbers number
+        → Contains numbers other
+    leads_within at_once there = there
+    leads_within (through {file = a} {next = b} step rest) there = leads_within rest (closed a b there step)
 
-pub reaches_all : (table : List Steps) (file done : ℕ) (numbers : List ℕ) → Reaches table file done numbers → length numbers ≤ done
+pub reaches_all : (table : List Steps) (file done : ℕ) (numbers : List ℕ) → Reaches table file done numbers
+    → length numbers ≤ done
     → (other : ℕ) → Contains numbers other ↔ SeesBy (HasStep table) file other
-reaches_all table file done numbers reached all other = (λ there. All-contains (SeesBy (HasStep table) file) numbers other reached.sound there, complete other)
+reaches_all table file done numbers reached all other =
+    (λ there. All-contains (SeesBy (HasStep table) file) numbers other reached.sound there, complete other)
   where
     step_within : (number next : ℕ) → Contains numbers number → HasStep table number true next → Contains numbers next
     step_within number next there step =
-        reached.closed there.0 number next (omega (arith, there.1)) (slice_get-get_or numbers there.0 number there.1 ∙ ap Some there.2) step
+        reached.closed there.0 number next (omega (arith, there.1))
+        (slice_get-get_or numbers there.0 number there.1 ∙ ap Some there.2) step
 
     complete : (last : ℕ) → SeesBy (HasStep table) file last → Contains numbers last
     complete last itself = reached.own
-    complete last (import {next = next} {publicly = true} step rest) = leads_within table numbers step_within rest (step_within file next reached.own step)
-    complete last (import {next = next} {publicly = false} step rest) = leads_within table numbers step_within rest (reached.plain next step)
+    complete last (import {next = next} {publicly = true} step rest) =
+        leads_within table numbers step_within rest (step_within file next reached.own step)
+    complete last (import {next = next} {publicly = false} step rest) =
+        leads_within table numbers step_within rest (reached.plain next step)
 
-steps_within : (table : List Steps) (file : ℕ) (steps : Steps) → AreWithin table → slice_get table file ≡ Some steps → (publicly : Bool) → All (λ number. number < length table) (targets steps publicly)
+steps_within : (table : List Steps) (file : ℕ) (steps : Steps) → AreWithin table → slice_get table file ≡ Some steps
+    → (publicly : Bool) → All (λ number. number < length table) (targets steps publicly)
 steps_within table file steps within stands publicly =
-    subst (λ s. All (λ number. number < length table) (targets s publicly)) (get_or_from_slice_get table file steps steps stands) (within file steps (slice_get_within table file steps stands) publicly)
+    subst (λ s. All (λ number. number < length table) (targets s publicly))
+    (get_or_from_slice_get table file steps steps stands)
+    (within file steps (slice_get_within table file steps stands) publicly)
 
 -- the steps of a file lead to files that there are
 pub numbers_within : (table : List Steps) (file : ℕ) (steps : Steps) (publicly : Bool) (files : ℕ) (numbers : List ℕ)
-    → AreWithin table → slice_get table file ≡ Some steps → files ≡ length table → numbers ≡ targets steps publicly → All (λ number. number < files) numbers
+    → AreWithin table → slice_get table file ≡ Some steps → files ≡ length table → numbers ≡ targets steps publicly
+    → All (λ number. number < files) numbers
 numbers_within table file steps publicly files numbers within stands same are =
-    subst (All (λ number. number < files)) (sym are) (subst (λ n. All (λ number. number < n) (targets steps publicly)) (sym same) (steps_within table file steps within stands publicly))
+    subst (All (λ number. number < files)) (sym are)
+    (subst (λ n. All (λ number. number < n) (targets steps publicly)) (sym same)
+    (steps_within table file steps within stands publicly))
 
 pub all_followed : (numbers : List ℕ) (done : ℕ) → None ≡ slice_get numbers done → length numbers ≤ done
 all_followed numbers done none = elim (cases_lt done (length numbers)) [
@@ -205,20 +243,31 @@ rows_more table rows row last each file one stands = elim (cases_lt file (length
 ]
   where
     slice_get_last : (xs : List (List ℕ)) (x : List ℕ) → slice_get (xs ++ x ∷ []) (length xs) ≡ Some x
-    slice_get_last xs x = slice_get-get_or (xs ++ x ∷ []) (length xs) x (omega (arith, length_push xs x)) ∙ ap Some (get_or_push xs x x (length xs) refl)
+    slice_get_last xs x = slice_get-get_or (xs ++ x ∷ []) (length xs) x (omega (arith, length_push xs x))
+        ∙ ap Some (get_or_push xs x x (length xs) refl)
 
 -- ---- other imports that are the same
 
-leads_by : {I J : ℕ → Bool → ℕ → Type 0} (change : (from to : ℕ) (publicly : Bool) → I from publicly to → J from publicly to) {a b : ℕ} → LeadsTo I a b → LeadsTo J a b
+leads_by : {I J : ℕ → Bool → ℕ → Type 0}
+    (change : (from to : ℕ) (publicly : Bool) → I from publicly to → J from publicly to) {a b : ℕ} → LeadsTo I a b
+    → LeadsTo J a b
 leads_by change at_once = at_once
 leads_by change (through {file = a} {next = b} step rest) = through (change a b true step) (leads_by change rest)
 
-sees_by : {I J : ℕ → Bool → ℕ → Type 0} (change : (from to : ℕ) (publicly : Bool) → I from publicly to → J from publicly to) {a b : ℕ} → SeesBy I a b → SeesBy J a b
+sees_by : {I J : ℕ → Bool → ℕ → Type 0}
+    (change : (from to : ℕ) (publicly : Bool) → I from publicly to → J from publicly to) {a b : ℕ} → SeesBy I a b
+    → SeesBy J a b
 sees_by change itself = itself
-sees_by change (import {file = a} {next = b} {publicly = publicly} step rest) = import (change a b publicly step) (leads_by change rest)
+sees_by change (import {file = a} {next = b} {publicly = publicly} step rest) =
+    import (change a b publicly step) (leads_by change rest)
 
-pub rows_by : {I J : ℕ → Bool → ℕ → Type 0} (same : (from to : ℕ) (publicly : Bool) → I from publicly to ↔ J from publicly to) (m n : ℕ) (rows : List (List ℕ)) → m ≡ n → AreRowsBy I m rows → AreRowsBy J n rows
+pub rows_by : {I J : ℕ → Bool → ℕ → Type 0}
+    (same : (from to : ℕ) (publicly : Bool) → I from publicly to ↔ J from publicly to) (m n : ℕ) (rows : List (List ℕ))
+    → m ≡ n → AreRowsBy I m rows → AreRowsBy J n rows
 rows_by same m n rows size rows_are = record {
   one_each = rows_are.one_each ∙ size;
-  each = λ file row stands other. (λ there. sees_by (λ from to publicly. (same from to publicly).0) ((rows_are.each file row stands other).0 there), λ sees. (rows_are.each file row stands other).1 (sees_by (λ from to publicly. (same from to publicly).1) sees));
+  each = λ file row stands other. (
+    λ there. sees_by (λ from to publicly. (same from to publicly).0) ((rows_are.each file row stands other).0 there),
+    λ sees. (rows_are.each file row stands other).1 (sees_by (λ from to publicly. (same from to publicly).1) sees),
+  );
 }

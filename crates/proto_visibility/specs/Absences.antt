@@ -11,9 +11,11 @@ use Rattle.proto_visibility.specs.Items.{Before}
 -- An import that has to be there: any of a source, and the public ones of an included file that counts.
 pub data IsNeeded (files : List File) : ℕ → Imported → Type 0 where
   of_source : {number : ℕ} {facts : Facts} {import : Imported}
-      → IsSource files number → HasFacts files number facts → Contains facts.imports import → IsNeeded files number import
+      → IsSource files number → HasFacts files number facts → Contains facts.imports import
+      → IsNeeded files number import
   of_included : {number : ℕ} {facts : Facts} {import : Imported}
-      → Counts files number → HasFacts files number facts → Contains facts.imports import → is_public import.kind ≡ true → IsNeeded files number import
+      → Counts files number → HasFacts files number facts → Contains facts.imports import → is_public import.kind ≡ true
+      → IsNeeded files number import
 
 -- no file has the path of the import at this place, which has to be there
 pub record IsMissing (files : List File) (place : FilePlace) : Type 0 where

@@ -11,4 +11,5 @@ use Rattle.proto_visibility.specs.FileNames.{IsPrefix}
 pub data IsEntityOf (number : ℕ) (facts : Facts) (name : List ℕ) (count : ℕ) : Entity → Type 0 where
   packaged : IsPrefix facts.package_name name → IsEntityOf number facts name count (Package count)
   declared : {index : ℕ} {declaration : Declaration}
-      → slice_get facts.declarations index ≡ Some declaration → declaration.full_name ≡ name → IsEntityOf number facts name count (Declared number index)
+      → slice_get facts.declarations index ≡ Some declaration → declaration.full_name ≡ name
+      → IsEntityOf number facts name count (Declared number index)

@@ -18,11 +18,13 @@ admits AsAggregate kind = is_aggregate kind
 
 -- some first components make the name
 abbrev pub IsPrefix : List Component → (name : List ℕ) → Type 0
-IsPrefix components name = (count : ℕ) × (0 < count) × (count ≤ length components) × (name ≡ package_of components count)
+IsPrefix components name =
+    (count : ℕ) × (0 < count) × (count ≤ length components) × (name ≡ package_of components count)
 
 -- a declaration or a package of the file
 pub data Gives (facts : Facts) : List ℕ → NameKind → Type 0 where
-  declared : {declaration : Declaration} → Contains facts.declarations declaration → Gives facts declaration.full_name (OfDeclaration declaration.kind)
+  declared : {declaration : Declaration} → Contains facts.declarations declaration
+      → Gives facts declaration.full_name (OfDeclaration declaration.kind)
   packaged : {name : List ℕ} → IsPrefix facts.package_name name → Gives facts name OfPackage
 
 -- the file has such a one with this name, of a kind that is admitted
@@ -43,6 +45,7 @@ pub record IsGiving (files : List File) (admits : NameKind → Bool) (name : Lis
   pub gives : FileGives admits name file
 
 -- a file that is seen does
-pub record SeesGiving (files : List File) (file : ℕ) (admits : NameKind → Bool) (name : List ℕ) (seen : ℕ) : Type 0 where
+pub record SeesGiving (files : List File) (file : ℕ) (admits : NameKind → Bool) (name : List ℕ)
+    (seen : ℕ) : Type 0 where
   pub sees : Sees files file seen
   pub giving : IsGiving files admits name seen

@@ -6,7 +6,8 @@ use Rattle.proto_parse.specs.tree.ImportKind.TheVariants.{Plain, Weak, Public}
 use Rattle.proto_decl.specs.Facts.{Facts, AreOfSomeFile}
 use Rattle.proto_decl.specs.declared.imported.Imported.{Imported}
 
--- A file: its path below its root, its facts unless it couldn't be read or parsed, and whether it is included: linked, but not indexed.
+-- A file: its path below its root, its facts unless it couldn't be read or parsed, and whether it is included: linked,
+-- but not indexed.
 pub record File : Type 0 where
   pub path : List ℕ
   pub facts : Option Facts
@@ -30,7 +31,8 @@ pub record IsSource (files : List File) (number : ℕ) : Type 0 where
 
 -- whether the file with this number is included
 abbrev pub IsIncludedAt : List File → (number : ℕ) → Bool → Type 0
-IsIncludedAt files number included = (file : File) × (slice_get files number ≡ Some file) × (included ≡ file.is_included)
+IsIncludedAt files number included =
+    (file : File) × (slice_get files number ≡ Some file) × (included ≡ file.is_included)
 
 -- some file has this path
 abbrev pub HasPath : List File → List ℕ → Type 0
@@ -58,4 +60,5 @@ pub record Imports (files : List File) (importing : ℕ) (publicly : Bool) (impo
 
 -- no two files have one path
 abbrev pub HaveOwnPaths : List File → Type 0
-HaveOwnPaths files = (i j : ℕ) (a b : File) → slice_get files i ≡ Some a → slice_get files j ≡ Some b → a.path ≡ b.path → i ≡ j
+HaveOwnPaths files = (i j : ℕ) (a b : File) → slice_get files i ≡ Some a → slice_get files j ≡ Some b → a.path ≡ b.path
+    → i ≡ j

@@ -2,7 +2,8 @@
 use Rattle.std.specs.Prelude.{◌≡◌, ◌<◌, ◌↔◌, ◌⊎◌, ℕ, zero, suc, Option, Some, None, List, [], ◌∷◌, length, All}
 use Rattle.std.specs.List.{slice_get}
 use Rattle.proto_visibility.specs.declared.fault.LinkFault.{LinkFault}
-use Rattle.proto_visibility.specs.declared.fault.LinkFault.TheVariants.{Broken, Duplicate, MissingImport, Unresolved, Memory}
+use Rattle.proto_visibility.specs.declared.fault.LinkFault.TheVariants.{Broken, Duplicate, MissingImport, Unresolved}
+use Rattle.proto_visibility.specs.declared.fault.LinkFault.TheVariants.{Memory}
 use Rattle.proto_visibility.specs.Files.{File, HaveOwnPaths}
 use Rattle.proto_visibility.specs.Items.{Item, IsItem}
 use Rattle.proto_visibility.specs.Clashes.{ClashBy, NoClashBy}
@@ -22,13 +23,16 @@ pub record IsMet (IsItem : Item → Type 0) (omissions : Omissions) (number : �
   pub is_item : IsItem item
   pub meets : (item.place.file ≡ number) ⊎ ((item.place.file < number) × IsKept omissions item.place.file)
 
--- Whether a file is left out, and why. Files are taken one by one, in order of their numbers. Left out is one that counts and has
--- no facts, and one of which an item clashes with another of its own, or with one of a file kept before it: for the first such
+-- Whether a file is left out, and why. Files are taken one by one, in order of their numbers. Left out is one that
+-- counts and has
+-- no facts, and one of which an item clashes with another of its own, or with one of a file kept before it: for the
+-- first such
 -- clash. Files that don't count give no items, so they are kept.
 abbrev pub IsOmission : List File → Omissions → (number : ℕ) → Option LinkFault → Type 0
 IsOmission files omissions number None = (IsUnread files number → ⊥) × NoClashBy (IsMet (IsItem files) omissions number)
 IsOmission files omissions number (Some (Broken other)) = (other ≡ number) × IsUnread files number
-IsOmission files omissions number (Some (Duplicate first second)) = ClashBy (IsMet (IsItem files) omissions number) first second
+IsOmission files omissions number (Some (Duplicate first second)) =
+    ClashBy (IsMet (IsItem files) omissions number) first second
 IsOmission files omissions number (Some (MissingImport place)) = ⊥
 IsOmission files omissions number (Some (Unresolved place)) = ⊥
 IsOmission files omissions number (Some Memory) = ⊥
@@ -36,7 +40,8 @@ IsOmission files omissions number (Some Memory) = ⊥
 -- what is left out of the files
 pub record AreOmissions (files : List File) (omissions : Omissions) : Type 0 where
   pub one_each : length omissions ≡ length files
-  pub each : (number : ℕ) (omission : Option LinkFault) → slice_get omissions number ≡ Some omission → IsOmission files omissions number omission
+  pub each : (number : ℕ) (omission : Option LinkFault) → slice_get omissions number ≡ Some omission
+      → IsOmission files omissions number omission
 
 -- what is kept of a list that has an entry for each file, in order
 abbrev pub kept_of : {X : Type 0} → Omissions → List X → List X
@@ -66,7 +71,8 @@ abbrev pub NothingIsLeftOutOfGoodFiles : Type 0
 NothingIsLeftOutOfGoodFiles = (files : List File) (omissions : Omissions) → AreOmissions files omissions
     → AreAllKept omissions ↔ HaveClearNames files
 
--- The files that are kept can stand together: they have paths of their own, those of them that count have facts, and no names clash.
+-- The files that are kept can stand together: they have paths of their own, those of them that count have facts, and no
+-- names clash.
 abbrev pub KeptFilesAreClear : Type 0
 KeptFilesAreClear = (files : List File) (omissions : Omissions) → AreOmissions files omissions → HaveOwnPaths files
     → HaveOwnPaths (kept_of omissions files) × HaveClearNames (kept_of omissions files)

@@ -3,7 +3,8 @@ use Rattle.std.specs.Prelude.{ℕ, ⊤, List, length}
 use Rattle.std.specs.HashMap.{HashMap}
 use denote.Ref.{Bor}
 use Rattle.proto_visibility.specs.declared.fault.LinkFault.{LinkFault}
-use Rattle.proto_visibility.specs.declared.fault.LinkFault.TheVariants.{Broken, Duplicate, MissingImport, Unresolved, Memory}
+use Rattle.proto_visibility.specs.declared.fault.LinkFault.TheVariants.{Broken, Duplicate, MissingImport, Unresolved}
+use Rattle.proto_visibility.specs.declared.fault.LinkFault.TheVariants.{Memory}
 use Rattle.proto_visibility.specs.Files.{File, Imports, HaveOrigins}
 use Rattle.proto_visibility.specs.Clashes.{Clash, NoClash}
 use Rattle.proto_visibility.specs.Absences as absences
@@ -22,7 +23,8 @@ pub record CanBeLinked (files : List File) : Type 0 where
   pub clear : NoClash files
   pub complete : absences.NoAbsent files
 
--- each fault comes where it holds and none of those before it does; of memory nothing is said; that a use names no type is none of them
+-- each fault comes where it holds and none of those before it does; of memory nothing is said; that a use names no type
+-- is none of them
 abbrev pub MayRefuse : List File → LinkFault → Type 0
 MayRefuse files (Broken number) = absences.Broken files number
 MayRefuse files (Duplicate first second) = absences.NoneBroken files × Clash files first second
@@ -31,7 +33,8 @@ MayRefuse files (Unresolved place) = ⊥
 MayRefuse files Memory = ⊤
 
 -- what a namespace keeps of its files
-pub record IsLinked {S : Type 0} (files : List File) (numbers : HashMap (Bor (List ℕ)) ℕ S) (rows : List (List ℕ)) (names : Names) : Type 0 where
+pub record IsLinked {S : Type 0} (files : List File) (numbers : HashMap (Bor (List ℕ)) ℕ S) (rows : List (List ℕ))
+    (names : Names) : Type 0 where
   pub clear_names : HaveClearNames files
   pub origins : HaveOrigins files
   pub numbers_are : AreNumbered files numbers

@@ -10,7 +10,8 @@ pub data LeadsTo (Imports : ℕ → Bool → ℕ → Type 0) : ℕ → ℕ → T
 -- A file sees itself, what it imports, and what that leads to.
 pub data SeesBy (Imports : ℕ → Bool → ℕ → Type 0) : ℕ → ℕ → Type 0 where
   itself : {file : ℕ} → SeesBy Imports file file
-  import : {file next last : ℕ} {publicly : Bool} → Imports file publicly next → LeadsTo Imports next last → SeesBy Imports file last
+  import : {file next last : ℕ} {publicly : Bool} → Imports file publicly next → LeadsTo Imports next last
+      → SeesBy Imports file last
 
 abbrev pub Sees : List File → ℕ → ℕ → Type 0
 Sees files = SeesBy (Imports files)

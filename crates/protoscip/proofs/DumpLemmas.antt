@@ -1,5 +1,6 @@
 -- What a dump answers, by where it stops.
-use Rattle.std.proofs.Common.{◌≡◌, ◌∙◌, ◌⊎◌, inl, inr, ℕ, zero, suc, ◌<◌, ◌≤◌, List, [], ◌∷◌, length, Some, Option, Result, Ok, Err, refl, ap, sym, subst, arith}
+use Rattle.std.proofs.Common.{◌≡◌, ◌∙◌, ◌⊎◌, inl, inr, ℕ, zero, suc, ◌<◌, ◌≤◌, List, [], ◌∷◌, length, Some, Option}
+use Rattle.std.proofs.Common.{Result, Ok, Err, refl, ap, sym, subst, arith}
 use Rattle.std.specs.Prelude.{true, false, IfErr, IfSome}
 use Rattle.std.specs.List.{slice_get}
 use Rattle.std.proofs.lemmas.Option.{same_Some, none-some}
@@ -34,12 +35,14 @@ use Rattle.protoscip.specs.Indexes.{IsRefused}
 use Rattle.protoscip.specs.Writing.{IsReadBack}
 use Rattle.protoscip.specs.Output.{Writes}
 use Rattle.protoscip.specs.DumpText.{dump_text}
-use Rattle.protoscip.specs.Dump.{source_path, dump_tree, dump_settings, default_choices, IsListing, IsRefusal, Dumps, LeavesWriter, IsDumped}
+use Rattle.protoscip.specs.Dump.{source_path, dump_tree, dump_settings, default_choices, IsListing, IsRefusal, Dumps}
+use Rattle.protoscip.specs.Dump.{LeavesWriter, IsDumped}
 use Rattle.protoscip.specs.declared.fault.Fault.{Fault}
 use Rattle.protoscip.specs.declared.fault.Fault.TheVariants as fault
 use Rattle.protoscip.proofs.FileLemmas.{files_of_build}
 
-refused_of_build : (allows : Seen → Choice → Type 0) (settings : Settings) (tree : List TreeFile) (workers : ℕ) (e : BuildFault) → IsBuildFault allows settings.custom_options tree workers e
+refused_of_build : (allows : Seen → Choice → Type 0) (settings : Settings) (tree : List TreeFile) (workers : ℕ)
+    (e : BuildFault) → IsBuildFault allows settings.custom_options tree workers e
     → IsRefused allows settings tree workers (fault_of_build e)
 refused_of_build allows settings tree workers build.Spawn is = is
 refused_of_build allows settings tree workers build.Memory is = is
@@ -49,21 +52,28 @@ refused_of_build allows settings tree workers (build.Duplicate first second) is 
 refused_of_build allows settings tree workers (build.MissingImport place) is = is
 refused_of_build allows settings tree workers (build.Unresolved place) is = is
 
-module _ (custom : CustomOptions) (bytes : List ℕ) (settings : Settings) (tree : List TreeFile) (set : settings ≡ dump_settings custom) (alone : tree ≡ dump_tree bytes) where
+module _ (custom : CustomOptions) (bytes : List ℕ) (settings : Settings) (tree : List TreeFile)
+    (set : settings ≡ dump_settings custom) (alone : tree ≡ dump_tree bytes) where
   -- why its tree isn't built is why a source has no listing
-  pub refusal_of_build : (workers : ℕ) (e : BuildFault) → workers ≡ 1 → IsBuildFault default_choices settings.custom_options tree workers e → IsRefusal custom bytes (fault_of_build e)
+  pub refusal_of_build : (workers : ℕ) (e : BuildFault) → workers ≡ 1
+      → IsBuildFault default_choices settings.custom_options tree workers e → IsRefusal custom bytes (fault_of_build e)
   refusal_of_build workers e one is =
-      let of : IsRefused default_choices settings tree workers (fault_of_build e) = refused_of_build default_choices settings tree workers e is in
+      let of : IsRefused default_choices settings tree workers (fault_of_build e) =
+      refused_of_build default_choices settings tree workers e is in
       let by_settings = subst (λ (s : Settings). IsRefused default_choices s tree workers (fault_of_build e)) set of in
-      let of_tree = subst (λ (t : List TreeFile). IsRefused default_choices (dump_settings custom) t workers (fault_of_build e)) alone by_settings in
-      subst (λ (n : ℕ). IsRefused default_choices (dump_settings custom) (dump_tree bytes) n (fault_of_build e)) one of_tree
+      let of_tree = subst (λ (t : List TreeFile). IsRefused default_choices (dump_settings custom) t workers
+      (fault_of_build e)) alone by_settings in
+      subst (λ (n : ℕ). IsRefused default_choices (dump_settings custom) (dump_tree bytes) n (fault_of_build e)) one
+      of_tree
 
   -- the listing of its index is that of the source
-  pub listing_of_built : (built : Built) (read : Index) (listing : List ℕ) → IsBuilt default_choices settings tree built → IsReadBack built.index read → listing ≡ dump_text read
+  pub listing_of_built : (built : Built) (read : Index) (listing : List ℕ) → IsBuilt default_choices settings tree built
+      → IsReadBack built.index read → listing ≡ dump_text read
       → IsListing custom bytes listing
   listing_of_built built read listing is back text =
       let by_settings = subst (λ (s : Settings). IsBuilt default_choices s tree built) set is in
-      let of_tree = subst (λ (t : List TreeFile). IsBuilt default_choices (dump_settings custom) t built) alone by_settings in
+      let of_tree = subst (λ (t : List TreeFile). IsBuilt default_choices (dump_settings custom) t built) alone
+      by_settings in
       record {
         choices = built.choices;
         spelling = spelling_of built.index;
@@ -79,7 +89,8 @@ all_kept bytes short = take_all max_kept_length bytes (omega (arith, length-take
 longer : (bytes : List ℕ) → max_text_length < length (kept_bytes bytes) → max_text_length < length bytes
 longer bytes long = omega (arith, length-take max_kept_length bytes)
 
-whole : (P : List ℕ → Type 0) (bytes : List ℕ) → length (kept_bytes bytes) ≤ max_text_length → P (kept_bytes bytes) → P bytes
+whole : (P : List ℕ → Type 0) (bytes : List ℕ) → length (kept_bytes bytes) ≤ max_text_length → P (kept_bytes bytes)
+    → P bytes
 whole P bytes short p = subst P (all_kept bytes short) p
 
 -- a source that was read isn't too long
@@ -87,11 +98,13 @@ module _ (custom : CustomOptions) (bytes : List ℕ) where
   abbrev pub alone : TreeFile
   alone = record { path = source_path; bytes = bytes; is_included = false }
 
-  short_contents : (contents : Result FileContents FileFault) → HasContents custom default_choices zero alone contents → length bytes ≤ max_text_length
+  short_contents : (contents : Result FileContents FileFault) → HasContents custom default_choices zero alone contents
+      → length bytes ≤ max_text_length
   short_contents (Ok contents) has = has.1.facts_in.lexing.text.short
   short_contents (Err e) has = absurd (let same : false ≡ true = has.0 in cc)
 
-  pub short_source : (readings : List ReadFile) → AreReadingsOf custom default_choices (dump_tree bytes) readings → length bytes ≤ max_text_length
+  pub short_source : (readings : List ReadFile) → AreReadingsOf custom default_choices (dump_tree bytes) readings
+      → length bytes ≤ max_text_length
   short_source [] are = absurd (let none = are.one_each in omega (arith, none))
   short_source (reading ∷ others) are = short_contents reading.contents (are.each zero alone reading refl refl).contents
 
@@ -112,7 +125,8 @@ module _ (custom : CustomOptions) (bytes : List ℕ) where
   unreadable_of_all (file.Syntax e) is = whole (λ b. IsUnparsed custom b e) bytes is.lexing.text.short is
 
   -- the one source is the first that can't be read
-  faulty_of_all : (number : ℕ) (e : FileFault) → IsFirstFaulty custom (dump_tree (kept_bytes bytes)) number e → IsFirstFaulty custom (dump_tree bytes) number e
+  faulty_of_all : (number : ℕ) (e : FileFault) → IsFirstFaulty custom (dump_tree (kept_bytes bytes)) number e
+      → IsFirstFaulty custom (dump_tree bytes) number e
   faulty_of_all zero e is =
       let one : is.file ≡ alone custom (kept_bytes bytes) = sym (same_Some _ is.file is.numbered) in
       let faulty = subst (λ (f : TreeFile). IsUnreadable custom f.bytes e) one is.faulty.unreadable in
@@ -124,12 +138,18 @@ module _ (custom : CustomOptions) (bytes : List ℕ) where
       }
   faulty_of_all (suc number) e is = absurd (none-some is.file is.numbered)
 
-  of_readings : (P : List TreeFile → List ReadFile → Type 0) → (readings : List ReadFile) × AreReadingsOf custom default_choices (dump_tree (kept_bytes bytes)) readings × P (dump_tree (kept_bytes bytes)) readings
-      → (readings : List ReadFile) × AreReadingsOf custom default_choices (dump_tree bytes) readings × P (dump_tree bytes) readings
+  of_readings : (P : List TreeFile → List ReadFile → Type 0)
+      → (readings : List ReadFile) × AreReadingsOf custom default_choices (dump_tree (kept_bytes bytes)) readings
+      × P (dump_tree (kept_bytes bytes)) readings
+      → (readings : List ReadFile) × AreReadingsOf custom default_choices (dump_tree bytes) readings
+      × P (dump_tree bytes) readings
   of_readings P of =
-      whole (λ b. (readings : List ReadFile) × AreReadingsOf custom default_choices (dump_tree b) readings × P (dump_tree b) readings) bytes (short_source custom (kept_bytes bytes) of.0 of.1) of
+      whole (λ b. (readings : List ReadFile) × AreReadingsOf custom default_choices (dump_tree b) readings
+      × P (dump_tree b) readings) bytes (short_source custom (kept_bytes bytes) of.0 of.1) of
 
-  fault_of_all : (number : ℕ) (e : FileFault) → IsBuildFault default_choices custom (dump_tree (kept_bytes bytes)) 1 (build.File number e) → IsBuildFault default_choices custom (dump_tree bytes) 1 (build.File number e)
+  fault_of_all : (number : ℕ) (e : FileFault)
+      → IsBuildFault default_choices custom (dump_tree (kept_bytes bytes)) 1 (build.File number e)
+      → IsBuildFault default_choices custom (dump_tree bytes) 1 (build.File number e)
   fault_of_all number e (inl first) = inl (faulty_of_all number e first)
   fault_of_all number e (inr of) = inr (of_readings (λ _ readings. MayRefuseReadings readings (build.File number e)) of)
 
@@ -139,10 +159,16 @@ module _ (custom : CustomOptions) (bytes : List ℕ) where
   refusal_of_all fault.Memory is = is
   refusal_of_all (fault.Lex number e) is = fault_of_all number (file.Lex e) is
   refusal_of_all (fault.Syntax number e) is = fault_of_all number (file.Syntax e) is
-  refusal_of_all (fault.Duplicate first second) is = of_readings (λ _ readings. MayRefuseReadings readings (build.Duplicate first second)) is
-  refusal_of_all (fault.MissingImport place) is = of_readings (λ _ readings. MayRefuseReadings readings (build.MissingImport place)) is
-  refusal_of_all (fault.Unresolved place) is = of_readings (λ _ readings. CanBeLinked (linked_files readings) × IsLeastUnresolved (linked_files readings) place) is
-  refusal_of_all fault.TooLarge is = whole (λ b. IsRefusal custom b fault.TooLarge) bytes (short_source custom (kept_bytes bytes) is.1.readings is.1.read) is
+  refusal_of_all (fault.Duplicate first second) is =
+      of_readings (λ _ readings. MayRefuseReadings readings (build.Duplicate first second)) is
+  refusal_of_all (fault.MissingImport place) is =
+      of_readings (λ _ readings. MayRefuseReadings readings (build.MissingImport place)) is
+  refusal_of_all (fault.Unresolved place) is =
+      of_readings (λ _ readings. CanBeLinked (linked_files readings) × IsLeastUnresolved (linked_files readings) place)
+      is
+  refusal_of_all fault.TooLarge is =
+      whole (λ b. IsRefusal custom b fault.TooLarge) bytes
+      (short_source custom (kept_bytes bytes) is.1.readings is.1.read) is
   refusal_of_all (fault.Write count) is = is
   refusal_of_all fault.Read is = is
   refusal_of_all (fault.Answer count) is = is
@@ -150,7 +176,8 @@ module _ (custom : CustomOptions) (bytes : List ℕ) where
   pub listing_of_all : (listing : List ℕ) → IsListing custom (kept_bytes bytes) listing → IsListing custom bytes listing
   listing_of_all listing is =
       let readings = is.indexed.built in
-      whole (λ b. IsListing custom b listing) bytes (short_source custom (kept_bytes bytes) readings.readings readings.read) is
+      whole (λ b. IsListing custom b listing) bytes
+      (short_source custom (kept_bytes bytes) readings.readings readings.read) is
 
   -- a source that has no listing is refused,
   pub refused_dumps : (due : List ℕ) (e : Fault) → IsRefusal custom bytes e → Dumps custom bytes due (Err e)
@@ -167,7 +194,8 @@ module _ (custom : CustomOptions) (bytes : List ℕ) where
   refused_dumps due (fault.Answer count) is = is
 
   -- with the writer as it was,
-  pub refused_writer : (W : Type 0) (contents : W → Option (List ℕ)) (failures : W → ℕ) (out : W) (due : List ℕ) (e : Fault) → IsRefusal custom bytes e → LeavesWriter contents failures out out due (Err e)
+  pub refused_writer : (W : Type 0) (contents : W → Option (List ℕ)) (failures : W → ℕ) (out : W) (due : List ℕ)
+      (e : Fault) → IsRefusal custom bytes e → LeavesWriter contents failures out out due (Err e)
   refused_writer W contents failures out due fault.Spawn is = refl
   refused_writer W contents failures out due fault.Memory is = refl
   refused_writer W contents failures out due (fault.Lex number e) is = refl
@@ -184,11 +212,16 @@ module _ (custom : CustomOptions) (bytes : List ℕ) where
   pub dump_files : (e : Fault) → IsRefusal custom bytes e → HasFilesOf (dump_tree []) e
   dump_files fault.Spawn is = tt
   dump_files fault.Memory is = tt
-  dump_files (fault.Lex number e) is = files_of_build default_choices custom (dump_tree bytes) 1 (build.File number (file.Lex e)) is
-  dump_files (fault.Syntax number e) is = files_of_build default_choices custom (dump_tree bytes) 1 (build.File number (file.Syntax e)) is
-  dump_files (fault.Duplicate first second) is = files_of_build default_choices custom (dump_tree bytes) 1 (build.Duplicate first second) is
-  dump_files (fault.MissingImport place) is = files_of_build default_choices custom (dump_tree bytes) 1 (build.MissingImport place) is
-  dump_files (fault.Unresolved place) is = files_of_build default_choices custom (dump_tree bytes) 1 (build.Unresolved place) is
+  dump_files (fault.Lex number e) is =
+      files_of_build default_choices custom (dump_tree bytes) 1 (build.File number (file.Lex e)) is
+  dump_files (fault.Syntax number e) is =
+      files_of_build default_choices custom (dump_tree bytes) 1 (build.File number (file.Syntax e)) is
+  dump_files (fault.Duplicate first second) is =
+      files_of_build default_choices custom (dump_tree bytes) 1 (build.Duplicate first second) is
+  dump_files (fault.MissingImport place) is =
+      files_of_build default_choices custom (dump_tree bytes) 1 (build.MissingImport place) is
+  dump_files (fault.Unresolved place) is =
+      files_of_build default_choices custom (dump_tree bytes) 1 (build.Unresolved place) is
   dump_files fault.TooLarge is = tt
   dump_files (fault.Write count) is = tt
   dump_files fault.Read is = tt
@@ -196,22 +229,27 @@ module _ (custom : CustomOptions) (bytes : List ℕ) where
 
 -- where the listing is written, or cut off
 module _ (W : Type 0) (contents : W → Option (List ℕ)) (failures : W → ℕ) (before after : W) (due : List ℕ) where
-  pub written_dumps : (custom : CustomOptions) (bytes : List ℕ) (done : Result (Unit {0}) Fault) → IsListing custom bytes due → Writes contents failures before after due done → Dumps custom bytes due done
+  pub written_dumps : (custom : CustomOptions) (bytes : List ℕ) (done : Result (Unit {0}) Fault)
+      → IsListing custom bytes due → Writes contents failures before after due done → Dumps custom bytes due done
   written_dumps custom bytes (Ok done) is wrote = is
-  written_dumps custom bytes (Err e) is wrote = let P : Fault → Type 0 = λ f. Dumps custom bytes due (Err f) in subst P (sym wrote.1) is
+  written_dumps custom bytes (Err e) is wrote = let P : Fault → Type 0 = λ f. Dumps custom bytes due (Err f) in
+      subst P (sym wrote.1) is
 
-  pub written_writer : (done : Result (Unit {0}) Fault) → Writes contents failures before after due done → LeavesWriter contents failures before after due done
+  pub written_writer : (done : Result (Unit {0}) Fault) → Writes contents failures before after due done
+      → LeavesWriter contents failures before after due done
   written_writer (Ok done) wrote = wrote
   written_writer (Err e) wrote =
       let P : Fault → Type 0 = λ f. LeavesWriter contents failures before after due (Err f) in
       subst P (sym wrote.1) wrote.2
 
 -- what is said of what is read, if it is
-pub said_of_read : {A : Type 0} (P : A → Type 0) (read : Option A) (bytes : A) → read ≡ Some bytes → IfSome read P → P bytes
+pub said_of_read : {A : Type 0} (P : A → Type 0) (read : Option A) (bytes : A) → read ≡ Some bytes → IfSome read P
+    → P bytes
 said_of_read P read bytes is said = subst (λ o. IfSome o P) is said
 
 -- where the source isn't read nothing is due, of any bytes
-module _ {R W : Type 0} (remaining : R → Option (List ℕ)) (contents : W → Option (List ℕ)) (failures : W → ℕ) (custom : CustomOptions) (reader : R) (out : W) where
+module _ {R W : Type 0} (remaining : R → Option (List ℕ)) (contents : W → Option (List ℕ)) (failures : W → ℕ)
+    (custom : CustomOptions) (reader : R) (out : W) where
   pub unread_dumped : IsDumped remaining contents failures custom reader out out (Err fault.Read)
   unread_dumped = record { due = []; writer = refl; some = ([], tt); told = λ bytes known. tt }
 

@@ -27,7 +27,8 @@ not_listed [] behind file same = cc
 not_listed (x ∷ xs) behind file same = cc
 
 is_it : (file : SourceFile) (x : TreeFile) → IsFileOf (file ∷ []) [] x → x ≡ in_tree false file
-is_it file _ (of_source {file = other} has) = ap (in_tree false) (only file other has.0 (place_of (file ∷ []) other has))
+is_it file _ (of_source {file = other} has) =
+    ap (in_tree false) (only file other has.0 (place_of (file ∷ []) other has))
 is_it file _ (of_included {file = other} counts) = absurd (not_listed counts.before counts.behind other counts.listed)
 
 module _ (bytes : List ℕ) where
@@ -38,15 +39,22 @@ module _ (bytes : List ℕ) where
   unfolding source
   not_before_itself same = cc
 
-  pub one_source : (files : List TreeFile) → IsTreeOf (record { path = source_path; bytes = bytes } ∷ []) [] files → files ≡ dump_tree bytes
+  pub one_source : (files : List TreeFile) → IsTreeOf (record { path = source_path; bytes = bytes } ∷ []) [] files
+      → files ≡ dump_tree bytes
   unfolding source IsStrictlySortedBy
-  one_source [] tree = absurd (none-some (in_tree false source) (place_of [] (in_tree false source) ((tree.whole (in_tree false source)).1 (of_source (contained (source ∷ []) zero source refl)))))
-  one_source (x ∷ []) tree = ap (λ (y : TreeFile). y ∷ []) (is_it source x ((tree.whole x).0 (contained (x ∷ []) zero x refl)))
+  one_source [] tree = absurd
+      (none-some (in_tree false source)
+      (place_of [] (in_tree false source)
+      ((tree.whole (in_tree false source)).1 (of_source (contained (source ∷ []) zero source refl)))))
+  one_source (x ∷ []) tree =
+      ap (λ (y : TreeFile). y ∷ []) (is_it source x ((tree.whole x).0 (contained (x ∷ []) zero x refl)))
   one_source (x ∷ (y ∷ rest)) tree =
       let first = is_it source x ((tree.whole x).0 (contained (x ∷ (y ∷ rest)) zero x refl)) in
       let second = is_it source y ((tree.whole y).0 (contained (x ∷ (y ∷ rest)) (suc zero) y refl)) in
       let rising : file_cmp x y ≡ Less = tree.rising.0.0 in
-      absurd (not_before_itself (subst (λ (z : TreeFile). file_cmp z (in_tree false source) ≡ Less) first (subst (λ (z : TreeFile). file_cmp x z ≡ Less) second rising)))
+      absurd (not_before_itself
+      (subst (λ (z : TreeFile). file_cmp z (in_tree false source) ≡ Less) first
+      (subst (λ (z : TreeFile). file_cmp x z ≡ Less) second rising)))
 
 -- ---- it is a tree: its path is good, and there is no other
 
@@ -55,7 +63,16 @@ printable byte others is all = All-cons (λ (b : ℕ). 32 ≤ b) byte others is 
 
 is_printable : All (λ b. 32 ≤ b) source_path
 is_printable =
-    printable 105 (codes "nput.proto") (omega arith) (printable 110 (codes "put.proto") (omega arith) (printable 112 (codes "ut.proto") (omega arith) (printable 117 (codes "t.proto") (omega arith) (printable 116 (codes ".proto") (omega arith) (printable 46 (codes "proto") (omega arith) (printable 112 (codes "roto") (omega arith) (printable 114 (codes "oto") (omega arith) (printable 111 (codes "to") (omega arith) (printable 116 (codes "o") (omega arith) (printable 111 [] (omega arith) (All-nil (λ (b : ℕ). 32 ≤ b))))))))))))
+    printable 105 (codes "nput.proto") (omega arith)
+    (printable 110 (codes "put.proto") (omega arith)
+    (printable 112 (codes "ut.proto") (omega arith)
+    (printable 117 (codes "t.proto") (omega arith)
+    (printable 116 (codes ".proto") (omega arith)
+    (printable 46 (codes "proto") (omega arith)
+    (printable 112 (codes "roto") (omega arith)
+    (printable 114 (codes "oto") (omega arith)
+    (printable 111 (codes "to") (omega arith)
+    (printable 116 (codes "o") (omega arith) (printable 111 [] (omega arith) (All-nil (λ (b : ℕ). 32 ≤ b))))))))))))
 
 is_component : IsComponent source_path
 is_component = record {
@@ -81,7 +98,8 @@ module _ (bytes : List ℕ) where
   not_bad number file at = subst (λ (f : SourceFile). IsGoodPath f.path) (sym (only alone file number at)) good_path
 
   -- so no fault but want of memory comes
-  pub never_refused : (fault : TreeFault) → MayRefuse (record { path = source_path; bytes = bytes } ∷ []) [] fault → fault ≢ refusal.Memory → ⊥
+  pub never_refused : (fault : TreeFault) → MayRefuse (record { path = source_path; bytes = bytes } ∷ []) [] fault
+      → fault ≢ refusal.Memory → ⊥
   never_refused refusal.TooMany is named = omega (arith, is)
   never_refused (refusal.BadPath number) is named = is.first.bad (not_bad number is.first.file is.first.numbered)
   never_refused (refusal.SamePath number) is named =

@@ -1,5 +1,6 @@
 -- The entities of files that can be linked: what occurs names one, and a symbol's text is that of one.
-use Rattle.std.proofs.Common.{◌≡◌, ◌∙◌, ◌⊎◌, inl, inr, ℕ, zero, ◌<◌, Some, List, [], ◌∷◌, ◌++◌, map, take, sym, ap, refl, subst, arith}
+use Rattle.std.proofs.Common.{◌≡◌, ◌∙◌, ◌⊎◌, inl, inr, ℕ, zero, ◌<◌, Some, List, [], ◌∷◌, ◌++◌, map, take, sym, ap}
+use Rattle.std.proofs.Common.{refl, subst, arith}
 use Rattle.std.specs.Prelude.{All, Contains}
 use Rattle.std.specs.List.{slice_get}
 use Rattle.std.specs.Str.{bytes_eq}
@@ -78,56 +79,79 @@ has_text (first ∷ texts) text = elim (cases_Bool (bytes_eq first text)) [
 
 module _ (files : List File) (linked : CanBeLinked files) (origins : HaveOrigins files) (laws : LawsOfNames) where
   -- the file that an import of a source names
-  imported_is : (source : ℕ) → IsSource files source → (facts : Facts) (imported : Imported) → HasFacts files source facts → Contains facts.imports imported
+  imported_is : (source : ℕ) → IsSource files source → (facts : Facts) (imported : Imported)
+      → HasFacts files source facts → Contains facts.imports imported
       → IsEntityOf files (OfFile imported.path)
   imported_is source is facts imported has listed =
-      either named (λ none. absurd (linked.complete (record { file = source; span = imported.span }) (missing none))) (has_text (map (λ (file : File). file.path) files) imported.path)
+      either named (λ none. absurd (linked.complete (record { file = source; span = imported.span }) (missing none)))
+      (has_text (map (λ (file : File). file.path) files) imported.path)
     where
       missing : (HasPath files imported.path → ⊥) → IsMissing files (record { file = source; span = imported.span })
       missing none = record { import = imported; needed = of_source is has listed; stands = refl; missing = none }
 
-      counts : (number : ℕ) (file : File) → slice_get files number ≡ Some file → file.path ≡ imported.path → Counts files number
+      counts : (number : ℕ) (file : File) → slice_get files number ≡ Some file → file.path ≡ imported.path
+          → Counts files number
       counts number file at path =
-          seen is (import (record { facts = facts; import = imported; file = file; known = has; listed = listed; kind = refl; numbered = at; path = path }) at_once)
+          seen is (import (record {
+            facts = facts;
+            import = imported;
+            file = file;
+            known = has;
+            listed = listed;
+            kind = refl;
+            numbered = at;
+            path = path;
+          }) at_once)
 
       named : HasPath files imported.path → IsEntityOf files (OfFile imported.path)
       named there =
-          let at = mapped_at (λ (file : File). file.path) files there.0 imported.path (place_of (map (λ (file : File). file.path) files) imported.path there) in
+          let at = mapped_at (λ (file : File). file.path) files there.0 imported.path
+          (place_of (map (λ (file : File). file.path) files) imported.path there) in
           let Is : List ℕ → Type 0 = λ path. IsEntityOf files (OfFile path) in
           subst Is (sym at.2) (of_file (counts there.0 at.0 at.1 (sym at.2)) at.1)
 
   -- a package that a source knows
-  known_package : (source : ℕ) → IsSource files source → (name : List ℕ) (kind : NameKind) → Knows files source name kind → kind ≡ IsPackageKind
-      → (whole : List ℕ) (count : ℕ) → 0 < count → name ≡ prefix_of whole count → IsEntityOf files (OfPackage (take count (components_of whole)))
+  known_package : (source : ℕ) → IsSource files source → (name : List ℕ) (kind : NameKind)
+      → Knows files source name kind → kind ≡ IsPackageKind
+      → (whole : List ℕ) (count : ℕ) → 0 < count → name ≡ prefix_of whole count
+      → IsEntityOf files (OfPackage (take count (components_of whole)))
   known_package source is _ _ (known_declared sees has listed) kind whole count one front = absurd (cc)
-  known_package source is _ _ (known_packaged {seen = number} {count = few} {facts = facts} sees has some within) kind whole count one front =
-      let same = same_front whole count few facts.package_name one some (omega (arith, some, within)) (laws.simple facts (origins number facts has)) front in
+  known_package source is _ _
+      (known_packaged {seen = number} {count = few} {facts = facts} sees has some within) kind whole count one front =
+      let same = same_front whole count few facts.package_name one some (omega (arith, some, within))
+      (laws.simple facts (origins number facts has)) front in
       let Is : List (List ℕ) → Type 0 = λ parts. IsEntityOf files (OfPackage parts) in
       subst Is (sym same) (of_package (seen is sees) has some within)
 
-  named_package_is : (source : ℕ) → IsSource files source → (name : List ℕ) (number : ℕ) (part : Part) → 0 < number → IsNamed files source name number part → (count : ℕ) → part ≡ link.Package count
+  named_package_is : (source : ℕ) → IsSource files source → (name : List ℕ) (number : ℕ) (part : Part) → 0 < number
+      → IsNamed files source name number part → (count : ℕ) → part ≡ link.Package count
       → IsEntityOf files (OfPackage (take count (components_of name)))
   named_package_is source is name number _ one (named_package known) count same =
       let Is : ℕ → Type 0 = λ n. IsEntityOf files (OfPackage (take n (components_of name))) in
-      subst Is (count_of number count same) (known_package source is (prefix_of name number) IsPackageKind known refl name number one refl)
+      subst Is (count_of number count same)
+      (known_package source is (prefix_of name number) IsPackageKind known refl name number one refl)
     where
       count_of : (a b : ℕ) → link.Package a ≡ link.Package b → a ≡ b
       count_of a b e = cc
   named_package_is source is name number _ one (named_declared sees has at full) count same = absurd (cc)
 
-  named_file_counts : (source : ℕ) → IsSource files source → (name : List ℕ) (number : ℕ) (part : Part) → IsNamed files source name number part → (file index : ℕ) → part ≡ link.Declared file index
+  named_file_counts : (source : ℕ) → IsSource files source → (name : List ℕ) (number : ℕ) (part : Part)
+      → IsNamed files source name number part → (file index : ℕ) → part ≡ link.Declared file index
       → Counts files file
   named_file_counts source is name number _ (named_package known) file index same = absurd (cc)
-  named_file_counts source is name number _ (named_declared {seen = other} {index = its} sees has at full) file index same =
+  named_file_counts source is name number _
+      (named_declared {seen = other} {index = its} sees has at full) file index same =
       subst (Counts files) (file_of other its file index same) (seen is sees)
     where
       file_of : (a b c d : ℕ) → link.Declared a b ≡ link.Declared c d → a ≡ c
       file_of a b c d e = cc
 
-  component_is : (source : ℕ) → IsSource files source → (component : Component) (part : Part) (entity : Entity) → NamesIn files source component part entity → IsEntityOf files entity
+  component_is : (source : ℕ) → IsSource files source → (component : Component) (part : Part) (entity : Entity)
+      → NamesIn files source component part entity → IsEntityOf files entity
   component_is source is component (link.Package count) entity names =
       let named = names.is_target.named names.index (link.Package count) names.part_is in
-      subst (IsEntityOf files) (sym names.entity_is) (named_package_is source is names.target.name _ (link.Package count) (omega arith) named count refl)
+      subst (IsEntityOf files) (sym names.entity_is)
+      (named_package_is source is names.target.name _ (link.Package count) (omega arith) named count refl)
   component_is source is component (link.Declared file index) entity names =
       let named = names.is_target.named names.index (link.Declared file index) names.part_is in
       let counts = named_file_counts source is names.target.name _ (link.Declared file index) named file index refl in
@@ -135,16 +159,21 @@ module _ (files : List File) (linked : CanBeLinked files) (origins : HaveOrigins
 
   module _ (chosen : Chosen) (id : Package) (encoding : Encoding) (source : ℕ) (text : List ℕ) where
     -- what an occurrence of a source names is an entity of the files,
-    pub entity_is : IsSource files source → (o : Occurrence) (occurs : Occurs files chosen id encoding source text o) → IsEntityOf files (entity_of occurs)
+    pub entity_is : IsSource files source → (o : Occurrence) (occurs : Occurs files chosen id encoding source text o)
+        → IsEntityOf files (entity_of occurs)
     entity_is is _ (rule.of_file numbered) = of_file (source-counts files source is) numbered
-    entity_is is _ (rule.of_import {facts = facts} {imported = imported} has listed there) = imported_is source is facts imported has listed
+    entity_is is _ (rule.of_import {facts = facts} {imported = imported} has listed there) =
+        imported_is source is facts imported has listed
     entity_is is _ (rule.of_package {facts = facts} index {component = component} has stands) =
-        of_package (source-counts files source is) has (omega arith) (omega (arith, slice_get_within facts.package_name index component stands))
+        of_package (source-counts files source is) has (omega arith)
+        (omega (arith, slice_get_within facts.package_name index component stands))
     entity_is is _ (rule.of_declaration index has kept) = of_declaration (source-counts files source is) has
-    entity_is is _ (rule.of_component {component = component} {part = part} {entity = entity} names shown) = component_is source is component part entity names
+    entity_is is _ (rule.of_component {component = component} {part = part} {entity = entity} names shown) =
+        component_is source is component part entity names
 
     -- and its symbol is that of the entity
-    pub symbol_is : (o : Occurrence) (occurs : Occurs files chosen id encoding source text o) → o.symbol ≡ text_of id (entity_of occurs)
+    pub symbol_is : (o : Occurrence) (occurs : Occurs files chosen id encoding source text o)
+        → o.symbol ≡ text_of id (entity_of occurs)
     symbol_is _ (rule.of_file numbered) = refl
     symbol_is _ (rule.of_import has listed there) = refl
     symbol_is _ (rule.of_package index has stands) = refl
@@ -153,13 +182,16 @@ module _ (files : List File) (linked : CanBeLinked files) (origins : HaveOrigins
 
 -- ---- entities and symbols
 
-module _ (files : List File) (origins : HaveOrigins files) (good : HaveGoodPaths files) (clear : NoClash files) (laws : LawsOfNames) where
+module _ (files : List File) (origins : HaveOrigins files) (good : HaveGoodPaths files) (clear : NoClash files)
+    (laws : LawsOfNames) where
   is_entity : (entity : Entity) → IsEntityOf files entity → IsEntity entity
   is_entity _ (of_file {number = number} {file = file} counts at) = good number file at
-  is_entity _ (of_package {number = number} {count = count} {facts = facts} counts has some few) = package-is facts count (laws.named facts (origins number facts has)) some few
+  is_entity _ (of_package {number = number} {count = count} {facts = facts} counts has some few) =
+      package-is facts count (laws.named facts (origins number facts has)) some few
   is_entity _ (of_declaration {number = number} {index = index} {facts = facts} {declared = declared} counts has) =
       let origin = origins number facts has.has_facts in
-      declaration-is facts declared (laws.named facts origin) (laws.paths facts origin) (contained facts.declarations index declared has.numbered)
+      declaration-is facts declared (laws.named facts origin) (laws.paths facts origin)
+      (contained facts.declarations index declared has.numbered)
 
   -- a declaration is one of the facts of a file that counts
   record IsDeclared (entity : Entity) : Type 0 where
@@ -178,16 +210,18 @@ module _ (files : List File) (origins : HaveOrigins files) (good : HaveGoodPaths
   unfolding IsElse
   kind_of _ (of_file counts at) = inr (λ declarations. tt)
   kind_of _ (of_package counts has some few) = inr (λ declarations. tt)
-  kind_of _ (of_declaration {number = number} {index = index} {facts = facts} {declared = declared} counts has) = inl (record {
-    number = number;
-    facts = facts;
-    counted = record { counts = counts; known = has.has_facts };
-    declared = declared;
-    listed = contained facts.declarations index declared has.numbered;
-    is = refl;
-  })
+  kind_of _ (of_declaration {number = number} {index = index} {facts = facts} {declared = declared} counts has) =
+      inl (record {
+        number = number;
+        facts = facts;
+        counted = record { counts = counts; known = has.has_facts };
+        declared = declared;
+        listed = contained facts.declarations index declared has.numbered;
+        is = refl;
+      })
 
-  among : (entity : Entity) (is : IsDeclared entity) (all : List Facts) → Contains all is.facts → IsAmong (declarations_of all) entity
+  among : (entity : Entity) (is : IsDeclared entity) (all : List Facts) → Contains all is.facts
+      → IsAmong (declarations_of all) entity
   among entity is all there = subst (IsAmong (declarations_of all)) is.is (put all is.facts is.declared there is.listed)
 
   no_facts : AreWithoutClash []
@@ -198,34 +232,45 @@ module _ (files : List File) (origins : HaveOrigins files) (good : HaveGoodPaths
 
   module _ (id : Package) (is_package : IsPackage id) where
     -- two entities, each of facts that count, or of none
-    one_of : (m n : ℕ) (f g : Facts) → AreCounted files m f → AreCounted files n g → (entity other : Entity) → IsEntity entity → IsEntity other
-        → IsAmong (declarations_of (f ∷ (g ∷ []))) entity → IsAmong (declarations_of (f ∷ (g ∷ []))) other → text_of id entity ≡ text_of id other → entity ≡ other
+    one_of : (m n : ℕ) (f g : Facts) → AreCounted files m f → AreCounted files n g → (entity other : Entity)
+        → IsEntity entity → IsEntity other
+        → IsAmong (declarations_of (f ∷ (g ∷ []))) entity → IsAmong (declarations_of (f ∷ (g ∷ []))) other
+        → text_of id entity ≡ text_of id other → entity ≡ other
     one_of m n f g a b entity other its also here there same =
-        one-text files origins clear laws.one_name (spelled laws) laws.symbols laws.unclashed id is_package m n f g a b entity other its also here there same
+        one-text files origins clear laws.one_name
+        (spelled laws) laws.symbols laws.unclashed id is_package m n f g a b entity other its also here there same
 
-    one_else : (entity other : Entity) → IsEntity entity → IsEntity other → IsElse entity → IsElse other → text_of id entity ≡ text_of id other → entity ≡ other
+    one_else : (entity other : Entity) → IsEntity entity → IsEntity other → IsElse entity → IsElse other
+        → text_of id entity ≡ text_of id other → entity ≡ other
     unfolding text_of IsElse
     one_else entity other its also here there same =
-        laws.symbols id (declarations_of []) is_package (laws.unclashed [] no_facts) entity other its also (here (declarations_of [])) (there (declarations_of [])) same
+        laws.symbols id (declarations_of []) is_package (laws.unclashed [] no_facts) entity other its also
+        (here (declarations_of [])) (there (declarations_of [])) same
 
-    one_by : (entity other : Entity) → IsEntity entity → IsEntity other → IsDeclared entity ⊎ IsElse entity → IsDeclared other ⊎ IsElse other
+    one_by : (entity other : Entity) → IsEntity entity → IsEntity other → IsDeclared entity ⊎ IsElse entity
+        → IsDeclared other ⊎ IsElse other
         → text_of id entity ≡ text_of id other → entity ≡ other
     unfolding IsElse
     one_by entity other its also (inl a) (inl b) same =
         let all : List Facts = a.facts ∷ (b.facts ∷ []) in
         one_of a.number b.number a.facts b.facts a.counted b.counted entity other its also
-        (among entity a all (first-in a.facts (b.facts ∷ []))) (among other b all (behind-in a.facts (b.facts ∷ []) b.facts (first-in b.facts []))) same
+        (among entity a all (first-in a.facts (b.facts ∷ [])))
+        (among other b all (behind-in a.facts (b.facts ∷ []) b.facts (first-in b.facts []))) same
     one_by entity other its also (inl a) (inr b) same =
         let all : List Facts = a.facts ∷ (a.facts ∷ []) in
-        one_of a.number a.number a.facts a.facts a.counted a.counted entity other its also (among entity a all (first-in a.facts (a.facts ∷ []))) (b (declarations_of all)) same
+        one_of a.number a.number a.facts a.facts a.counted a.counted entity other its also
+        (among entity a all (first-in a.facts (a.facts ∷ []))) (b (declarations_of all)) same
     one_by entity other its also (inr a) (inl b) same =
         let all : List Facts = b.facts ∷ (b.facts ∷ []) in
-        one_of b.number b.number b.facts b.facts b.counted b.counted entity other its also (a (declarations_of all)) (among other b all (first-in b.facts (b.facts ∷ []))) same
+        one_of b.number b.number b.facts b.facts b.counted b.counted entity other its also (a (declarations_of all))
+        (among other b all (first-in b.facts (b.facts ∷ []))) same
     one_by entity other its also (inr a) (inr b) same = one_else entity other its also a b same
 
     -- entities of the files with one symbol are one
-    pub one_entity : (entity other : Entity) → IsEntityOf files entity → IsEntityOf files other → text_of id entity ≡ text_of id other → entity ≡ other
-    one_entity entity other its also same = one_by entity other (is_entity entity its) (is_entity other also) (kind_of entity its) (kind_of other also) same
+    pub one_entity : (entity other : Entity) → IsEntityOf files entity → IsEntityOf files other
+        → text_of id entity ≡ text_of id other → entity ≡ other
+    one_entity entity other its also same =
+        one_by entity other (is_entity entity its) (is_entity other also) (kind_of entity its) (kind_of other also) same
 
   -- ---- a declaration's entity is its own
 
@@ -234,13 +279,19 @@ module _ (files : List File) (origins : HaveOrigins files) (good : HaveGoodPaths
   full_name_in (OfPackage components) = []
   full_name_in (OfDeclaration components way) = dotted (components ++ names_of way)
 
-  full_name_is : (number index : ℕ) (facts : Facts) (declared : Declaration) → HasDeclaration files number index facts declared → declared.full_name ≡ full_name_in (declaration_at facts declared)
+  full_name_is : (number index : ℕ) (facts : Facts) (declared : Declaration)
+      → HasDeclaration files number index facts declared
+      → declared.full_name ≡ full_name_in (declaration_at facts declared)
   full_name_is number index facts declared has =
-      let Is : Declaration → Type 0 = λ d. d.full_name ≡ dotted (component_names facts.package_name ++ names_of d.path) in
-      All-contains Is facts.declarations declared (laws.held facts (origins number facts has.has_facts)).full_names (contained facts.declarations index declared has.numbered)
+      let Is : Declaration → Type 0 =
+      λ d. d.full_name ≡ dotted (component_names facts.package_name ++ names_of d.path) in
+      All-contains Is facts.declarations declared (laws.held facts (origins number facts has.has_facts)).full_names
+      (contained facts.declarations index declared has.numbered)
 
-  pub own_entity : (number index other its : ℕ) (facts more : Facts) (a b : Declaration) → Counts files number → Counts files other
-      → HasDeclaration files number index facts a → HasDeclaration files other its more b → declaration_at facts a ≡ declaration_at more b → (number ≡ other) × (index ≡ its)
+  pub own_entity : (number index other its : ℕ) (facts more : Facts) (a b : Declaration) → Counts files number
+      → Counts files other
+      → HasDeclaration files number index facts a → HasDeclaration files other its more b
+      → declaration_at facts a ≡ declaration_at more b → (number ≡ other) × (index ≡ its)
   own_entity number index other its facts more a b counts also has there same =
       laws.one_name files origins clear number index other its a b
       (record { facts = facts; counts = counts; known = has.has_facts; stands = has.numbered })

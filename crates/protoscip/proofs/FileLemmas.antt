@@ -25,27 +25,36 @@ use Rattle.protoscip.specs.FaultLines.{HasFile, HasFilesOf}
 
 -- an item stands in one of the files
 of_item : (files : List File) (item : Item) → IsItem files item → item.place.file < length files
-of_item files item (declared {number} {facts} {declaration} counts has listed) = slice_get_within files number has.file has.numbered
-of_item files item (packaged {number} {facts} {component} index counts has listed) = slice_get_within files number has.file has.numbered
+of_item files item (declared {number} {facts} {declaration} counts has listed) =
+    slice_get_within files number has.file has.numbered
+of_item files item (packaged {number} {facts} {component} index counts has listed) =
+    slice_get_within files number has.file has.numbered
 
 -- and so does an import that has to be there
 of_import : (files : List File) (number : ℕ) (import : Imported) → IsNeeded files number import → number < length files
 of_import files number import (of_source source has listed) = slice_get_within files number has.file has.numbered
-of_import files number import (of_included counts has listed public) = slice_get_within files number has.file has.numbered
+of_import files number import (of_included counts has listed public) =
+    slice_get_within files number has.file has.numbered
 
 module _ (allows : Seen → Choice → Type 0) (custom : CustomOptions) (tree : List TreeFile) where
-  in_tree : (readings : List ReadFile) (number : ℕ) → AreReadingsOf custom allows tree readings → number < length (linked_files readings) → HasFile tree number
+  in_tree : (readings : List ReadFile) (number : ℕ) → AreReadingsOf custom allows tree readings
+      → number < length (linked_files readings) → HasFile tree number
   in_tree readings number are within =
       let count : length (linked_files readings) ≡ length tree = length-map readings linked_file ∙ are.one_each in
       subst (λ (n : ℕ). number < n) count within
 
-  pub files_of_build : (workers : ℕ) (e : BuildFault) → IsBuildFault allows custom tree workers e → HasFilesOf tree (fault_of_build e)
+  pub files_of_build : (workers : ℕ) (e : BuildFault) → IsBuildFault allows custom tree workers e
+      → HasFilesOf tree (fault_of_build e)
   files_of_build workers build.Spawn is = tt
   files_of_build workers build.Memory is = tt
-  files_of_build workers (build.File number (file.Lex e)) (inl first) = slice_get_within tree number first.file first.numbered
-  files_of_build workers (build.File number (file.Syntax e)) (inl first) = slice_get_within tree number first.file first.numbered
-  files_of_build workers (build.File number (file.Lex e)) (inr of) = subst (λ (n : ℕ). number < n) of.1.one_each (slice_get_within of.0 number of.2.1.reading of.2.1.numbered)
-  files_of_build workers (build.File number (file.Syntax e)) (inr of) = subst (λ (n : ℕ). number < n) of.1.one_each (slice_get_within of.0 number of.2.1.reading of.2.1.numbered)
+  files_of_build workers (build.File number (file.Lex e)) (inl first) =
+      slice_get_within tree number first.file first.numbered
+  files_of_build workers (build.File number (file.Syntax e)) (inl first) =
+      slice_get_within tree number first.file first.numbered
+  files_of_build workers (build.File number (file.Lex e)) (inr of) =
+      subst (λ (n : ℕ). number < n) of.1.one_each (slice_get_within of.0 number of.2.1.reading of.2.1.numbered)
+  files_of_build workers (build.File number (file.Syntax e)) (inr of) =
+      subst (λ (n : ℕ). number < n) of.1.one_each (slice_get_within of.0 number of.2.1.reading of.2.1.numbered)
   files_of_build workers (build.Duplicate first second) is =
       let clash = is.2.1 in
       let files = linked_files is.0 in

@@ -19,14 +19,16 @@ use Rattle.scip_document.specs.Occurs as rule
 use Rattle.scip_model.specs.declared.records.Document.{Document}
 use Rattle.scip_model.specs.declared.records.Occurrence.{Occurrence}
 use Rattle.scip_query.specs.OccurrenceAt.{Subject, subject_at, subject_in, subject_of}
-use Rattle.scip_query.specs.References.{is_local, is_of, is_definition, references_of, definitions_of, references_at, definitions_at}
+use Rattle.scip_query.specs.References.{is_local, is_of, is_definition, references_of, definitions_of, references_at}
+use Rattle.scip_query.specs.References.{definitions_at}
 use Rattle.scip_query.specs.Sites.{Site, Numbered}
 use Rattle.scip_build.specs.Builds.{IsBuilt}
 use Rattle.scip_build.specs.Documents.{texts_of}
 use Rattle.scip_build.specs.Linking.{linked_files}
 use Rattle.scip_build.specs.declared.built.Built.{Built}
 use Rattle.scip_build.specs.declared.settings.Settings.{Settings}
-use Rattle.protoscip.specs.Headline.{IsEntityOf, entity_of, defines, IsSite, site_cmp, IsOf, IsSiteOf, IsDefinitionOf, IsAt, Answers, AnswersNames, Headline}
+use Rattle.protoscip.specs.Headline.{IsEntityOf, entity_of, defines, IsSite, site_cmp, IsOf, IsSiteOf, IsDefinitionOf}
+use Rattle.protoscip.specs.Headline.{IsAt, Answers, AnswersNames, Headline}
 use Rattle.protoscip.specs.NameLaws.{LawsOfNames}
 use Rattle.protoscip.proofs.EntityLemmas.{entity_is, symbol_is, one_entity, own_entity}
 use Rattle.protoscip.proofs.LinkedLemmas.{have_origins, good_paths}
@@ -40,7 +42,8 @@ unfolding text_of
 not_local id entity = refl
 
 -- the role of what occurs is that of the rule
-role_is : {files : List File} {chosen : Chosen} {id : Package} {encoding : Encoding} {source : ℕ} {text : List ℕ} {o : Occurrence}
+role_is : {files : List File} {chosen : Chosen} {id : Package} {encoding : Encoding} {source : ℕ} {text : List ℕ}
+    {o : Occurrence}
     → (occurs : Occurs files chosen id encoding source text o) → is_definition o ≡ defines occurs
 role_is (rule.of_file numbered) = refl
 role_is (rule.of_import has listed there) = refl
@@ -49,53 +52,69 @@ role_is (rule.of_declaration index has kept) = refl
 role_is (rule.of_component names shown) = refl
 
 -- a list of one set is that of the same, told otherwise
-alike : {X : Type 0} {cmp : X → X → Ordering} {P Q : X → Type 0} {list : List X} → ((x : X) → P x ↔ Q x) → IsAscendingListOf cmp P list → IsAscendingListOf cmp Q list
+alike : {X : Type 0} {cmp : X → X → Ordering} {P Q : X → Type 0} {list : List X} → ((x : X) → P x ↔ Q x)
+    → IsAscendingListOf cmp P list → IsAscendingListOf cmp Q list
 alike same of = record {
   exact = λ x. (λ there. (same x).0 ((of.exact x).0 there), λ its. (of.exact x).1 ((same x).1 its));
   ascends = of.ascends;
 }
 
-module _ {allows : Seen → Choice → Type 0} {settings : Settings} {tree : List TreeFile} {result : Built} (built : IsBuilt allows settings tree result)
-    (origins : HaveOrigins (linked_files built.readings)) (good : HaveGoodPaths (linked_files built.readings)) (is_package : IsPackage settings.package) (laws : LawsOfNames) where
+module _ {allows : Seen → Choice → Type 0} {settings : Settings} {tree : List TreeFile} {result : Built}
+    (built : IsBuilt allows settings tree result)
+    (origins : HaveOrigins (linked_files built.readings)) (good : HaveGoodPaths (linked_files built.readings))
+    (is_package : IsPackage settings.package) (laws : LawsOfNames) where
   Files : List File
   Files = linked_files built.readings
 
   -- ---- the entity of an occurrence
 
-  source_of : (document : Document) (has : HasDocument (linked_files built.readings) (texts_of built.readings) result.choices settings.package settings.encoding document) → IsSource (linked_files built.readings) has.source
+  source_of : (document : Document)
+      (has : HasDocument (linked_files built.readings)
+      (texts_of built.readings) result.choices settings.package settings.encoding document)
+      → IsSource (linked_files built.readings) has.source
   source_of document has = record { file = has.is.file; numbered = has.is.numbered; source = has.is.is_source }
 
-  of_files : (entity : Entity) (document : Document) (o : Occurrence) → IsOf built entity document o → IsEntityOf (linked_files built.readings) entity
+  of_files : (entity : Entity) (document : Document) (o : Occurrence) → IsOf built entity document o
+      → IsEntityOf (linked_files built.readings) entity
   of_files entity document o is =
       subst (IsEntityOf (linked_files built.readings)) is.is
-      (entity_is (linked_files built.readings) built.linked origins laws result.choices settings.package settings.encoding is.of_source.source is.of_source.text (source_of document is.of_source) o is.occurs)
+      (entity_is (linked_files built.readings) built.linked origins laws result.choices settings.package
+      settings.encoding is.of_source.source is.of_source.text (source_of document is.of_source) o is.occurs)
 
-  symbol_of : (entity : Entity) (document : Document) (o : Occurrence) → IsOf built entity document o → o.symbol ≡ text_of settings.package entity
+  symbol_of : (entity : Entity) (document : Document) (o : Occurrence) → IsOf built entity document o
+      → o.symbol ≡ text_of settings.package entity
   symbol_of entity document o is =
-      symbol_is (linked_files built.readings) built.linked origins laws result.choices settings.package settings.encoding is.of_source.source is.of_source.text o is.occurs
+      symbol_is (linked_files built.readings) built.linked origins laws result.choices settings.package
+      settings.encoding is.of_source.source is.of_source.text o is.occurs
       ∙ ap (text_of settings.package) is.is
 
-  entity_at : (document : Document) (o : Occurrence) → Contains result.index.documents document → Contains document.occurrences o → (entity : Entity) × IsOf built entity document o
+  entity_at : (document : Document) (o : Occurrence) → Contains result.index.documents document
+      → Contains document.occurrences o → (entity : Entity) × IsOf built entity document o
   entity_at document o listed there =
       let has = (built.index.documents.exact document).0 listed in
       let occurs = (has.is.occurrences.exact o).0 there in
       (entity_of occurs, record { of_source = has; occurs = occurs; is = refl })
 
-  same_entity : (entity other : Entity) → IsEntityOf (linked_files built.readings) entity → IsEntityOf (linked_files built.readings) other
+  same_entity : (entity other : Entity) → IsEntityOf (linked_files built.readings) entity
+      → IsEntityOf (linked_files built.readings) other
       → text_of settings.package entity ≡ text_of settings.package other → entity ≡ other
-  same_entity = one_entity (linked_files built.readings) origins good built.linked.clear laws settings.package is_package
+  same_entity = one_entity
+      (linked_files built.readings) origins good built.linked.clear laws settings.package is_package
 
   -- occurrences with one symbol are of one entity
-  by_symbol : (entity other : Entity) (document another : Document) (o also : Occurrence) → IsOf built entity document o → IsOf built other another also → o.symbol ≡ also.symbol → other ≡ entity
+  by_symbol : (entity other : Entity) (document another : Document) (o also : Occurrence) → IsOf built entity document o
+      → IsOf built other another also → o.symbol ≡ also.symbol → other ≡ entity
   by_symbol entity other document another o also is its same =
       same_entity other entity (of_files other another also its) (of_files entity document o is)
       (sym (symbol_of other another also its) ∙ (sym same ∙ symbol_of entity document o is))
 
   each : (site : Site) → IsSite result.index site
-      → (entity : Entity) × IsEntityOf (linked_files built.readings) entity × IsSiteOf built entity site × ((other : Entity) → IsSiteOf built other site → other ≡ entity)
+      → (entity : Entity) × IsEntityOf (linked_files built.readings) entity × IsSiteOf built entity site
+      × ((other : Entity) → IsSiteOf built other site → other ≡ entity)
   each site there =
       let listed = contained result.index.documents site.place.document site.document there.document_is in
-      let of = entity_at site.document site.occurrence listed (contained site.document.occurrences site.place.occurrence site.occurrence there.occurrence_is) in (
+      let of = entity_at site.document site.occurrence listed
+      (contained site.document.occurrences site.place.occurrence site.occurrence there.occurrence_is) in (
         of.0,
         of_files of.0 site.document site.occurrence of.1,
         (there, of.1),
@@ -103,10 +122,12 @@ module _ {allows : Seen → Choice → Type 0} {settings : Settings} {tree : Lis
       )
 
   -- a site has the definition's role just where it defines
-  role : (entity : Entity) (site : Site) → (of : IsSiteOf built entity site) → is_definition site.occurrence ≡ defines of.1.occurs
+  role : (entity : Entity) (site : Site) → (of : IsSiteOf built entity site)
+      → is_definition site.occurrence ≡ defines of.1.occurs
   role entity site of = role_is of.1.occurs
 
-  by_role : (entity : Entity) (site : Site) → (of : IsSiteOf built entity site) → (is_definition site.occurrence ≡ true) ↔ (defines of.1.occurs ≡ true)
+  by_role : (entity : Entity) (site : Site) → (of : IsSiteOf built entity site) → (is_definition site.occurrence ≡ true)
+      ↔ (defines of.1.occurs ≡ true)
   by_role entity site of =
       let bit = is_definition site.occurrence in
       let rules = defines of.1.occurs in
@@ -117,32 +138,53 @@ module _ {allows : Seen → Choice → Type 0} {settings : Settings} {tree : Lis
 
   module _ (path : List ℕ) (line column : ℕ) where
     -- the sites with the symbol asked are those of the entity there
-    of_entity : (subject : Subject) (of : IsAsked result.index path line column subject) (entity : Entity) → IsOf built entity of.named.document of.occurrence → (site : Site)
+    of_entity : (subject : Subject) (of : IsAsked result.index path line column subject) (entity : Entity)
+        → IsOf built entity of.named.document of.occurrence → (site : Site)
         → (IsSite result.index site × (site.occurrence.symbol ≡ subject.symbol)) ↔ IsSiteOf built entity site
     of_entity subject of entity is site = (
       λ both.
           let its = each site both.0 in
-          let same = by_symbol entity its.0 of.named.document site.document of.occurrence site.occurrence is its.2.1 (of.symbol ∙ sym both.1) in
+          let same = by_symbol entity its.0 of.named.document site.document of.occurrence site.occurrence is its.2.1
+          (of.symbol ∙ sym both.1) in
           (both.0, subst (λ (e : Entity). IsOf built e site.document site.occurrence) same its.2.1),
-      λ its. (its.0, symbol_of entity site.document site.occurrence its.1 ∙ (sym (symbol_of entity of.named.document of.occurrence is) ∙ of.symbol)),
+      λ its. (
+        its.0,
+        symbol_of entity site.document site.occurrence its.1
+            ∙ (sym (symbol_of entity of.named.document of.occurrence is) ∙ of.symbol),
+      ),
     )
 
-    is_global : (subject : Subject) (of : IsAsked result.index path line column subject) (entity : Entity) → IsOf built entity of.named.document of.occurrence → is_local subject.symbol ≡ false
-    is_global subject of entity is = ap is_local (sym of.symbol ∙ symbol_of entity of.named.document of.occurrence is) ∙ not_local settings.package entity
+    is_global : (subject : Subject) (of : IsAsked result.index path line column subject) (entity : Entity)
+        → IsOf built entity of.named.document of.occurrence → is_local subject.symbol ≡ false
+    is_global subject of entity is =
+        ap is_local (sym of.symbol ∙ symbol_of entity of.named.document of.occurrence is)
+        ∙ not_local settings.package entity
 
-    at_position : (subject : Subject) (of : IsAsked result.index path line column subject) (entity : Entity) → IsOf built entity of.named.document of.occurrence → IsAt built path line column entity
-    at_position subject of entity is = record { named = of.named; occurrence = of.occurrence; document_is = of.document_is; stands = of.stands; is = is }
+    at_position : (subject : Subject) (of : IsAsked result.index path line column subject) (entity : Entity)
+        → IsOf built entity of.named.document of.occurrence → IsAt built path line column entity
+    at_position subject of entity is =
+        record {
+          named = of.named;
+          occurrence = of.occurrence;
+          document_is = of.document_is;
+          stands = of.stands;
+          is = is;
+        }
 
     -- a position with an entity has a subject
-    subject_of_entity : (entity : Entity) → IsAt built path line column entity → (subject : Subject) × (subject_at result.index path (record { line = line; column = column }) ≡ Ok subject)
+    subject_of_entity : (entity : Entity) → IsAt built path line column entity
+        → (subject : Subject) × (subject_at result.index path (record { line = line; column = column }) ≡ Ok subject)
     subject_of_entity entity at = (
       record { asked = at.named; symbol = at.occurrence.symbol },
-      ap (λ (named : Option Numbered). subject_of named (record { line = line; column = column })) at.document_is ∙ ap (subject_in at.named) at.stands,
+      ap (λ (named : Option Numbered). subject_of named (record { line = line; column = column })) at.document_is
+          ∙ ap (subject_in at.named) at.stands,
     )
 
     -- an answer by what is found for the subject
     answers : {E : Type 0} (IsWanted : Entity → Site → Type 0) (sites : Subject → List Site) (r : Result Subject E)
-        → ((subject : Subject) → r ≡ Ok subject → (entity : Entity) × IsAt built path line column entity × IsAscendingListOf site_cmp (IsWanted entity) (sites subject))
+        → ((subject : Subject) → r ≡ Ok subject
+        → (entity : Entity) × IsAt built path line column entity
+        × IsAscendingListOf site_cmp (IsWanted entity) (sites subject))
         → ((entity : Entity) → IsAt built path line column entity → (subject : Subject) × (r ≡ Ok subject))
         → Answers built IsWanted path line column (result_map_both sites (λ miss. miss) r)
     answers IsWanted sites (Ok subject) some none = some subject refl
@@ -151,8 +193,10 @@ module _ {allows : Seen → Choice → Type 0} {settings : Settings} {tree : Lis
         never : (subject : Subject) → Err miss ≡ Ok subject → ⊥
         never subject e = cc
 
-    references : Answers built (IsSiteOf built) path line column (references_at result.index path (record { line = line; column = column }))
-    references = answers (IsSiteOf built) (references_of result.index) (subject_at result.index path (record { line = line; column = column }))
+    references : Answers built (IsSiteOf built) path line column
+        (references_at result.index path (record { line = line; column = column }))
+    references = answers (IsSiteOf built) (references_of result.index)
+        (subject_at result.index path (record { line = line; column = column }))
         (λ subject is.
         let of = asked result.index path line column subject is in
         let entity = entity_at of.named.document of.occurrence of.listed of.there in
@@ -160,17 +204,21 @@ module _ {allows : Seen → Choice → Type 0} {settings : Settings} {tree : Lis
         let Same : Site → Type 0 = λ site. site.occurrence.symbol ≡ subject.symbol in (
           entity.0,
           at_position subject of entity.0 entity.1,
-          alike (λ site. of_entity subject of entity.0 entity.1 site) (just result.index (is_of subject) Same (of_symbol subject global)),
+          alike (λ site. of_entity subject of entity.0 entity.1 site)
+              (just result.index (is_of subject) Same (of_symbol subject global)),
         ))
         subject_of_entity
 
-    definitions : Answers built (IsDefinitionOf built) path line column (definitions_at result.index path (record { line = line; column = column }))
-    definitions = answers (IsDefinitionOf built) (definitions_of result.index) (subject_at result.index path (record { line = line; column = column }))
+    definitions : Answers built (IsDefinitionOf built) path line column
+        (definitions_at result.index path (record { line = line; column = column }))
+    definitions = answers (IsDefinitionOf built) (definitions_of result.index)
+        (subject_at result.index path (record { line = line; column = column }))
         (λ subject is.
         let of = asked result.index path line column subject is in
         let entity = entity_at of.named.document of.occurrence of.listed of.there in
         let global = is_global subject of entity.0 entity.1 in
-        let Same : Site → Type 0 = λ site. (site.occurrence.symbol ≡ subject.symbol) × (is_definition site.occurrence ≡ true) in (
+        let Same : Site → Type 0 =
+        λ site. (site.occurrence.symbol ≡ subject.symbol) × (is_definition site.occurrence ≡ true) in (
           entity.0,
           at_position subject of entity.0 entity.1,
           alike

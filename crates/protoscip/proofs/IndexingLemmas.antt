@@ -1,5 +1,6 @@
 -- What a run answers, by where it stops.
-use Rattle.std.proofs.Common.{◌≡◌, ◌↔◌, ◌∙◌, ℕ, suc, ◌<◌, ◌≤◌, List, [], ◌∷◌, length, map, Option, IfSome, Result, Ok, Err, refl, sym, subst, arith}
+use Rattle.std.proofs.Common.{◌≡◌, ◌↔◌, ◌∙◌, ℕ, suc, ◌<◌, ◌≤◌, List, [], ◌∷◌, length, map, Option, IfSome, Result, Ok}
+use Rattle.std.proofs.Common.{Err, refl, sym, subst, arith}
 use Rattle.std.specs.List.{All, AllZip}
 use Rattle.std.proofs.lemmas.List.Elements.{All-nil, All-cons}
 use Rattle.std.proofs.Math.Nat.{lt_of_not-le}
@@ -45,30 +46,38 @@ abbrev pub stopped : WriteFault → Result (Unit {0}) WriteFault
 stopped e = Err e
 
 -- the bytes of an index that isn't too large
-pub spelled : SpellingDecodes → OneDecoding → (i : Index) → IsWellFormed i → length (spelling_of i) ≤ max_index_len → IsSpelled i (spelling_of i)
+pub spelled : SpellingDecodes → OneDecoding → (i : Index) → IsWellFormed i → length (spelling_of i) ≤ max_index_len
+    → IsSpelled i (spelling_of i)
 spelled decodes one i known small =
     let is = decodes i known small in
     record { spelling = refl; small = small; decodes = is; alone = λ other d. one (spelling_of i) other i d is }
 
 module _ (decodes : SpellingDecodes) (one : OneDecoding) (index : Index) (known : IsWellFormed index) where
   -- where TooLarge, which is said exactly of an index with too many bytes, isn't said
-  pub spelled_unless : (Says : Type 0) → Says ↔ (max_index_len < length (spelling_of index)) → (Says → ⊥) → IsSpelled index (spelling_of index)
-  spelled_unless Says large never = spelled decodes one index known (not_above (length (spelling_of index)) max_index_len (λ above. never (large.1 above)))
+  pub spelled_unless : (Says : Type 0) → Says ↔ (max_index_len < length (spelling_of index)) → (Says → ⊥)
+      → IsSpelled index (spelling_of index)
+  spelled_unless Says large never =
+      spelled decodes one index known
+      (not_above (length (spelling_of index)) max_index_len (λ above. never (large.1 above)))
 
   module _ (W : Type 0) (contents : W → Option (List ℕ)) (failures : W → ℕ) (before after : W) where
     -- an index isn't written, or cut off
-    pub not_written : (e : WriteFault) → (stopped e ≡ stopped writing.TooLarge) ↔ (max_index_len < length (spelling_of index)) → Leaves contents failures before after (spelling_of index) e
+    pub not_written : (e : WriteFault) → (stopped e ≡ stopped writing.TooLarge)
+        ↔ (max_index_len < length (spelling_of index)) → Leaves contents failures before after (spelling_of index) e
         → WritesIndex contents failures index before after (Err (fault_of_writing e))
     not_written writing.TooLarge large leaves = (large.0 refl, leaves)
-    not_written (writing.Write count) large leaves = (spelled_unless (stopped (writing.Write count) ≡ stopped writing.TooLarge) large (λ same. cc), leaves)
+    not_written (writing.Write count) large leaves =
+        (spelled_unless (stopped (writing.Write count) ≡ stopped writing.TooLarge) large (λ same. cc), leaves)
     not_written writing.Memory large leaves = leaves
 
 -- ---- the parts of an index, of whose documents the records are kept
 
 abbrev pub JoinsPieces : Type 0
-JoinsPieces = (i : Index) → spelling_of i ≡ joined_pieces i.metadata (map document_record i.documents) i.external_symbols
+JoinsPieces = (i : Index)
+    → spelling_of i ≡ joined_pieces i.metadata (map document_record i.documents) i.external_symbols
 
-records_are : (documents : List Document) (records : List (List ℕ)) → AllZip IsRecordOf documents records → records ≡ map document_record documents
+records_are : (documents : List Document) (records : List (List ℕ)) → AllZip IsRecordOf documents records
+    → records ≡ map document_record documents
 records_are [] [] are = refl
 records_are [] (r ∷ rs) are = absurd are
 records_are (d ∷ ds) [] are = absurd are
@@ -77,7 +86,8 @@ records_are (d ∷ ds) (r ∷ rs) are =
     let more = records_are ds rs are.1 in
     λ i. here i ∷ more i
 
-documents_fit : (documents : List Document) (records : List (List ℕ)) → AllZip IsRecordOf documents records → All IsFitDocument documents
+documents_fit : (documents : List Document) (records : List (List ℕ)) → AllZip IsRecordOf documents records
+    → All IsFitDocument documents
 documents_fit [] [] are = All-nil IsFitDocument
 documents_fit [] (r ∷ rs) are = absurd are
 documents_fit (d ∷ ds) [] are = absurd are
@@ -98,9 +108,11 @@ module _ (index : Index) (parts : Parts (List ℕ)) (are : ArePartsOf IsRecordOf
     external_symbols = subst (λ (es : List SymbolInformation). All IsFitInfo es) are.external_symbols external_symbols;
   }
 
-module _ (W : Type 0) (contents : W → Option (List ℕ)) (failures : W → ℕ) (allows : Seen → Choice → Type 0) (settings : Settings) (tree : List TreeFile) (workers : ℕ) (before after : W) where
+module _ (W : Type 0) (contents : W → Option (List ℕ)) (failures : W → ℕ) (allows : Seen → Choice → Type 0)
+    (settings : Settings) (tree : List TreeFile) (workers : ℕ) (before after : W) where
   -- a tree isn't built
-  pub unbuilt : (e : BuildFault) → IsBuildFault allows settings.custom_options tree workers e → Indexes contents failures allows settings tree workers before before (Err (fault_of_build e))
+  pub unbuilt : (e : BuildFault) → IsBuildFault allows settings.custom_options tree workers e
+      → Indexes contents failures allows settings tree workers before before (Err (fault_of_build e))
   unbuilt build.Spawn is = (is, refl)
   unbuilt build.Memory is = (is, refl)
   unbuilt (build.File number (file.Lex e)) is = (is, refl)
@@ -111,7 +123,8 @@ module _ (W : Type 0) (contents : W → Option (List ℕ)) (failures : W → ℕ
 
   module _ (built : Built) (is : IsBuilt allows settings tree built) where
     -- its index isn't written, or cut off
-    pub unwritten : (e : Fault) → WritesIndex contents failures built.index before after (Err e) → Indexes contents failures allows settings tree workers before after (Err e)
+    pub unwritten : (e : Fault) → WritesIndex contents failures built.index before after (Err e)
+        → Indexes contents failures allows settings tree workers before after (Err e)
     unwritten fault.Spawn wrote = absurd wrote
     unwritten fault.Memory wrote = (tt, wrote)
     unwritten (fault.Lex number e) wrote = absurd wrote
@@ -120,16 +133,23 @@ module _ (W : Type 0) (contents : W → Option (List ℕ)) (failures : W → ℕ
     unwritten (fault.MissingImport place) wrote = absurd wrote
     unwritten (fault.Unresolved place) wrote = absurd wrote
     unwritten fault.TooLarge wrote = ((built, is, wrote.0), wrote.1)
-    unwritten (fault.Write count) wrote = (built.choices, spelling_of built.index, record { index = built.index; built = is; spelled = wrote.0 }, wrote.1)
+    unwritten (fault.Write count) wrote =
+        (built.choices, spelling_of built.index, record { index = built.index; built = is; spelled = wrote.0 }, wrote.1)
     unwritten fault.Read wrote = absurd wrote
     unwritten (fault.Answer count) wrote = absurd wrote
 
     -- it is written
-    pub written : (done : Unit {0}) → WritesIndex contents failures built.index before after (Ok done) → Indexes contents failures allows settings tree workers before after (Ok built.choices)
-    written done wrote = (spelling_of built.index, record { index = built.index; built = is; spelled = wrote.0 }, wrote.1)
+    pub written : (done : Unit {0}) → WritesIndex contents failures built.index before after (Ok done)
+        → Indexes contents failures allows settings tree workers before after (Ok built.choices)
+    written done wrote = (
+      spelling_of built.index,
+      record { index = built.index; built = is; spelled = wrote.0 },
+      wrote.1,
+    )
 
 -- writing an index has no fault of a file
-pub no_files : (W : Type 0) (contents : W → Option (List ℕ)) (failures : W → ℕ) (tree : List TreeFile) (before after : W) (index : Index) (e : Fault)
+pub no_files : (W : Type 0) (contents : W → Option (List ℕ)) (failures : W → ℕ) (tree : List TreeFile)
+    (before after : W) (index : Index) (e : Fault)
     → WritesIndex contents failures index before after (Err e) → HasFilesOf tree e
 no_files W contents failures tree before after index fault.Spawn wrote = tt
 no_files W contents failures tree before after index fault.Memory wrote = tt

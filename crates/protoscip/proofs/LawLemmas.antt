@@ -19,7 +19,9 @@ use Rattle.scip_build.specs.declared.fault.FileFault.TheVariants as file
 use Rattle.scip_build.specs.Laws.{AreAlike}
 use Rattle.scip_wire.specs.Spelling.{spelling_of, max_index_len}
 use Rattle.protoscip.specs.Indexes.{IsIndexed, IsRefused}
-use Rattle.protoscip.specs.IndexLaws.{Reason, unreadable, duplicate, missing_import, unresolved, too_large, outside, reason_of, OneReason, OneFileFault, IndexedHasNoFault, AllowOneChoice, OneIndexing, OneIndexingHasNoFault}
+use Rattle.protoscip.specs.IndexLaws.{Reason, unreadable, duplicate, missing_import, unresolved, too_large, outside}
+use Rattle.protoscip.specs.IndexLaws.{reason_of, OneReason, OneFileFault, IndexedHasNoFault, AllowOneChoice}
+use Rattle.protoscip.specs.IndexLaws.{OneIndexing, OneIndexingHasNoFault}
 use Rattle.protoscip.specs.declared.fault.Fault.{Fault}
 use Rattle.protoscip.specs.declared.fault.Fault.TheVariants as fault
 
@@ -32,32 +34,41 @@ reason_of_cause link.Memory = outside
 
 -- the index of the tree has too many bytes, by some choices
 IsLarge : (Seen → Choice → Type 0) → Settings → List TreeFile → Type 0
-IsLarge allows settings tree = (built : Built) × IsBuilt allows settings tree built × (max_index_len < length (spelling_of built.index))
+IsLarge allows settings tree =
+    (built : Built) × IsBuilt allows settings tree built × (max_index_len < length (spelling_of built.index))
 
 -- a fault that names something is one of the build, or that of the index's size
-record IsOfBuild (allows : Seen → Choice → Type 0) (settings : Settings) (tree : List TreeFile) (workers : ℕ) (of : Fault) : Type 0 where
+record IsOfBuild (allows : Seen → Choice → Type 0) (settings : Settings) (tree : List TreeFile) (workers : ℕ)
+    (of : Fault) : Type 0 where
   because : BuildFault
   is : IsBuildFault allows settings.custom_options tree workers because
   named : cause_of because ≢ link.Memory
   reason : reason_of of ≡ reason_of_cause (cause_of because)
 
-split : (allows : Seen → Choice → Type 0) (settings : Settings) (tree : List TreeFile) (workers : ℕ) (of : Fault) → IsRefused allows settings tree workers of → reason_of of ≢ outside
+split : (allows : Seen → Choice → Type 0) (settings : Settings) (tree : List TreeFile) (workers : ℕ) (of : Fault)
+    → IsRefused allows settings tree workers of → reason_of of ≢ outside
     → (of ≡ fault.TooLarge) × IsLarge allows settings tree ⊎ IsOfBuild allows settings tree workers of
 unfolding IsLarge reason_of_cause
 split allows settings tree workers fault.Spawn is named = absurd (named refl)
 split allows settings tree workers fault.Memory is named = absurd (named refl)
-split allows settings tree workers (fault.Lex number e) is named = inr (record { because = build.File number (file.Lex e); is = is; named = λ same. cc; reason = refl })
-split allows settings tree workers (fault.Syntax number e) is named = inr (record { because = build.File number (file.Syntax e); is = is; named = λ same. cc; reason = refl })
-split allows settings tree workers (fault.Duplicate first second) is named = inr (record { because = build.Duplicate first second; is = is; named = λ same. cc; reason = refl })
-split allows settings tree workers (fault.MissingImport place) is named = inr (record { because = build.MissingImport place; is = is; named = λ same. cc; reason = refl })
-split allows settings tree workers (fault.Unresolved place) is named = inr (record { because = build.Unresolved place; is = is; named = λ same. cc; reason = refl })
+split allows settings tree workers (fault.Lex number e) is named =
+    inr (record { because = build.File number (file.Lex e); is = is; named = λ same. cc; reason = refl })
+split allows settings tree workers (fault.Syntax number e) is named =
+    inr (record { because = build.File number (file.Syntax e); is = is; named = λ same. cc; reason = refl })
+split allows settings tree workers (fault.Duplicate first second) is named =
+    inr (record { because = build.Duplicate first second; is = is; named = λ same. cc; reason = refl })
+split allows settings tree workers (fault.MissingImport place) is named =
+    inr (record { because = build.MissingImport place; is = is; named = λ same. cc; reason = refl })
+split allows settings tree workers (fault.Unresolved place) is named =
+    inr (record { because = build.Unresolved place; is = is; named = λ same. cc; reason = refl })
 split allows settings tree workers fault.TooLarge is named = inl (refl, is)
 split allows settings tree workers (fault.Write count) is named = absurd is
 split allows settings tree workers fault.Read is named = absurd is
 split allows settings tree workers (fault.Answer count) is named = absurd is
 
 module _ (allows others : Seen → Choice → Type 0) where
-  pub one_reason : OneBuildFault allows others → BuiltHasNoFault allows others → BuiltHasNoFault others allows → OneReason allows others
+  pub one_reason : OneBuildFault allows others → BuiltHasNoFault allows others → BuiltHasNoFault others allows
+      → OneReason allows others
   unfolding IsLarge
   one_reason one none also settings tree workers more of other is is_other named named_other =
       elim (split allows settings tree workers of is named) [
@@ -67,37 +78,52 @@ module _ (allows others : Seen → Choice → Type 0) where
         ]
         | inr built ↦ elim (split others settings tree more other is_other named_other) [
           | inl larger ↦ absurd (also settings tree workers larger.1.0 built.because larger.1.1 built.is built.named)
-          | inr again ↦ built.reason ∙ (ap reason_of_cause (one settings.custom_options tree workers more built.because again.because built.is again.is built.named again.named) ∙ sym again.reason)
+          | inr again ↦ built.reason
+              ∙ (ap reason_of_cause (one settings.custom_options tree workers more built.because again.because built.is
+              again.is built.named again.named) ∙ sym again.reason)
         ]
       ]
 
   module _ (one : OneReason allows others) (alike : FileFaultsAreAlike allows others) where
     -- two files that can't be read are one, and two faults of its lexing one fault
-    of_one : (settings : Settings) (tree : List TreeFile) (workers more number again : ℕ) (because : LexFault) (other : FileFault) → IsRefused allows settings tree workers (fault.Lex number because)
-        → IsBuildFault others settings.custom_options tree more (build.File again other) → unreadable number ≡ unreadable again → (number ≡ again) × AreAlike (file.Lex because) other
+    of_one : (settings : Settings) (tree : List TreeFile) (workers more number again : ℕ) (because : LexFault)
+        (other : FileFault) → IsRefused allows settings tree workers (fault.Lex number because)
+        → IsBuildFault others settings.custom_options tree more (build.File again other)
+        → unreadable number ≡ unreadable again → (number ≡ again) × AreAlike (file.Lex because) other
     of_one settings tree workers more number again because other is also same =
-        let it : number ≡ again = cc in
-        (it, alike settings.custom_options tree workers more again (file.Lex because) other (subst (λ (n : ℕ). IsRefused allows settings tree workers (fault.Lex n because)) it is) also)
+        let it : number ≡ again = cc in (
+          it,
+          alike settings.custom_options tree workers more again (file.Lex because) other
+              (subst (λ (n : ℕ). IsRefused allows settings tree workers (fault.Lex n because)) it is) also,
+        )
 
     pub one_file_fault : OneFileFault allows others
     one_file_fault settings tree workers more number because fault.Spawn is also named = absurd (named refl)
     one_file_fault settings tree workers more number because fault.Memory is also named = absurd (named refl)
     one_file_fault settings tree workers more number because (fault.Lex again other) is also named =
-        let same = of_one settings tree workers more number again because (file.Lex other) is also (one settings tree workers more (fault.Lex number because) (fault.Lex again other) is also (λ never. cc) named) in
+        let same = of_one settings tree workers more number again because (file.Lex other) is also
+        (one settings tree workers more (fault.Lex number because) (fault.Lex again other) is also
+        (λ never. cc) named) in
         let number_is = same.0 in
         let fault_is = same.1 in
         cc
     one_file_fault settings tree workers more number because (fault.Syntax again other) is also named =
-        let same = of_one settings tree workers more number again because (file.Syntax other) is also (one settings tree workers more (fault.Lex number because) (fault.Syntax again other) is also (λ never. cc) named) in
+        let same = of_one settings tree workers more number again because (file.Syntax other) is also
+        (one settings tree workers more (fault.Lex number because) (fault.Syntax again other) is also
+        (λ never. cc) named) in
         absurd same.1
     one_file_fault settings tree workers more number because (fault.Duplicate first second) is also named =
-        absurd (let same = one settings tree workers more (fault.Lex number because) (fault.Duplicate first second) is also (λ never. cc) named in cc)
+        absurd (let same = one settings tree workers more (fault.Lex number because)
+        (fault.Duplicate first second) is also (λ never. cc) named in cc)
     one_file_fault settings tree workers more number because (fault.MissingImport place) is also named =
-        absurd (let same = one settings tree workers more (fault.Lex number because) (fault.MissingImport place) is also (λ never. cc) named in cc)
+        absurd (let same = one settings tree workers more (fault.Lex number because) (fault.MissingImport place) is also
+        (λ never. cc) named in cc)
     one_file_fault settings tree workers more number because (fault.Unresolved place) is also named =
-        absurd (let same = one settings tree workers more (fault.Lex number because) (fault.Unresolved place) is also (λ never. cc) named in cc)
+        absurd (let same = one settings tree workers more (fault.Lex number because) (fault.Unresolved place) is also
+        (λ never. cc) named in cc)
     one_file_fault settings tree workers more number because fault.TooLarge is also named =
-        absurd (let same = one settings tree workers more (fault.Lex number because) fault.TooLarge is also (λ never. cc) named in cc)
+        absurd (let same = one settings tree workers more (fault.Lex number because) fault.TooLarge is also
+        (λ never. cc) named in cc)
     one_file_fault settings tree workers more number because (fault.Write count) is also named = absurd also
     one_file_fault settings tree workers more number because fault.Read is also named = absurd also
     one_file_fault settings tree workers more number because (fault.Answer count) is also named = absurd also
@@ -106,15 +132,20 @@ module _ (allows others : Seen → Choice → Type 0) where
   indexed_has_no_fault none settings tree workers choices bytes fault.Spawn indexed is = inl refl
   indexed_has_no_fault none settings tree workers choices bytes fault.Memory indexed is = inl refl
   indexed_has_no_fault none settings tree workers choices bytes (fault.Lex number e) indexed is =
-      absurd (none settings tree workers (record { index = indexed.index; choices = choices }) (build.File number (file.Lex e)) indexed.built is (λ same. cc))
+      absurd (none settings tree workers (record { index = indexed.index; choices = choices })
+      (build.File number (file.Lex e)) indexed.built is (λ same. cc))
   indexed_has_no_fault none settings tree workers choices bytes (fault.Syntax number e) indexed is =
-      absurd (none settings tree workers (record { index = indexed.index; choices = choices }) (build.File number (file.Syntax e)) indexed.built is (λ same. cc))
+      absurd (none settings tree workers (record { index = indexed.index; choices = choices })
+      (build.File number (file.Syntax e)) indexed.built is (λ same. cc))
   indexed_has_no_fault none settings tree workers choices bytes (fault.Duplicate first second) indexed is =
-      absurd (none settings tree workers (record { index = indexed.index; choices = choices }) (build.Duplicate first second) indexed.built is (λ same. cc))
+      absurd (none settings tree workers (record { index = indexed.index; choices = choices })
+      (build.Duplicate first second) indexed.built is (λ same. cc))
   indexed_has_no_fault none settings tree workers choices bytes (fault.MissingImport place) indexed is =
-      absurd (none settings tree workers (record { index = indexed.index; choices = choices }) (build.MissingImport place) indexed.built is (λ same. cc))
+      absurd (none settings tree workers (record { index = indexed.index; choices = choices })
+      (build.MissingImport place) indexed.built is (λ same. cc))
   indexed_has_no_fault none settings tree workers choices bytes (fault.Unresolved place) indexed is =
-      absurd (none settings tree workers (record { index = indexed.index; choices = choices }) (build.Unresolved place) indexed.built is (λ same. cc))
+      absurd (none settings tree workers (record { index = indexed.index; choices = choices })
+      (build.Unresolved place) indexed.built is (λ same. cc))
   indexed_has_no_fault none settings tree workers choices bytes fault.TooLarge indexed is = inr refl
   indexed_has_no_fault none settings tree workers choices bytes (fault.Write count) indexed is = absurd is
   indexed_has_no_fault none settings tree workers choices bytes fault.Read indexed is = absurd is
@@ -126,16 +157,21 @@ module _ (allows others : Seen → Choice → Type 0) where
         let built : Built = record { index = indexed.index; choices = choices } in
         let other : Built = record { index = again.index; choices = more } in
         let same : built ≡ other = one settings tree built other sole indexed.built again.built in
-        let index : indexed.index ≡ again.index = ap (λ (b : Built). b.index) same in
-        (ap (λ (b : Built). b.choices) same, indexed.spelled.spelling ∙ (ap spelling_of index ∙ sym again.spelled.spelling))
+        let index : indexed.index ≡ again.index = ap (λ (b : Built). b.index) same in (
+          ap (λ (b : Built). b.choices) same,
+          indexed.spelled.spelling ∙ (ap spelling_of index ∙ sym again.spelled.spelling),
+        )
 
-    not_too_large : (settings : Settings) (tree : List TreeFile) (workers : ℕ) (choices : Chosen) (bytes : List ℕ) → AllowOneChoice allows others
+    not_too_large : (settings : Settings) (tree : List TreeFile) (workers : ℕ) (choices : Chosen) (bytes : List ℕ)
+        → AllowOneChoice allows others
         → IsIndexed allows settings tree choices bytes → IsRefused others settings tree workers fault.TooLarge → ⊥
     not_too_large settings tree workers choices bytes sole indexed is =
         let built : Built = record { index = indexed.index; choices = choices } in
         let same : built ≡ is.0 = one settings tree built is.0 sole indexed.built is.1 in
-        let spelling : bytes ≡ spelling_of is.0.index = indexed.spelled.spelling ∙ ap (λ (b : Built). spelling_of b.index) same in
-        let small : length (spelling_of is.0.index) ≤ max_index_len = subst (λ (b : List ℕ). length b ≤ max_index_len) spelling indexed.spelled.small in
+        let spelling : bytes ≡ spelling_of is.0.index =
+        indexed.spelled.spelling ∙ ap (λ (b : Built). spelling_of b.index) same in
+        let small : length (spelling_of is.0.index) ≤ max_index_len =
+        subst (λ (b : List ℕ). length b ≤ max_index_len) spelling indexed.spelled.small in
         let large = is.2 in
         absurd (omega (arith, small, large))
 
@@ -143,5 +179,6 @@ module _ (allows others : Seen → Choice → Type 0) where
     no_fault none settings tree workers choices bytes of sole indexed is =
         elim (none settings tree workers choices bytes of indexed is) [
           | inl out ↦ out
-          | inr large ↦ absurd (not_too_large settings tree workers choices bytes sole indexed (subst (IsRefused others settings tree workers) large is))
+          | inr large ↦ absurd (not_too_large settings tree workers choices bytes sole indexed
+              (subst (IsRefused others settings tree workers) large is))
         ]

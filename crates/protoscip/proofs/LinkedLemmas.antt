@@ -1,5 +1,6 @@
 -- Files that were read are linked with facts of their texts, and under the tree's paths.
-use Rattle.std.proofs.Common.{◌≡◌, ◌∙◌, ℕ, zero, suc, ◌<◌, List, [], ◌∷◌, length, map, Some, Result, Ok, Err, ap, sym, refl, subst, arith}
+use Rattle.std.proofs.Common.{◌≡◌, ◌∙◌, ℕ, zero, suc, ◌<◌, List, [], ◌∷◌, length, map, Some, Result, Ok, Err, ap, sym}
+use Rattle.std.proofs.Common.{refl, subst, arith}
 use Rattle.std.specs.Prelude.{All}
 use Rattle.std.specs.List.{slice_get}
 use Rattle.std.proofs.lemmas.Option.{same_Some, none-some, slice_get_within}
@@ -26,12 +27,14 @@ at_number (x ∷ xs) zero within = (x, refl)
 at_number (x ∷ xs) (suc k) within = at_number xs k (omega (arith, within))
 
 -- what a mapped list has at a number
-pub mapped_at : {A B : Type 0} (f : A → B) (xs : List A) (k : ℕ) (y : B) → slice_get (map f xs) k ≡ Some y → (x : A) × (slice_get xs k ≡ Some x) × (y ≡ f x)
+pub mapped_at : {A B : Type 0} (f : A → B) (xs : List A) (k : ℕ) (y : B) → slice_get (map f xs) k ≡ Some y
+    → (x : A) × (slice_get xs k ≡ Some x) × (y ≡ f x)
 mapped_at f [] k y at = absurd (none-some y at)
 mapped_at f (x ∷ xs) zero y at = (x, refl, sym (same_Some (f x) y at))
 mapped_at f (x ∷ xs) (suc k) y at = mapped_at f xs k y at
 
-module _ (custom : CustomOptions) (allows : Seen → Choice → Type 0) (tree : List TreeFile) (readings : List ReadFile) (are : AreReadingsOf custom allows tree readings) where
+module _ (custom : CustomOptions) (allows : Seen → Choice → Type 0) (tree : List TreeFile) (readings : List ReadFile)
+    (are : AreReadingsOf custom allows tree readings) where
   -- a linked file, as it was read and as it is in the tree
   record IsLinkedAt (number : ℕ) (file : File) : Type 0 where
     reading : ReadFile
@@ -45,9 +48,16 @@ module _ (custom : CustomOptions) (allows : Seen → Choice → Type 0) (tree : 
       let read = mapped_at linked_file readings number file at in
       let within : number < length tree = rw (sym are.one_each) (slice_get_within readings number read.0 read.1) in
       let there = at_number tree number within in
-      record { reading = read.0; of = there.0; linked = read.2; numbered = there.1; is = are.each number there.0 read.0 there.1 read.1 }
+      record {
+        reading = read.0;
+        of = there.0;
+        linked = read.2;
+        numbered = there.1;
+        is = are.each number there.0 read.0 there.1 read.1;
+      }
 
-  of_some_file : (number : ℕ) (bytes : List ℕ) (facts : Facts) → AreFactsIn custom number bytes facts → AreOfSomeFile facts
+  of_some_file : (number : ℕ) (bytes : List ℕ) (facts : Facts) → AreFactsIn custom number bytes facts
+      → AreOfSomeFile facts
   of_some_file number bytes facts has =
       let Of : ℕ → Type 0 = λ n. AreFactsOf n has.lexed has.tree facts in
       record {
@@ -59,14 +69,19 @@ module _ (custom : CustomOptions) (allows : Seen → Choice → Type 0) (tree : 
         of_file = subst Of (sym has.of_tree.numbered) has.of_tree;
       }
 
-  origin_in : (number : ℕ) (file : TreeFile) (contents : Result FileContents FileFault) → HasContents custom allows number file contents → (facts : Facts) → facts_in contents ≡ Some facts → AreOfSomeFile facts
-  origin_in number file (Ok contents) has facts known = subst AreOfSomeFile (same_Some contents.facts facts known) (of_some_file number file.bytes contents.facts has.1.facts_in)
+  origin_in : (number : ℕ) (file : TreeFile) (contents : Result FileContents FileFault)
+      → HasContents custom allows number file contents → (facts : Facts) → facts_in contents ≡ Some facts
+      → AreOfSomeFile facts
+  origin_in number file (Ok contents) has facts known =
+      subst AreOfSomeFile (same_Some contents.facts facts known)
+      (of_some_file number file.bytes contents.facts has.1.facts_in)
   origin_in number file (Err fault) has facts known = absurd (none-some facts known)
 
   pub have_origins : HaveOrigins (linked_files readings)
   have_origins number facts has =
       let at = linked_at number has.file has.numbered in
-      origin_in number at.of at.reading.contents at.is.contents facts (sym (ap (λ (f : File). f.facts) at.linked) ∙ has.known)
+      origin_in number at.of at.reading.contents at.is.contents facts
+      (sym (ap (λ (f : File). f.facts) at.linked) ∙ has.known)
 
   pub good_paths : All (λ (file : TreeFile). IsGoodPath file.path) tree → HaveGoodPaths (linked_files readings)
   good_paths good number file at =

@@ -3,7 +3,8 @@ use Rattle.std.proofs.Common.{◌≡◌, ◌∙◌, ℕ, zero, suc, List, [], �
 use Rattle.std.specs.Prelude.{Bool, true, false, cond, All, Contains}
 use Rattle.std.specs.List.{slice_get, filter, find}
 use Rattle.std.proofs.lemmas.Option.{same_Some, none-some, slice_get_within, slice_get-get_or, get_or_from_slice_get}
-use Rattle.std.proofs.lemmas.List.Elements.{All-contains, All-contains_itself, All-filter, filter_passes, Contains-append_right}
+use Rattle.std.proofs.lemmas.List.Elements.{All-contains, All-contains_itself, All-filter, filter_passes}
+use Rattle.std.proofs.lemmas.List.Elements.{Contains-append_right}
 
 pub place_of : {X : Type 0} (xs : List X) (x : X) (there : Contains xs x) → slice_get xs there.0 ≡ Some x
 place_of xs x there = slice_get-get_or xs there.0 x there.1 ∙ ap Some there.2
@@ -30,7 +31,8 @@ module _ {X : Type 0} (test : X → Bool) where
       rw first (contained (y ∷ filter test ys) zero x at)
   kept (y ∷ ys) (suc k) x at passes =
       let others = kept ys k x at passes in
-      elim (test y) as (λ b. Contains (cond b (y ∷ filter test ys) (filter test ys)) x) [ true ↦ behind y (filter test ys) x others | false ↦ others ]
+      elim (test y) as (λ b. Contains (cond b (y ∷ filter test ys) (filter test ys)) x)
+      [ true ↦ behind y (filter test ys) x others | false ↦ others ]
 
   -- what is found is there
   pub found : (xs : List X) (x : X) → find test xs ≡ Some x → Contains xs x

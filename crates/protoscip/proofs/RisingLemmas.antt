@@ -1,5 +1,6 @@
 -- Numbered lists, and lists that rise.
-use Rattle.std.proofs.Common.{◌≡◌, ◌∙◌, inl, inr, ℕ, zero, suc, ◌+◌, ◌<◌, ◌≤◌, List, [], ◌∷◌, ◌++◌, length, Some, ap, sym, refl, subst, arith}
+use Rattle.std.proofs.Common.{◌≡◌, ◌∙◌, inl, inr, ℕ, zero, suc, ◌+◌, ◌<◌, ◌≤◌, List, [], ◌∷◌, ◌++◌, length, Some, ap}
+use Rattle.std.proofs.Common.{sym, refl, subst, arith}
 use Rattle.std.specs.Prelude.{Bool, true, false, cond, map, Contains}
 use Rattle.std.specs.declared.cmp.Ordering.{Ordering}
 use Rattle.std.specs.declared.cmp.Ordering.TheVariants.{Less, Equal}
@@ -11,7 +12,8 @@ use Rattle.std.proofs.lemmas.Cmp.{eq_by_cmp_equiv}
 use Rattle.std.proofs.lemmas.List.Folds.{Any-from_list_any, list_any-from_Any}
 use Rattle.std.proofs.lemmas.Map.Keys.{IsDistinct-from_sorted}
 use Rattle.std.proofs.lemmas.Map.Made.{length-le_from_is_member}
-use Rattle.std.proofs.lemmas.List.Elements.{All-contains, All-contains_itself, All-from_recursion, All-weaker, Contains-append_cases, Contains-append_left, recursion_from_All}
+use Rattle.std.proofs.lemmas.List.Elements.{All-contains, All-contains_itself, All-from_recursion, All-weaker}
+use Rattle.std.proofs.lemmas.List.Elements.{Contains-append_cases, Contains-append_left, recursion_from_All}
 use Rattle.std.proofs.lemmas.Option.{same_Some, none-some}
 use Rattle.protoscip.proofs.ListLemmas.{contained, behind, filtered}
 
@@ -19,7 +21,8 @@ use Rattle.protoscip.proofs.ListLemmas.{contained, behind, filtered}
 
 module _ {A B : Type 0} (f : ℕ × A → B) where
   -- what a list has, each with its number, is at its number,
-  pub from_numbered : (n : ℕ) (xs : List A) (k : ℕ) (y : B) → slice_get (map f (enumerate_from n xs)) k ≡ Some y → (x : A) × (slice_get xs k ≡ Some x) × (y ≡ f (n + k, x))
+  pub from_numbered : (n : ℕ) (xs : List A) (k : ℕ) (y : B) → slice_get (map f (enumerate_from n xs)) k ≡ Some y
+      → (x : A) × (slice_get xs k ≡ Some x) × (y ≡ f (n + k, x))
   from_numbered n [] k y at = absurd (none-some y at)
   from_numbered n (x ∷ xs) zero y at =
       let same : n ≡ n + zero = omega arith in
@@ -30,7 +33,8 @@ module _ {A B : Type 0} (f : ℕ × A → B) where
       (others.0, others.1, others.2 ∙ ap (λ (m : ℕ). f (m, others.0)) same)
 
   -- and the other way round
-  pub to_numbered : (n : ℕ) (xs : List A) (k : ℕ) (x : A) → slice_get xs k ≡ Some x → slice_get (map f (enumerate_from n xs)) k ≡ Some (f (n + k, x))
+  pub to_numbered : (n : ℕ) (xs : List A) (k : ℕ) (x : A) → slice_get xs k ≡ Some x
+      → slice_get (map f (enumerate_from n xs)) k ≡ Some (f (n + k, x))
   to_numbered n [] k x at = absurd (none-some x at)
   to_numbered n (y ∷ xs) zero x at =
       let same : n ≡ n + zero = omega arith in
@@ -49,7 +53,8 @@ module _ {X A : Type 0} (f : X → List A) where
     | inr others ↦ (let of = from_flat xs y others in (of.0, behind x xs of.0 of.1, of.2))
   ]
 
-  pub to_flat : (xs : List X) (k : ℕ) (x : X) (y : A) → slice_get xs k ≡ Some x → Contains (f x) y → Contains (flat_map f xs) y
+  pub to_flat : (xs : List X) (k : ℕ) (x : X) (y : A) → slice_get xs k ≡ Some x → Contains (f x) y
+      → Contains (flat_map f xs) y
   to_flat [] k x y at there = absurd (none-some x at)
   to_flat (z ∷ xs) zero x y at there =
       let Has : X → Type 0 = λ w. Contains (f w) y in
@@ -69,13 +74,18 @@ pub level : (n : ℕ) → nat_cmp n n ≡ Equal
 level n = sym (nat_cmp_is n n Equal refl)
 
 module _ {X : Type 0} (cmp : X → X → Ordering) where
-  pub before_all : (x : X) (ys : List X) → ((y : X) → Contains ys y → cmp x y ≡ Less) → AllByRecursion (λ y. cmp x y ≡ Less) ys
-  before_all x ys each = recursion_from_All (λ y. cmp x y ≡ Less) ys (All-weaker (Contains ys) (λ y. cmp x y ≡ Less) each ys (All-contains_itself ys))
+  pub before_all : (x : X) (ys : List X) → ((y : X) → Contains ys y → cmp x y ≡ Less)
+      → AllByRecursion (λ y. cmp x y ≡ Less) ys
+  before_all x ys each = recursion_from_All (λ y. cmp x y ≡ Less) ys
+      (All-weaker (Contains ys) (λ y. cmp x y ≡ Less) each ys (All-contains_itself ys))
 
-  before_one : (x : X) (ys : List X) → AllByRecursion (λ y. cmp x y ≡ Less) ys → (y : X) → Contains ys y → cmp x y ≡ Less
-  before_one x ys all y there = All-contains (λ z. cmp x z ≡ Less) ys y (All-from_recursion (λ z. cmp x z ≡ Less) ys all) there
+  before_one : (x : X) (ys : List X) → AllByRecursion (λ y. cmp x y ≡ Less) ys → (y : X) → Contains ys y
+      → cmp x y ≡ Less
+  before_one x ys all y there =
+      All-contains (λ z. cmp x z ≡ Less) ys y (All-from_recursion (λ z. cmp x z ≡ Less) ys all) there
 
-  pub rising_append : (xs ys : List X) → IsStrictlySortedBy cmp xs → IsStrictlySortedBy cmp ys → ((x y : X) → Contains xs x → Contains ys y → cmp x y ≡ Less) → IsStrictlySortedBy cmp (xs ++ ys)
+  pub rising_append : (xs ys : List X) → IsStrictlySortedBy cmp xs → IsStrictlySortedBy cmp ys
+      → ((x y : X) → Contains xs x → Contains ys y → cmp x y ≡ Less) → IsStrictlySortedBy cmp (xs ++ ys)
   unfolding IsStrictlySortedBy
   rising_append [] ys up also before = also
   rising_append (x ∷ xs) ys up also before = (
@@ -86,18 +96,23 @@ module _ {X : Type 0} (cmp : X → X → Ordering) where
     rising_append xs ys up.1 also (λ z y here later. before z y (behind x xs z here) later),
   )
 
-  pub rising_filter : (test : X → Bool) (xs : List X) → IsStrictlySortedBy cmp xs → IsStrictlySortedBy cmp (filter test xs)
+  pub rising_filter : (test : X → Bool) (xs : List X) → IsStrictlySortedBy cmp xs
+      → IsStrictlySortedBy cmp (filter test xs)
   unfolding IsStrictlySortedBy
   rising_filter test [] up = tt
   rising_filter test (x ∷ xs) up =
       let others = rising_filter test xs up.1 in
       elim (test x) as (λ b. IsStrictlySortedBy cmp (cond b (x ∷ filter test xs) (filter test xs))) [
-        | true ↦ (before_all x (filter test xs) (λ y there. before_one x xs up.0 y (filtered test xs y there).0), others)
+        | true ↦ (
+          before_all x (filter test xs) (λ y there. before_one x xs up.0 y (filtered test xs y there).0),
+          others,
+        )
         | false ↦ others
       ]
 
   -- of two places of a list that rises the later has the greater
-  pub rising_at : (xs : List X) (i j : ℕ) (x y : X) → IsStrictlySortedBy cmp xs → i < j → slice_get xs i ≡ Some x → slice_get xs j ≡ Some y → cmp x y ≡ Less
+  pub rising_at : (xs : List X) (i j : ℕ) (x y : X) → IsStrictlySortedBy cmp xs → i < j → slice_get xs i ≡ Some x
+      → slice_get xs j ≡ Some y → cmp x y ≡ Less
   unfolding IsStrictlySortedBy
   rising_at [] i j x y up less at and = absurd (none-some x at)
   rising_at (z ∷ xs) i zero x y up less at and = absurd (omega (arith, less))
@@ -107,7 +122,8 @@ module _ {X : Type 0} (cmp : X → X → Ordering) where
   rising_at (z ∷ xs) (suc i) (suc j) x y up less at and = rising_at xs i j x y up.1 (omega (arith, less)) at and
 
   -- a list that rises and has nothing but what another has is no longer
-  pub no_longer : IsTotalOrder cmp → (xs ys : List X) → IsStrictlySortedBy cmp xs → ((x : X) → Contains xs x → Contains ys x) → length xs ≤ length ys
+  pub no_longer : IsTotalOrder cmp → (xs ys : List X) → IsStrictlySortedBy cmp xs
+      → ((x : X) → Contains xs x → Contains ys x) → length xs ≤ length ys
   no_longer total xs ys up within =
       length-le_from_is_member (eq_by_cmp_equiv total) xs ys (IsDistinct-from_sorted cmp xs up) (λ q there.
       let one = Any-from_list_any (eq_by_cmp cmp q) xs there in

@@ -1,5 +1,6 @@
 -- The sites of an index, and the symbol that a query about a position asks for.
-use Rattle.std.proofs.Common.{◌≡◌, ◌∙◌, ℕ, ◌+◌, ◌<◌, List, [], ◌∷◌, Option, Some, None, Result, Ok, Err, ap, sym, refl, subst, arith}
+use Rattle.std.proofs.Common.{◌≡◌, ◌∙◌, ℕ, ◌+◌, ◌<◌, List, [], ◌∷◌, Option, Some, None, Result, Ok, Err, ap, sym, refl}
+use Rattle.std.proofs.Common.{subst, arith}
 use Rattle.std.specs.Prelude.{Bool, true, false, not, ◌&&◌, ◌||◌, ◌==◌, map, Contains}
 use Rattle.std.specs.declared.cmp.Ordering.{Ordering}
 use Rattle.std.specs.declared.cmp.Ordering.TheVariants.{Less}
@@ -19,7 +20,8 @@ use Rattle.scip_query.specs.References.{is_local, is_of, is_definition}
 use Rattle.scip_query.specs.Sites.{Site, Numbered, numbered_documents, sites_in, sites_of, document_named}
 use Rattle.protoscip.specs.Headline.{IsSite, site_cmp}
 use Rattle.protoscip.proofs.ListLemmas.{place_of, contained, filtered, kept, found}
-use Rattle.protoscip.proofs.RisingLemmas.{from_numbered, to_numbered, from_flat, to_flat, below, level, before_all, rising_append, rising_filter}
+use Rattle.protoscip.proofs.RisingLemmas.{from_numbered, to_numbered, from_flat, to_flat, below, level, before_all}
+use Rattle.protoscip.proofs.RisingLemmas.{rising_append, rising_filter}
 
 -- ---- what stands in an index
 
@@ -27,13 +29,16 @@ abbrev pub numbering : ℕ × Document → Numbered
 numbering d = record { number = d.0; document = d.1 }
 
 -- a numbered document stands at its number, from some number on
-numbered_in : (n : ℕ) (documents : List Document) (d : Numbered) → Contains (map numbering (enumerate_from n documents)) d
+numbered_in : (n : ℕ) (documents : List Document) (d : Numbered)
+    → Contains (map numbering (enumerate_from n documents)) d
     → (k : ℕ) × (d.number ≡ n + k) × (slice_get documents k ≡ Some d.document)
 numbered_in n documents d there =
-    let of = from_numbered numbering n documents there.0 d (place_of (map numbering (enumerate_from n documents)) d there) in
+    let of = from_numbered numbering n documents there.0 d
+    (place_of (map numbering (enumerate_from n documents)) d there) in
     (there.0, ap (λ (e : Numbered). e.number) of.2, of.1 ∙ ap Some (sym (ap (λ (e : Numbered). e.document) of.2)))
 
-numbered : (index : Index) (d : Numbered) → Contains (numbered_documents index) d → slice_get index.documents d.number ≡ Some d.document
+numbered : (index : Index) (d : Numbered) → Contains (numbered_documents index) d
+    → slice_get index.documents d.number ≡ Some d.document
 numbered index d there =
     let of = numbered_in 0 index.documents d there in
     let same : of.0 ≡ d.number = omega (arith, of.1) in
@@ -41,7 +46,11 @@ numbered index d there =
     subst At same of.2
 
 abbrev pub siting : Numbered → ℕ × Occurrence → Site
-siting d o = record { place = record { document = d.number; occurrence = o.0 }; document = d.document; occurrence = o.1 }
+siting d o = record {
+  place = record { document = d.number; occurrence = o.0 };
+  document = d.document;
+  occurrence = o.1;
+}
 
 -- a site of some of a document's occurrences, from some number on
 record IsSited (d : Numbered) (n : ℕ) (occurrences : List Occurrence) (site : Site) : Type 0 where
@@ -51,9 +60,11 @@ record IsSited (d : Numbered) (n : ℕ) (occurrences : List Occurrence) (site : 
   place : site.place.occurrence ≡ n + k
   at : slice_get occurrences k ≡ Some site.occurrence
 
-sited_in : (d : Numbered) (n : ℕ) (occurrences : List Occurrence) (site : Site) → Contains (map (siting d) (enumerate_from n occurrences)) site → IsSited d n occurrences site
+sited_in : (d : Numbered) (n : ℕ) (occurrences : List Occurrence) (site : Site)
+    → Contains (map (siting d) (enumerate_from n occurrences)) site → IsSited d n occurrences site
 sited_in d n occurrences site there =
-    let of = from_numbered (siting d) n occurrences there.0 site (place_of (map (siting d) (enumerate_from n occurrences)) site there) in
+    let of = from_numbered (siting d) n occurrences there.0 site
+    (place_of (map (siting d) (enumerate_from n occurrences)) site there) in
     record {
       k = there.0;
       of_number = ap (λ (s : Site). s.place.document) of.2;
@@ -81,25 +92,33 @@ site_to : (index : Index) (site : Site) → IsSite index site → Contains (site
 site_to index site is =
     let d : Numbered = record { number = site.place.document; document = site.document } in
     let listed = to_numbered numbering 0 index.documents site.place.document site.document is.document_is in
-    let there = to_numbered (siting d) 0 site.document.occurrences site.place.occurrence site.occurrence is.occurrence_is in
+    let there = to_numbered (siting d) 0 site.document.occurrences site.place.occurrence site.occurrence
+    is.occurrence_is in
     let first : 0 + site.place.document ≡ site.place.document = omega arith in
     let second : 0 + site.place.occurrence ≡ site.place.occurrence = omega arith in
-    let At : ℕ → Type 0 = λ n. slice_get (numbered_documents index) site.place.document ≡ Some (numbering (n, site.document)) in
+    let At : ℕ → Type 0 = λ n. slice_get (numbered_documents index) site.place.document
+    ≡ Some (numbering (n, site.document)) in
     let Has : ℕ → Type 0 = λ n. slice_get (sites_in d) site.place.occurrence ≡ Some (siting d (n, site.occurrence)) in
-    to_flat sites_in (numbered_documents index) site.place.document d site (subst At first listed) (contained (sites_in d) site.place.occurrence site (subst Has second there))
+    to_flat sites_in (numbered_documents index) site.place.document d site (subst At first listed)
+    (contained (sites_in d) site.place.occurrence site (subst Has second there))
 
 -- ---- the sites rise
 
 earlier_document : (a b : Site) → a.place.document < b.place.document → site_cmp a b ≡ Less
-earlier_document a b less = ap (λ (o : Ordering). ordering_then o (nat_cmp a.place.occurrence b.place.occurrence)) (below a.place.document b.place.document less)
+earlier_document a b less =
+    ap (λ (o : Ordering). ordering_then o (nat_cmp a.place.occurrence b.place.occurrence))
+    (below a.place.document b.place.document less)
 
-earlier_place : (a b : Site) → a.place.document ≡ b.place.document → a.place.occurrence < b.place.occurrence → site_cmp a b ≡ Less
+earlier_place : (a b : Site) → a.place.document ≡ b.place.document → a.place.occurrence < b.place.occurrence
+    → site_cmp a b ≡ Less
 earlier_place a b same less =
-    ap (λ (n : ℕ). ordering_then (nat_cmp a.place.document n) (nat_cmp a.place.occurrence b.place.occurrence)) (sym same)
+    ap (λ (n : ℕ). ordering_then (nat_cmp a.place.document n) (nat_cmp a.place.occurrence b.place.occurrence))
+    (sym same)
     ∙ (ap (λ (o : Ordering). ordering_then o (nat_cmp a.place.occurrence b.place.occurrence)) (level a.place.document)
     ∙ below a.place.occurrence b.place.occurrence less)
 
-rising_in : (d : Numbered) (n : ℕ) (occurrences : List Occurrence) → IsStrictlySortedBy site_cmp (map (siting d) (enumerate_from n occurrences))
+rising_in : (d : Numbered) (n : ℕ) (occurrences : List Occurrence)
+    → IsStrictlySortedBy site_cmp (map (siting d) (enumerate_from n occurrences))
 unfolding IsStrictlySortedBy
 rising_in d n [] = tt
 rising_in d n (x ∷ xs) = (
@@ -110,12 +129,14 @@ rising_in d n (x ∷ xs) = (
   rising_in d (n + 1) xs,
 )
 
-rising_from : (n : ℕ) (documents : List Document) → IsStrictlySortedBy site_cmp (flat_map sites_in (map numbering (enumerate_from n documents)))
+rising_from : (n : ℕ) (documents : List Document)
+    → IsStrictlySortedBy site_cmp (flat_map sites_in (map numbering (enumerate_from n documents)))
 unfolding IsStrictlySortedBy
 rising_from n [] = tt
 rising_from n (x ∷ xs) =
     let d : Numbered = numbering (n, x) in
-    rising_append site_cmp (sites_in d) (flat_map sites_in (map numbering (enumerate_from (n + 1) xs))) (rising_in d 0 x.occurrences) (rising_from (n + 1) xs) (λ a b here there.
+    rising_append site_cmp (sites_in d) (flat_map sites_in (map numbering (enumerate_from (n + 1) xs)))
+    (rising_in d 0 x.occurrences) (rising_from (n + 1) xs) (λ a b here there.
     let first = sited_in d 0 x.occurrences a here in
     let of = from_flat sites_in (map numbering (enumerate_from (n + 1) xs)) b there in
     let number = numbered_in (n + 1) xs of.0 of.1 in
@@ -129,15 +150,20 @@ symbol_or : {E : Type 0} → Result Subject E → List ℕ
 symbol_or (Ok subject) = subject.symbol
 symbol_or (Err miss) = []
 
-in_document : (d : Numbered) (here : Option Occurrence) (subject : Subject) → subject_in d here ≡ Ok subject → (o : Occurrence) × (here ≡ Some o) × (o.symbol ≡ subject.symbol)
+in_document : (d : Numbered) (here : Option Occurrence) (subject : Subject) → subject_in d here ≡ Ok subject
+    → (o : Occurrence) × (here ≡ Some o) × (o.symbol ≡ subject.symbol)
 unfolding symbol_or
 in_document d None subject is = absurd (cc)
 in_document d (Some o) subject is = (o, refl, ap symbol_or is)
 
-of_document : (named : Option Numbered) (line column : ℕ) (subject : Subject) → subject_of named (record { line = line; column = column }) ≡ Ok subject
-    → (d : Numbered) × (named ≡ Some d) × ((o : Occurrence) × (occurrence_in d.document (record { line = line; column = column }) ≡ Some o) × (o.symbol ≡ subject.symbol))
+of_document : (named : Option Numbered) (line column : ℕ) (subject : Subject)
+    → subject_of named (record { line = line; column = column }) ≡ Ok subject
+    → (d : Numbered) × (named ≡ Some d)
+    × ((o : Occurrence) × (occurrence_in d.document (record { line = line; column = column }) ≡ Some o)
+    × (o.symbol ≡ subject.symbol))
 of_document None line column subject is = absurd (cc)
-of_document (Some d) line column subject is = (d, refl, in_document d (occurrence_in d.document (record { line = line; column = column })) subject is)
+of_document (Some d) line column subject is =
+    (d, refl, in_document d (occurrence_in d.document (record { line = line; column = column })) subject is)
 
 -- the document that a path names, and the occurrence there that has the symbol asked
 pub record IsAsked (index : Index) (path : List ℕ) (line column : ℕ) (subject : Subject) : Type 0 where
@@ -149,12 +175,15 @@ pub record IsAsked (index : Index) (path : List ℕ) (line column : ℕ) (subjec
   pub there : Contains named.document.occurrences occurrence
   pub symbol : occurrence.symbol ≡ subject.symbol
 
-pub asked : (index : Index) (path : List ℕ) (line column : ℕ) (subject : Subject) → subject_at index path (record { line = line; column = column }) ≡ Ok subject → IsAsked index path line column subject
+pub asked : (index : Index) (path : List ℕ) (line column : ℕ) (subject : Subject)
+    → subject_at index path (record { line = line; column = column }) ≡ Ok subject
+    → IsAsked index path line column subject
 asked index path line column subject is =
     let of = of_document (document_named index path) line column subject is in
     let among = found (λ (d : Numbered). bytes_eq d.document.relative_path path) (numbered_documents index) of.0 of.1 in
     let o = of.2.0 in
-    let innermost = found _ (filter (stands_at (record { line = line; column = column })) of.0.document.occurrences) o of.2.1 in
+    let innermost = found _ (filter (stands_at (record { line = line; column = column })) of.0.document.occurrences) o
+    of.2.1 in
     record {
       named = of.0;
       occurrence = o;
@@ -174,9 +203,13 @@ module _ (subject : Subject) (global : is_local subject.symbol ≡ false) where
       let anywhere : (not (is_local subject.symbol) || own) ≡ true = ap (λ (b : Bool). not b || own) global in
       let Same : Type 0 = site.occurrence.symbol ≡ subject.symbol in
       Decides-like {P = Same × Unit {0}} {Q = Same} (is_of subject site) (λ both. both.0) (λ same. (same, tt))
-      (Decides-and {P = Same} {Q = Unit {0}} (bytes_eq site.occurrence.symbol subject.symbol) (not (is_local subject.symbol) || own) (bytes_eq-Decides site.occurrence.symbol subject.symbol) (λ _. tt, λ _. anywhere))
+      (Decides-and {P = Same} {Q = Unit {0}} (bytes_eq site.occurrence.symbol subject.symbol)
+      (not (is_local subject.symbol) || own) (bytes_eq-Decides site.occurrence.symbol subject.symbol)
+      (λ _. tt, λ _. anywhere))
 
-  pub defining : (site : Site) → Decides (is_of subject site && is_definition site.occurrence) ((site.occurrence.symbol ≡ subject.symbol) × (is_definition site.occurrence ≡ true))
+  pub defining : (site : Site)
+      → Decides (is_of subject site && is_definition site.occurrence)
+      ((site.occurrence.symbol ≡ subject.symbol) × (is_definition site.occurrence ≡ true))
   defining site = Decides-and (is_of subject site) (is_definition site.occurrence) (of_symbol site) (λ e. e, λ e. e)
 
 -- just the sites that pass a test, in order

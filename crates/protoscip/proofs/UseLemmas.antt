@@ -1,5 +1,6 @@
 -- A use that names a type has a target, so each component of a use of a source names an entity.
-use Rattle.std.proofs.Common.{◌≡◌, ◌+◌, ◌-◌, ◌<◌, ◌≤◌, ℕ, zero, suc, true, List, [], ◌∷◌, length, take, Some, ap, refl, subst, arith}
+use Rattle.std.proofs.Common.{◌≡◌, ◌+◌, ◌-◌, ◌<◌, ◌≤◌, ℕ, zero, suc, true, List, [], ◌∷◌, length, take, Some, ap, refl}
+use Rattle.std.proofs.Common.{subst, arith}
 use Rattle.std.specs.Prelude.{Contains}
 use Rattle.std.specs.List.{slice_get}
 use Rattle.std.proofs.lemmas.Bool.{false≢true}
@@ -37,8 +38,10 @@ record AreEach {X : Type 0} (P : ℕ → X → Type 0) (n : ℕ) : Type 0 where
   one_each : length list ≡ n
   each : (j : ℕ) (x : X) → slice_get list j ≡ Some x → P j x
 
-with_first : {X : Type 0} (P : ℕ → X → Type 0) (n : ℕ) (first : X) → P 0 first → AreEach (λ j. P (suc j)) n → AreEach P (suc n)
-with_first {X} P n first is others = record { list = first ∷ others.list; one_each = ap suc others.one_each; each = one }
+with_first : {X : Type 0} (P : ℕ → X → Type 0) (n : ℕ) (first : X) → P 0 first → AreEach (λ j. P (suc j)) n
+    → AreEach P (suc n)
+with_first {X} P n first is others =
+    record { list = first ∷ others.list; one_each = ap suc others.one_each; each = one }
   where
     one : (j : ℕ) (x : X) → slice_get (first ∷ others.list) j ≡ Some x → P j x
     one zero x there = subst (P 0) (same_Some first x there) is
@@ -54,7 +57,8 @@ are_each P (suc n) at =
 
 module _ (files : List File) (file : ℕ) where
   -- a file that is seen names it, so that it is known
-  entity_named : (seen : ℕ) (facts : Facts) → Sees files file seen → HasFacts files seen facts → (name : List ℕ) (count : ℕ) (front : List ℕ) → IsEntity facts front → front ≡ prefix_of name count
+  entity_named : (seen : ℕ) (facts : Facts) → Sees files file seen → HasFacts files seen facts
+      → (name : List ℕ) (count : ℕ) (front : List ℕ) → IsEntity facts front → front ≡ prefix_of name count
       → (part : Part) × IsNamed files file name count part
   entity_named seen facts sees has name count _ (entity_packaged some few) same =
       let Is : List ℕ → Type 0 = λ front. Knows files file front IsPackageKind in
@@ -62,12 +66,17 @@ module _ (files : List File) (file : ℕ) where
   entity_named seen facts sees has name count _ (entity_declared {declaration = declared} there) same =
       (link.Declared seen there.0, named_declared sees has (place_of facts.declarations declared there) same)
 
-  module _ (fronts : (facts : Facts) → AreOfSomeFile facts → PrefixesAreEntities facts) (origins : HaveOrigins files) where
-    front_named : (name : List ℕ) (kind : NameKind) → Knows files file name kind → is_type kind ≡ true → (count : ℕ) → 0 < count → count ≤ length (components_of name)
+  module _ (fronts : (facts : Facts) → AreOfSomeFile facts → PrefixesAreEntities facts)
+      (origins : HaveOrigins files) where
+    front_named : (name : List ℕ) (kind : NameKind) → Knows files file name kind → is_type kind ≡ true → (count : ℕ)
+        → 0 < count → count ≤ length (components_of name)
         → (part : Part) × IsNamed files file name count part
-    front_named _ _ (known_declared {seen = seen} {facts = facts} {declaration = declared} sees has listed) admitted count some few =
-        let Fronts : Declaration → Type 0 = λ d. (n : ℕ) → 0 < n → n ≤ length (components_of d.full_name) → IsEntity facts (prefix_of d.full_name n) in
-        let is = All-contains Fronts facts.declarations declared (fronts facts (origins seen facts has)) listed count some few in
+    front_named _ _ (known_declared {seen = seen} {facts = facts} {declaration = declared} sees has listed) admitted
+        count some few =
+        let Fronts : Declaration → Type 0 = λ d. (n : ℕ) → 0 < n → n ≤ length (components_of d.full_name)
+        → IsEntity facts (prefix_of d.full_name n) in
+        let is = All-contains Fronts facts.declarations declared
+        (fronts facts (origins seen facts has)) listed count some few in
         entity_named seen facts sees has declared.full_name count (prefix_of declared.full_name count) is refl
     front_named _ _ (known_packaged sees has some few) admitted count one many = absurd (false≢true admitted)
 
@@ -77,20 +86,34 @@ each_use_has_a_target fronts files origins file type_use name resolves =
     let few = used_fit files file type_use name resolves in
     let skipped = length (components_of name) - length type_use.components in
     let parts = are_each (λ j part. IsNamed files file name (skipped + j + 1) part) (length type_use.components)
-    (λ j within. front_named files file fronts origins name is.kind is.known is.admitted (skipped + j + 1) (omega arith) (omega (arith, within, few))) in
-    (record { name = name; parts = parts.list }, record { resolves = resolves; skipped = skipped; split = omega (arith, few); one_each = parts.one_each; named = parts.each })
+    (λ j within. front_named files file fronts origins name is.kind is.known is.admitted (skipped + j + 1) (omega arith)
+    (omega (arith, within, few))) in (
+      record { name = name; parts = parts.list },
+      record {
+        resolves = resolves;
+        skipped = skipped;
+        split = omega (arith, few);
+        one_each = parts.one_each;
+        named = parts.each;
+      },
+    )
 
 -- ---- the components of a source's uses
 
 module _ (files : List File) (source : ℕ) where
   -- what is named has a symbol
-  named_as : (name : List ℕ) (count : ℕ) (part : Part) → IsNamed files source name count part → (entity : Entity) × IsNamedAs files name part entity
+  named_as : (name : List ℕ) (count : ℕ) (part : Part) → IsNamed files source name count part
+      → (entity : Entity) × IsNamedAs files name part entity
   named_as name count _ (named_package known) = (OfPackage (take count (components_of name)), refl)
-  named_as name count _ (named_declared {facts = facts} {declaration = declared} sees has at full) =
-      (declaration_at facts declared, record { facts = facts; declaration = declared; has = record { has_facts = has; numbered = at }; is = refl })
+  named_as name count _ (named_declared {facts = facts} {declaration = declared} sees has at full) = (
+    declaration_at facts declared,
+    record { facts = facts; declaration = declared; has = record { has_facts = has; numbered = at }; is = refl },
+  )
 
-  pub component_names : EachUseHasATarget → HaveOrigins files → AllResolve files → (facts : Facts) (type_use : Use) (component : Component) → IsSource files source → HasFacts files source facts
-      → Contains facts.uses type_use → Contains type_use.components component → (part : Part) × (entity : Entity) × NamesIn files source component part entity
+  pub component_names : EachUseHasATarget → HaveOrigins files → AllResolve files
+      → (facts : Facts) (type_use : Use) (component : Component) → IsSource files source → HasFacts files source facts
+      → Contains facts.uses type_use → Contains type_use.components component
+      → (part : Part) × (entity : Entity) × NamesIn files source component part entity
   component_names targets origins resolved facts type_use component is has listed among =
       let type_name = resolved source facts type_use is has listed in
       let target = targets files origins source type_use type_name.0 type_name.1 in

@@ -10,17 +10,24 @@ use Rattle.protoscip.specs.Sessions.{AreAnswered, AreUntouched}
 use Rattle.protoscip.specs.declared.fault.Fault.{Fault}
 use Rattle.protoscip.specs.declared.fault.Fault.TheVariants.{Memory, TooLarge, Read, Answer}
 
-module _ {R W : Type 0} (remaining : R → Option (List ℕ)) (read_failures reads ends : R → ℕ) (contents : W → Option (List ℕ)) (write_failures : W → ℕ) where
+module _ {R W : Type 0} (remaining : R → Option (List ℕ)) (read_failures reads ends : R → ℕ)
+    (contents : W → Option (List ℕ)) (write_failures : W → ℕ) where
   -- the index has bytes, and commands are answered from it
-  pub record AreAnsweredFrom (index : Index) (before after : R) (first last : W) (answered : Result (Unit {0}) AnswerFault) : Type 0 where
+  pub record AreAnsweredFrom (index : Index) (before after : R) (first last : W)
+      (answered : Result (Unit {0}) AnswerFault) : Type 0 where
     pub spelled : IsSpelled index (spelling_of index)
-    pub are : AreAnswered remaining read_failures reads ends contents write_failures index before after first last answered
+    pub are : AreAnswered remaining read_failures reads ends contents write_failures index before after first last
+        answered
 
-  -- they are; or reading or writing stops; or memory runs out before an answer, or before the first; or the index has too many bytes
+  -- they are; or reading or writing stops; or memory runs out before an answer, or before the first; or the index has
+  -- too many bytes
   abbrev pub Converses : Index → R → R → W → W → Result (Unit {0}) Fault → Type 0
   Converses index before after first last (Ok done) = AreAnsweredFrom index before after first last (Ok done)
   Converses index before after first last (Err Read) = AreAnsweredFrom index before after first last (Err answer.Read)
-  Converses index before after first last (Err (Answer count)) = AreAnsweredFrom index before after first last (Err (answer.Write count))
-  Converses index before after first last (Err Memory) = AreUntouched before after first last ⊎ AreAnsweredFrom index before after first last (Err answer.Memory)
-  Converses index before after first last (Err TooLarge) = (max_index_len < length (spelling_of index)) × AreUntouched before after first last
+  Converses index before after first last (Err (Answer count)) =
+      AreAnsweredFrom index before after first last (Err (answer.Write count))
+  Converses index before after first last (Err Memory) =
+      AreUntouched before after first last ⊎ AreAnsweredFrom index before after first last (Err answer.Memory)
+  Converses index before after first last (Err TooLarge) =
+      (max_index_len < length (spelling_of index)) × AreUntouched before after first last
   Converses index before after first last (Err other) = ⊥

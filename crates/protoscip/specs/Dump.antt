@@ -62,15 +62,19 @@ LeavesReader failures reads ends before after (Err Memory) = failures after ≡ 
 LeavesReader failures reads ends before after (Err Read) = IsReadFault failures reads ends before after
 LeavesReader failures reads ends before after other = IsReadThrough failures ends before after
 
--- the writer: the whole text was written; at Write, its first `count` bytes; after any other fault the writer is as it was
-abbrev pub LeavesWriter : {W : Type 0} → (contents : W → Option (List ℕ)) → (failures : W → ℕ) → W → W → List ℕ → Result (Unit {0}) Fault → Type 0
+-- the writer: the whole text was written; at Write, its first `count` bytes; after any other fault the writer is as it
+-- was
+abbrev pub LeavesWriter : {W : Type 0} → (contents : W → Option (List ℕ)) → (failures : W → ℕ) → W → W → List ℕ
+    → Result (Unit {0}) Fault → Type 0
 LeavesWriter contents failures before after due (Ok done) = IsWritten contents failures before after due
 LeavesWriter contents failures before after due (Err (Write count)) = IsCutOff contents failures before after due count
 LeavesWriter contents failures before after due (Err fault) = after ≡ before
 
--- What a dump leaves of its writer, by the text that it has to write: that of the bytes which the reader tells that it has left; where it
+-- What a dump leaves of its writer, by the text that it has to write: that of the bytes which the reader tells that it
+-- has left; where it
 -- tells none, of some bytes.
-pub record IsDumped {R W : Type 0} (remaining : R → Option (List ℕ)) (contents : W → Option (List ℕ)) (failures : W → ℕ) (custom : CustomOptions) (reader : R) (before after : W)
+pub record IsDumped {R W : Type 0} (remaining : R → Option (List ℕ)) (contents : W → Option (List ℕ)) (failures : W → ℕ)
+    (custom : CustomOptions) (reader : R) (before after : W)
     (done : Result (Unit {0}) Fault) : Type 0 where
   pub due : List ℕ
   pub writer : LeavesWriter contents failures before after due done

@@ -7,8 +7,10 @@ use Rattle.protoscip.specs.declared.fault.Fault.TheVariants.{Memory}
 
 -- a source has one listing at most
 abbrev pub OneListing : Type 0
-OneListing = (custom : CustomOptions) (bytes listing other : List ℕ) → IsListing custom bytes listing → IsListing custom bytes other → listing ≡ other
+OneListing = (custom : CustomOptions) (bytes listing other : List ℕ) → IsListing custom bytes listing
+    → IsListing custom bytes other → listing ≡ other
 
 -- a source that has a listing isn't refused, but for want of memory
 abbrev pub ListedUnlessMemory : Type 0
-ListedUnlessMemory = (custom : CustomOptions) (bytes listing : List ℕ) (fault : Fault) → IsListing custom bytes listing → IsRefusal custom bytes fault → fault ≡ Memory
+ListedUnlessMemory = (custom : CustomOptions) (bytes listing : List ℕ) (fault : Fault) → IsListing custom bytes listing
+    → IsRefusal custom bytes fault → fault ≡ Memory

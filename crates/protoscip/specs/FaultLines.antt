@@ -9,7 +9,8 @@ use Rattle.proto_lex.specs.FaultNames.{lex_name, lex_offset}
 use Rattle.proto_parse.specs.FaultNames.{syntax_name, syntax_offset}
 use Rattle.protoscip.specs.Lines.{plain_line, line_at, placed_line}
 use Rattle.protoscip.specs.declared.fault.Fault.{Fault}
-use Rattle.protoscip.specs.declared.fault.Fault.TheVariants.{Spawn, Memory, Lex, Syntax, Duplicate, MissingImport, Unresolved, TooLarge, Write, Read, Answer}
+use Rattle.protoscip.specs.declared.fault.Fault.TheVariants.{Spawn, Memory, Lex, Syntax, Duplicate, MissingImport}
+use Rattle.protoscip.specs.declared.fault.Fault.TheVariants.{Unresolved, TooLarge, Write, Read, Answer}
 
 abbrev pub name_of : Fault → List ℕ
 name_of Spawn = codes "Spawn"
@@ -43,8 +44,10 @@ line_at_place tree place name = line_at (path_of tree place.file) place.span.sta
 -- the line of a run's fault, over this tree
 abbrev pub line_of : List TreeFile → Fault → List ℕ
 line_of tree (Lex number fault) = placed_line (path_of tree number) (lex_offset fault) (name_of (Lex number fault))
-line_of tree (Syntax number fault) = placed_line (path_of tree number) (syntax_offset fault) (name_of (Syntax number fault))
-line_of tree (Duplicate first second) = duplicate_line (path_of tree first.file) first.span.start (path_of tree second.file) second.span.start
+line_of tree (Syntax number fault) =
+    placed_line (path_of tree number) (syntax_offset fault) (name_of (Syntax number fault))
+line_of tree (Duplicate first second) =
+    duplicate_line (path_of tree first.file) first.span.start (path_of tree second.file) second.span.start
 line_of tree (MissingImport place) = line_at_place tree place (name_of (MissingImport place))
 line_of tree (Unresolved place) = line_at_place tree place (name_of (Unresolved place))
 line_of tree fault = plain_line (name_of fault)

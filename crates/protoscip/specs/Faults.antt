@@ -11,7 +11,8 @@ use Rattle.scip_wire.specs.declared.write_fault.SpellFault.TheVariants as spelli
 use Rattle.scip_wire.specs.declared.write_fault.WriteFault.{WriteFault}
 use Rattle.scip_wire.specs.declared.write_fault.WriteFault.TheVariants as writing
 use Rattle.protoscip.specs.declared.fault.Fault.{Fault}
-use Rattle.protoscip.specs.declared.fault.Fault.TheVariants.{Spawn, Memory, Lex, Syntax, Duplicate, MissingImport, Unresolved, TooLarge, Write, Read, Answer}
+use Rattle.protoscip.specs.declared.fault.Fault.TheVariants.{Spawn, Memory, Lex, Syntax, Duplicate, MissingImport}
+use Rattle.protoscip.specs.declared.fault.Fault.TheVariants.{Unresolved, TooLarge, Write, Read, Answer}
 
 -- why the file with this number can't be read
 abbrev pub fault_of_file : ℕ → FileFault → Fault

@@ -1,5 +1,6 @@
 -- The headline: what holds of the bytes of a tree's index, and of queries over them.
-use Rattle.std.specs.Prelude.{◌≡◌, ◌<◌, ◌≤◌, ℕ, ◌+◌, Bool, true, false, Option, Some, Result, Ok, Err, List, length, Contains}
+use Rattle.std.specs.Prelude.{◌≡◌, ◌<◌, ◌≤◌, ℕ, ◌+◌, Bool, true, false, Option, Some, Result, Ok, Err, List, length}
+use Rattle.std.specs.Prelude.{Contains}
 use Rattle.std.specs.declared.cmp.Ordering.{Ordering}
 use Rattle.std.specs.Ordering.{nat_cmp, on, then_cmp}
 use Rattle.std.specs.List.{slice_get}
@@ -42,14 +43,18 @@ use Rattle.protoscip.specs.Sessions.{AreAnswered}
 
 -- The entities of linked files: each file that counts, its package with those above it, and what it declares.
 pub data IsEntityOf (files : List File) : Entity → Type 0 where
-  of_file : {number : ℕ} {file : File} → Counts files number → slice_get files number ≡ Some file → IsEntityOf files (OfFile file.path)
-  of_package : {number count : ℕ} {facts : Facts} → Counts files number → HasFacts files number facts → 0 < count → count ≤ length facts.package_name
+  of_file : {number : ℕ} {file : File} → Counts files number → slice_get files number ≡ Some file
+      → IsEntityOf files (OfFile file.path)
+  of_package : {number count : ℕ} {facts : Facts} → Counts files number → HasFacts files number facts → 0 < count
+      → count ≤ length facts.package_name
       → IsEntityOf files (package_at facts count)
-  of_declaration : {number index : ℕ} {facts : Facts} {declared : Declaration} → Counts files number → HasDeclaration files number index facts declared
+  of_declaration : {number index : ℕ} {facts : Facts} {declared : Declaration} → Counts files number
+      → HasDeclaration files number index facts declared
       → IsEntityOf files (declaration_at facts declared)
 
 -- the entity that an occurrence names: the one of the rule by which it occurs
-abbrev pub entity_of : {files : List File} {chosen : Chosen} {id : Package} {encoding : Encoding} {source : ℕ} {text : List ℕ} {occurrence : Occurrence}
+abbrev pub entity_of : {files : List File} {chosen : Chosen} {id : Package} {encoding : Encoding} {source : ℕ}
+    {text : List ℕ} {occurrence : Occurrence}
     → Occurs files chosen id encoding source text occurrence → Entity
 entity_of (rule.of_file {file = file} numbered) = OfFile file.path
 entity_of (rule.of_import {imported = imported} has listed there) = OfFile imported.path
@@ -58,7 +63,8 @@ entity_of (rule.of_declaration {facts = facts} index {declared = declared} has k
 entity_of (rule.of_component {entity = entity} names shown) = entity
 
 -- whether it defines that entity: the file itself does, and each component of its package's name and each declaration
-abbrev pub defines : {files : List File} {chosen : Chosen} {id : Package} {encoding : Encoding} {source : ℕ} {text : List ℕ} {occurrence : Occurrence}
+abbrev pub defines : {files : List File} {chosen : Chosen} {id : Package} {encoding : Encoding} {source : ℕ}
+    {text : List ℕ} {occurrence : Occurrence}
     → Occurs files chosen id encoding source text occurrence → Bool
 defines (rule.of_file numbered) = true
 defines (rule.of_import has listed there) = false
@@ -78,12 +84,16 @@ abbrev pub site_cmp : Site → Site → Ordering
 site_cmp = then_cmp (on (λ (s : Site). s.place.document) nat_cmp) (on (λ (s : Site). s.place.occurrence) nat_cmp)
 
 -- of what was built from a tree
-module _ {allows : Seen → Choice → Type 0} {settings : Settings} {tree : List TreeFile} {result : Built} (built : IsBuilt allows settings tree result) where
-  -- An occurrence of a document is one of an entity: the document is that of a source, and a rule by which it occurs there names this
+module _ {allows : Seen → Choice → Type 0} {settings : Settings} {tree : List TreeFile} {result : Built}
+    (built : IsBuilt allows settings tree result) where
+  -- An occurrence of a document is one of an entity: the document is that of a source, and a rule by which it occurs
+  -- there names this
   -- entity.
   pub record IsOf (entity : Entity) (document : Document) (occurrence : Occurrence) : Type 0 where
-    pub of_source : HasDocument (linked_files built.readings) (texts_of built.readings) result.choices settings.package settings.encoding document
-    pub occurs : Occurs (linked_files built.readings) result.choices settings.package settings.encoding of_source.source of_source.text occurrence
+    pub of_source : HasDocument (linked_files built.readings)
+        (texts_of built.readings) result.choices settings.package settings.encoding document
+    pub occurs : Occurs (linked_files built.readings) result.choices settings.package settings.encoding of_source.source
+        of_source.text occurrence
     pub is : entity_of occurs ≡ entity
 
   -- a site of the index is one of an entity
@@ -102,36 +112,56 @@ module _ {allows : Seen → Choice → Type 0} {settings : Settings} {tree : Lis
     pub stands : occurrence_in named.document (record { line = line; column = column }) ≡ Some occurrence
     pub is : IsOf entity named.document occurrence
 
-  -- What is answered about a position: just the sites that are wanted of the entity there, each once, in the index's order; it is refused
+  -- What is answered about a position: just the sites that are wanted of the entity there, each once, in the index's
+  -- order; it is refused
   -- only where there is none.
-  abbrev pub Answers : (IsWanted : Entity → Site → Type 0) → (path : List ℕ) → (line column : ℕ) → {E : Type 0} → Result (List Site) E → Type 0
-  Answers IsWanted path line column (Ok sites) = (entity : Entity) × IsAt path line column entity × IsAscendingListOf site_cmp (IsWanted entity) sites
+  abbrev pub Answers : (IsWanted : Entity → Site → Type 0) → (path : List ℕ) → (line column : ℕ) → {E : Type 0}
+      → Result (List Site) E → Type 0
+  Answers IsWanted path line column (Ok sites) =
+      (entity : Entity) × IsAt path line column entity × IsAscendingListOf site_cmp (IsWanted entity) sites
   Answers IsWanted path line column (Err miss) = (entity : Entity) → IsAt path line column entity → ⊥
 
-  -- Each component of a use in a source names an entity, so that it occurs unless what it names isn't kept. Each site is one of an entity of
-  -- the files, and of no other; entities and symbols are one to one, and a declaration's entity is its own; a site has the definition's role
-  -- just where it defines its entity; and a query answers the occurrences of the entity asked, or its definitions among them, all of them
+  -- Each component of a use in a source names an entity, so that it occurs unless what it names isn't kept. Each site
+  -- is one of an entity of
+  -- the files, and of no other; entities and symbols are one to one, and a declaration's entity is its own; a site has
+  -- the definition's role
+  -- just where it defines its entity; and a query answers the occurrences of the entity asked, or its definitions among
+  -- them, all of them
   -- and nothing else.
   pub record AnswersNames : Type 0 where
-    pub used : (source : ℕ) (facts : Facts) (type_use : Use) (component : Component) → IsSource (linked_files built.readings) source → HasFacts (linked_files built.readings) source facts
-        → Contains facts.uses type_use → Contains type_use.components component → (part : Part) × (entity : Entity) × NamesIn (linked_files built.readings) source component part entity
+    pub used : (source : ℕ) (facts : Facts) (type_use : Use) (component : Component)
+        → IsSource (linked_files built.readings) source → HasFacts (linked_files built.readings) source facts
+        → Contains facts.uses type_use → Contains type_use.components component
+        → (part : Part) × (entity : Entity) × NamesIn (linked_files built.readings) source component part entity
     pub each : (site : Site) → IsSite result.index site
-        → (entity : Entity) × IsEntityOf (linked_files built.readings) entity × IsSiteOf entity site × ((other : Entity) → IsSiteOf other site → other ≡ entity)
-    pub symbol : (entity : Entity) (site : Site) → IsSiteOf entity site → site.occurrence.symbol ≡ text_of settings.package entity
-    pub one_to_one : (entity other : Entity) → IsEntityOf (linked_files built.readings) entity → IsEntityOf (linked_files built.readings) other
+        → (entity : Entity) × IsEntityOf (linked_files built.readings) entity × IsSiteOf entity site
+        × ((other : Entity) → IsSiteOf other site → other ≡ entity)
+    pub symbol : (entity : Entity) (site : Site) → IsSiteOf entity site
+        → site.occurrence.symbol ≡ text_of settings.package entity
+    pub one_to_one : (entity other : Entity) → IsEntityOf (linked_files built.readings) entity
+        → IsEntityOf (linked_files built.readings) other
         → text_of settings.package entity ≡ text_of settings.package other → entity ≡ other
-    pub own : (number index other its : ℕ) (facts more : Facts) (a b : Declaration) → Counts (linked_files built.readings) number → Counts (linked_files built.readings) other
-        → HasDeclaration (linked_files built.readings) number index facts a → HasDeclaration (linked_files built.readings) other its more b
+    pub own : (number index other its : ℕ) (facts more : Facts) (a b : Declaration)
+        → Counts (linked_files built.readings) number → Counts (linked_files built.readings) other
+        → HasDeclaration (linked_files built.readings) number index facts a
+        → HasDeclaration (linked_files built.readings) other its more b
         → declaration_at facts a ≡ declaration_at more b → (number ≡ other) × (index ≡ its)
-    pub role : (entity : Entity) (site : Site) → (of : IsSiteOf entity site) → is_definition site.occurrence ≡ defines of.1.occurs
-    pub references : (path : List ℕ) (line column : ℕ) → Answers IsSiteOf path line column (references_at result.index path (record { line = line; column = column }))
-    pub definitions : (path : List ℕ) (line column : ℕ) → Answers IsDefinitionOf path line column (definitions_at result.index path (record { line = line; column = column }))
+    pub role : (entity : Entity) (site : Site) → (of : IsSiteOf entity site)
+        → is_definition site.occurrence ≡ defines of.1.occurs
+    pub references : (path : List ℕ) (line column : ℕ)
+        → Answers IsSiteOf path line column (references_at result.index path (record { line = line; column = column }))
+    pub definitions : (path : List ℕ) (line column : ℕ)
+        → Answers IsDefinitionOf path line column
+        (definitions_at result.index path (record { line = line; column = column }))
 
 -- ---- the headline
 
--- The bytes decode to one index only: the one that the grammar, the scoping rules, the recorded choices, which are allowed, and the
--- settings give the tree. And each query about references or definitions over it answers exactly the occurrences of the name asked.
-pub record Navigates (allows : Seen → Choice → Type 0) (settings : Settings) (tree : List TreeFile) (choices : Chosen) (bytes : List ℕ) (index : Index) : Type 0 where
+-- The bytes decode to one index only: the one that the grammar, the scoping rules, the recorded choices, which are
+-- allowed, and the
+-- settings give the tree. And each query about references or definitions over it answers exactly the occurrences of the
+-- name asked.
+pub record Navigates (allows : Seen → Choice → Type 0) (settings : Settings) (tree : List TreeFile) (choices : Chosen)
+    (bytes : List ℕ) (index : Index) : Type 0 where
   pub decodes : Decodes bytes index
   pub alone : (other : Index) → Decodes bytes other → other ≡ index
   pub built : IsBuilt allows settings tree (record { index = index; choices = choices })
@@ -140,20 +170,27 @@ pub record Navigates (allows : Seen → Choice → Type 0) (settings : Settings)
 -- This holds of all that is made of a tree by settings,
 abbrev pub HeadlineOfTree : (allows : Seen → Choice → Type 0) → Settings → List TreeFile → Type 0
 HeadlineOfTree allows settings tree =
-    (choices : Chosen) (bytes : List ℕ) → (indexed : IsIndexed allows settings tree choices bytes) → Navigates allows settings tree choices bytes indexed.index
+    (choices : Chosen) (bytes : List ℕ) → (indexed : IsIndexed allows settings tree choices bytes)
+    → Navigates allows settings tree choices bytes indexed.index
 
--- for every tree, and all settings whose package's parts are good: of all that `index_tree` writes, and of all that a session answers from.
+-- for every tree, and all settings whose package's parts are good: of all that `index_tree` writes, and of all that a
+-- session answers from.
 abbrev pub Headline : (allows : Seen → Choice → Type 0) → Type 0
-Headline allows = (settings : Settings) (tree : List TreeFile) → IsTree tree → IsPackage settings.package → HeadlineOfTree allows settings tree
+Headline allows = (settings : Settings) (tree : List TreeFile) → IsTree tree → IsPackage settings.package
+    → HeadlineOfTree allows settings tree
 
 -- An index of the tree by these choices navigates it, and its bytes are written.
-abbrev pub WritesNavigable : {W : Type 0} → (contents : W → Option (List ℕ)) → (failures : W → ℕ) → (allows : Seen → Choice → Type 0) → Settings → List TreeFile → Chosen → W → W → Type 0
+abbrev pub WritesNavigable : {W : Type 0} → (contents : W → Option (List ℕ)) → (failures : W → ℕ)
+    → (allows : Seen → Choice → Type 0) → Settings → List TreeFile → Chosen → W → W → Type 0
 WritesNavigable contents failures allows settings tree choices before after =
-    (bytes : List ℕ) × (index : Index) × Navigates allows settings tree choices bytes index × IsWritten contents failures before after bytes
+    (bytes : List ℕ) × (index : Index) × Navigates allows settings tree choices bytes index
+    × IsWritten contents failures before after bytes
 
 -- An index of the tree by these choices navigates it, and all commands are answered from it.
-abbrev pub AnswersNavigable : {R W : Type 0} → (remaining : R → Option (List ℕ)) → (read_failures reads ends : R → ℕ) → (contents : W → Option (List ℕ)) → (write_failures : W → ℕ)
+abbrev pub AnswersNavigable : {R W : Type 0} → (remaining : R → Option (List ℕ)) → (read_failures reads ends : R → ℕ)
+    → (contents : W → Option (List ℕ)) → (write_failures : W → ℕ)
     → (allows : Seen → Choice → Type 0) → Settings → List TreeFile → Chosen → R → R → W → W → Type 0
-AnswersNavigable remaining read_failures reads ends contents write_failures allows settings tree choices before after first last =
+AnswersNavigable remaining read_failures reads ends contents write_failures allows settings tree choices before after
+    first last =
     (bytes : List ℕ) × (index : Index) × Navigates allows settings tree choices bytes index
     × AreAnswered remaining read_failures reads ends contents write_failures index before after first last (Ok tt)

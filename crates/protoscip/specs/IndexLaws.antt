@@ -1,4 +1,5 @@
--- What the definitions say of indexes of trees, whatever the code does. `allows` and `others` say which choices may come, by one
+-- What the definitions say of indexes of trees, whatever the code does. `allows` and `others` say which choices may
+-- come, by one
 -- chooser and by another, or by one that is asked twice.
 use Rattle.std.specs.Prelude.{◌≡◌, ◌≢◌, ◌⊎◌, ℕ, List}
 use Rattle.proto_lex.specs.declared.fault.LexFault.{LexFault}
@@ -10,7 +11,8 @@ use Rattle.scip_document.specs.Chosen.{Chosen}
 use Rattle.scip_build.specs.declared.settings.Settings.{Settings}
 use Rattle.protoscip.specs.Indexes.{IsIndexed, IsRefused}
 use Rattle.protoscip.specs.declared.fault.Fault.{Fault}
-use Rattle.protoscip.specs.declared.fault.Fault.TheVariants.{Spawn, Memory, Lex, Syntax, Duplicate, MissingImport, Unresolved, TooLarge, Write, Read, Answer}
+use Rattle.protoscip.specs.declared.fault.Fault.TheVariants.{Spawn, Memory, Lex, Syntax, Duplicate, MissingImport}
+use Rattle.protoscip.specs.declared.fault.Fault.TheVariants.{Unresolved, TooLarge, Write, Read, Answer}
 
 -- What of a tree a fault names. Which fault of lexing or of syntax a file has is left to the fault itself.
 pub data Reason : Type 0 where
@@ -38,34 +40,44 @@ reason_of (Answer count) = outside
 -- two faults of a tree name the same
 abbrev pub OneReason : (allows others : Seen → Choice → Type 0) → Type 0
 OneReason allows others =
-    (settings : Settings) (tree : List TreeFile) (workers more : ℕ) (fault other : Fault) → IsRefused allows settings tree workers fault → IsRefused others settings tree more other
+    (settings : Settings) (tree : List TreeFile) (workers more : ℕ) (fault other : Fault)
+    → IsRefused allows settings tree workers fault → IsRefused others settings tree more other
     → reason_of fault ≢ outside → reason_of other ≢ outside → reason_of fault ≡ reason_of other
 
--- Where a file's text can't be lexed, that is the one fault of the tree; so no fault of syntax stands beside it. (Of the faults of syntax of
+-- Where a file's text can't be lexed, that is the one fault of the tree; so no fault of syntax stands beside it. (Of
+-- the faults of syntax of
 -- one file tests show which comes.)
 abbrev pub OneFileFault : (allows others : Seen → Choice → Type 0) → Type 0
 OneFileFault allows others =
-    (settings : Settings) (tree : List TreeFile) (workers more number : ℕ) (because : LexFault) (other : Fault) → IsRefused allows settings tree workers (Lex number because) → IsRefused others settings tree more other
+    (settings : Settings) (tree : List TreeFile) (workers more number : ℕ) (because : LexFault) (other : Fault)
+    → IsRefused allows settings tree workers (Lex number because) → IsRefused others settings tree more other
     → reason_of other ≢ outside → other ≡ Lex number because
 
 -- a tree that is indexed has no fault, but that by other choices its index may have too many bytes
 abbrev pub IndexedHasNoFault : (allows others : Seen → Choice → Type 0) → Type 0
 IndexedHasNoFault allows others =
     (settings : Settings) (tree : List TreeFile) (workers : ℕ) (choices : Chosen) (bytes : List ℕ) (fault : Fault)
-    → IsIndexed allows settings tree choices bytes → IsRefused others settings tree workers fault → (reason_of fault ≡ outside) ⊎ (fault ≡ TooLarge)
+    → IsIndexed allows settings tree choices bytes → IsRefused others settings tree workers fault
+    → (reason_of fault ≡ outside) ⊎ (fault ≡ TooLarge)
 
 -- for what is seen of a declaration one choice alone may come, whichever of the two is asked
 abbrev pub AllowOneChoice : (allows others : Seen → Choice → Type 0) → Type 0
-AllowOneChoice allows others = (seen : Seen) (choice another : Choice) → allows seen choice → others seen another → choice ≡ another
+AllowOneChoice allows others = (seen : Seen) (choice another : Choice) → allows seen choice → others seen another
+    → choice ≡ another
 
--- there, the choices and the bytes are one function of the tree, of what is allowed, and of the settings, whatever the workers;
+-- there, the choices and the bytes are one function of the tree, of what is allowed, and of the settings, whatever the
+-- workers;
 abbrev pub OneIndexing : (allows others : Seen → Choice → Type 0) → Type 0
 OneIndexing allows others =
-    (settings : Settings) (tree : List TreeFile) (choices more : Chosen) (bytes also : List ℕ) → AllowOneChoice allows others
-    → IsIndexed allows settings tree choices bytes → IsIndexed others settings tree more also → (choices ≡ more) × (bytes ≡ also)
+    (settings : Settings) (tree : List TreeFile) (choices more : Chosen) (bytes also : List ℕ)
+    → AllowOneChoice allows others
+    → IsIndexed allows settings tree choices bytes → IsIndexed others settings tree more also
+    → (choices ≡ more) × (bytes ≡ also)
 
 -- and a tree that is indexed has no fault at all
 abbrev pub OneIndexingHasNoFault : (allows others : Seen → Choice → Type 0) → Type 0
 OneIndexingHasNoFault allows others =
-    (settings : Settings) (tree : List TreeFile) (workers : ℕ) (choices : Chosen) (bytes : List ℕ) (fault : Fault) → AllowOneChoice allows others
-    → IsIndexed allows settings tree choices bytes → IsRefused others settings tree workers fault → reason_of fault ≡ outside
+    (settings : Settings) (tree : List TreeFile) (workers : ℕ) (choices : Chosen) (bytes : List ℕ) (fault : Fault)
+    → AllowOneChoice allows others
+    → IsIndexed allows settings tree choices bytes → IsRefused others settings tree workers fault
+    → reason_of fault ≡ outside

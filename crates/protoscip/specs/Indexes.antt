@@ -1,5 +1,6 @@
 -- What indexing a tree answers, and what it leaves of the writer.
--- `allows` says which choices may come for a declaration, `contents` and `failures` are the sink's, and `before` and `after` the
+-- `allows` says which choices may come for a declaration, `contents` and `failures` are the sink's, and `before` and
+-- `after` the
 -- sink around the call.
 use Rattle.std.specs.Prelude.{◌≡◌, ℕ, ◌<◌, ◌≤◌, ⊤, List, length, Option, Result, Ok, Err}
 use Rattle.proto_decl.specs.Seen.{Seen}
@@ -16,7 +17,8 @@ use Rattle.scip_build.specs.declared.fault.FileFault.TheVariants as file
 use Rattle.scip_wire.specs.Decodes.{Decodes}
 use Rattle.scip_wire.specs.Spelling.{spelling_of, max_index_len}
 use Rattle.protoscip.specs.declared.fault.Fault.{Fault}
-use Rattle.protoscip.specs.declared.fault.Fault.TheVariants.{Spawn, Memory, Lex, Syntax, Duplicate, MissingImport, Unresolved, TooLarge, Write, Read, Answer}
+use Rattle.protoscip.specs.declared.fault.Fault.TheVariants.{Spawn, Memory, Lex, Syntax, Duplicate, MissingImport}
+use Rattle.protoscip.specs.declared.fault.Fault.TheVariants.{Unresolved, TooLarge, Write, Read, Answer}
 
 -- the bytes of an index: its spelling, which isn't too long, and which decodes to it and to no other index
 pub record IsSpelled (index : Index) (bytes : List ℕ) : Type 0 where
@@ -25,34 +27,48 @@ pub record IsSpelled (index : Index) (bytes : List ℕ) : Type 0 where
   pub decodes : Decodes bytes index
   pub alone : (other : Index) → Decodes bytes other → other ≡ index
 
--- The bytes of a tree's index, and the choices that it is made by: the index is built from the tree by them and the settings, and these
+-- The bytes of a tree's index, and the choices that it is made by: the index is built from the tree by them and the
+-- settings, and these
 -- are its bytes.
-pub record IsIndexed (allows : Seen → Choice → Type 0) (settings : Settings) (tree : List TreeFile) (choices : Chosen) (bytes : List ℕ) : Type 0 where
+pub record IsIndexed (allows : Seen → Choice → Type 0) (settings : Settings) (tree : List TreeFile) (choices : Chosen)
+    (bytes : List ℕ) : Type 0 where
   pub index : Index
   pub built : IsBuilt allows settings tree (record { index = index; choices = choices })
   pub spelled : IsSpelled index bytes
 
--- Why a tree isn't indexed: why it isn't built; or that the index which it has by some choices would have too many bytes. A thread is
--- refused only where one is to be started; of memory nothing is said, and reading and writing are no matter of the tree.
+-- Why a tree isn't indexed: why it isn't built; or that the index which it has by some choices would have too many
+-- bytes. A thread is
+-- refused only where one is to be started; of memory nothing is said, and reading and writing are no matter of the
+-- tree.
 abbrev pub IsRefused : (allows : Seen → Choice → Type 0) → Settings → List TreeFile → (workers : ℕ) → Fault → Type 0
 IsRefused allows settings tree workers Spawn = 1 < workers
 IsRefused allows settings tree workers Memory = ⊤
-IsRefused allows settings tree workers (Lex number fault) = IsBuildFault allows settings.custom_options tree workers (build.File number (file.Lex fault))
-IsRefused allows settings tree workers (Syntax number fault) = IsBuildFault allows settings.custom_options tree workers (build.File number (file.Syntax fault))
-IsRefused allows settings tree workers (Duplicate first second) = IsBuildFault allows settings.custom_options tree workers (build.Duplicate first second)
-IsRefused allows settings tree workers (MissingImport place) = IsBuildFault allows settings.custom_options tree workers (build.MissingImport place)
-IsRefused allows settings tree workers (Unresolved place) = IsBuildFault allows settings.custom_options tree workers (build.Unresolved place)
-IsRefused allows settings tree workers TooLarge = (built : Built) × IsBuilt allows settings tree built × (max_index_len < length (spelling_of built.index))
+IsRefused allows settings tree workers (Lex number fault) =
+    IsBuildFault allows settings.custom_options tree workers (build.File number (file.Lex fault))
+IsRefused allows settings tree workers (Syntax number fault) =
+    IsBuildFault allows settings.custom_options tree workers (build.File number (file.Syntax fault))
+IsRefused allows settings tree workers (Duplicate first second) =
+    IsBuildFault allows settings.custom_options tree workers (build.Duplicate first second)
+IsRefused allows settings tree workers (MissingImport place) =
+    IsBuildFault allows settings.custom_options tree workers (build.MissingImport place)
+IsRefused allows settings tree workers (Unresolved place) =
+    IsBuildFault allows settings.custom_options tree workers (build.Unresolved place)
+IsRefused allows settings tree workers TooLarge =
+    (built : Built) × IsBuilt allows settings tree built × (max_index_len < length (spelling_of built.index))
 IsRefused allows settings tree workers (Write count) = ⊥
 IsRefused allows settings tree workers Read = ⊥
 IsRefused allows settings tree workers (Answer count) = ⊥
 
--- The tree is indexed and the bytes are written; or a write fails, and their first `count` are; or the tree isn't indexed, and the writer
+-- The tree is indexed and the bytes are written; or a write fails, and their first `count` are; or the tree isn't
+-- indexed, and the writer
 -- is as it was.
-abbrev pub Indexes : {W : Type 0} → (contents : W → Option (List ℕ)) → (failures : W → ℕ) → (allows : Seen → Choice → Type 0) → Settings → List TreeFile → (workers : ℕ)
+abbrev pub Indexes : {W : Type 0} → (contents : W → Option (List ℕ)) → (failures : W → ℕ)
+    → (allows : Seen → Choice → Type 0) → Settings → List TreeFile → (workers : ℕ)
     → W → W → Result Chosen Fault → Type 0
 Indexes contents failures allows settings tree workers before after (Ok choices) =
     (bytes : List ℕ) × IsIndexed allows settings tree choices bytes × IsWritten contents failures before after bytes
 Indexes contents failures allows settings tree workers before after (Err (Write count)) =
-    (choices : Chosen) × (bytes : List ℕ) × IsIndexed allows settings tree choices bytes × IsCutOff contents failures before after bytes count
-Indexes contents failures allows settings tree workers before after (Err fault) = IsRefused allows settings tree workers fault × (after ≡ before)
+    (choices : Chosen) × (bytes : List ℕ) × IsIndexed allows settings tree choices bytes
+    × IsCutOff contents failures before after bytes count
+Indexes contents failures allows settings tree workers before after (Err fault) =
+    IsRefused allows settings tree workers fault × (after ≡ before)

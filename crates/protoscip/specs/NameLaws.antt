@@ -10,7 +10,8 @@ use Rattle.scip_symbol.specs.SymbolText.{symbol_text}
 use Rattle.scip_symbol.specs.OneEntity.{Declaration, IsWithoutClash, IsAmong, declarations_of, AreWithoutClash}
 use Rattle.protoscip.specs.UseLaws.{EachUseHasATarget}
 
--- Names are identifiers, and what holds a declaration is declared; a full name is that of one declaration, and a symbol's text that of one
+-- Names are identifiers, and what holds a declaration is declared; a full name is that of one declaration, and a
+-- symbol's text that of one
 -- entity; and each use that names a type has a target.
 pub record LawsOfNames : Type 0 where
   pub named : (facts : Facts) → AreOfSomeFile facts → AreNamed facts.package_name facts.declarations
@@ -19,6 +20,8 @@ pub record LawsOfNames : Type 0 where
   pub simple : (facts : Facts) → AreOfSomeFile facts → All (λ component. IsSimple component.name) facts.package_name
   pub one_name : OneDeclarationAName
   pub unclashed : (files : List Facts) → AreWithoutClash files → IsWithoutClash (declarations_of files)
-  pub symbols : (id : Package) (declarations : List Declaration) → IsPackage id → IsWithoutClash declarations → (entity other : Entity) → IsEntity entity → IsEntity other
-      → IsAmong declarations entity → IsAmong declarations other → symbol_text (symbol_in id entity) ≡ symbol_text (symbol_in id other) → entity ≡ other
+  pub symbols : (id : Package) (declarations : List Declaration) → IsPackage id → IsWithoutClash declarations
+      → (entity other : Entity) → IsEntity entity → IsEntity other
+      → IsAmong declarations entity → IsAmong declarations other
+      → symbol_text (symbol_in id entity) ≡ symbol_text (symbol_in id other) → entity ≡ other
   pub targets : EachUseHasATarget

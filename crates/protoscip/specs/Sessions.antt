@@ -1,5 +1,6 @@
 -- What a session answers, and what it leaves of its reader and its writer.
--- `remaining`, `read_failures`, `reads` and `ends` are the feed's, `contents` and `write_failures` the sink's. `before` and `after` are the
+-- `remaining`, `read_failures`, `reads` and `ends` are the feed's, `contents` and `write_failures` the sink's. `before`
+-- and `after` are the
 -- feed around the call, `first` and `last` the sink.
 use Rattle.std.specs.Prelude.{◌≡◌, ◌⊎◌, ℕ, List, Option, Result, Ok, Err}
 use Rattle.proto_decl.specs.Seen.{Seen}
@@ -21,30 +22,42 @@ pub record AreUntouched {R W : Type 0} (before after : R) (first last : W) : Typ
   pub unread : after ≡ before
   pub unwritten : last ≡ first
 
-module _ {R W : Type 0} (remaining : R → Option (List ℕ)) (read_failures reads ends : R → ℕ) (contents : W → Option (List ℕ)) (write_failures : W → ℕ) where
-  -- commands are read and answered from an index: what is due to them goes out, or that part of it which the fault leaves
-  pub record AreAnswered (index : Index) (before after : R) (first last : W) (answered : Result (Unit {0}) AnswerFault) : Type 0 where
+module _ {R W : Type 0} (remaining : R → Option (List ℕ)) (read_failures reads ends : R → ℕ)
+    (contents : W → Option (List ℕ)) (write_failures : W → ℕ) where
+  -- commands are read and answered from an index: what is due to them goes out, or that part of it which the fault
+  -- leaves
+  pub record AreAnswered (index : Index) (before after : R) (first last : W)
+      (answered : Result (Unit {0}) AnswerFault) : Type 0 where
     pub conversed : IsConversed contents write_failures index first last (remaining before) (remaining after) answered
     pub feed : LeavesFeed read_failures reads ends before after answered
     pub briefly : IsReadBriefly reads before after
 
   -- they are; or memory runs out before the first
   abbrev pub MayAnswer : Index → R → R → W → W → Result (Unit {0}) AnswerFault → Type 0
-  MayAnswer index before after first last (Err answer.Memory) = AreUntouched before after first last ⊎ AreAnswered index before after first last (Err answer.Memory)
+  MayAnswer index before after first last (Err answer.Memory) =
+      AreUntouched before after first last ⊎ AreAnswered index before after first last (Err answer.Memory)
   MayAnswer index before after first last answered = AreAnswered index before after first last answered
 
   -- The tree is indexed by these choices, and commands are answered from the index that its bytes decode to.
-  pub record IsServed (allows : Seen → Choice → Type 0) (settings : Settings) (tree : List TreeFile) (before after : R) (first last : W) (choices : Chosen) (answered : Result (Unit {0}) AnswerFault) : Type 0 where
+  pub record IsServed (allows : Seen → Choice → Type 0) (settings : Settings) (tree : List TreeFile) (before after : R)
+      (first last : W) (choices : Chosen) (answered : Result (Unit {0}) AnswerFault) : Type 0 where
     pub bytes : List ℕ
     pub indexed : IsIndexed allows settings tree choices bytes
     pub are : AreAnswered indexed.index before after first last answered
 
-  -- All commands are answered; or reading them or writing answers stops; or memory ran out before an answer, or before the first; or the
+  -- All commands are answered; or reading them or writing answers stops; or memory ran out before an answer, or before
+  -- the first; or the
   -- tree isn't indexed.
-  abbrev pub Serves : (allows : Seen → Choice → Type 0) → Settings → List TreeFile → (workers : ℕ) → R → R → W → W → Result Chosen Fault → Type 0
-  Serves allows settings tree workers before after first last (Ok choices) = IsServed allows settings tree before after first last choices (Ok tt)
-  Serves allows settings tree workers before after first last (Err Read) = (choices : Chosen) × IsServed allows settings tree before after first last choices (Err answer.Read)
-  Serves allows settings tree workers before after first last (Err (Answer count)) = (choices : Chosen) × IsServed allows settings tree before after first last choices (Err (answer.Write count))
+  abbrev pub Serves : (allows : Seen → Choice → Type 0) → Settings → List TreeFile → (workers : ℕ) → R → R → W → W
+      → Result Chosen Fault → Type 0
+  Serves allows settings tree workers before after first last (Ok choices) =
+      IsServed allows settings tree before after first last choices (Ok tt)
+  Serves allows settings tree workers before after first last (Err Read) =
+      (choices : Chosen) × IsServed allows settings tree before after first last choices (Err answer.Read)
+  Serves allows settings tree workers before after first last (Err (Answer count)) =
+      (choices : Chosen) × IsServed allows settings tree before after first last choices (Err (answer.Write count))
   Serves allows settings tree workers before after first last (Err Memory) =
-      AreUntouched before after first last ⊎ ((choices : Chosen) × IsServed allows settings tree before after first last choices (Err answer.Memory))
-  Serves allows settings tree workers before after first last (Err fault) = IsRefused allows settings tree workers fault × AreUntouched before after first last
+      AreUntouched before after first last
+      ⊎ ((choices : Chosen) × IsServed allows settings tree before after first last choices (Err answer.Memory))
+  Serves allows settings tree workers before after first last (Err fault) =
+      IsRefused allows settings tree workers fault × AreUntouched before after first last

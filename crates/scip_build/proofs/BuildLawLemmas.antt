@@ -1,9 +1,11 @@
 -- A tree is built, or has one fault of its files.
-use Rattle.std.proofs.Common.{◌≡◌, ◌≢◌, ◌∙◌, ◌⊎◌, sym, ap, refl, subst, inl, inr, ℕ, ◌<◌, Some, Result, List, [], ◌∷◌, ◌++◌, length}
+use Rattle.std.proofs.Common.{◌≡◌, ◌≢◌, ◌∙◌, ◌⊎◌, sym, ap, refl, subst, inl, inr, ℕ, ◌<◌, Some, Result, List, [], ◌∷◌}
+use Rattle.std.proofs.Common.{◌++◌, length}
 use Rattle.std.specs.List.{All, Contains, slice_get}
 use Rattle.std.proofs.lemmas.Bool.{cases_order}
 use Rattle.std.proofs.lemmas.Option.{same_Some, slice_get_within}
-use Rattle.std.proofs.lemmas.List.Elements.{All-head, All-tail, Contains-push, Contains-append_left, Contains-append_right}
+use Rattle.std.proofs.lemmas.List.Elements.{All-head, All-tail, Contains-push, Contains-append_left}
+use Rattle.std.proofs.lemmas.List.Elements.{Contains-append_right}
 use Rattle.proto_parse.specs.tree.CustomOptions.{CustomOptions}
 use Rattle.proto_lex.specs.declared.span.Span.{Span}
 use Rattle.proto_decl.specs.Facts.{Facts}
@@ -34,7 +36,8 @@ use Rattle.scip_build.proofs.ReadingLemmas.{at_number}
 use Rattle.scip_build.proofs.ReadyLemmas.{have_origins}
 
 in_middle : {X : Type 0} (before : List X) (x : X) (behind : List X) → Contains (before ++ x ∷ behind) x
-in_middle before x behind = Contains-append_right before (x ∷ behind) x (Contains-append_left (x ∷ []) behind x (Contains-push [] x))
+in_middle before x behind =
+    Contains-append_right before (x ∷ behind) x (Contains-append_left (x ∷ []) behind x (Contains-push [] x))
 
 abbrev head_or : {X : Type 0} → X → List X → X
 head_or other [] = other
@@ -45,38 +48,51 @@ tail_of [] = []
 tail_of (x ∷ xs) = xs
 
 -- of one list, the first item that isn't so is one
-one_first : {X : Type 0} (P : X → Type 0) (before : List X) (x : X) (behind other : List X) (y : X) (others : List X) → All P before → All P other → (P x → ⊥) → (P y → ⊥)
+one_first : {X : Type 0} (P : X → Type 0) (before : List X) (x : X) (behind other : List X) (y : X) (others : List X)
+    → All P before → All P other → (P x → ⊥) → (P y → ⊥)
     → before ++ x ∷ behind ≡ other ++ y ∷ others → x ≡ y
 one_first P [] x behind [] y others all also not nor same = ap (head_or x) same
-one_first P [] x behind (z ∷ other) y others all also not nor same = absurd (not (subst P (sym (ap (head_or x) same)) (All-head P z other also)))
-one_first P (z ∷ before) x behind [] y others all also not nor same = absurd (nor (subst P (ap (head_or z) same) (All-head P z before all)))
+one_first P [] x behind (z ∷ other) y others all also not nor same =
+    absurd (not (subst P (sym (ap (head_or x) same)) (All-head P z other also)))
+one_first P (z ∷ before) x behind [] y others all also not nor same =
+    absurd (nor (subst P (ap (head_or z) same) (All-head P z before all)))
 one_first P (z ∷ before) x behind (w ∷ other) y others all also not nor same =
-    one_first P before x behind other y others (All-tail P z before all) (All-tail P w other also) not nor (ap tail_of same)
+    one_first P before x behind other y others (All-tail P z before all) (All-tail P w other also) not nor
+    (ap tail_of same)
 
 module _ (files : List File) where
   -- a file of which each use names a type has no first one that doesn't
   none_first : (file : ℕ) (span : Span) → UsesResolve files file → IsFirstUnresolved files file span → ⊥
   none_first file span all first =
       let Has : List Use → Type 0 = λ uses. Contains uses first.type_use in
-      let named = all first.facts first.type_use first.known (subst Has (sym first.split) (in_middle first.before first.type_use first.behind)) in
+      let named = all first.facts first.type_use first.known
+      (subst Has (sym first.split) (in_middle first.before first.type_use first.behind)) in
       first.unresolved named.0 named.1
 
   all_resolve : AllResolve files → (place : FilePlace) → IsLeastUnresolved files place → ⊥
-  all_resolve all place least = none_first place.file place.span (λ facts type_use. all place.file facts type_use least.source) least.first
+  all_resolve all place least =
+      none_first place.file place.span (λ facts type_use. all place.file facts type_use least.source) least.first
 
   one_span : (file : ℕ) (a b : Span) → IsFirstUnresolved files file a → IsFirstUnresolved files file b → a ≡ b
   one_span file a b first second =
-      let same_file : first.known.file ≡ second.known.file = same_Some first.known.file second.known.file (sym first.known.numbered ∙ second.known.numbered) in
-      let facts : first.facts ≡ second.facts = same_Some first.facts second.facts (sym first.known.known ∙ (ap (λ (f : File). f.facts) same_file ∙ second.known.known)) in
+      let same_file : first.known.file ≡ second.known.file =
+      same_Some first.known.file second.known.file (sym first.known.numbered ∙ second.known.numbered) in
+      let facts : first.facts ≡ second.facts =
+      same_Some first.facts second.facts
+      (sym first.known.known ∙ (ap (λ (f : File). f.facts) same_file ∙ second.known.known)) in
       let lists = sym first.split ∙ (ap (λ (f : Facts). f.uses) facts ∙ second.split) in
-      let uses = one_first (IsResolved files file) first.before first.type_use first.behind second.before second.type_use second.behind first.resolved second.resolved
+      let uses = one_first (IsResolved files file) first.before first.type_use first.behind second.before
+      second.type_use second.behind first.resolved second.resolved
       (λ named. first.unresolved named.0 named.1) (λ named. second.unresolved named.0 named.1) lists in
       sym first.place ∙ (ap (λ (u : Use). u.span) uses ∙ second.place)
 
-  not_before : (place other : FilePlace) → IsLeastUnresolved files place → IsLeastUnresolved files other → place.file < other.file → ⊥
-  not_before place other first second less = none_first place.file place.span (second.before place.file less first.source) first.first
+  not_before : (place other : FilePlace) → IsLeastUnresolved files place → IsLeastUnresolved files other
+      → place.file < other.file → ⊥
+  not_before place other first second less =
+      none_first place.file place.span (second.before place.file less first.source) first.first
 
-  same_file : (place other : FilePlace) → IsLeastUnresolved files place → IsLeastUnresolved files other → place.file ≡ other.file
+  same_file : (place other : FilePlace) → IsLeastUnresolved files place → IsLeastUnresolved files other
+      → place.file ≡ other.file
   same_file place other first second = elim (cases_order place.file other.file) [
     | inl same ↦ same
     | inr apart ↦ elim apart [
@@ -94,20 +110,24 @@ module _ (files : List File) where
 
   -- why the files make no index
   abbrev Refuses : LinkFault → Type 0
-  Refuses fault = MayRefuse files fault ⊎ (CanBeLinked files × (place : FilePlace) × (fault ≡ link.Unresolved place) × IsLeastUnresolved files place)
+  Refuses fault = MayRefuse files fault
+      ⊎ (CanBeLinked files × (place : FilePlace) × (fault ≡ link.Unresolved place) × IsLeastUnresolved files place)
 
   linked_is_linked : CanBeLinked files → (fault : LinkFault) → MayRefuse files fault → fault ≢ link.Memory → ⊥
   linked_is_linked can (link.Broken number) wrong other = can.read number wrong.unread
-  linked_is_linked can (link.Duplicate first second) wrong other = can.clear wrong.1.earlier wrong.1.later wrong.1.exclude
+  linked_is_linked can (link.Duplicate first second) wrong other =
+      can.clear wrong.1.earlier wrong.1.later wrong.1.exclude
   linked_is_linked can (link.MissingImport place) wrong other = can.complete place wrong.2.missing
   linked_is_linked can (link.Unresolved place) wrong other = absurd wrong
   linked_is_linked can link.Memory wrong other = absurd (other refl)
 
-  one_cause : OneRefusal → HaveOrigins files → (a b : LinkFault) → Refuses a → Refuses b → a ≢ link.Memory → b ≢ link.Memory → a ≡ b
+  one_cause : OneRefusal → HaveOrigins files → (a b : LinkFault) → Refuses a → Refuses b → a ≢ link.Memory
+      → b ≢ link.Memory → a ≡ b
   one_cause one origins a b (inl first) (inl second) not nor = one files origins a b first second not nor
   one_cause one origins a b (inl first) (inr second) not nor = absurd (linked_is_linked second.0 a first not)
   one_cause one origins a b (inr first) (inl second) not nor = absurd (linked_is_linked first.0 b second nor)
-  one_cause one origins a b (inr first) (inr second) not nor = first.2 ∙ (ap link.Unresolved (one_place first.1 second.1 first.3 second.3) ∙ sym second.2)
+  one_cause one origins a b (inr first) (inr second) not nor =
+      first.2 ∙ (ap link.Unresolved (one_place first.1 second.1 first.3 second.3) ∙ sym second.2)
 
   -- and why they do make one
   none_refuses : CanBeLinked files → AllResolve files → (fault : LinkFault) → Refuses fault → fault ≢ link.Memory → ⊥
@@ -117,9 +137,11 @@ module _ (files : List File) where
 -- a fault's reason: the first source that can't be read, or one of files that were read
 abbrev Reason : CustomOptions → (allows : Seen → Choice → Type 0) → List TreeFile → LinkFault → Type 0
 Reason custom allows tree cause =
-    ((number : ℕ) × (fault : FileFault) × (cause ≡ link.Broken number) × IsFirstFaulty custom tree number fault) ⊎ OfReadings custom allows tree (λ readings. Refuses (linked_files readings) cause)
+    ((number : ℕ) × (fault : FileFault) × (cause ≡ link.Broken number) × IsFirstFaulty custom tree number fault)
+    ⊎ OfReadings custom allows tree (λ readings. Refuses (linked_files readings) cause)
 
-reason : (custom : CustomOptions) (allows : Seen → Choice → Type 0) (tree : List TreeFile) (workers : ℕ) (fault : BuildFault) → IsBuildFault allows custom tree workers fault
+reason : (custom : CustomOptions) (allows : Seen → Choice → Type 0) (tree : List TreeFile) (workers : ℕ)
+    (fault : BuildFault) → IsBuildFault allows custom tree workers fault
     → cause_of fault ≢ link.Memory → Reason custom allows tree (cause_of fault)
 reason custom allows tree workers build.Spawn is not = absurd (not refl)
 reason custom allows tree workers build.Memory is not = absurd (not refl)
@@ -129,28 +151,33 @@ reason custom allows tree workers (build.Duplicate first second) is not = inr (i
 reason custom allows tree workers (build.MissingImport place) is not = inr (is.0, is.1, inl is.2)
 reason custom allows tree workers (build.Unresolved place) is not = inr (is.0, is.1, inr (is.2.0, place, refl, is.2.1))
 
-module _ (allows others : Seen → Choice → Type 0) (one_linking : OneLinking allows others) (none : NoReadingsWhereFaulty allows) (none_others : NoReadingsWhereFaulty others) where
+module _ (allows others : Seen → Choice → Type 0) (one_linking : OneLinking allows others)
+    (none : NoReadingsWhereFaulty allows) (none_others : NoReadingsWhereFaulty others) where
   pub built_has_no_fault : BuiltHasNoFault allows others
-  built_has_no_fault settings tree workers built fault is wrong not = elim (reason settings.custom_options others tree workers fault wrong not) [
-    | inl first ↦ none settings.custom_options tree is.readings first.0 first.1 is.read first.3
-    | inr later ↦ (
-        let Here : List File → Type 0 = λ files. Refuses files (cause_of fault) in
-        let here = subst Here (sym (one_linking settings.custom_options tree is.readings later.0 is.read later.1)) later.2 in
-        none_refuses (linked_files is.readings) is.linked is.resolved (cause_of fault) here not)
-  ]
+  built_has_no_fault settings tree workers built fault is wrong not =
+      elim (reason settings.custom_options others tree workers fault wrong not) [
+        | inl first ↦ none settings.custom_options tree is.readings first.0 first.1 is.read first.3
+        | inr later ↦ (
+            let Here : List File → Type 0 = λ files. Refuses files (cause_of fault) in
+            let here = subst Here (sym (one_linking settings.custom_options tree is.readings later.0 is.read later.1))
+            later.2 in
+            none_refuses (linked_files is.readings) is.linked is.resolved (cause_of fault) here not)
+      ]
 
   pub one_build_fault : OneFirstFaulty → OneRefusal → OneBuildFault allows others
   one_build_fault one_first one_refusal custom tree workers more fault other is also not nor =
       both (reason custom allows tree workers fault is not) (reason custom others tree more other also nor)
     where
-      both : Reason custom allows tree (cause_of fault) → Reason custom others tree (cause_of other) → cause_of fault ≡ cause_of other
+      both : Reason custom allows tree (cause_of fault) → Reason custom others tree (cause_of other)
+          → cause_of fault ≡ cause_of other
       both (inl a) (inl b) = a.2 ∙ (ap link.Broken (one_first custom tree a.0 b.0 a.1 b.1 a.3 b.3) ∙ sym b.2)
       both (inl a) (inr b) = absurd (none_others custom tree b.0 a.0 a.1 b.1 a.3)
       both (inr a) (inl b) = absurd (none custom tree a.0 b.0 b.1 a.1 b.3)
       both (inr a) (inr b) =
           let Here : List File → Type 0 = λ files. Refuses files (cause_of other) in
           let here = subst Here (sym (one_linking custom tree a.0 b.0 a.1 b.1)) b.2 in
-          one_cause (linked_files a.0) one_refusal (have_origins custom allows tree a.0 a.1) (cause_of fault) (cause_of other) a.2 here not nor
+          one_cause (linked_files a.0) one_refusal (have_origins custom allows tree a.0 a.1) (cause_of fault)
+          (cause_of other) a.2 here not nor
 
 -- the file that is named can't be read, for the fault that is told
 record IsNamed (custom : CustomOptions) (tree : List TreeFile) (number : ℕ) (fault : FileFault) : Type 0 where
@@ -158,12 +185,15 @@ record IsNamed (custom : CustomOptions) (tree : List TreeFile) (number : ℕ) (f
   numbered : slice_get tree number ≡ Some file
   unreadable : IsUnreadable custom file.bytes fault
 
-named : (custom : CustomOptions) (allows : Seen → Choice → Type 0) (tree : List TreeFile) (workers number : ℕ) (fault : FileFault)
+named : (custom : CustomOptions) (allows : Seen → Choice → Type 0) (tree : List TreeFile) (workers number : ℕ)
+    (fault : FileFault)
     → IsBuildFault allows custom tree workers (build.File number fault) → IsNamed custom tree number fault
-named custom allows tree workers number fault (inl first) = record { file = first.file; numbered = first.numbered; unreadable = first.faulty.unreadable }
+named custom allows tree workers number fault (inl first) =
+    record { file = first.file; numbered = first.numbered; unreadable = first.faulty.unreadable }
 named custom allows tree workers number fault (inr later) =
     let has = later.2.1 in
-    let within : number < length tree = rw (sym later.1.one_each) (slice_get_within later.0 number has.reading has.numbered) in
+    let within : number < length tree =
+    rw (sym later.1.one_each) (slice_get_within later.0 number has.reading has.numbered) in
     let there = at_number tree number within in
     let Contents : Result FileContents FileFault → Type 0 = HasContents custom allows number there.0 in
     let contents = subst Contents has.unread (later.1.each number there.0 has.reading there.1 has.numbered).contents in

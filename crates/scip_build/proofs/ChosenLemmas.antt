@@ -4,17 +4,20 @@ use Rattle.std.specs.List.{AllZip}
 use Rattle.std.proofs.lemmas.List.{take_more, take_all}
 
 -- one more of each
-push : {A B : Type 0} (R : A → B → Type 0) (xs : List A) (ys : List B) (x : A) (y : B) → AllZip R xs ys → R x y → AllZip R (xs ++ x ∷ []) (ys ++ y ∷ [])
+push : {A B : Type 0} (R : A → B → Type 0) (xs : List A) (ys : List B) (x : A) (y : B) → AllZip R xs ys → R x y
+    → AllZip R (xs ++ x ∷ []) (ys ++ y ∷ [])
 push R [] [] x y all r = (r, tt)
 push R [] (b ∷ ys) x y all r = absurd all
 push R (a ∷ xs) [] x y all r = absurd all
 push R (a ∷ xs) (b ∷ ys) x y all r = (all.0, push R xs ys x y all.1 r)
 
 module _ {A B : Type 0} (R : A → B → Type 0) (xs : List A) (ys : List B) (i : ℕ) where
-  pub one_more : (x : A) (y : B) → i < length xs → x ≡ get_or xs i x → AllZip R (take i xs) ys → R x y → AllZip R (take (i + 1) xs) (ys ++ y ∷ [])
+  pub one_more : (x : A) (y : B) → i < length xs → x ≡ get_or xs i x → AllZip R (take i xs) ys → R x y
+      → AllZip R (take (i + 1) xs) (ys ++ y ∷ [])
   one_more x y within is all r =
       let P : List A → Type 0 = λ front. AllZip R front (ys ++ y ∷ []) in
-      let front : take i xs ++ x ∷ [] ≡ take (i + 1) xs = ap (λ a. take i xs ++ a ∷ []) is ∙ sym (take_more xs i x within) in
+      let front : take i xs ++ x ∷ [] ≡ take (i + 1) xs =
+      ap (λ a. take i xs ++ a ∷ []) is ∙ sym (take_more xs i x within) in
       subst P front (push R (take i xs) ys x y all r)
 
   pub all_of_them : length xs ≤ i → AllZip R (take i xs) ys → AllZip R xs ys

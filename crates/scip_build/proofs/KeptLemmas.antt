@@ -37,12 +37,14 @@ module _ {A Out : Type 0} (Is : A → Out → Type 0) where
     pub each : (k : ℕ) (item : A) → slice_get items k ≡ Some item → At k item
     pub kept : AllZip Is items outs
 
-  one_more : (At : ℕ → A → Type 0) (x : A) (xs : List A) → At 0 x → ((k : ℕ) (item : A) → slice_get xs k ≡ Some item → At (suc k) item)
+  one_more : (At : ℕ → A → Type 0) (x : A) (xs : List A) → At 0 x
+      → ((k : ℕ) (item : A) → slice_get xs k ≡ Some item → At (suc k) item)
       → (k : ℕ) (item : A) → slice_get (x ∷ xs) k ≡ Some item → At k item
   one_more At x xs here more zero item at = subst (At 0) (same_Some x item at) here
   one_more At x xs here more (suc k) item at = more k item at
 
-  kept_of_list : (At : ℕ → A → Type 0) (outs : List Out) → ((k : ℕ) (out : Out) → slice_get outs k ≡ Some out → IsOf (At k) out) → AreOf At outs
+  kept_of_list : (At : ℕ → A → Type 0) (outs : List Out)
+      → ((k : ℕ) (out : Out) → slice_get outs k ≡ Some out → IsOf (At k) out) → AreOf At outs
   kept_of_list At [] of = record { items = []; count = refl; each = λ k item at. absurd (none-some item at); kept = tt }
   kept_of_list At (out ∷ outs) of =
       let here = of 0 out refl in
@@ -56,16 +58,27 @@ module _ {A Out : Type 0} (Is : A → Out → Type 0) where
 
 -- ---- what the second phase answers
 
-module _ {Out : Type 0} (Is : Document → Out → Type 0) (readings : List ReadFile) (files : List File) (chosen : Chosen) (id : Package) (encoding : Encoding) (count : ℕ)
+module _ {Out : Type 0} (Is : Document → Out → Type 0) (readings : List ReadFile) (files : List File) (chosen : Chosen)
+    (id : Package) (encoding : Encoding) (count : ℕ)
     (ready : AreReady readings files chosen count) where
-  pub kept_of : OneDocument → (outs : List Out) → AnswersEach (GivesKept Is readings files chosen id encoding) count outs → AreKept Is readings files chosen id encoding outs
+  pub kept_of : OneDocument → (outs : List Out)
+      → AnswersEach (GivesKept Is readings files chosen id encoding) count outs
+      → AreKept Is readings files chosen id encoding outs
   kept_of one outs answers =
       let of = kept_of_list Is (IsDocumentAt readings files chosen id encoding) outs
-      (λ k out at. let kept = answers.1 k out at in record { item = kept.document; at = kept.made; kept = kept.kept }) in
-      let made : AnswersEach (GivesDocument readings files chosen id encoding) count of.items = (of.count ∙ answers.0, of.each) in
-      record { documents = of.items; made = documents_of readings files chosen id encoding count ready one of.items made; kept = of.kept }
+      (λ k out at. let kept = answers.1 k out at in record { item = kept.document; at = kept.made; kept = kept.kept })
+      in
+      let made : AnswersEach (GivesDocument readings files chosen id encoding) count of.items =
+      (of.count ∙ answers.0, of.each) in
+      record {
+        documents = of.items;
+        made = documents_of readings files chosen id encoding count ready one of.items made;
+        kept = of.kept;
+      }
 
-  pub not_kept_of : (workers number : ℕ) (fault : BuildFault) → IsLeastFault (GivesKept Is readings files chosen id encoding) count number fault → MayRefuseDocuments files workers fault
+  pub not_kept_of : (workers number : ℕ) (fault : BuildFault)
+      → IsLeastFault (GivesKept Is readings files chosen id encoding) count number fault
+      → MayRefuseDocuments files workers fault
   not_kept_of workers number fault least =
       let made : IsLeastFault (GivesDocument readings files chosen id encoding) count number fault =
       (least.0, least.1, λ lesser less. let of = least.2 lesser less in (of.1.document, of.1.made)) in
@@ -73,8 +86,10 @@ module _ {Out : Type 0} (Is : Document → Out → Type 0) (readings : List Read
 
 -- ---- files that were linked
 
-pub linked_of : {Out : Type 0} (Is : Document → Out → Type 0) (readings : List ReadFile) (chosen : Chosen) (settings : Settings) (workers : ℕ) (files : List File) → AreLinked readings files
-    → (result : Result (Parts Out) BuildFault) → MatchResult result (IsMadeInForm Is readings files chosen settings) (MayRefuseDocuments files workers)
+pub linked_of : {Out : Type 0} (Is : Document → Out → Type 0) (readings : List ReadFile) (chosen : Chosen)
+    (settings : Settings) (workers : ℕ) (files : List File) → AreLinked readings files
+    → (result : Result (Parts Out) BuildFault)
+    → MatchResult result (IsMadeInForm Is readings files chosen settings) (MayRefuseDocuments files workers)
     → MatchResult result (IsLinkedInForm Is readings chosen settings) (MayRefuseMaking readings workers)
 linked_of Is readings chosen settings workers files linked (Ok parts) made =
     let Made : List File → Type 0 = λ fs. IsMadeInForm Is readings fs chosen settings parts in

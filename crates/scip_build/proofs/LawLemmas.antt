@@ -8,7 +8,8 @@ use Rattle.proto_lex.specs.Lexed.{Lexed}
 use Rattle.proto_lex.specs.Lexes.{Lexes}
 use Rattle.proto_lex.specs.LexLaws.{OneTokens, OneComments, OneFirstFault, NoFaultWhereItLexes}
 use Rattle.proto_lex.specs.declared.fault.LexFault.{LexFault}
-use Rattle.proto_lex.specs.declared.fault.LexFault.TheVariants.{TooLong, NotUtf8, BadByte, OpenString, OpenComment, BadEscape, BadNumber, Memory}
+use Rattle.proto_lex.specs.declared.fault.LexFault.TheVariants.{TooLong, NotUtf8, BadByte, OpenString, OpenComment}
+use Rattle.proto_lex.specs.declared.fault.LexFault.TheVariants.{BadEscape, BadNumber, Memory}
 use Rattle.proto_lex.specs.declared.token.Token.{Token}
 use Rattle.proto_parse.specs.tree.CustomOptions.{CustomOptions}
 use Rattle.proto_parse.specs.tree.File.{File}
@@ -21,15 +22,19 @@ use Rattle.scip_build.specs.declared.fault.FileFault.TheVariants.{Lex, Syntax}
 use Rattle.scip_build.specs.Parsed.{HasLexing, AreFactsIn, IsUnlexed, IsUnparsed}
 use Rattle.source_tree.specs.Files.{TreeFile}
 use Rattle.scip_build.specs.Readings.{IsFirstFaulty}
-use Rattle.scip_build.specs.Laws.{OneListOfFacts, NoFactsWhereUnreadable, LexedWhereUnparsed, FaultsAreAlike, OneFirstFaulty}
+use Rattle.scip_build.specs.Laws.{OneListOfFacts, NoFactsWhereUnreadable, LexedWhereUnparsed, FaultsAreAlike}
+use Rattle.scip_build.specs.Laws.{OneFirstFaulty}
 
 abbrev pub OneTree : Type 0
-OneTree = (custom : CustomOptions) (text : List ℕ) (tokens : List Token) (file other : File) → Derives custom text tokens file → Derives custom text tokens other → file ≡ other
+OneTree = (custom : CustomOptions) (text : List ℕ) (tokens : List Token) (file other : File)
+    → Derives custom text tokens file → Derives custom text tokens other → file ≡ other
 
 -- a text isn't called none
 text_is_text : (bytes : List ℕ) (fault : LexFault) → IsText bytes → IsNoText bytes fault → ⊥
 text_is_text bytes TooLong text wrong = omega (arith, text.short, wrong)
-text_is_text bytes (NotUtf8 offset) text wrong = wrong.1.longest (length bytes) wrong.1.short (subst IsUtf8 (sym (take_all (length bytes) bytes (omega arith))) text.utf8)
+text_is_text bytes (NotUtf8 offset) text wrong =
+    wrong.1.longest (length bytes) wrong.1.short
+    (subst IsUtf8 (sym (take_all (length bytes) bytes (omega arith))) text.utf8)
 text_is_text bytes (BadByte offset) text wrong = absurd wrong
 text_is_text bytes (OpenString offset) text wrong = absurd wrong
 text_is_text bytes (OpenComment offset) text wrong = absurd wrong
@@ -49,7 +54,8 @@ one_offset bytes a b first second = elim (cases_order a b) [
 
 -- bytes are no text for one reason
 abbrev IsReason : List ℕ → LexFault → Type 0
-IsReason bytes fault = ((fault ≡ TooLong) × (max_text_length < length bytes)) ⊎ ((offset : ℕ) × (fault ≡ NotUtf8 offset) × (length bytes ≤ max_text_length) × IsValidUpTo bytes offset)
+IsReason bytes fault = ((fault ≡ TooLong) × (max_text_length < length bytes))
+    ⊎ ((offset : ℕ) × (fault ≡ NotUtf8 offset) × (length bytes ≤ max_text_length) × IsValidUpTo bytes offset)
 
 reason : (bytes : List ℕ) (fault : LexFault) → IsNoText bytes fault → IsReason bytes fault
 reason bytes TooLong is = inl (refl, is)
@@ -67,8 +73,10 @@ one_reason bytes fault other (inl a) (inr b) = absurd (omega (arith, a.1, b.2))
 one_reason bytes fault other (inr a) (inl b) = absurd (omega (arith, b.1, a.2))
 one_reason bytes fault other (inr a) (inr b) = a.1 ∙ (ap NotUtf8 (one_offset bytes a.0 b.0 a.3 b.3) ∙ sym b.1)
 
-one_unlexed : OneFirstFault → (bytes : List ℕ) (fault other : LexFault) → IsUnlexed bytes fault → IsUnlexed bytes other → fault ≡ other
-one_unlexed one bytes fault other (inl a) (inl b) = one_reason bytes fault other (reason bytes fault a) (reason bytes other b)
+one_unlexed : OneFirstFault → (bytes : List ℕ) (fault other : LexFault) → IsUnlexed bytes fault → IsUnlexed bytes other
+    → fault ≡ other
+one_unlexed one bytes fault other (inl a) (inl b) =
+    one_reason bytes fault other (reason bytes fault a) (reason bytes other b)
 one_unlexed one bytes fault other (inl a) (inr b) = absurd (text_is_text bytes fault b.0 a)
 one_unlexed one bytes fault other (inr a) (inl b) = absurd (text_is_text bytes other a.0 b)
 one_unlexed one bytes fault other (inr a) (inr b) = one bytes fault other a.1 b.1
@@ -76,8 +84,10 @@ one_unlexed one bytes fault other (inr a) (inr b) = one bytes fault other a.1 b.
 -- so two faults of one file are alike
 pub faults_are_alike : OneFirstFault → LexedWhereUnparsed → FaultsAreAlike
 faults_are_alike one apart custom bytes (Lex fault) (Lex other) is also = one_unlexed one bytes fault other is also
-faults_are_alike one apart custom bytes (Lex fault) (Syntax other) is also = absurd (apart custom bytes fault other also is)
-faults_are_alike one apart custom bytes (Syntax fault) (Lex other) is also = absurd (apart custom bytes other fault is also)
+faults_are_alike one apart custom bytes (Lex fault) (Syntax other) is also =
+    absurd (apart custom bytes fault other also is)
+faults_are_alike one apart custom bytes (Syntax fault) (Lex other) is also =
+    absurd (apart custom bytes other fault is also)
 faults_are_alike one apart custom bytes (Syntax fault) (Syntax other) is also = tt
 
 module _ (one_tokens : OneTokens) (one_comments : OneComments) where
@@ -87,35 +97,43 @@ module _ (one_tokens : OneTokens) (one_comments : OneComments) where
       let same_text : lexed.text ≡ other.text = a.of_bytes ∙ sym b.of_bytes in
       let Of : List ℕ → Type 0 = λ text. Lexes text other.tokens other.comments in
       let lexes : Lexes lexed.text other.tokens other.comments = subst Of (sym same_text) b.is_lexed.lexes in
-      let tokens : lexed.tokens ≡ other.tokens = one_tokens lexed.text lexed.tokens other.tokens lexed.comments other.comments a.is_lexed.lexes lexes in
-      let comments : lexed.comments ≡ other.comments = one_comments lexed.text lexed.tokens other.tokens lexed.comments other.comments a.is_lexed.lexes lexes in
+      let tokens : lexed.tokens ≡ other.tokens =
+      one_tokens lexed.text lexed.tokens other.tokens lexed.comments other.comments a.is_lexed.lexes lexes in
+      let comments : lexed.comments ≡ other.comments =
+      one_comments lexed.text lexed.tokens other.tokens lexed.comments other.comments a.is_lexed.lexes lexes in
       λ i. record { text = same_text i; tokens = tokens i; comments = comments i }
 
   pub one_list_of_facts : OneTree → OneFacts → OneListOfFacts
   one_list_of_facts one_tree one_facts custom number bytes facts other a b =
-      let Here : Lexed → Type 0 = λ lexed. Derives custom lexed.text lexed.tokens b.tree × AreFactsOf number lexed b.tree other in
-      let moved : Here a.lexed = subst Here (sym (same_lexing bytes a.lexed b.lexed a.lexing b.lexing)) (b.derives, b.of_tree) in
+      let Here : Lexed → Type 0 =
+      λ lexed. Derives custom lexed.text lexed.tokens b.tree × AreFactsOf number lexed b.tree other in
+      let moved : Here a.lexed =
+      subst Here (sym (same_lexing bytes a.lexed b.lexed a.lexing b.lexing)) (b.derives, b.of_tree) in
       let trees : a.tree ≡ b.tree = one_tree custom a.lexed.text a.lexed.tokens a.tree b.tree a.derives moved.0 in
       let Of : File → Type 0 = λ tree. AreFactsOf number a.lexed tree other in
       one_facts number a.lexed a.tree facts other a.lexing.is_lexed a.of_tree (subst Of (sym trees) moved.1)
 
   -- tokens of a file that derive a tree aren't said to derive none
-  parsed_is_parsed : (custom : CustomOptions) (number : ℕ) (bytes : List ℕ) (facts : Facts) (fault : SyntaxFault) → AreFactsIn custom number bytes facts → IsUnparsed custom bytes fault → ⊥
+  parsed_is_parsed : (custom : CustomOptions) (number : ℕ) (bytes : List ℕ) (facts : Facts) (fault : SyntaxFault)
+      → AreFactsIn custom number bytes facts → IsUnparsed custom bytes fault → ⊥
   parsed_is_parsed custom number bytes facts fault has un =
       let Here : Lexed → Type 0 = λ lexed. Derives custom lexed.text lexed.tokens has.tree in
       un.no_tree has.tree (subst Here (same_lexing bytes has.lexed un.lexed has.lexing un.lexing) has.derives)
 
   module _ (no_fault : NoFaultWhereItLexes) where
     -- a file with a lexing isn't said to have none
-    lexed_is_lexed : (bytes : List ℕ) (lexed : Lexed) (fault : LexFault) → HasLexing bytes lexed → IsUnlexed bytes fault → ⊥
+    lexed_is_lexed : (bytes : List ℕ) (lexed : Lexed) (fault : LexFault) → HasLexing bytes lexed → IsUnlexed bytes fault
+        → ⊥
     lexed_is_lexed bytes lexed fault has (inl wrong) = text_is_text bytes fault has.text wrong
     lexed_is_lexed bytes lexed fault has (inr first) =
         let Of : List ℕ → Type 0 = λ text. Lexes text lexed.tokens lexed.comments in
         no_fault bytes lexed.tokens lexed.comments fault (subst Of has.of_bytes has.is_lexed.lexes) first.1
 
     pub no_facts_where_unreadable : NoFactsWhereUnreadable
-    no_facts_where_unreadable custom number bytes facts (Lex fault) has un = lexed_is_lexed bytes has.lexed fault has.lexing un
-    no_facts_where_unreadable custom number bytes facts (Syntax fault) has un = parsed_is_parsed custom number bytes facts fault has un
+    no_facts_where_unreadable custom number bytes facts (Lex fault) has un =
+        lexed_is_lexed bytes has.lexed fault has.lexing un
+    no_facts_where_unreadable custom number bytes facts (Syntax fault) has un =
+        parsed_is_parsed custom number bytes facts fault has un
 
     pub lexed_where_unparsed : LexedWhereUnparsed
     lexed_where_unparsed custom bytes lexing parsing un = lexed_is_lexed bytes un.lexed lexing un.lexing

@@ -1,5 +1,6 @@
 -- Files as they are linked.
-use Rattle.std.proofs.Common.{◌≡◌, ◌∙◌, ℕ, zero, suc, ◌<◌, List, [], ◌∷◌, length, map, Option, Some, Result, Ok, Err, ap, sym, refl, arith}
+use Rattle.std.proofs.Common.{◌≡◌, ◌∙◌, ℕ, zero, suc, ◌<◌, List, [], ◌∷◌, length, map, Option, Some, Result, Ok, Err}
+use Rattle.std.proofs.Common.{ap, sym, refl, arith}
 use Rattle.std.specs.List.{slice_get}
 use Rattle.std.specs.Option.{unwrap_or}
 use Rattle.std.proofs.lemmas.Option.{slice_get_within, none-some}
@@ -21,14 +22,17 @@ same_some : {A : Type 0} (a b : A) → Some a ≡ Some b → a ≡ b
 same_some {A} a b e = ap (λ (o : Option A). unwrap_or o a) e
 
 -- what a mapped list has at a number
-pub mapped_at : {A B : Type 0} (f : A → B) (xs : List A) (k : ℕ) (y : B) → slice_get (map f xs) k ≡ Some y → (x : A) × (slice_get xs k ≡ Some x) × (y ≡ f x)
+pub mapped_at : {A B : Type 0} (f : A → B) (xs : List A) (k : ℕ) (y : B) → slice_get (map f xs) k ≡ Some y
+    → (x : A) × (slice_get xs k ≡ Some x) × (y ≡ f x)
 mapped_at f [] k y at = absurd (none-some y at)
 mapped_at f (x ∷ xs) zero y at = (x, refl, sym (same_some (f x) y at))
 mapped_at f (x ∷ xs) (suc k) y at = mapped_at f xs k y at
 
-module _ (custom : CustomOptions) (allows : Seen → Choice → Type 0) (files : List TreeFile) (readings : List ReadFile) (are : AreReadingsOf custom allows files readings) where
+module _ (custom : CustomOptions) (allows : Seen → Choice → Type 0) (files : List TreeFile) (readings : List ReadFile)
+    (are : AreReadingsOf custom allows files readings) where
   -- the file of the tree that a linked file is
-  pub in_tree : (number : ℕ) (file : File) → slice_get (linked_files readings) number ≡ Some file → (of : TreeFile) × (slice_get files number ≡ Some of) × (file.path ≡ of.path)
+  pub in_tree : (number : ℕ) (file : File) → slice_get (linked_files readings) number ≡ Some file
+      → (of : TreeFile) × (slice_get files number ≡ Some of) × (file.path ≡ of.path)
   in_tree number file at =
       let read = mapped_at linked_file readings number file at in
       let within : number < length files = rw (sym are.one_each) (slice_get_within readings number read.0 read.1) in
@@ -52,22 +56,29 @@ same_mapped f (x ∷ xs) (y ∷ ys) few each =
     let others = same_mapped f xs ys (omega (arith, few)) (λ k a b. each (suc k) a b) in
     λ i. here i ∷ others i
 
-module _ (one : OneListOfFacts) (apart : NoFactsWhereUnreadable) (custom : CustomOptions) (allows others : Seen → Choice → Type 0) where
+module _ (one : OneListOfFacts) (apart : NoFactsWhereUnreadable) (custom : CustomOptions)
+    (allows others : Seen → Choice → Type 0) where
   -- two readings of a file have the same facts, or both none
-  pub same_facts : (number : ℕ) (file : TreeFile) (a b : Result FileContents FileFault) → HasContents custom allows number file a → HasContents custom others number file b → facts_in a ≡ facts_in b
-  same_facts number file (Ok a) (Ok b) has also = ap Some (one custom number file.bytes a.facts b.facts has.1.facts_in also.1.facts_in)
-  same_facts number file (Ok a) (Err f) has also = absurd (apart custom number file.bytes a.facts f has.1.facts_in also.1)
-  same_facts number file (Err f) (Ok b) has also = absurd (apart custom number file.bytes b.facts f also.1.facts_in has.1)
+  pub same_facts : (number : ℕ) (file : TreeFile) (a b : Result FileContents FileFault)
+      → HasContents custom allows number file a → HasContents custom others number file b → facts_in a ≡ facts_in b
+  same_facts number file (Ok a) (Ok b) has also =
+      ap Some (one custom number file.bytes a.facts b.facts has.1.facts_in also.1.facts_in)
+  same_facts number file (Ok a) (Err f) has also =
+      absurd (apart custom number file.bytes a.facts f has.1.facts_in also.1)
+  same_facts number file (Err f) (Ok b) has also =
+      absurd (apart custom number file.bytes b.facts f also.1.facts_in has.1)
   same_facts number file (Err f) (Err g) has also = refl
 
-  same_linked : (number : ℕ) (file : TreeFile) (a b : ReadFile) → IsReadingOf custom allows number file a → IsReadingOf custom others number file b → linked_file a ≡ linked_file b
+  same_linked : (number : ℕ) (file : TreeFile) (a b : ReadFile) → IsReadingOf custom allows number file a
+      → IsReadingOf custom others number file b → linked_file a ≡ linked_file b
   same_linked number file a b reads again =
       let path = reads.path ∙ sym again.path in
       let facts = same_facts number file a.contents b.contents reads.contents again.contents in
       let is_included = reads.is_included ∙ sym again.is_included in
       λ i. record { path = path i; facts = facts i; is_included = is_included i }
 
-  pub one_linking : (files : List TreeFile) (readings again : List ReadFile) → AreReadingsOf custom allows files readings → AreReadingsOf custom others files again
+  pub one_linking : (files : List TreeFile) (readings again : List ReadFile)
+      → AreReadingsOf custom allows files readings → AreReadingsOf custom others files again
       → linked_files readings ≡ linked_files again
   one_linking files readings again are also =
       same_mapped linked_file readings again (are.one_each ∙ sym also.one_each) (λ k a b at and.

@@ -1,5 +1,6 @@
 -- Files that were read are ready for their documents.
-use Rattle.std.proofs.Common.{◌≡◌, ◌∙◌, ℕ, ◌<◌, Bool, false, true≢false, List, length, map, Some, Result, Ok, Err, ap, sym, refl, subst, arith}
+use Rattle.std.proofs.Common.{◌≡◌, ◌∙◌, ℕ, ◌<◌, Bool, false, true≢false, List, length, map, Some, Result, Ok, Err, ap}
+use Rattle.std.proofs.Common.{sym, refl, subst, arith}
 use Rattle.std.specs.List.{slice_get}
 use Rattle.std.specs.Option.{option_map}
 use Rattle.std.specs.declared.cmp.Ordering.TheVariants.{Less}
@@ -30,13 +31,15 @@ use Rattle.scip_build.proofs.LinkingLemmas.{mapped_at, in_tree}
 use Rattle.scip_build.proofs.PlaceLemmas.{beside, rising_at}
 
 -- the order of two sources is that of their paths
-by_path : (a b : TreeFile) → a.is_included ≡ false → b.is_included ≡ false → file_cmp a b ≡ Less → slice_cmp nat_cmp a.path b.path ≡ Less
+by_path : (a b : TreeFile) → a.is_included ≡ false → b.is_included ≡ false → file_cmp a b ≡ Less
+    → slice_cmp nat_cmp a.path b.path ≡ Less
 by_path a b first second less =
     let There : Bool → Bool → Type 0 = λ x y. ordering_then (bool_cmp x y) (slice_cmp nat_cmp a.path b.path) ≡ Less in
     let half : There false b.is_included = subst (λ x. There x b.is_included) first less in
     subst (λ y. There false y) second half
 
-mapped : {A B : Type 0} (f : A → B) (xs : List A) (k : ℕ) (x : A) → slice_get xs k ≡ Some x → slice_get (map f xs) k ≡ Some (f x)
+mapped : {A B : Type 0} (f : A → B) (xs : List A) (k : ℕ) (x : A) → slice_get xs k ≡ Some x
+    → slice_get (map f xs) k ≡ Some (f x)
 mapped f xs k x at = slice_get-map f xs k ∙ ap (option_map f) at
 
 module _ (custom : CustomOptions) where
@@ -56,7 +59,8 @@ module _ (custom : CustomOptions) where
         text_is = has.lexing.of_bytes;
       }
 
-  module _ (allows : Seen → Choice → Type 0) (tree : List TreeFile) (readings : List ReadFile) (are : AreReadingsOf custom allows tree readings) where
+  module _ (allows : Seen → Choice → Type 0) (tree : List TreeFile) (readings : List ReadFile)
+      (are : AreReadingsOf custom allows tree readings) where
     -- the file that a reading is one of
     record IsReadAt (number : ℕ) (reading : ReadFile) : Type 0 where
       file : TreeFile
@@ -80,21 +84,29 @@ module _ (custom : CustomOptions) where
         let read = mapped_at linked_file readings number has.file has.numbered in
         record { reading = read.0; at = read.1; known = sym (ap (λ (f : File). f.facts) read.2) ∙ has.known }
 
-    has_text : (number : ℕ) (text : List ℕ) → HasReadText readings number text → HasText (linked_files readings) number text
+    has_text : (number : ℕ) (text : List ℕ) → HasReadText readings number text
+        → HasText (linked_files readings) number text
     has_text number text has facts known =
         let read = read_at number has.reading has.numbered in
         let Contents : Result FileContents FileFault → Type 0 = HasContents custom allows number read.file in
         let contents = subst Contents has.read read.is.contents in
         let of = reading_of number facts known in
         let Facts_of : ReadFile → Type 0 = λ r. facts_in r.contents ≡ Some facts in
-        let here : facts_in has.reading.contents ≡ Some facts = subst Facts_of (same_Some of.reading has.reading (sym of.at ∙ has.numbered)) of.known in
-        let same : has.contents.facts ≡ facts = same_Some has.contents.facts facts (sym (ap facts_in has.read) ∙ here) in
+        let here : facts_in has.reading.contents ≡ Some facts =
+        subst Facts_of (same_Some of.reading has.reading (sym of.at ∙ has.numbered)) of.known in
+        let same : has.contents.facts ≡ facts =
+        same_Some has.contents.facts facts (sym (ap facts_in has.read) ∙ here) in
         let text_is : read.file.bytes ≡ text = sym contents.0 ∙ has.text_is in
         let Of : List ℕ → Type 0 = λ bytes. AreOfText bytes facts in
-        subst Of text_is (subst (AreOfText read.file.bytes) same (of_text number read.file.bytes has.contents.facts contents.1.facts_in))
+        subst Of text_is (subst (AreOfText read.file.bytes) same
+        (of_text number read.file.bytes has.contents.facts contents.1.facts_in))
 
-    origin_in : (number : ℕ) (file : TreeFile) (contents : Result FileContents FileFault) → HasContents custom allows number file contents → (facts : Facts) → facts_in contents ≡ Some facts → AreOfSomeFile facts
-    origin_in number file (Ok contents) has facts known = subst AreOfSomeFile (same_Some contents.facts facts known) (of_text number file.bytes contents.facts has.1.facts_in).origin
+    origin_in : (number : ℕ) (file : TreeFile) (contents : Result FileContents FileFault)
+        → HasContents custom allows number file contents → (facts : Facts) → facts_in contents ≡ Some facts
+        → AreOfSomeFile facts
+    origin_in number file (Ok contents) has facts known =
+        subst AreOfSomeFile (same_Some contents.facts facts known)
+        (of_text number file.bytes contents.facts has.1.facts_in).origin
     origin_in number file (Err fault) has facts known = absurd (none-some facts known)
 
     pub have_origins : HaveOrigins (linked_files readings)
@@ -103,27 +115,40 @@ module _ (custom : CustomOptions) where
         let read = read_at number of.reading of.at in
         origin_in number read.file of.reading.contents read.is.contents facts of.known
 
-    choice_in : (number : ℕ) (reading : ReadFile) → slice_get readings number ≡ Some reading → (file : TreeFile) (contents : Result FileContents FileFault) → reading.contents ≡ contents
-        → HasContents custom allows number file contents → (facts : Facts) → facts_in contents ≡ Some facts → (index : ℕ) (declared : Declaration) → slice_get facts.declarations index ≡ Some declared
+    choice_in : (number : ℕ) (reading : ReadFile) → slice_get readings number ≡ Some reading
+        → (file : TreeFile) (contents : Result FileContents FileFault) → reading.contents ≡ contents
+        → HasContents custom allows number file contents → (facts : Facts) → facts_in contents ≡ Some facts
+        → (index : ℕ) (declared : Declaration) → slice_get facts.declarations index ≡ Some declared
         → HasChoice (map choices_of readings) number index
     choice_in number reading at file (Ok contents) is has facts known index declared numbered =
         let same : contents.facts ≡ facts = same_Some contents.facts facts known in
         let In : Facts → Type 0 = λ f. slice_get f.declarations index ≡ Some declared in
         let listed : slice_get contents.facts.declarations index ≡ Some declared = subst In (sym same) numbered in
         let may_come : Declaration → Choice → Type 0 = λ declaration choice. allows (seen_of declaration) choice in
-        let chosen = beside may_come contents.facts.declarations contents.choices index declared has.1.chosen listed in
-        (chosen.0, record { of_file = contents.choices; file_is = mapped choices_of readings number reading at ∙ ap (λ c. Some (choices_in c)) is; declaration_is = chosen.1 })
-    choice_in number reading at file (Err fault) is has facts known index declared numbered = absurd (none-some facts known)
+        let chosen = beside may_come contents.facts.declarations contents.choices index declared has.1.chosen listed in (
+          chosen.0,
+          record {
+            of_file = contents.choices;
+            file_is = mapped choices_of readings number reading at ∙ ap (λ c. Some (choices_in c)) is;
+            declaration_is =
+                chosen.1;
+          },
+        )
+    choice_in number reading at file (Err fault) is has facts known index declared numbered =
+        absurd (none-some facts known)
 
     has_choices : HaveChoices (linked_files readings) (map choices_of readings)
     has_choices number index facts declared has =
         let of = reading_of number facts has.has_facts in
         let read = read_at number of.reading of.at in
-        choice_in number of.reading of.at read.file of.reading.contents refl read.is.contents facts of.known index declared has.numbered
+        choice_in number of.reading of.at read.file of.reading.contents refl read.is.contents facts of.known index
+        declared has.numbered
 
-    is_read : (number : ℕ) (reading : ReadFile) → slice_get readings number ≡ Some reading → (file : TreeFile) → file.is_included ≡ false → (contents : Result FileContents FileFault) → reading.contents ≡ contents
+    is_read : (number : ℕ) (reading : ReadFile) → slice_get readings number ≡ Some reading → (file : TreeFile)
+        → file.is_included ≡ false → (contents : Result FileContents FileFault) → reading.contents ≡ contents
         → HasContents custom allows number file contents → IsRead readings number
-    is_read number reading at file source (Ok contents) is has = (contents.text, record { reading = reading; contents = contents; numbered = at; read = is; text_is = refl })
+    is_read number reading at file source (Ok contents) is has =
+        (contents.text, record { reading = reading; contents = contents; numbered = at; read = is; text_is = refl })
     is_read number reading at file source (Err fault) is has = absurd (true≢false (sym has.0 ∙ source))
 
     module _ (is_tree : IsTree tree) where
@@ -131,7 +156,9 @@ module _ (custom : CustomOptions) where
       good_paths number file at =
           let of = in_tree custom allows tree readings are number file at in
           let Good : TreeFile → Type 0 = λ f. IsGoodPath f.path in
-          let good : IsGoodPath of.0.path = subst Good (get_or_from_slice_get tree number of.0 of.0 of.1) (is_tree.good number of.0 (slice_get_within tree number of.0 of.1)) in
+          let good : IsGoodPath of.0.path =
+          subst Good (get_or_from_slice_get tree number of.0 of.0 of.1)
+          (is_tree.good number of.0 (slice_get_within tree number of.0 of.1)) in
           subst IsGoodPath (sym of.2) good
 
       module _ (count : ℕ) (counted : IsSourceCount tree count) where
@@ -153,7 +180,8 @@ module _ (custom : CustomOptions) where
         is_below number is =
             let read = mapped_at linked_file readings number is.file is.numbered in
             let of = read_at number read.0 read.1 in
-            let source : of.file.is_included ≡ false = sym of.is.is_included ∙ (sym (ap (λ (f : File). f.is_included) read.2) ∙ is.source) in
+            let source : of.file.is_included ≡ false =
+            sym of.is.is_included ∙ (sym (ap (λ (f : File). f.is_included) read.2) ∙ is.source) in
             (counted.sources number of.file of.numbered).1 source
 
         reads : (number : ℕ) → number < count → IsRead readings number
@@ -161,9 +189,11 @@ module _ (custom : CustomOptions) where
             let within : number < length readings = rw are.one_each (there number below) in
             let read = at_number readings number within in
             let of = read_at number read.0 read.1 in
-            is_read number read.0 read.1 of.file ((counted.sources number of.file of.numbered).0 below) read.0.contents refl of.is.contents
+            is_read number read.0 read.1 of.file
+            ((counted.sources number of.file of.numbered).0 below) read.0.contents refl of.is.contents
 
-        rises : (lesser number : ℕ) (a b : File) → lesser < number → number < count → slice_get (linked_files readings) lesser ≡ Some a → slice_get (linked_files readings) number ≡ Some b
+        rises : (lesser number : ℕ) (a b : File) → lesser < number → number < count
+            → slice_get (linked_files readings) lesser ≡ Some a → slice_get (linked_files readings) number ≡ Some b
             → slice_cmp nat_cmp a.path b.path ≡ Less
         rises lesser number a b less below at and =
             let first = in_tree custom allows tree readings are lesser a at in
@@ -171,7 +201,8 @@ module _ (custom : CustomOptions) where
             let before : lesser < count = omega (arith, less, below) in
             let up = rising_at file_cmp tree lesser number first.0 second.0 is_tree.rising less first.1 second.1 in
             rw (first.2, second.2)
-            (by_path first.0 second.0 ((counted.sources lesser first.0 first.1).0 before) ((counted.sources number second.0 second.1).0 below) up)
+            (by_path first.0 second.0 ((counted.sources lesser first.0 first.1).0 before)
+            ((counted.sources number second.0 second.1).0 below) up)
 
         pub are_ready : AreReady readings (linked_files readings) (map choices_of readings) count
         are_ready = record {

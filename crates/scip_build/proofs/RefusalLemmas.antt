@@ -15,7 +15,8 @@ use Rattle.scip_build.specs.Making.{MayRefuseMaking}
 use Rattle.scip_build.specs.Builds.{IsBuildFault}
 
 -- why files that were read can't be linked
-pub of_linking : (readings : List ReadFile) (workers : ℕ) (fault : BuildFault) → MayRefuseReadings readings fault → MayRefuseMaking readings workers fault
+pub of_linking : (readings : List ReadFile) (workers : ℕ) (fault : BuildFault) → MayRefuseReadings readings fault
+    → MayRefuseMaking readings workers fault
 of_linking readings workers build.Spawn is = absurd is
 of_linking readings workers build.Memory is = tt
 of_linking readings workers (build.File number fault) is = is
@@ -24,7 +25,8 @@ of_linking readings workers (build.MissingImport place) is = is
 of_linking readings workers (build.Unresolved place) is = absurd is
 
 -- why their documents aren't made
-pub of_documents : (readings : List ReadFile) (workers : ℕ) (fault : BuildFault) → CanBeLinked (linked_files readings) → MayRefuseDocuments (linked_files readings) workers fault
+pub of_documents : (readings : List ReadFile) (workers : ℕ) (fault : BuildFault) → CanBeLinked (linked_files readings)
+    → MayRefuseDocuments (linked_files readings) workers fault
     → MayRefuseMaking readings workers fault
 of_documents readings workers build.Spawn linked is = is
 of_documents readings workers build.Memory linked is = tt
@@ -35,7 +37,8 @@ of_documents readings workers (build.Unresolved place) linked is = (linked, is)
 
 module _ (allows : Seen → Choice → Type 0) (custom : CustomOptions) (tree : List TreeFile) (workers : ℕ) where
   -- why files aren't read
-  pub of_reading : (fault : BuildFault) → MayRefuseFiles custom tree workers fault → IsBuildFault allows custom tree workers fault
+  pub of_reading : (fault : BuildFault) → MayRefuseFiles custom tree workers fault
+      → IsBuildFault allows custom tree workers fault
   of_reading build.Spawn is = is
   of_reading build.Memory is = tt
   of_reading (build.File number fault) is = inl is
@@ -44,7 +47,8 @@ module _ (allows : Seen → Choice → Type 0) (custom : CustomOptions) (tree : 
   of_reading (build.Unresolved place) is = absurd is
 
   -- why files that were read make no index
-  pub of_making : (readings : List ReadFile) → AreReadingsOf custom allows tree readings → (fault : BuildFault) → MayRefuseMaking readings workers fault
+  pub of_making : (readings : List ReadFile) → AreReadingsOf custom allows tree readings → (fault : BuildFault)
+      → MayRefuseMaking readings workers fault
       → IsBuildFault allows custom tree workers fault
   of_making readings are build.Spawn is = is
   of_making readings are build.Memory is = tt

@@ -42,13 +42,15 @@ pub record HasReadText (readings : List ReadFile) (number : ℕ) (text : List �
 abbrev pub IsRead : List ReadFile → (number : ℕ) → Type 0
 IsRead readings number = (text : List ℕ) × HasReadText readings number text
 
--- What is asked of the linker's files, of the readings and of the choices for documents of the sources, so many, to be made.
+-- What is asked of the linker's files, of the readings and of the choices for documents of the sources, so many, to be
+-- made.
 pub record AreReady (readings : List ReadFile) (files : List File) (chosen : Chosen) (count : ℕ) : Type 0 where
   pub sources : (number : ℕ) → (number < count) ↔ IsSource files number
   pub read : (number : ℕ) → number < count → IsRead readings number
   pub texts : (number : ℕ) (text : List ℕ) → HasReadText readings number text → HasText files number text
   pub good : HaveGoodPaths files
-  pub rising : (lesser number : ℕ) (a b : File) → lesser < number → number < count → slice_get files lesser ≡ Some a → slice_get files number ≡ Some b
+  pub rising : (lesser number : ℕ) (a b : File) → lesser < number → number < count → slice_get files lesser ≡ Some a
+      → slice_get files number ≡ Some b
       → slice_cmp nat_cmp a.path b.path ≡ Less
   pub choices : HaveChoices files chosen
   pub one_text_each : length (texts_of readings) ≡ length files
@@ -62,7 +64,8 @@ pub record SourceWork : Type 0 where
   pub count : ℕ
 
 -- the document of the source with this number, of which each use names a type
-pub record IsDocumentAt (readings : List ReadFile) (files : List File) (chosen : Chosen) (id : Package) (encoding : Encoding) (number : ℕ) (document : Document) : Type 0 where
+pub record IsDocumentAt (readings : List ReadFile) (files : List File) (chosen : Chosen) (id : Package)
+    (encoding : Encoding) (number : ℕ) (document : Document) : Type 0 where
   pub text : List ℕ
   pub has_text : HasReadText readings number text
   pub is : IsDocumentOf files chosen id encoding number text document
@@ -75,14 +78,18 @@ MayRefuseSource files number build.Memory = ⊤
 MayRefuseSource files number (build.File other fault) = ⊥
 MayRefuseSource files number (build.Duplicate first second) = ⊥
 MayRefuseSource files number (build.MissingImport place) = ⊥
-MayRefuseSource files number (build.Unresolved place) = (place.file ≡ number) × IsFirstUnresolved files number place.span
+MayRefuseSource files number (build.Unresolved place) =
+    (place.file ≡ number) × IsFirstUnresolved files number place.span
 
 -- what the making of a document gives
-abbrev pub GivesDocument : List ReadFile → List File → Chosen → Package → Encoding → (number : ℕ) → Result Document BuildFault → Type 0
-GivesDocument readings files chosen id encoding number result = MatchResult result (IsDocumentAt readings files chosen id encoding number) (MayRefuseSource files number)
+abbrev pub GivesDocument : List ReadFile → List File → Chosen → Package → Encoding → (number : ℕ)
+    → Result Document BuildFault → Type 0
+GivesDocument readings files chosen id encoding number result =
+    MatchResult result (IsDocumentAt readings files chosen id encoding number) (MayRefuseSource files number)
 
 -- The documents of all sources, one of each, by path; each use of the sources names a type.
-pub record AreDocuments (readings : List ReadFile) (files : List File) (chosen : Chosen) (id : Package) (encoding : Encoding) (documents : List Document) : Type 0 where
+pub record AreDocuments (readings : List ReadFile) (files : List File) (chosen : Chosen) (id : Package)
+    (encoding : Encoding) (documents : List Document) : Type 0 where
   pub resolved : AllResolve files
   pub list : IsAscendingListOf document_cmp (HasDocument files (texts_of readings) chosen id encoding) documents
   pub each : HaveDocuments files (texts_of readings) chosen id encoding documents

@@ -1,4 +1,5 @@
--- Why the file with a number can't be read, by the fault of the step that refuses it: want of memory is no fault of a file.
+-- Why the file with a number can't be read, by the fault of the step that refuses it: want of memory is no fault of a
+-- file.
 use Rattle.std.specs.Prelude.{◌≡◌, ℕ, ⊤, List}
 use Rattle.proto_lex.specs.declared.fault.LexFault.{LexFault}
 use Rattle.proto_lex.specs.declared.fault.LexFault.TheVariants as lexing
@@ -7,7 +8,8 @@ use Rattle.proto_parse.specs.fault.SyntaxFault.{SyntaxFault}
 use Rattle.proto_parse.specs.fault.SyntaxFault.TheVariants as parsing
 use Rattle.scip_build.specs.declared.fault.FileFault.TheVariants.{Lex, Syntax}
 use Rattle.scip_build.specs.declared.fault.BuildFault.{BuildFault}
-use Rattle.scip_build.specs.declared.fault.BuildFault.TheVariants.{Spawn, Memory, File, Duplicate, MissingImport, Unresolved}
+use Rattle.scip_build.specs.declared.fault.BuildFault.TheVariants.{Spawn, Memory, File, Duplicate, MissingImport}
+use Rattle.scip_build.specs.declared.fault.BuildFault.TheVariants.{Unresolved}
 use Rattle.scip_build.specs.Parsed.{IsUnreadable}
 
 abbrev pub fault_of_lexing : ℕ → LexFault → BuildFault

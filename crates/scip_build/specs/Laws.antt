@@ -19,18 +19,22 @@ use Rattle.scip_build.specs.Linking.{linked_files}
 -- A file has one list of facts at most,
 abbrev pub OneListOfFacts : Type 0
 OneListOfFacts =
-    (custom : CustomOptions) (number : ℕ) (bytes : List ℕ) (facts other : Facts) → AreFactsIn custom number bytes facts → AreFactsIn custom number bytes other → facts ≡ other
+    (custom : CustomOptions) (number : ℕ) (bytes : List ℕ) (facts other : Facts) → AreFactsIn custom number bytes facts
+    → AreFactsIn custom number bytes other → facts ≡ other
 
 -- and none where it can't be read,
 abbrev pub NoFactsWhereUnreadable : Type 0
 NoFactsWhereUnreadable =
-    (custom : CustomOptions) (number : ℕ) (bytes : List ℕ) (facts : Facts) (fault : FileFault) → AreFactsIn custom number bytes facts → IsUnreadable custom bytes fault → ⊥
+    (custom : CustomOptions) (number : ℕ) (bytes : List ℕ) (facts : Facts) (fault : FileFault)
+    → AreFactsIn custom number bytes facts → IsUnreadable custom bytes fault → ⊥
 
 -- which it can't be for one kind of fault.
 abbrev pub LexedWhereUnparsed : Type 0
-LexedWhereUnparsed = (custom : CustomOptions) (bytes : List ℕ) (lexing : LexFault) (parsing : SyntaxFault) → IsUnparsed custom bytes parsing → IsUnlexed bytes lexing → ⊥
+LexedWhereUnparsed = (custom : CustomOptions) (bytes : List ℕ) (lexing : LexFault) (parsing : SyntaxFault)
+    → IsUnparsed custom bytes parsing → IsUnlexed bytes lexing → ⊥
 
--- Two faults of one file are alike: of lexing they are one fault; of syntax they may be two, of which tests show the one that comes.
+-- Two faults of one file are alike: of lexing they are one fault; of syntax they may be two, of which tests show the
+-- one that comes.
 abbrev pub AreAlike : FileFault → FileFault → Type 0
 AreAlike (Lex fault) (Lex other) = fault ≡ other
 AreAlike (Lex fault) (Syntax other) = ⊥
@@ -38,7 +42,8 @@ AreAlike (Syntax fault) (Lex other) = ⊥
 AreAlike (Syntax fault) (Syntax other) = ⊤
 
 abbrev pub FaultsAreAlike : Type 0
-FaultsAreAlike = (custom : CustomOptions) (bytes : List ℕ) (fault other : FileFault) → IsUnreadable custom bytes fault → IsUnreadable custom bytes other → AreAlike fault other
+FaultsAreAlike = (custom : CustomOptions) (bytes : List ℕ) (fault other : FileFault) → IsUnreadable custom bytes fault
+    → IsUnreadable custom bytes other → AreAlike fault other
 
 -- Of the sources that can't be read one is the first.
 abbrev pub OneFirstFaulty : Type 0
@@ -55,11 +60,13 @@ NoReadingsWhereFaulty allows =
 -- Files that were read have paths of their own, as the tree's have, so that they can be handed to the linker.
 abbrev pub ReadingsHaveOwnPaths : (allows : Seen → Choice → Type 0) → Type 0
 ReadingsHaveOwnPaths allows =
-    (custom : CustomOptions) (files : List TreeFile) (readings : List ReadFile) → AreReadingsOf custom allows files readings → HaveOwnPaths files
+    (custom : CustomOptions) (files : List TreeFile) (readings : List ReadFile)
+    → AreReadingsOf custom allows files readings → HaveOwnPaths files
     → link.HaveOwnPaths (linked_files readings)
 
 -- Files that were read link as one list of files, whatever was chosen.
 abbrev pub OneLinking : (allows others : Seen → Choice → Type 0) → Type 0
 OneLinking allows others =
-    (custom : CustomOptions) (files : List TreeFile) (readings again : List ReadFile) → AreReadingsOf custom allows files readings → AreReadingsOf custom others files again
+    (custom : CustomOptions) (files : List TreeFile) (readings again : List ReadFile)
+    → AreReadingsOf custom allows files readings → AreReadingsOf custom others files again
     → linked_files readings ≡ linked_files again

@@ -19,7 +19,8 @@ facts_in (Err fault) = None
 
 -- a file as it is linked
 abbrev pub linked_file : ReadFile → File
-linked_file reading = record { path = reading.path; facts = facts_in reading.contents; is_included = reading.is_included }
+linked_file reading = record
+    { path = reading.path; facts = facts_in reading.contents; is_included = reading.is_included }
 
 abbrev pub linked_files : List ReadFile → List File
 linked_files readings = map linked_file readings
@@ -43,8 +44,10 @@ pub record HasFault (readings : List ReadFile) (number : ℕ) (fault : FileFault
 abbrev pub MayRefuseReadings : List ReadFile → BuildFault → Type 0
 MayRefuseReadings readings build.Spawn = ⊥
 MayRefuseReadings readings build.Memory = ⊤
-MayRefuseReadings readings (build.File number fault) = Broken (linked_files readings) number × HasFault readings number fault
-MayRefuseReadings readings (build.Duplicate first second) = MayRefuse (linked_files readings) (link.Duplicate first second)
+MayRefuseReadings readings (build.File number fault) =
+    Broken (linked_files readings) number × HasFault readings number fault
+MayRefuseReadings readings (build.Duplicate first second) =
+    MayRefuse (linked_files readings) (link.Duplicate first second)
 MayRefuseReadings readings (build.MissingImport place) = MayRefuse (linked_files readings) (link.MissingImport place)
 MayRefuseReadings readings (build.Unresolved place) = ⊥
 

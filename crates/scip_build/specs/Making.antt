@@ -14,12 +14,14 @@ use Rattle.scip_build.specs.Linking.{linked_files, MayRefuseReadings}
 use Rattle.scip_build.specs.Documents.{texts_of, IsLeastUnresolved}
 
 -- each use of each source names a type, and the index is that of the files
-pub record IsMade (readings : List ReadFile) (files : List File) (chosen : Chosen) (settings : Settings) (index : Index) : Type 0 where
+pub record IsMade (readings : List ReadFile) (files : List File) (chosen : Chosen) (settings : Settings)
+    (index : Index) : Type 0 where
   pub resolved : AllResolve files
   pub is : IsIndexOf files (texts_of readings) chosen settings.package settings.encoding settings.project_root index
 
 -- the files can be linked, too
-pub record IsLinkedAndMade (readings : List ReadFile) (chosen : Chosen) (settings : Settings) (index : Index) : Type 0 where
+pub record IsLinkedAndMade (readings : List ReadFile) (chosen : Chosen) (settings : Settings)
+    (index : Index) : Type 0 where
   pub linked : CanBeLinked (linked_files readings)
   pub made : IsMade readings (linked_files readings) chosen settings index
 
@@ -28,6 +30,8 @@ abbrev pub MayRefuseMaking : List ReadFile → (workers : ℕ) → BuildFault �
 MayRefuseMaking readings workers build.Spawn = 1 < workers
 MayRefuseMaking readings workers build.Memory = ⊤
 MayRefuseMaking readings workers (build.File number fault) = MayRefuseReadings readings (build.File number fault)
-MayRefuseMaking readings workers (build.Duplicate first second) = MayRefuseReadings readings (build.Duplicate first second)
+MayRefuseMaking readings workers (build.Duplicate first second) =
+    MayRefuseReadings readings (build.Duplicate first second)
 MayRefuseMaking readings workers (build.MissingImport place) = MayRefuseReadings readings (build.MissingImport place)
-MayRefuseMaking readings workers (build.Unresolved place) = CanBeLinked (linked_files readings) × IsLeastUnresolved (linked_files readings) place
+MayRefuseMaking readings workers (build.Unresolved place) =
+    CanBeLinked (linked_files readings) × IsLeastUnresolved (linked_files readings) place

@@ -9,7 +9,8 @@ use Rattle.proto_decl.specs.declared.declaration.Declaration.{Declaration}
 use Rattle.index_hooks.specs.declared.choice.Choice.{Choice}
 use Rattle.scip_build.specs.declared.fault.FileFault.{FileFault}
 use Rattle.scip_build.specs.declared.fault.BuildFault.{BuildFault}
-use Rattle.scip_build.specs.declared.fault.BuildFault.TheVariants.{Spawn, Memory, File, Duplicate, MissingImport, Unresolved}
+use Rattle.scip_build.specs.declared.fault.BuildFault.TheVariants.{Spawn, Memory, File, Duplicate, MissingImport}
+use Rattle.scip_build.specs.declared.fault.BuildFault.TheVariants.{Unresolved}
 use Rattle.scip_build.specs.Parsed.{AreFactsIn, IsUnreadable}
 use Rattle.source_tree.specs.Files.{TreeFile}
 use Rattle.scip_build.specs.Files.{FileContents, ReadFile}
@@ -26,32 +27,40 @@ seen_of declaration = record {
 
 -- for each declaration, in order, a choice that may come for it
 abbrev pub AreChosen : (allows : Seen → Choice → Type 0) → List Declaration → List Choice → Type 0
-AreChosen allows declarations choices = AllZip (λ declaration choice. allows (seen_of declaration) choice) declarations choices
+AreChosen allows declarations choices =
+    AllZip (λ declaration choice. allows (seen_of declaration) choice) declarations choices
 
 -- what the file with this number and these bytes is read as
-pub record IsReadAs (custom : CustomOptions) (allows : Seen → Choice → Type 0) (number : ℕ) (bytes : List ℕ) (facts : Facts) (choices : List Choice) : Type 0 where
+pub record IsReadAs (custom : CustomOptions) (allows : Seen → Choice → Type 0) (number : ℕ) (bytes : List ℕ)
+    (facts : Facts) (choices : List Choice) : Type 0 where
   pub facts_in : AreFactsIn custom number bytes facts
   pub chosen : AreChosen allows facts.declarations choices
 
 -- the contents of the file with this number and these bytes
-abbrev pub AreContentsOf : CustomOptions → (allows : Seen → Choice → Type 0) → (number : ℕ) → (bytes : List ℕ) → FileContents → Type 0
-AreContentsOf custom allows number bytes contents = (contents.text ≡ bytes) × IsReadAs custom allows number bytes contents.facts contents.choices
+abbrev pub AreContentsOf : CustomOptions → (allows : Seen → Choice → Type 0) → (number : ℕ) → (bytes : List ℕ)
+    → FileContents → Type 0
+AreContentsOf custom allows number bytes contents =
+    (contents.text ≡ bytes) × IsReadAs custom allows number bytes contents.facts contents.choices
 
 -- the contents of a file, or, where it is included, why it has none
-abbrev pub HasContents : CustomOptions → (allows : Seen → Choice → Type 0) → (number : ℕ) → TreeFile → Result FileContents FileFault → Type 0
+abbrev pub HasContents : CustomOptions → (allows : Seen → Choice → Type 0) → (number : ℕ) → TreeFile
+    → Result FileContents FileFault → Type 0
 HasContents custom allows number file (Ok contents) = AreContentsOf custom allows number file.bytes contents
 HasContents custom allows number file (Err fault) = (file.is_included ≡ true) × IsUnreadable custom file.bytes fault
 
 -- a file after it was read
-pub record IsReadingOf (custom : CustomOptions) (allows : Seen → Choice → Type 0) (number : ℕ) (file : TreeFile) (reading : ReadFile) : Type 0 where
+pub record IsReadingOf (custom : CustomOptions) (allows : Seen → Choice → Type 0) (number : ℕ) (file : TreeFile)
+    (reading : ReadFile) : Type 0 where
   pub path : reading.path ≡ file.path
   pub is_included : reading.is_included ≡ file.is_included
   pub contents : HasContents custom allows number file reading.contents
 
 -- the files after they were read, each under its number
-pub record AreReadingsOf (custom : CustomOptions) (allows : Seen → Choice → Type 0) (files : List TreeFile) (readings : List ReadFile) : Type 0 where
+pub record AreReadingsOf (custom : CustomOptions) (allows : Seen → Choice → Type 0) (files : List TreeFile)
+    (readings : List ReadFile) : Type 0 where
   pub one_each : length readings ≡ length files
-  pub each : (number : ℕ) (file : TreeFile) (reading : ReadFile) → slice_get files number ≡ Some file → slice_get readings number ≡ Some reading
+  pub each : (number : ℕ) (file : TreeFile) (reading : ReadFile) → slice_get files number ≡ Some file
+      → slice_get readings number ≡ Some reading
       → IsReadingOf custom allows number file reading
 
 -- a source, which can't be read
@@ -61,16 +70,20 @@ pub record IsFaultySource (custom : CustomOptions) (file : TreeFile) (fault : Fi
 
 -- the file has facts, where it is a source
 abbrev pub IsReadIfSource : CustomOptions → ℕ → TreeFile → Type 0
-IsReadIfSource custom number file = file.is_included ≡ false → (facts : Facts) × AreFactsIn custom number file.bytes facts
+IsReadIfSource custom number file = file.is_included ≡ false
+    → (facts : Facts) × AreFactsIn custom number file.bytes facts
 
 -- the file with this number is the first source that can't be read
-pub record IsFirstFaulty (custom : CustomOptions) (files : List TreeFile) (number : ℕ) (fault : FileFault) : Type 0 where
+pub record IsFirstFaulty (custom : CustomOptions) (files : List TreeFile) (number : ℕ)
+    (fault : FileFault) : Type 0 where
   pub file : TreeFile
   pub numbered : slice_get files number ≡ Some file
   pub faulty : IsFaultySource custom file fault
-  pub before : (lesser : ℕ) (other : TreeFile) → lesser < number → slice_get files lesser ≡ Some other → IsReadIfSource custom lesser other
+  pub before : (lesser : ℕ) (other : TreeFile) → lesser < number → slice_get files lesser ≡ Some other
+      → IsReadIfSource custom lesser other
 
--- Why the files aren't read. A thread is refused only where one is to be started, that is, for two workers or more; of memory
+-- Why the files aren't read. A thread is refused only where one is to be started, that is, for two workers or more; of
+-- memory
 -- nothing is said.
 abbrev pub MayRefuseFiles : CustomOptions → List TreeFile → (workers : ℕ) → BuildFault → Type 0
 MayRefuseFiles custom files workers Spawn = 1 < workers
@@ -90,6 +103,8 @@ MayRefuseReading custom number file (MissingImport place) = ⊥
 MayRefuseReading custom number file (Unresolved place) = ⊥
 
 -- what the reading of the file with this number gives
-abbrev pub GivesReading : CustomOptions → (allows : Seen → Choice → Type 0) → List TreeFile → ℕ → Result ReadFile BuildFault → Type 0
+abbrev pub GivesReading : CustomOptions → (allows : Seen → Choice → Type 0) → List TreeFile → ℕ
+    → Result ReadFile BuildFault → Type 0
 GivesReading custom allows files number result =
-    IfSome (slice_get files number) (λ file. MatchResult result (IsReadingOf custom allows number file) (MayRefuseReading custom number file))
+    IfSome (slice_get files number)
+    (λ file. MatchResult result (IsReadingOf custom allows number file) (MayRefuseReading custom number file))

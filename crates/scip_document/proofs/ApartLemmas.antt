@@ -17,7 +17,8 @@ use Rattle.proto_visibility.proofs.FirstLemmas.{contained}
 use Rattle.scip_symbol.specs.Package.{Package, IsPackage}
 use Rattle.scip_symbol.specs.Entities.{Entity, OfFile, OfPackage, OfDeclaration, IsEntity, symbol_in}
 use Rattle.scip_symbol.specs.SymbolText.{symbol_text}
-use Rattle.scip_symbol.specs.OneEntity.{Declaration as Way, IsWithoutClash, declaration_in, declarations_of, AreWithoutClash, IsAmong}
+use Rattle.scip_symbol.specs.OneEntity.{Declaration as Way, IsWithoutClash, declaration_in, declarations_of}
+use Rattle.scip_symbol.specs.OneEntity.{AreWithoutClash, IsAmong}
 use Rattle.scip_symbol.proofs.ClashLemmas.{put}
 pub use Rattle.scip_document.specs.Tables.KnownFacts.{AreIdentifiers, SymbolsNameOne, WithoutClash}
 use Rattle.scip_document.specs.Named.{text_of, declaration_at}
@@ -32,19 +33,29 @@ pub record AreCounted (files : List File) (number : ℕ) (facts : Facts) : Type 
 pub find : {A : Type 0} (xs : List A) (x : A) → Contains xs x → (i : ℕ) × (slice_get xs i ≡ Some x)
 find xs x there = (there.0, slice_get-get_or xs there.0 x there.1 ∙ ap Some there.2)
 
-module _ (files : List File) (origins : HaveOrigins files) (clear : NoClash files) (one_name : OneDeclarationAName) (spelled : AreIdentifiers)
+module _ (files : List File) (origins : HaveOrigins files) (clear : NoClash files) (one_name : OneDeclarationAName)
+    (spelled : AreIdentifiers)
     (symbols : SymbolsNameOne) (unclashed : WithoutClash) (id : Package) (good : IsPackage id) where
   -- a full name is that of one declaration
-  one-declaration : (number other : ℕ) (facts others : Facts) (i j : ℕ) (d e : Declaration) → AreCounted files number facts → AreCounted files other others
-      → slice_get facts.declarations i ≡ Some d → slice_get others.declarations j ≡ Some e → d.full_name ≡ e.full_name → (number ≡ other) × (i ≡ j)
+  one-declaration : (number other : ℕ) (facts others : Facts) (i j : ℕ) (d e : Declaration)
+      → AreCounted files number facts → AreCounted files other others
+      → slice_get facts.declarations i ≡ Some d → slice_get others.declarations j ≡ Some e → d.full_name ≡ e.full_name
+      → (number ≡ other) × (i ≡ j)
   one-declaration number other facts others i j d e a b at there same =
-      one_name files origins clear number i other j d e (record { facts = facts; counts = a.counts; known = a.known; stands = at }) (record { facts = others; counts = b.counts; known = b.known; stands = there }) same
+      one_name files origins clear number i other j d e
+      (record { facts = facts; counts = a.counts; known = a.known; stands = at })
+      (record { facts = others; counts = b.counts; known = b.known; stands = there }) same
 
-  same-declaration : (number other : ℕ) (facts others : Facts) (i j : ℕ) (d e : Declaration) → HasFacts files number facts → HasFacts files other others → number ≡ other → i ≡ j
-      → slice_get facts.declarations i ≡ Some d → slice_get others.declarations j ≡ Some e → declaration_in facts d ≡ declaration_in others e
+  same-declaration : (number other : ℕ) (facts others : Facts) (i j : ℕ) (d e : Declaration)
+      → HasFacts files number facts → HasFacts files other others → number ≡ other → i ≡ j
+      → slice_get facts.declarations i ≡ Some d → slice_get others.declarations j ≡ Some e
+      → declaration_in facts d ≡ declaration_in others e
   same-declaration number other facts others i j d e a b numbers places at there =
-      let one : facts ≡ others = one_list_of_facts files other facts others (subst (λ n. HasFacts files n facts) numbers a) b in
-      let stands : slice_get others.declarations j ≡ Some d = subst (λ (f : Facts). slice_get f.declarations j ≡ Some d) one (subst (λ n. slice_get facts.declarations n ≡ Some d) places at) in
+      let one : facts ≡ others =
+      one_list_of_facts files other facts others (subst (λ n. HasFacts files n facts) numbers a) b in
+      let stands : slice_get others.declarations j ≡ Some d =
+      subst (λ (f : Facts). slice_get f.declarations j ≡ Some d) one
+      (subst (λ n. slice_get facts.declarations n ≡ Some d) places at) in
       let declared : d ≡ e = same_Some d e (sym stands ∙ there) in
       ap (λ (f : Facts). declaration_in f d) one ∙ ap (declaration_in others) declared
 
@@ -61,8 +72,10 @@ module _ (files : List File) (origins : HaveOrigins files) (clear : NoClash file
 
     apart : AreWithoutClash (f ∷ (g ∷ []))
     apart = record {
-      held = All-cons (λ (x : Facts). AreHeld x.package_name x.declarations) f (g ∷ []) (spelled.held f (origins m f a.known))
-          (All-cons (λ (x : Facts). AreHeld x.package_name x.declarations) g [] (spelled.held g (origins n g b.known)) (All-nil (λ (x : Facts). AreHeld x.package_name x.declarations)));
+      held = All-cons (λ (x : Facts). AreHeld x.package_name x.declarations) f (g ∷ [])
+          (spelled.held f (origins m f a.known))
+          (All-cons (λ (x : Facts). AreHeld x.package_name x.declarations) g [] (spelled.held g (origins n g b.known))
+          (All-nil (λ (x : Facts). AreHeld x.package_name x.declarations)));
       one_name = λ facts others d e among also listed its same.
           let x = either-counts facts among in
           let y = either-counts others also in
@@ -73,13 +86,17 @@ module _ (files : List File) (origins : HaveOrigins files) (clear : NoClash file
     }
 
     -- one text, one entity
-    pub one-text : (entity other : Entity) → IsEntity entity → IsEntity other → IsAmong (declarations_of (f ∷ (g ∷ []))) entity → IsAmong (declarations_of (f ∷ (g ∷ []))) other
+    pub one-text : (entity other : Entity) → IsEntity entity → IsEntity other
+        → IsAmong (declarations_of (f ∷ (g ∷ []))) entity → IsAmong (declarations_of (f ∷ (g ∷ []))) other
         → text_of id entity ≡ text_of id other → entity ≡ other
     unfolding text_of
-    one-text entity other is its among also same = symbols id (declarations_of (f ∷ (g ∷ []))) good (unclashed (f ∷ (g ∷ [])) apart) entity other is its among also same
+    one-text entity other is its among also same =
+        symbols id (declarations_of (f ∷ (g ∷ []))) good
+        (unclashed (f ∷ (g ∷ [])) apart) entity other is its among also same
 
     -- so a declaration's text is that of one declaration
-    pub one-declared : (i j : ℕ) (d e : Declaration) → slice_get f.declarations i ≡ Some d → slice_get g.declarations j ≡ Some e
+    pub one-declared : (i j : ℕ) (d e : Declaration) → slice_get f.declarations i ≡ Some d
+        → slice_get g.declarations j ≡ Some e
         → text_of id (declaration_at f d) ≡ text_of id (declaration_at g e) → (m ≡ n) × (i ≡ j)
     one-declared i j d e at there same =
         let listed = contained f.declarations i d at in
@@ -87,11 +104,15 @@ module _ (files : List File) (origins : HaveOrigins files) (clear : NoClash file
         let entity = one-text (declaration_at f d) (declaration_at g e)
         (declaration-is f d (spelled.named f (origins m f a.known)) (spelled.paths f (origins m f a.known)) listed)
         (declaration-is g e (spelled.named g (origins n g b.known)) (spelled.paths g (origins n g b.known)) its)
-        (put (f ∷ (g ∷ [])) f d (first-in f (g ∷ [])) listed) (put (f ∷ (g ∷ [])) g e (behind-in f (g ∷ []) g (first-in g [])) its) same in
+        (put (f ∷ (g ∷ [])) f d (first-in f (g ∷ [])) listed)
+        (put (f ∷ (g ∷ [])) g e (behind-in f (g ∷ []) g (first-in g [])) its) same in
         one-declaration m n f g i j d e a b at there
-        (All-contains (λ (x : Declaration). x.full_name ≡ dotted (component_names f.package_name ++ names_of x.path)) f.declarations d (AreHeld.full_names (spelled.held f (origins m f a.known))) listed
+        (All-contains (λ (x : Declaration). x.full_name ≡ dotted (component_names f.package_name ++ names_of x.path))
+        f.declarations d (AreHeld.full_names (spelled.held f (origins m f a.known))) listed
         ∙ (ap full-name-of entity
-        ∙ sym (All-contains (λ (x : Declaration). x.full_name ≡ dotted (component_names g.package_name ++ names_of x.path)) g.declarations e (AreHeld.full_names (spelled.held g (origins n g b.known))) its)))
+        ∙ sym (All-contains (λ (x : Declaration). x.full_name
+        ≡ dotted (component_names g.package_name ++ names_of x.path)) g.declarations e
+        (AreHeld.full_names (spelled.held g (origins n g b.known))) its)))
       where
         full-name-of : Entity → List ℕ
         full-name-of (OfFile path) = []

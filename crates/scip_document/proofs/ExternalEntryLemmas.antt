@@ -1,5 +1,6 @@
 -- The entries of declarations of included files that uses in sources name: just those, and no two with one symbol.
-use Rattle.std.proofs.Common.{◌≡◌, ◌∙◌, ◌↔◌, inl, inr, ℕ, ◌+◌, ◌<◌, Bool, true, false, Some, List, [], ◌∷◌, length, refl, sym, ap, subst, arith}
+use Rattle.std.proofs.Common.{◌≡◌, ◌∙◌, ◌↔◌, inl, inr, ℕ, ◌+◌, ◌<◌, Bool, true, false, Some, List, [], ◌∷◌, length}
+use Rattle.std.proofs.Common.{refl, sym, ap, subst, arith}
 use Rattle.std.specs.declared.cmp.Ordering.TheVariants.{Less}
 use Rattle.std.specs.Ordering.{nat_cmp, eq_by_cmp, ordering_then}
 use Rattle.std.specs.List.{slice_get, AllZip, Contains, IsDistinct}
@@ -26,7 +27,8 @@ use Rattle.scip_symbol.specs.Package.{Package, IsPackage}
 use Rattle.scip_document.specs.Chosen.{Chosen, HaveChoices, HasChoice, IsChosen}
 use Rattle.scip_document.specs.Named.{HasDeclaration, declaration_at}
 use Rattle.scip_document.specs.Entries.{declaration_entry, IsKeptEntry, HasExternal}
-use Rattle.scip_document.specs.Tables.ExternalLists.{Pair, pair_cmp, Adds, IsEntryAt, IsEntryOf, IsExternal, NoneIncluded}
+use Rattle.scip_document.specs.Tables.ExternalLists.{Pair, pair_cmp, Adds, IsEntryAt, IsEntryOf, IsExternal}
+use Rattle.scip_document.specs.Tables.ExternalLists.{NoneIncluded}
 use Rattle.scip_document.specs.Indexes.{info_cmp, AreExternals}
 use Rattle.scip_document.proofs.EntryLemmas.{nothing-in, alone-in, first-in, behind-in, at-index}
 use Rattle.scip_document.proofs.PairLemmas.{pairs_total}
@@ -72,41 +74,57 @@ pub record IsThere (files : List File) (file index : ℕ) : Type 0 where
   pub has : HasDeclaration files file index facts declaration
   pub counts : Counts files file
 
-named-there : (files : List File) {source count : ℕ} {name : List ℕ} {part : Entity} (file index : ℕ) → IsSource files source → IsNamed files source name count part
+named-there : (files : List File) {source count : ℕ} {name : List ℕ} {part : Entity} (file index : ℕ)
+    → IsSource files source → IsNamed files source name count part
     → part ≡ link.Declared file index → IsThere files file index
 named-there files file index is (packaged known) same = cc
-named-there files file index is (declared {seen = there} {index = its} {facts = facts} {declaration = declaration} sees has at full) same =
+named-there files file index is
+    (declared {seen = there} {index = its} {facts = facts} {declaration = declaration} sees has at full) same =
     subst (λ n. IsThere files n index) (ap file-of same)
-    (subst (λ n. IsThere files there n) (ap index-of same) (record { facts = facts; declaration = declaration; has = record { has_facts = has; numbered = at }; counts = seen is sees }))
+    (subst (λ n. IsThere files there n) (ap index-of same)
+    (record {
+      facts = facts;
+      declaration = declaration;
+      has = record { has_facts = has; numbered = at };
+      counts = seen is sees;
+    }))
 
 module _ (files : List File) (chosen : Chosen) where
   pub external-there : (count : ℕ) (x : Pair) → IsExternal files chosen count x → IsThere files x.0 x.1
   external-there count x is =
       let used = is.of_source.of_uses.is in
       let part = used.of_parts in
-      named-there files x.0 x.1 is.of_source.is_source (used.is_target.named part.index part.element part.stands) part.is.is
+      named-there files x.0 x.1 is.of_source.is_source
+      (used.is_target.named part.index part.element part.stands) part.is.is
 
-  pub external-chosen : (count : ℕ) (x : Pair) → HaveChoices files chosen → IsExternal files chosen count x → HasChoice chosen x.0 x.1
-  external-chosen count x choices is = let there = external-there count x is in choices x.0 x.1 there.facts there.declaration there.has
+  pub external-chosen : (count : ℕ) (x : Pair) → HaveChoices files chosen → IsExternal files chosen count x
+      → HasChoice chosen x.0 x.1
+  external-chosen count x choices is = let there = external-there count x is in
+      choices x.0 x.1 there.facts there.declaration there.has
 
   pub external-within : (count : ℕ) (x : Pair) → IsExternal files chosen count x → x.0 < length files
-  external-within count x is = let has = (external-there count x is).has.has_facts in slice_get_within files x.0 has.file has.numbered
+  external-within count x is = let has = (external-there count x is).has.has_facts in
+      slice_get_within files x.0 has.file has.numbered
 
-  pub external-index : (count : ℕ) (x : Pair) (facts : Facts) → IsExternal files chosen count x → HasFacts files x.0 facts → x.1 < length facts.declarations
+  pub external-index : (count : ℕ) (x : Pair) (facts : Facts) → IsExternal files chosen count x
+      → HasFacts files x.0 facts → x.1 < length facts.declarations
   external-index count x facts is known =
       let there = external-there count x is in
-      subst (λ (f : Facts). x.1 < length f.declarations) (one_list_of_facts files x.0 there.facts facts there.has.has_facts known)
+      subst (λ (f : Facts). x.1 < length f.declarations)
+      (one_list_of_facts files x.0 there.facts facts there.has.has_facts known)
       (slice_get_within there.facts.declarations x.1 there.declaration there.has.numbered)
 
 -- ---- its entry
 
-one-choice : (chosen : Chosen) (file index : ℕ) (a b : Choice) → IsChosen chosen file index a → IsChosen chosen file index b → a ≡ b
+one-choice : (chosen : Chosen) (file index : ℕ) (a b : Choice) → IsChosen chosen file index a
+    → IsChosen chosen file index b → a ≡ b
 one-choice chosen file index a b x y =
     let lists : x.of_file ≡ y.of_file = same_Some x.of_file y.of_file (sym x.file_is ∙ y.file_is) in
     same_Some a b (sym x.declaration_is ∙ (ap (λ (l : List Choice). slice_get l index) lists ∙ y.declaration_is))
 
 module _ (files : List File) (chosen : Chosen) (id : Package) where
-  pub kept-entry : (count : ℕ) (x : Pair) (facts : Facts) (entry : SymbolInformation) → IsExternal files chosen count x → HasFacts files x.0 facts → IsEntryAt chosen id facts x.0 x.1 entry
+  pub kept-entry : (count : ℕ) (x : Pair) (facts : Facts) (entry : SymbolInformation) → IsExternal files chosen count x
+      → HasFacts files x.0 facts → IsEntryAt chosen id facts x.0 x.1 entry
       → IsKeptEntry files chosen id x.0 x.1 entry
   kept-entry count x facts entry is known made =
       let kept = is.of_source.of_uses.is.of_parts.is.kept in
@@ -116,26 +134,31 @@ module _ (files : List File) (chosen : Chosen) (id : Package) where
         choice = made.choice;
         has = record { has_facts = known; numbered = made.stands };
         is_chosen = made.is_chosen;
-        keeps = subst (λ (c : Choice). c.keep ≡ true) (one-choice chosen x.0 x.1 kept.choice made.choice kept.is_chosen made.is_chosen) kept.keeps;
+        keeps = subst (λ (c : Choice). c.keep ≡ true)
+            (one-choice chosen x.0 x.1 kept.choice made.choice kept.is_chosen made.is_chosen) kept.keeps;
         is = made.is;
       }
 
-  one-entry : (file index : ℕ) (x y : SymbolInformation) → IsKeptEntry files chosen id file index x → IsKeptEntry files chosen id file index y → x ≡ y
+  one-entry : (file index : ℕ) (x y : SymbolInformation) → IsKeptEntry files chosen id file index x
+      → IsKeptEntry files chosen id file index y → x ≡ y
   one-entry file index x y a b =
       let facts : a.facts ≡ b.facts = one_list_of_facts files file a.facts b.facts a.has.has_facts b.has.has_facts in
       let declaration : a.declaration ≡ b.declaration =
-      same_Some a.declaration b.declaration (sym a.has.numbered ∙ (ap (λ (f : Facts). slice_get f.declarations index) facts ∙ b.has.numbered)) in
+      same_Some a.declaration b.declaration
+      (sym a.has.numbered ∙ (ap (λ (f : Facts). slice_get f.declarations index) facts ∙ b.has.numbered)) in
       let choice : a.choice ≡ b.choice = one-choice chosen file index a.choice b.choice a.is_chosen b.is_chosen in
       a.is
       ∙ (ap (λ (f : Facts). declaration_entry id f a.declaration a.choice) facts
-      ∙ (ap (λ (d : Declaration). declaration_entry id b.facts d a.choice) declaration ∙ (ap (λ (c : Choice). declaration_entry id b.facts b.declaration c) choice ∙ sym b.is)))
+      ∙ (ap (λ (d : Declaration). declaration_entry id b.facts d a.choice) declaration
+      ∙ (ap (λ (c : Choice). declaration_entry id b.facts b.declaration c) choice ∙ sym b.is)))
 
   -- ---- the entries are those of such declarations
 
   pair-of : ℕ → ℕ → Pair
   pair-of file index = (file, index)
 
-  external-pair : (entry : SymbolInformation) (has : HasExternal files chosen id entry) → IsExternal files chosen (length files) (has.number, has.index)
+  external-pair : (entry : SymbolInformation) (has : HasExternal files chosen id entry)
+      → IsExternal files chosen (length files) (has.number, has.index)
   external-pair entry has =
       let names = has.names in
       let used = find names.facts.uses names.type_use names.listed in
@@ -157,7 +180,8 @@ module _ (files : List File) (chosen : Chosen) (id : Package) where
               of_parts = record {
                 index = names.index;
                 element = link.Declared has.number has.index;
-                within = slice_get_within names.target.parts names.index (link.Declared has.number has.index) names.part_is;
+                within = slice_get_within names.target.parts names.index
+                    (link.Declared has.number has.index) names.part_is;
                 stands = names.part_is;
                 is = record {
                   is = refl;
@@ -172,13 +196,15 @@ module _ (files : List File) (chosen : Chosen) (id : Package) where
         };
       }
 
-  pair-external : (count : ℕ) (x : Pair) (entry : SymbolInformation) → IsExternal files chosen count x → IsKeptEntry files chosen id x.0 x.1 entry → HasExternal files chosen id entry
+  pair-external : (count : ℕ) (x : Pair) (entry : SymbolInformation) → IsExternal files chosen count x
+      → IsKeptEntry files chosen id x.0 x.1 entry → HasExternal files chosen id entry
   pair-external count x entry is kept =
       let source = is.of_source in
       let used = source.of_uses in
       let target = used.is.target in
       let part = used.is.of_parts in
-      let component = at-index used.element.components part.index (omega (arith, part.within, used.is.is_target.one_each)) in
+      let component = at-index used.element.components part.index
+      (omega (arith, part.within, used.is.is_target.one_each)) in
       record {
         source = is.source;
         is_source = source.is_source;
@@ -215,10 +241,12 @@ module _ (files : List File) (chosen : Chosen) (id : Package) where
       unlike : (x : SymbolInformation) → HasExternal files chosen id x → ⊥
       unlike x has =
           let not = none has.number (slice_get_within files has.number has.file has.numbered) in
-          false≢true (not.2 ∙ (ap (λ (f : File). f.is_included) (same_Some not.0 has.file (sym not.1 ∙ has.numbered)) ∙ has.included))
+          false≢true (not.2 ∙ (ap (λ (f : File). f.is_included) (same_Some not.0 has.file (sym not.1 ∙ has.numbered))
+          ∙ has.included))
 
 -- one file more that isn't included
-pub none-more : (files : List File) (count : ℕ) (included : Bool) → NoneIncluded files count → IsIncludedAt files count included → included ≡ false → NoneIncluded files (count + 1)
+pub none-more : (files : List File) (count : ℕ) (included : Bool) → NoneIncluded files count
+    → IsIncludedAt files count included → included ≡ false → NoneIncluded files (count + 1)
 none-more files count included before here same = λ number less. elim (cases_lt number count) [
   | inl earlier ↦ before number earlier
   | inr last ↦ (
@@ -229,7 +257,8 @@ none-more files count included before here same = λ number less. elim (cases_lt
 -- ---- the list of them
 
 -- those that were added to nothing
-pub all-added : (P : Pair → Type 0) (named once : List Pair) → Adds P [] named → ((x : Pair) → Contains once x ↔ Contains named x) → (x : Pair) → Contains once x ↔ P x
+pub all-added : (P : Pair → Type 0) (named once : List Pair) → Adds P [] named
+    → ((x : Pair) → Contains once x ↔ Contains named x) → (x : Pair) → Contains once x ↔ P x
 all-added P named once adds same = λ x. (
   λ there. elim ((adds x).0 ((same x).0 there)) [ inl none ↦ absurd (nothing-in x none) | inr is ↦ is ],
   λ is. (same x).1 ((adds x).1 (inr is)),
@@ -238,24 +267,29 @@ all-added P named once adds same = λ x. (
 apart-pairs : (p q : Pair) → pair_cmp p q ≡ Less → p.0 ≡ q.0 → p.1 ≡ q.1 → ⊥
 apart-pairs p q less first second =
     not-below pairs_total p
-    (subst (λ n. ordering_then (nat_cmp p.0 n) (nat_cmp p.1 p.1) ≡ Less) (sym first) (subst (λ n. ordering_then (nat_cmp p.0 q.0) (nat_cmp p.1 n) ≡ Less) (sym second) less))
+    (subst (λ n. ordering_then (nat_cmp p.0 n) (nat_cmp p.1 p.1) ≡ Less) (sym first)
+    (subst (λ n. ordering_then (nat_cmp p.0 q.0) (nat_cmp p.1 n) ≡ Less) (sym second) less))
 
 none-tie : IsDistinct (eq_by_cmp info_cmp) []
 unfolding IsDistinct
 none-tie = tt
 
-module _ (files : List File) (origins : HaveOrigins files) (clear : NoClash files) (one_name : OneDeclarationAName) (spelled : AreIdentifiers)
+module _ (files : List File) (origins : HaveOrigins files) (clear : NoClash files) (one_name : OneDeclarationAName)
+    (spelled : AreIdentifiers)
     (symbols : SymbolsNameOne) (unclashed : WithoutClash) (id : Package) (good : IsPackage id) (chosen : Chosen) where
   -- declarations that differ have entries of different symbols
-  symbols-differ : (p q : Pair) (x y : SymbolInformation) → IsThere files p.0 p.1 → IsThere files q.0 q.1 → IsEntryOf files chosen id p x → IsEntryOf files chosen id q y
+  symbols-differ : (p q : Pair) (x y : SymbolInformation) → IsThere files p.0 p.1 → IsThere files q.0 q.1
+      → IsEntryOf files chosen id p x → IsEntryOf files chosen id q y
       → x.symbol ≡ y.symbol → (p.0 ≡ q.0) × (p.1 ≡ q.1)
   symbols-differ p q x y there its a b same =
       one-declared files origins clear one_name spelled symbols unclashed id good p.0 q.0 a.facts b.facts
-      (record { counts = there.counts; known = a.has.has_facts }) (record { counts = its.counts; known = b.has.has_facts })
+      (record { counts = there.counts; known = a.has.has_facts })
+      (record { counts = its.counts; known = b.has.has_facts })
       p.1 q.1 a.declaration b.declaration a.has.numbered b.has.numbered
       (sym (ap (λ (i : SymbolInformation). i.symbol) a.is) ∙ (same ∙ ap (λ (i : SymbolInformation). i.symbol) b.is))
 
-  made-distinct : (pairs : List Pair) (made : List SymbolInformation) → ((x : Pair) → Contains pairs x → IsThere files x.0 x.1) → IsStrictlySortedBy pair_cmp pairs
+  made-distinct : (pairs : List Pair) (made : List SymbolInformation)
+      → ((x : Pair) → Contains pairs x → IsThere files x.0 x.1) → IsStrictlySortedBy pair_cmp pairs
       → AllZip (IsEntryOf files chosen id) pairs made → IsDistinct (eq_by_cmp info_cmp) made
   unfolding IsStrictlySortedBy
   made-distinct [] [] there up all = none-tie
@@ -265,15 +299,19 @@ module _ (files : List File) (origins : HaveOrigins files) (clear : NoClash file
       distinct-cons (eq_by_cmp info_cmp) x xs
       (λ y listed.
       let other = zip-from (IsEntryOf files chosen id) ps xs all.1 y listed in
-      let less = All-contains (λ (q : Pair). pair_cmp p q ≡ Less) ps other.0 (All-from_recursion (λ (q : Pair). pair_cmp p q ≡ Less) ps up.0) other.1 in
+      let less = All-contains (λ (q : Pair). pair_cmp p q ≡ Less) ps other.0
+      (All-from_recursion (λ (q : Pair). pair_cmp p q ≡ Less) ps up.0) other.1 in
       differ x y (λ same.
-      let one = symbols-differ p other.0 x y (there p (first-in p ps)) (there other.0 (behind-in p ps other.0 other.1)) all.0 other.2 same in
+      let one = symbols-differ p other.0 x y (there p (first-in p ps))
+      (there other.0 (behind-in p ps other.0 other.1)) all.0 other.2 same in
       apart-pairs p other.0 less one.0 one.1))
       (made-distinct ps xs (λ q listed. there q (behind-in p ps q listed)) up.1 all.1)
 
   -- the entries of all, in order
-  pub external-list : (pairs : List Pair) → ((x : Pair) → Contains pairs x ↔ IsExternal files chosen (length files) x) → IsStrictlySortedBy pair_cmp pairs
-      → (made list : List SymbolInformation) → AllZip (IsEntryOf files chosen id) pairs made → IsPermutation made list → IsSorted info_cmp list → AreExternals files chosen id list
+  pub external-list : (pairs : List Pair) → ((x : Pair) → Contains pairs x ↔ IsExternal files chosen (length files) x)
+      → IsStrictlySortedBy pair_cmp pairs
+      → (made list : List SymbolInformation) → AllZip (IsEntryOf files chosen id) pairs made → IsPermutation made list
+      → IsSorted info_cmp list → AreExternals files chosen id list
   external-list pairs exact up made list all moved sorted =
       ascending-list infos_total (HasExternal files chosen id) made list
       (λ x. (
@@ -282,7 +320,9 @@ module _ (files : List File) (origins : HaveOrigins files) (clear : NoClash file
             pair-external files chosen id (length files) of.0 x ((exact of.0).0 of.1) of.2),
         λ has. (
             let p : Pair = (has.number, has.index) in
-            let of = zip-to (IsEntryOf files chosen id) pairs made all p ((exact p).1 (external-pair files chosen id x has)) in
+            let of = zip-to (IsEntryOf files chosen id) pairs made all p
+            ((exact p).1 (external-pair files chosen id x has)) in
             subst (Contains made) (one-entry files chosen id has.number has.index of.0 x of.2 has.kept) of.1),
       ))
-      (made-distinct pairs made (λ x there. external-there files chosen (length files) x ((exact x).0 there)) up all) moved sorted
+      (made-distinct pairs made (λ x there. external-there files chosen (length files) x ((exact x).0 there)) up all)
+      moved sorted

@@ -1,5 +1,6 @@
 -- The uses of a source that name no type, and what follows where there are none.
-use Rattle.std.proofs.Common.{◌≡◌, sym, ap, refl, subst, ℕ, zero, suc, ◌+◌, Option, Some, None, List, [], ◌∷◌, ◌++◌, arith}
+use Rattle.std.proofs.Common.{◌≡◌, sym, ap, refl, subst, ℕ, zero, suc, ◌+◌, Option, Some, None, List, [], ◌∷◌, ◌++◌}
+use Rattle.std.proofs.Common.{arith}
 use Rattle.std.specs.List.{All, AllZip, Contains, slice_get}
 use Rattle.std.proofs.lemmas.List.Elements.{All-nil, All-cons, All-contains}
 use Rattle.proto_lex.specs.declared.span.Span.{Span}
@@ -26,7 +27,8 @@ some : {X : Type 0} (a b : X) → Some a ≡ Some b → a ≡ b
 some a b e = cc
 
 -- the first of a list that lacks something
-pub record IsFirstLacking {X : Type 0} (Has Lacks : X → Type 0) (span_of : X → Span) (xs : List X) (span : Span) : Type 0 where
+pub record IsFirstLacking {X : Type 0} (Has Lacks : X → Type 0) (span_of : X → Span) (xs : List X)
+    (span : Span) : Type 0 where
   pub before : List X
   pub item : X
   pub behind : List X
@@ -36,12 +38,14 @@ pub record IsFirstLacking {X : Type 0} (Has Lacks : X → Type 0) (span_of : X �
   pub place : span_of item ≡ span
 
 module _ {X : Type 0} (Has Lacks : X → Type 0) (span_of : X → Span) where
-  pub none_lacking : (xs : List X) (spans : List Span) → AreLacking Has Lacks span_of xs spans → slice_get spans 0 ≡ None → All Has xs
+  pub none_lacking : (xs : List X) (spans : List Span) → AreLacking Has Lacks span_of xs spans
+      → slice_get spans 0 ≡ None → All Has xs
   none_lacking _ _ at_end e = All-nil Has
   none_lacking _ _ (has {x = x} {xs = xs} {spans = spans} h more) e = All-cons Has x xs h (none_lacking xs spans more e)
   none_lacking _ _ (lacks h more) e = absurd (some_is_none e)
 
-  pub first_lacking : (xs : List X) (spans : List Span) (span : Span) → AreLacking Has Lacks span_of xs spans → slice_get spans 0 ≡ Some span
+  pub first_lacking : (xs : List X) (spans : List Span) (span : Span) → AreLacking Has Lacks span_of xs spans
+      → slice_get spans 0 ≡ Some span
       → IsFirstLacking Has Lacks span_of xs span
   first_lacking _ _ span at_end e = absurd (none_is_some e)
   first_lacking _ _ span (has {x = x} {xs = xs} {spans = spans} h more) e =
@@ -75,24 +79,30 @@ module _ (files : List File) (source : ℕ) where
     at : slice_get found index ≡ Some its
     is : IsFound files source type_use its
 
-  one_more : (found : List (Option Target)) (index : ℕ) (type_use : Use) (others : List Use) (rest : List Span) (its : Option Target) → slice_get found index ≡ Some its → IsFound files source type_use its
+  one_more : (found : List (Option Target)) (index : ℕ) (type_use : Use) (others : List Use) (rest : List Span)
+      (its : Option Target) → slice_get found index ≡ Some its → IsFound files source type_use its
       → Lacking others rest → Lacking (type_use ∷ others) (gap_at found index type_use ++ rest)
   one_more found index type_use others rest None at is more =
-      subst (λ (o : Option (Option Target)). Lacking (type_use ∷ others) (unless_found (found_at o) type_use.span ++ rest)) (sym at) (lacks is more)
+      subst (λ (o : Option (Option Target)). Lacking (type_use ∷ others)
+      (unless_found (found_at o) type_use.span ++ rest)) (sym at) (lacks is more)
   one_more found index type_use others rest (Some target) at is more =
-      subst (λ (o : Option (Option Target)). Lacking (type_use ∷ others) (unless_found (found_at o) type_use.span ++ rest)) (sym at) (has (target.name, is.resolves) more)
+      subst (λ (o : Option (Option Target)). Lacking (type_use ∷ others)
+      (unless_found (found_at o) type_use.span ++ rest)) (sym at) (has (target.name, is.resolves) more)
 
-  lacking_from : (found : List (Option Target)) (index : ℕ) (uses : List Use) → ((k : ℕ) (type_use : Use) → slice_get uses k ≡ Some type_use → HasFound found (index + k) type_use)
+  lacking_from : (found : List (Option Target)) (index : ℕ) (uses : List Use)
+      → ((k : ℕ) (type_use : Use) → slice_get uses k ≡ Some type_use → HasFound found (index + k) type_use)
       → Lacking uses (each_from (gap_at found) index uses)
   lacking_from found index [] each = at_end
   lacking_from found index (u ∷ us) each =
       let here : index + 0 ≡ index = omega arith in
       let its = subst (λ (n : ℕ). HasFound found n u) here (each zero u refl) in
       let next : (k : ℕ) → index + suc k ≡ index + 1 + k = λ k. omega arith in
-      let others = lacking_from found (index + 1) us (λ k type_use e. subst (λ (n : ℕ). HasFound found n type_use) (next k) (each (suc k) type_use e)) in
+      let others = lacking_from found (index + 1) us
+      (λ k type_use e. subst (λ (n : ℕ). HasFound found n type_use) (next k) (each (suc k) type_use e)) in
       one_more found index u us (each_from (gap_at found) (index + 1) us) its.its its.at its.is others
 
-  pub gaps_of : (facts : Facts) (found : List (Option Target)) → HasFacts files source facts → AllZip (IsFound files source) facts.uses found → AreGaps files source (each_from (gap_at found) 0 facts.uses)
+  pub gaps_of : (facts : Facts) (found : List (Option Target)) → HasFacts files source facts
+      → AllZip (IsFound files source) facts.uses found → AreGaps files source (each_from (gap_at found) 0 facts.uses)
   gaps_of facts found known all = record {
     facts = facts;
     known = known;
@@ -106,15 +116,21 @@ module _ (files : List File) (source : ℕ) where
           let its : HasFound found k type_use = record { its = there.0; at = there.1; is = there.2 } in
           subst (λ (n : ℕ). HasFound found n type_use) here its
 
-  pub all_resolve : (spans : List Span) → AreGaps files source spans → slice_get spans 0 ≡ None → UsesResolve files source
+  pub all_resolve : (spans : List Span) → AreGaps files source spans → slice_get spans 0 ≡ None
+      → UsesResolve files source
   all_resolve spans gaps none other type_use known listed =
-      let there : Contains gaps.facts.uses type_use = subst (λ (f : Facts). Contains f.uses type_use) (same_facts files source other gaps.facts known gaps.known) listed in
+      let there : Contains gaps.facts.uses type_use =
+      subst (λ (f : Facts). Contains f.uses type_use)
+      (same_facts files source other gaps.facts known gaps.known) listed in
       All-contains (IsResolved files source) gaps.facts.uses type_use
-      (none_lacking (IsResolved files source) (IsUnresolved files source) (λ (u : Use). u.span) gaps.facts.uses spans gaps.uses_are none) there
+      (none_lacking (IsResolved files source) (IsUnresolved files source)
+      (λ (u : Use). u.span) gaps.facts.uses spans gaps.uses_are none) there
 
-  pub first_unresolved : (spans : List Span) (span : Span) → AreGaps files source spans → slice_get spans 0 ≡ Some span → IsFirstUnresolved files source span
+  pub first_unresolved : (spans : List Span) (span : Span) → AreGaps files source spans → slice_get spans 0 ≡ Some span
+      → IsFirstUnresolved files source span
   first_unresolved spans span gaps at =
-      let first = first_lacking (IsResolved files source) (IsUnresolved files source) (λ (u : Use). u.span) gaps.facts.uses spans span gaps.uses_are at in
+      let first = first_lacking (IsResolved files source) (IsUnresolved files source)
+      (λ (u : Use). u.span) gaps.facts.uses spans span gaps.uses_are at in
       record {
         facts = gaps.facts;
         known = gaps.known;

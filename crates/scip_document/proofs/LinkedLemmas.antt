@@ -12,12 +12,14 @@ pub source-counts : (files : List File) (source : ℕ) → IsSource files source
 source-counts files source is = seen is itself
 
 -- a file that counts has facts
-pub counted-facts : (files : List File) (number : ℕ) (file : File) → NoneBroken files → Counts files number → slice_get files number ≡ Some file → (facts : Facts) × HasFacts files number facts
+pub counted-facts : (files : List File) (number : ℕ) (file : File) → NoneBroken files → Counts files number
+    → slice_get files number ≡ Some file → (facts : Facts) × HasFacts files number facts
 counted-facts files number file read counts at = by file.facts refl
   where
     by : (o : Option Facts) → file.facts ≡ o → (facts : Facts) × HasFacts files number facts
     by None none = absurd (read number (record { file = file; counts = counts; numbered = at; unread = none }))
     by (Some facts) some = (facts, record { file = file; numbered = at; known = some })
 
-pub source-facts : (files : List File) (source : ℕ) → NoneBroken files → IsSource files source → (facts : Facts) × HasFacts files source facts
+pub source-facts : (files : List File) (source : ℕ) → NoneBroken files → IsSource files source
+    → (facts : Facts) × HasFacts files source facts
 source-facts files source read is = counted-facts files source is.file read (source-counts files source is) is.numbered

@@ -1,5 +1,6 @@
 -- Merging two ascending lists.
-use Rattle.std.proofs.Common.{◌≡◌, ◌∙◌, sym, ap, refl, subst, ◌⊎◌, ◌↔◌, inl, inr, ◌+◌, ◌<◌, Option, Some, None, List, [], ◌∷◌, ◌++◌, length, arith}
+use Rattle.std.proofs.Common.{◌≡◌, ◌∙◌, sym, ap, refl, subst, ◌⊎◌, ◌↔◌, inl, inr, ◌+◌, ◌<◌, Option, Some, None, List}
+use Rattle.std.proofs.Common.{[], ◌∷◌, ◌++◌, length, arith}
 use Rattle.std.specs.List.{AllByRecursion, Contains}
 use Rattle.std.specs.declared.cmp.Ordering.{Ordering}
 use Rattle.std.specs.declared.cmp.Ordering.TheVariants.{Less, Equal, Greater}
@@ -7,7 +8,8 @@ use Rattle.std.specs.Cmp.{IsTotalOrder}
 use Rattle.std.specs.Ordering.{ordering_reverse}
 use Rattle.std.specs.List.Sorted.{IsStrictlySortedBy}
 use Rattle.std.proofs.lemmas.List.{append_assoc, append-nil}
-use Rattle.std.proofs.lemmas.List.Elements.{Contains-append_left, Contains-append_right, Contains-append_cases, Contains-push, Contains-push_cases}
+use Rattle.std.proofs.lemmas.List.Elements.{Contains-append_left, Contains-append_right, Contains-append_cases}
+use Rattle.std.proofs.lemmas.List.Elements.{Contains-push, Contains-push_cases}
 use Rattle.std.proofs.lemmas.Map.Keys.{sorted_head}
 use Rattle.scip_document.specs.Tables.Merges.{IsMerged, AreUntied, fronts_cmp, TakesLeast}
 
@@ -22,14 +24,16 @@ either f g (inl a) = f a
 either f g (inr b) = g b
 
 -- both lists become shorter
-pub takes_one : {X : Type 0} (cmp : X → X → Ordering) (a b a_left b_left : List X) (next : Option X) (z : X) → TakesLeast (fronts_cmp cmp a b) a b next a_left b_left → next ≡ Some z
+pub takes_one : {X : Type 0} (cmp : X → X → Ordering) (a b a_left b_left : List X) (next : Option X) (z : X)
+    → TakesLeast (fronts_cmp cmp a b) a b next a_left b_left → next ≡ Some z
     → length a_left + length b_left < length a + length b
 takes_one cmp [] [] a_left b_left next z t e = absurd (none_is_some (sym t.0 ∙ e))
 takes_one cmp [] (y ∷ ys) a_left b_left next z t e = omega (arith, ap length t.1, ap length t.2)
 takes_one cmp (x ∷ xs) [] a_left b_left next z t e = omega (arith, ap length t.1, ap length t.2)
 takes_one cmp (x ∷ xs) (y ∷ ys) a_left b_left next z t e = by (cmp x y) t
   where
-    by : (o : Ordering) → TakesLeast o (x ∷ xs) (y ∷ ys) next a_left b_left → length a_left + length b_left < length (x ∷ xs) + length (y ∷ ys)
+    by : (o : Ordering) → TakesLeast o (x ∷ xs) (y ∷ ys) next a_left b_left
+        → length a_left + length b_left < length (x ∷ xs) + length (y ∷ ys)
     by Less u = omega (arith, ap length u.1, ap length u.2)
     by Equal u = omega (arith, ap length u.1, ap length u.2)
     by Greater u = omega (arith, ap length u.1, ap length u.2)
@@ -49,7 +53,9 @@ module _ {X : Type 0} where
   not_in_none x h = omega (arith, h.1)
 
   pub head_or_tail : (x z : X) (zs : List X) → Contains (z ∷ zs) x → (z ≡ x) ⊎ Contains zs x
-  head_or_tail x z zs h = either (λ one. either (λ none. absurd (not_in_none x none)) inl (Contains-push_cases [] z x one)) inr (Contains-append_cases (z ∷ []) zs x h)
+  head_or_tail x z zs h = either
+      (λ one. either (λ none. absurd (not_in_none x none)) inl (Contains-push_cases [] z x one)) inr
+      (Contains-append_cases (z ∷ []) zs x h)
 
   swap3 : (x : X) (t a b : List X) → In3 x t a b → In3 x t b a
   swap3 x t a b (inl h) = inl h
@@ -58,7 +64,9 @@ module _ {X : Type 0} where
 
   give3 : (x z : X) (t a b : List X) → In3 x t (z ∷ a) b → In3 x (t ++ z ∷ []) a b
   give3 x z t a b (inl h) = inl (Contains-append_left t (z ∷ []) x h)
-  give3 x z t a b (inr (inl h)) = either (λ e. inl (Contains-append_right t (z ∷ []) x (at_head x z [] e))) (λ tail. inr (inl tail)) (head_or_tail x z a h)
+  give3 x z t a b (inr (inl h)) =
+      either (λ e. inl (Contains-append_right t (z ∷ []) x (at_head x z [] e))) (λ tail. inr (inl tail))
+      (head_or_tail x z a h)
   give3 x z t a b (inr (inr h)) = inr (inr h)
 
   back3 : (x z : X) (t a b : List X) → In3 x (t ++ z ∷ []) a b → In3 x t (z ∷ a) b
@@ -69,7 +77,9 @@ module _ {X : Type 0} where
   drop3 : (x z y : X) (t a b : List X) → z ≡ y → In3 x (t ++ z ∷ []) a (y ∷ b) → In3 x (t ++ z ∷ []) a b
   drop3 x z y t a b same (inl h) = inl h
   drop3 x z y t a b same (inr (inl h)) = inr (inl h)
-  drop3 x z y t a b same (inr (inr h)) = either (λ e. inl (Contains-append_right t (z ∷ []) x (at_head x z [] (same ∙ e)))) (λ tail. inr (inr tail)) (head_or_tail x y b h)
+  drop3 x z y t a b same (inr (inr h)) =
+      either (λ e. inl (Contains-append_right t (z ∷ []) x (at_head x z [] (same ∙ e)))) (λ tail. inr (inr tail))
+      (head_or_tail x y b h)
 
   keep3 : (x y : X) (t a b : List X) → In3 x t a b → In3 x t a (y ∷ b)
   keep3 x y t a b (inl h) = inl h
@@ -88,11 +98,13 @@ module _ {X : Type 0} (cmp : X → X → Ordering) where
   suffix [] ys s = s
   suffix (o ∷ out) ys s = suffix out ys s.1
 
-  insert_below : (o : X) (out : List X) (x : X) (xs ys : List X) → Below o (out ++ x ∷ xs) → Below o (out ++ ys) → Below o (out ++ x ∷ ys)
+  insert_below : (o : X) (out : List X) (x : X) (xs ys : List X) → Below o (out ++ x ∷ xs) → Below o (out ++ ys)
+      → Below o (out ++ x ∷ ys)
   insert_below o [] x xs ys a b = (a.0, b)
   insert_below o (p ∷ out) x xs ys a b = (a.0, insert_below o out x xs ys a.1 b.1)
 
-  insert : (out : List X) (x : X) (xs ys : List X) → Sorted (out ++ x ∷ xs) → Sorted (out ++ ys) → Below x ys → Sorted (out ++ x ∷ ys)
+  insert : (out : List X) (x : X) (xs ys : List X) → Sorted (out ++ x ∷ xs) → Sorted (out ++ ys) → Below x ys
+      → Sorted (out ++ x ∷ ys)
   unfolding IsStrictlySortedBy
   insert [] x xs ys a b below = (below, b)
   insert (o ∷ out) x xs ys a b below = (insert_below o out x xs ys a.0 b.0, insert out x xs ys a.1 b.1 below)
@@ -100,7 +112,8 @@ module _ {X : Type 0} (cmp : X → X → Ordering) where
   -- what is kept while the lists are merged
   pub record IsMerging (first second taken first_left second_left : List X) : Type 0 where
     pub all : (x : X) → In3 x taken first_left second_left ↔ (Contains first x ⊎ Contains second x)
-    pub ascends : IsStrictlySortedBy cmp first → IsStrictlySortedBy cmp second → IsStrictlySortedBy cmp (taken ++ first_left) × IsStrictlySortedBy cmp (taken ++ second_left)
+    pub ascends : IsStrictlySortedBy cmp first → IsStrictlySortedBy cmp second
+        → IsStrictlySortedBy cmp (taken ++ first_left) × IsStrictlySortedBy cmp (taken ++ second_left)
     pub of_first : (x : X) → Contains first_left x → Contains first x
     pub of_second : (x : X) → Contains second_left x → Contains second x
 
@@ -112,32 +125,47 @@ module _ {X : Type 0} (cmp : X → X → Ordering) where
     of_second = λ x h. h;
   }
 
-  step_first : (f s t : List X) (z : X) (a b : List X) → IsMerging f s t (z ∷ a) b → (Sorted b → Below z b) → IsMerging f s (t ++ z ∷ []) a b
+  step_first : (f s t : List X) (z : X) (a b : List X) → IsMerging f s t (z ∷ a) b → (Sorted b → Below z b)
+      → IsMerging f s (t ++ z ∷ []) a b
   step_first f s t z a b m below = record {
     all = λ x. (λ h. (m.all x).0 (back3 x z t a b h), λ h. give3 x z t a b ((m.all x).1 h));
     ascends = λ p q.
-        let both = m.ascends p q in
-        (subst Sorted (sym (append_assoc t (z ∷ []) a)) both.0, subst Sorted (sym (append_assoc t (z ∷ []) b)) (insert t z a b both.0 both.1 (below (suffix t b both.1))));
+        let both = m.ascends p q in (
+          subst Sorted (sym (append_assoc t (z ∷ []) a)) both.0,
+          subst Sorted (sym (append_assoc t (z ∷ []) b)) (insert t z a b both.0 both.1 (below (suffix t b both.1))),
+        );
     of_first = λ x h. m.of_first x (in_tail x z a h);
     of_second = m.of_second;
   }
 
-  step_second : (f s t : List X) (z : X) (a b : List X) → IsMerging f s t a (z ∷ b) → (Sorted a → Below z a) → IsMerging f s (t ++ z ∷ []) a b
+  step_second : (f s t : List X) (z : X) (a b : List X) → IsMerging f s t a (z ∷ b) → (Sorted a → Below z a)
+      → IsMerging f s (t ++ z ∷ []) a b
   step_second f s t z a b m below = record {
-    all = λ x. (λ h. (m.all x).0 (swap3 x t (z ∷ b) a (back3 x z t b a (swap3 x (t ++ z ∷ []) a b h))), λ h. swap3 x (t ++ z ∷ []) b a (give3 x z t b a (swap3 x t a (z ∷ b) ((m.all x).1 h))));
+    all = λ x. (
+      λ h. (m.all x).0 (swap3 x t (z ∷ b) a (back3 x z t b a (swap3 x (t ++ z ∷ []) a b h))),
+      λ h. swap3 x (t ++ z ∷ []) b a (give3 x z t b a (swap3 x t a (z ∷ b) ((m.all x).1 h))),
+    );
     ascends = λ p q.
-        let both = m.ascends p q in
-        (subst Sorted (sym (append_assoc t (z ∷ []) a)) (insert t z b a both.1 both.0 (below (suffix t a both.0))), subst Sorted (sym (append_assoc t (z ∷ []) b)) both.1);
+        let both = m.ascends p q in (
+          subst Sorted (sym (append_assoc t (z ∷ []) a)) (insert t z b a both.1 both.0 (below (suffix t a both.0))),
+          subst Sorted (sym (append_assoc t (z ∷ []) b)) both.1,
+        );
     of_first = m.of_first;
     of_second = λ x h. m.of_second x (in_tail x z b h);
   }
 
-  step_both : (f s t : List X) (z y : X) (a b : List X) → IsMerging f s t (z ∷ a) (y ∷ b) → z ≡ y → IsMerging f s (t ++ z ∷ []) a b
+  step_both : (f s t : List X) (z y : X) (a b : List X) → IsMerging f s t (z ∷ a) (y ∷ b) → z ≡ y
+      → IsMerging f s (t ++ z ∷ []) a b
   step_both f s t z y a b m same = record {
-    all = λ x. (λ h. (m.all x).0 (back3 x z t a (y ∷ b) (keep3 x y (t ++ z ∷ []) a b h)), λ h. drop3 x z y t a b same (give3 x z t a (y ∷ b) ((m.all x).1 h)));
+    all = λ x. (
+      λ h. (m.all x).0 (back3 x z t a (y ∷ b) (keep3 x y (t ++ z ∷ []) a b h)),
+      λ h. drop3 x z y t a b same (give3 x z t a (y ∷ b) ((m.all x).1 h)),
+    );
     ascends = λ p q.
-        let both = m.ascends p q in
-        (subst Sorted (sym (append_assoc t (z ∷ []) a)) both.0, subst Sorted (sym (append_assoc t (z ∷ []) b)) (subst (λ (w : X). Sorted (t ++ w ∷ b)) (sym same) both.1));
+        let both = m.ascends p q in (
+          subst Sorted (sym (append_assoc t (z ∷ []) a)) both.0,
+          subst Sorted (sym (append_assoc t (z ∷ []) b)) (subst (λ (w : X). Sorted (t ++ w ∷ b)) (sym same) both.1),
+        );
     of_first = λ x h. m.of_first x (in_tail x z a h);
     of_second = λ x h. m.of_second x (in_tail x y b h);
   }
@@ -150,25 +178,37 @@ module _ {X : Type 0} (cmp : X → X → Ordering) where
     below_all : (x y : X) (ys : List X) → cmp x y ≡ Less → Sorted (y ∷ ys) → Below x (y ∷ ys)
     below_all x y ys less s = (less, all_below x y ys less (sorted_head cmp y ys s))
 
-    pub step : (f s t a b a_left b_left : List X) (next : Option X) (z : X) → TakesLeast (fronts_cmp cmp a b) a b next a_left b_left → next ≡ Some z
+    pub step : (f s t a b a_left b_left : List X) (next : Option X) (z : X)
+        → TakesLeast (fronts_cmp cmp a b) a b next a_left b_left → next ≡ Some z
         → AreUntied cmp f s → IsMerging f s t a b → IsMerging f s (t ++ z ∷ []) a_left b_left
     step f s t [] [] a_left b_left next z k e untied m = absurd (none_is_some (sym k.0 ∙ e))
-    step f s t [] (y ∷ ys) a_left b_left next z k e untied m = rw (same_some (sym e ∙ k.0), k.1, k.2) (step_second f s t y [] ys m (λ _. tt))
-    step f s t (x ∷ xs) [] a_left b_left next z k e untied m = rw (same_some (sym e ∙ k.0), k.1, k.2) (step_first f s t x xs [] m (λ _. tt))
+    step f s t [] (y ∷ ys) a_left b_left next z k e untied m =
+        rw (same_some (sym e ∙ k.0), k.1, k.2) (step_second f s t y [] ys m (λ _. tt))
+    step f s t (x ∷ xs) [] a_left b_left next z k e untied m =
+        rw (same_some (sym e ∙ k.0), k.1, k.2) (step_first f s t x xs [] m (λ _. tt))
     step f s t (x ∷ xs) (y ∷ ys) a_left b_left next z k e untied m = by (cmp x y) refl k
       where
-        by : (o : Ordering) → cmp x y ≡ o → TakesLeast o (x ∷ xs) (y ∷ ys) next a_left b_left → IsMerging f s (t ++ z ∷ []) a_left b_left
+        by : (o : Ordering) → cmp x y ≡ o → TakesLeast o (x ∷ xs) (y ∷ ys) next a_left b_left
+            → IsMerging f s (t ++ z ∷ []) a_left b_left
         by Less h u = rw (same_some (sym e ∙ u.0), u.1, u.2) (step_first f s t x xs (y ∷ ys) m (below_all x y ys h))
-        by Equal h u = rw (same_some (sym e ∙ u.0), u.1, u.2) (step_both f s t x y xs ys m (untied x y (m.of_first x (at_head x x xs refl)) (m.of_second y (at_head y y ys refl)) h))
-        by Greater h u = rw (same_some (sym e ∙ u.0), u.1, u.2) (step_second f s t y (x ∷ xs) ys m (below_all y x xs (order.antisymm y x ∙ ap ordering_reverse h)))
+        by Equal h u = rw (same_some (sym e ∙ u.0), u.1, u.2)
+            (step_both f s t x y xs ys m
+            (untied x y (m.of_first x (at_head x x xs refl)) (m.of_second y (at_head y y ys refl)) h))
+        by Greater h u = rw (same_some (sym e ∙ u.0), u.1, u.2)
+            (step_second f s t y (x ∷ xs) ys m (below_all y x xs (order.antisymm y x ∙ ap ordering_reverse h)))
 
   all_taken : (f s t : List X) → IsMerging f s t [] [] → IsMerged cmp f s t
   all_taken f s t m = record {
-    all = λ x. (λ h. (m.all x).0 (inl h), λ h. either (λ taken. taken) (either (λ none. absurd (not_in_none x none)) (λ none. absurd (not_in_none x none))) ((m.all x).1 h));
+    all = λ x. (
+      λ h. (m.all x).0 (inl h),
+      λ h. either (λ taken. taken)
+          (either (λ none. absurd (not_in_none x none)) (λ none. absurd (not_in_none x none))) ((m.all x).1 h),
+    );
     ascends = λ p q. subst Sorted (append-nil t) (m.ascends p q).0;
   }
 
-  pub ends : (f s t a b a_left b_left : List X) (next : Option X) → TakesLeast (fronts_cmp cmp a b) a b next a_left b_left → next ≡ None → IsMerging f s t a b → IsMerged cmp f s t
+  pub ends : (f s t a b a_left b_left : List X) (next : Option X)
+      → TakesLeast (fronts_cmp cmp a b) a b next a_left b_left → next ≡ None → IsMerging f s t a b → IsMerged cmp f s t
   ends f s t [] [] a_left b_left next k e m = all_taken f s t m
   ends f s t [] (y ∷ ys) a_left b_left next k e m = absurd (none_is_some (sym e ∙ k.0))
   ends f s t (x ∷ xs) [] a_left b_left next k e m = absurd (none_is_some (sym e ∙ k.0))

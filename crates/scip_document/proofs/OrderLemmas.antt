@@ -32,5 +32,11 @@ tied x y e =
     let start_column = exact_unsigned x.range.start_column y.range.start_column second.0 in
     let end_line = exact_unsigned x.range.end_line y.range.end_line third.0 in
     let end_column = exact_unsigned x.range.end_column y.range.end_column fourth.0 in
-    let range : x.range ≡ y.range = λ i. record { start_line = start_line i; start_column = start_column i; end_line = end_line i; end_column = end_column i } in
+    let range : x.range ≡ y.range =
+    λ i. record {
+      start_line = start_line i;
+      start_column = start_column i;
+      end_line = end_line i;
+      end_column = end_column i;
+    } in
     (range, exact_bytes x.symbol y.symbol fourth.1)

@@ -21,7 +21,9 @@ is_eq-then Greater s = refl
 
 pub ties : (x y : Pair) → same x y ≡ eq_by_cmp pair_cmp x y
 ties x y =
-    ap (λ (t : Bool). t && (x.1 == y.1)) (unsigned_ties x.0 y.0) ∙ (ap (λ (t : Bool). is_eq (nat_cmp x.0 y.0) && t) (unsigned_ties x.1 y.1) ∙ sym (is_eq-then (nat_cmp x.0 y.0) (nat_cmp x.1 y.1)))
+    ap (λ (t : Bool). t && (x.1 == y.1)) (unsigned_ties x.0 y.0)
+    ∙ (ap (λ (t : Bool). is_eq (nat_cmp x.0 y.0) && t) (unsigned_ties x.1 y.1)
+    ∙ sym (is_eq-then (nat_cmp x.0 y.0) (nat_cmp x.1 y.1)))
 
 pub equivalence : IsEquivalence same
 equivalence =

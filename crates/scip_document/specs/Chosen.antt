@@ -23,7 +23,8 @@ HasChoice chosen file declaration = (choice : Choice) × IsChosen chosen file de
 
 -- each declaration of the files has one
 abbrev pub HaveChoices : List File → Chosen → Type 0
-HaveChoices files chosen = (file index : ℕ) (facts : Facts) (declared : Declaration) → HasDeclaration files file index facts declared → HasChoice chosen file index
+HaveChoices files chosen = (file index : ℕ) (facts : Facts) (declared : Declaration)
+    → HasDeclaration files file index facts declared → HasChoice chosen file index
 
 -- the declaration is kept
 pub record IsKept (chosen : Chosen) (file declaration : ℕ) : Type 0 where

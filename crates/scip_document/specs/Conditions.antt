@@ -19,7 +19,8 @@ IsResolved files file type_use = (name : List ℕ) × Resolves files file type_u
 
 -- each use of each source does
 abbrev pub AllResolve : List File → Type 0
-AllResolve files = (source : ℕ) (facts : Facts) (type_use : Use) → IsSource files source → HasFacts files source facts → Contains facts.uses type_use → IsResolved files source type_use
+AllResolve files = (source : ℕ) (facts : Facts) (type_use : Use) → IsSource files source → HasFacts files source facts
+    → Contains facts.uses type_use → IsResolved files source type_use
 
 -- The first use of a file that names no type, and where it stands: uses are in order of place.
 pub record IsFirstUnresolved (files : List File) (file : ℕ) (span : Span) : Type 0 where

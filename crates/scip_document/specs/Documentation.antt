@@ -9,7 +9,8 @@ abbrev pub unless_empty : List ℕ → List (List ℕ)
 unless_empty [] = []
 unless_empty (byte ∷ others) = (byte ∷ others) ∷ []
 
--- the texts that document a declaration (`scip.proto`, SymbolInformation.documentation; which they are is the profile's)
+-- the texts that document a declaration (`scip.proto`, SymbolInformation.documentation; which they are is the
+-- profile's)
 abbrev pub documentation_of : DocChoice → Declaration → List (List ℕ)
 documentation_of Pass declaration = []
 documentation_of Nothing declaration = []

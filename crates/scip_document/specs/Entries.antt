@@ -1,4 +1,5 @@
--- The symbol entries of the document of a source, and those of included files (`scip.proto`, SymbolInformation; which symbols have
+-- The symbol entries of the document of a source, and those of included files (`scip.proto`, SymbolInformation; which
+-- symbols have
 -- one, and the names that they are shown by, is the profile's).
 use Rattle.std.specs.Prelude.{◌≡◌, ℕ, ◌+◌, true, Some, List, []}
 use Rattle.std.specs.List.{slice_get}
@@ -39,7 +40,8 @@ declaration_entry id facts declared choice = record {
 }
 
 -- the entry of a declaration that is kept, by its file's number and its own
-pub record IsKeptEntry (files : List File) (chosen : Chosen) (id : Package) (file index : ℕ) (entry : SymbolInformation) : Type 0 where
+pub record IsKeptEntry (files : List File) (chosen : Chosen) (id : Package) (file index : ℕ)
+    (entry : SymbolInformation) : Type 0 where
   pub facts : Facts
   pub declaration : Declaration
   pub choice : Choice
@@ -50,12 +52,16 @@ pub record IsKeptEntry (files : List File) (chosen : Chosen) (id : Package) (fil
 
 -- The entries of a source: the file, each component of its package's name, and each declaration that is kept.
 pub data HasEntry (files : List File) (chosen : Chosen) (id : Package) (source : ℕ) : SymbolInformation → Type 0 where
-  of_file : {file : File} → slice_get files source ≡ Some file → HasEntry files chosen id source (file_entry id file.path)
-  of_package : {facts : Facts} (index : ℕ) {component : Component} → HasFacts files source facts → slice_get facts.package_name index ≡ Some component
+  of_file : {file : File} → slice_get files source ≡ Some file
+      → HasEntry files chosen id source (file_entry id file.path)
+  of_package : {facts : Facts} (index : ℕ) {component : Component} → HasFacts files source facts
+      → slice_get facts.package_name index ≡ Some component
       → HasEntry files chosen id source (package_entry id facts (index + 1))
-  of_declaration : (index : ℕ) {entry : SymbolInformation} → IsKeptEntry files chosen id source index entry → HasEntry files chosen id source entry
+  of_declaration : (index : ℕ) {entry : SymbolInformation} → IsKeptEntry files chosen id source index entry
+      → HasEntry files chosen id source entry
 
--- The external entries (`scip.proto`, Index.external_symbols): each declaration of an included file that is kept, and that a component
+-- The external entries (`scip.proto`, Index.external_symbols): each declaration of an included file that is kept, and
+-- that a component
 -- of a use in a source names.
 pub record HasExternal (files : List File) (chosen : Chosen) (id : Package) (entry : SymbolInformation) : Type 0 where
   pub source : ℕ

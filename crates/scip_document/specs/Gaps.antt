@@ -24,4 +24,5 @@ pub data AreLacking {X : Type 0} (Has Lacks : X → Type 0) (span_of : X → Spa
 pub record AreGaps (files : List File) (source : ℕ) (spans : List Span) : Type 0 where
   pub facts : Facts
   pub known : HasFacts files source facts
-  pub uses_are : AreLacking (IsResolved files source) (IsUnresolved files source) (λ type_use. type_use.span) facts.uses spans
+  pub uses_are : AreLacking (IsResolved files source) (IsUnresolved files source)
+      (λ type_use. type_use.span) facts.uses spans

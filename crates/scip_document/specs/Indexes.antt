@@ -1,4 +1,5 @@
--- The index of a tree: a document for each source, in order of path, and the external entries (`scip.proto`, Index, Document, Metadata).
+-- The index of a tree: a document for each source, in order of path, and the external entries (`scip.proto`, Index,
+-- Document, Metadata).
 use Rattle.std.specs.Prelude.{◌≡◌, ◌↔◌, ℕ, ℤ, pos, false, Some, List, [], codes, length, Contains}
 use Rattle.std.specs.declared.cmp.Ordering.{Ordering}
 use Rattle.std.specs.Ordering.{nat_cmp, on}
@@ -19,7 +20,8 @@ use Rattle.scip_document.specs.OccurrenceOrder.{occurrence_cmp}
 use Rattle.scip_document.specs.Entries.{HasEntry, HasExternal}
 
 -- The strictly ascending list of a set: it has all of it, and nothing else.
-pub record IsAscendingListOf {X : Type 0} (cmp : X → X → Ordering) (IsWanted : X → Type 0) (list : List X) : Type 0 where
+pub record IsAscendingListOf {X : Type 0} (cmp : X → X → Ordering) (IsWanted : X → Type 0)
+    (list : List X) : Type 0 where
   pub exact : (x : X) → Contains list x ↔ IsWanted x
   pub ascends : IsStrictlySortedBy cmp list
 
@@ -33,7 +35,8 @@ encoding_number Utf8 = pos 1
 encoding_number Utf16 = pos 2
 
 -- the document of a source, which has this text (`scip.proto`, Document; the word for the language is the profile's)
-pub record IsDocumentOf (files : List File) (chosen : Chosen) (id : Package) (encoding : Encoding) (source : ℕ) (text : List ℕ) (document : Document) : Type 0 where
+pub record IsDocumentOf (files : List File) (chosen : Chosen) (id : Package) (encoding : Encoding) (source : ℕ)
+    (text : List ℕ) (document : Document) : Type 0 where
   pub file : File
   pub numbered : slice_get files source ≡ Some file
   pub is_source : file.is_included ≡ false
@@ -47,7 +50,8 @@ pub record IsDocumentOf (files : List File) (chosen : Chosen) (id : Package) (en
 abbrev pub AreExternals : List File → Chosen → Package → List SymbolInformation → Type 0
 AreExternals files chosen id = IsAscendingListOf info_cmp (HasExternal files chosen id)
 
--- What an index says of itself (`scip.proto`, Metadata, ProtocolVersion, TextEncoding): the protocol's version 0; the sources are UTF-8.
+-- What an index says of itself (`scip.proto`, Metadata, ProtocolVersion, TextEncoding): the protocol's version 0; the
+-- sources are UTF-8.
 abbrev pub metadata_of : (project_root : List ℕ) → Metadata
 metadata_of project_root = record {
   version = pos 0;
@@ -61,7 +65,8 @@ abbrev pub document_cmp : Document → Document → Ordering
 document_cmp = on (λ (d : Document). d.relative_path) (slice_cmp nat_cmp)
 
 -- the document of one of the sources, of which each has one of the texts
-pub record HasDocument (files : List File) (texts : List (List ℕ)) (chosen : Chosen) (id : Package) (encoding : Encoding) (document : Document) : Type 0 where
+pub record HasDocument (files : List File) (texts : List (List ℕ)) (chosen : Chosen) (id : Package)
+    (encoding : Encoding) (document : Document) : Type 0 where
   pub source : ℕ
   pub text : List ℕ
   pub text_is : slice_get texts source ≡ Some text
@@ -70,10 +75,13 @@ pub record HasDocument (files : List File) (texts : List (List ℕ)) (chosen : C
 -- each source has one among these
 abbrev pub HaveDocuments : List File → (texts : List (List ℕ)) → Chosen → Package → Encoding → List Document → Type 0
 HaveDocuments files texts chosen id encoding documents =
-    (source : ℕ) → IsSource files source → (document : Document) × Contains documents document × (has : HasDocument files texts chosen id encoding document) × (has.source ≡ source)
+    (source : ℕ) → IsSource files source
+    → (document : Document) × Contains documents document
+    × (has : HasDocument files texts chosen id encoding document) × (has.source ≡ source)
 
 -- The index of the files, which have these texts: just the documents of its sources, and one of each.
-pub record IsIndexOf (files : List File) (texts : List (List ℕ)) (chosen : Chosen) (id : Package) (encoding : Encoding) (project_root : List ℕ) (index : Index) : Type 0 where
+pub record IsIndexOf (files : List File) (texts : List (List ℕ)) (chosen : Chosen) (id : Package) (encoding : Encoding)
+    (project_root : List ℕ) (index : Index) : Type 0 where
   pub metadata_is : index.metadata ≡ Some (metadata_of project_root)
   pub one_text_each : length texts ≡ length files
   pub documents : IsAscendingListOf document_cmp (HasDocument files texts chosen id encoding) index.documents

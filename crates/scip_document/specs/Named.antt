@@ -18,7 +18,8 @@ use Rattle.proto_visibility.specs.declared.entities.Entity.TheVariants as link
 use Rattle.proto_link.specs.declared.target.Target.{Target}
 
 -- a declaration of one of the files, by the file's number and its own
-pub record HasDeclaration (files : List File) (file index : ℕ) (facts : Facts) (declaration : Declaration) : Type 0 where
+pub record HasDeclaration (files : List File) (file index : ℕ) (facts : Facts)
+    (declaration : Declaration) : Type 0 where
   pub has_facts : HasFacts files file facts
   pub numbered : slice_get facts.declarations index ≡ Some declaration
 
@@ -47,7 +48,8 @@ IsNamedAs files name (link.Package count) entity = entity ≡ OfPackage (take co
 IsNamedAs files name (link.Declared file index) entity = IsDeclaredAs files file index entity
 
 -- A component of a use in a file names an entity: of the linker's, and of those that have symbols.
-pub record NamesIn (files : List File) (file : ℕ) (component : Component) (part : Entity) (entity : symbols.Entity) : Type 0 where
+pub record NamesIn (files : List File) (file : ℕ) (component : Component) (part : Entity)
+    (entity : symbols.Entity) : Type 0 where
   pub facts : Facts
   pub type_use : Use
   pub target : Target

@@ -43,7 +43,8 @@ pub record IsTwice (pieces : List Document) (piece : ℕ) : Type 0 where
 
 -- of the first so many pieces none is either
 abbrev pub AreFine : (paths : List (List ℕ)) → List Document → (count : ℕ) → Type 0
-AreFine paths pieces count = (piece : ℕ) → piece < count → (IsStranger paths pieces piece → ⊥) × (IsTwice pieces piece → ⊥)
+AreFine paths pieces count = (piece : ℕ) → piece < count
+    → (IsStranger paths pieces piece → ⊥) × (IsTwice pieces piece → ⊥)
 
 -- no piece has the path with this number
 pub record IsMissing (paths : List (List ℕ)) (pieces : List Document) (number : ℕ) : Type 0 where
@@ -56,7 +57,8 @@ pub record IsFirstMissing (paths : List (List ℕ)) (pieces : List Document) (nu
   pub missing : IsMissing paths pieces number
   pub least : (other : ℕ) → other < number → IsMissing paths pieces other → ⊥
 
--- The first piece that is a stranger, or there twice; or, where there is none, the first path without a piece. Of memory nothing is said.
+-- The first piece that is a stranger, or there twice; or, where there is none, the first path without a piece. Of
+-- memory nothing is said.
 abbrev pub MayRefuseMerge : (paths : List (List ℕ)) → (pieces : List Document) → MergeFault → Type 0
 MayRefuseMerge paths pieces (Stranger piece) = AreFine paths pieces piece × IsStranger paths pieces piece
 MayRefuseMerge paths pieces (Twice piece) = AreFine paths pieces piece × IsTwice pieces piece
@@ -65,9 +67,11 @@ MayRefuseMerge paths pieces Memory = ⊤
 
 -- so there is one reason
 abbrev pub OneMergeRefusal : Type 0
-OneMergeRefusal = (paths : List (List ℕ)) (pieces : List Document) (fault other : MergeFault) → MayRefuseMerge paths pieces fault → MayRefuseMerge paths pieces other
+OneMergeRefusal = (paths : List (List ℕ)) (pieces : List Document) (fault other : MergeFault)
+    → MayRefuseMerge paths pieces fault → MayRefuseMerge paths pieces other
     → fault ≢ Memory → other ≢ Memory → fault ≡ other
 
 -- and pieces have one list in order at most
 abbrev pub OneMergedList : Type 0
-OneMergedList = (paths : List (List ℕ)) (pieces documents others : List Document) → IsRising paths → AreMerged paths pieces documents → AreMerged paths pieces others → documents ≡ others
+OneMergedList = (paths : List (List ℕ)) (pieces documents others : List Document) → IsRising paths
+    → AreMerged paths pieces documents → AreMerged paths pieces others → documents ≡ others

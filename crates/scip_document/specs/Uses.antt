@@ -7,4 +7,5 @@ use Rattle.scip_document.specs.Conditions.{IsResolved}
 
 -- each use of a file names a type
 abbrev pub UsesResolve : List File → (file : ℕ) → Type 0
-UsesResolve files file = (facts : Facts) (type_use : Use) → HasFacts files file facts → Contains facts.uses type_use → IsResolved files file type_use
+UsesResolve files file = (facts : Facts) (type_use : Use) → HasFacts files file facts → Contains facts.uses type_use
+    → IsResolved files file type_use

@@ -45,4 +45,5 @@ counts readings = map (λ reading. length reading.facts.declarations) readings
 
 -- each use of a file names a type, if it is a source
 abbrev pub ResolveAt : List File → (source : ℕ) → Type 0
-ResolveAt files source = (facts : Facts) (type_use : Use) → IsSource files source → HasFacts files source facts → Contains facts.uses type_use → IsResolved files source type_use
+ResolveAt files source = (facts : Facts) (type_use : Use) → IsSource files source → HasFacts files source facts
+    → Contains facts.uses type_use → IsResolved files source type_use

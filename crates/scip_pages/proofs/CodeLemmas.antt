@@ -1,5 +1,7 @@
 -- What code in a page shows.
-use Rattle.std.proofs.Common.{◌≡◌, ◌∙◌, sym, refl, ap, ℕ, suc, ◌+◌, ◌-◌, ◌==◌, ◌&&◌, Bool, true, false, not, cond, List, [], ◌∷◌, ◌++◌, length, take, drop, map, append_assoc, append-nil, arith, take-add, drop-drop}
+use Rattle.std.proofs.Common.{◌≡◌, ◌∙◌, sym, refl, ap, ℕ, suc, ◌+◌, ◌-◌, ◌==◌, ◌&&◌, Bool, true, false, not, cond, List}
+use Rattle.std.proofs.Common.{[], ◌∷◌, ◌++◌, length, take, drop, map, append_assoc, append-nil, arith, take-add}
+use Rattle.std.proofs.Common.{drop-drop}
 use Rattle.std.specs.Prelude.{codes, Option, None, Some}
 use Rattle.std.specs.List.{flat_map, join_with_byte, list_all, prefix_len, AllByRecursion}
 use Rattle.std.specs.Fmt.{decimal}
@@ -11,7 +13,8 @@ use Rattle.scip_pages.specs.declared.runs.Run.{Run}
 use Rattle.scip_pages.specs.Escapes.{escape}
 use Rattle.scip_pages.specs.Plain.{plain, plain_behind}
 use Rattle.scip_pages.specs.Runs.{same_mark, onto_runs, runs_of}
-use Rattle.scip_pages.specs.Code.{Piece, pieces_of, text_of, mark, attribute, target_code, linked, piece_code, line_mark, line_code, line_codes, code_of}
+use Rattle.scip_pages.specs.Code.{Piece, pieces_of, text_of, mark, attribute, target_code, linked, piece_code}
+use Rattle.scip_pages.specs.Code.{line_mark, line_code, line_codes, code_of}
 use Rattle.scip_pages.specs.CodeLaws.{CodeShowsTheLines, CodeShowsTheSource, PiecesHaveTheText}
 use Rattle.scip_pages.proofs.EscapeLemmas.{IsNoMark, has_no_marks, shows_the_rest}
 
@@ -21,7 +24,8 @@ Shows code text = (rest : List ℕ) → plain (code ++ rest) ≡ text ++ plain r
 
 both : (a b x y : List ℕ) → Shows a x → Shows b y → Shows (a ++ b) (x ++ y)
 both a b x y first second rest =
-    ap plain (append_assoc a b rest) ∙ first (b ++ rest) ∙ ap (λ l. x ++ l) (second rest) ∙ sym (append_assoc x y (plain rest))
+    ap plain (append_assoc a b rest) ∙ first (b ++ rest) ∙ ap (λ l. x ++ l) (second rest)
+    ∙ sym (append_assoc x y (plain rest))
 
 -- no byte that ends a mark
 abbrev is_inner : ℕ → Bool
@@ -33,13 +37,16 @@ passed n byte rest =
     let b : n + 1 - 1 ≡ n = omega arith in
     rw (a, b) refl
 
-past_mark : (inside rest : List ℕ) → list_all is_inner inside ≡ true → plain_behind (prefix_len is_inner (inside ++ 62 ∷ rest) + 1) (inside ++ 62 ∷ rest) ≡ plain rest
+past_mark : (inside rest : List ℕ) → list_all is_inner inside ≡ true
+    → plain_behind (prefix_len is_inner (inside ++ 62 ∷ rest) + 1) (inside ++ 62 ∷ rest) ≡ plain rest
 past_mark [] rest inner = refl
 past_mark (byte ∷ inside) rest inner = by (is_inner byte) refl inner (past_mark inside rest)
   where
     by : (b : Bool) → is_inner byte ≡ b → (b && list_all is_inner inside) ≡ true
-        → (list_all is_inner inside ≡ true → plain_behind (prefix_len is_inner (inside ++ 62 ∷ rest) + 1) (inside ++ 62 ∷ rest) ≡ plain rest)
-        → plain_behind (cond b (1 + prefix_len is_inner (inside ++ 62 ∷ rest)) 0 + 1) (byte ∷ (inside ++ 62 ∷ rest)) ≡ plain rest
+        → (list_all is_inner inside ≡ true
+        → plain_behind (prefix_len is_inner (inside ++ 62 ∷ rest) + 1) (inside ++ 62 ∷ rest) ≡ plain rest)
+        → plain_behind (cond b (1 + prefix_len is_inner (inside ++ 62 ∷ rest)) 0 + 1) (byte ∷ (inside ++ 62 ∷ rest))
+        ≡ plain rest
     by true is inner others =
         passed (1 + prefix_len is_inner (inside ++ 62 ∷ rest)) byte (inside ++ 62 ∷ rest)
         ∙ ap (λ n. plain_behind n (inside ++ 62 ∷ rest)) (one_more (prefix_len is_inner (inside ++ 62 ∷ rest)))
@@ -50,9 +57,11 @@ past_mark (byte ∷ inside) rest inner = by (is_inner byte) refl inner (past_mar
     by false is inner others = absurd cc
 
 shows_mark : (inside : List ℕ) → list_all is_inner inside ≡ true → Shows (mark inside) []
-shows_mark inside inner rest = ap (λ l. plain (60 ∷ l)) (append_assoc inside (62 ∷ []) rest) ∙ past_mark inside rest inner
+shows_mark inside inner rest =
+    ap (λ l. plain (60 ∷ l)) (append_assoc inside (62 ∷ []) rest) ∙ past_mark inside rest inner
 
-inner_append : (xs ys : List ℕ) → list_all is_inner xs ≡ true → list_all is_inner ys ≡ true → list_all is_inner (xs ++ ys) ≡ true
+inner_append : (xs ys : List ℕ) → list_all is_inner xs ≡ true → list_all is_inner ys ≡ true
+    → list_all is_inner (xs ++ ys) ≡ true
 inner_append xs ys a b = list_all-append is_inner xs ys ∙ and_from _ _ a b
 
 all_inner : (xs : List ℕ) → AllByRecursion IsNoMark xs → list_all is_inner xs ≡ true
@@ -62,7 +71,8 @@ all_inner (x ∷ xs) all = rw (ne_eqb x 62 all.0.1) (all_inner xs all.1)
 inner_escape : (text : List ℕ) → list_all is_inner (escape text) ≡ true
 inner_escape text = all_inner (escape text) (has_no_marks text)
 
-inner_attribute : (name value : List ℕ) → list_all is_inner name ≡ true → list_all is_inner (attribute name value) ≡ true
+inner_attribute : (name value : List ℕ) → list_all is_inner name ≡ true
+    → list_all is_inner (attribute name value) ≡ true
 inner_attribute name value plainly =
     inner_append (codes " " ++ name ++ codes "=\"" ++ escape value) (codes "\"")
     (inner_append (codes " " ++ name ++ codes "=\"") (escape value)
@@ -80,48 +90,64 @@ shows_linked (Some link) text =
     let inside : List ℕ = codes "a" ++ target_code link.target ++ attribute (codes "title") link.label in
     let inner : list_all is_inner inside ≡ true =
     inner_append (codes "a" ++ target_code link.target) (attribute (codes "title") link.label)
-    (inner_append (codes "a") (target_code link.target) refl (inner_target link.target)) (inner_attribute (codes "title") link.label refl) in
+    (inner_append (codes "a") (target_code link.target) refl (inner_target link.target))
+    (inner_attribute (codes "title") link.label refl) in
     λ rest.
-    both (mark inside ++ escape text) (mark (codes "/a")) text [] (both (mark inside) (escape text) [] text (shows_mark inside inner) (shows_the_rest text)) (shows_mark (codes "/a") refl) rest
+    both (mark inside ++ escape text) (mark (codes "/a")) text []
+    (both (mark inside) (escape text) [] text (shows_mark inside inner) (shows_the_rest text))
+    (shows_mark (codes "/a") refl) rest
     ∙ ap (λ l. l ++ plain rest) (append-nil text)
 
 shows_pieces : (pieces : List Piece) → Shows (flat_map piece_code pieces) (text_of pieces)
 shows_pieces [] = λ rest. refl
-shows_pieces (piece ∷ pieces) = both (piece_code piece) (flat_map piece_code pieces) piece.text (text_of pieces) (shows_linked piece.link piece.text) (shows_pieces pieces)
+shows_pieces (piece ∷ pieces) =
+    both (piece_code piece) (flat_map piece_code pieces) piece.text (text_of pieces)
+    (shows_linked piece.link piece.text) (shows_pieces pieces)
 
 shows_line : (number : ℕ) (pieces : List Piece) → Shows (line_code number pieces) (text_of pieces)
 shows_line number pieces =
     let inside : List ℕ = codes "a" ++ attribute (codes "id") (codes "L" ++ decimal number) in
-    let inner : list_all is_inner inside ≡ true = inner_append (codes "a") (attribute (codes "id") (codes "L" ++ decimal number)) refl (inner_attribute (codes "id") (codes "L" ++ decimal number) refl) in
+    let inner : list_all is_inner inside ≡ true =
+    inner_append (codes "a") (attribute (codes "id") (codes "L" ++ decimal number)) refl
+    (inner_attribute (codes "id") (codes "L" ++ decimal number) refl) in
     both (line_mark number) (flat_map piece_code pieces) [] (text_of pieces)
     (both (mark inside) (mark (codes "/a")) [] [] (shows_mark inside inner) (shows_mark (codes "/a") refl))
     (shows_pieces pieces)
 
-shows_lines : (number : ℕ) (lines : List (List Piece)) → Shows (join_with_byte 10 (line_codes number lines)) (join_with_byte 10 (map text_of lines))
+shows_lines : (number : ℕ) (lines : List (List Piece))
+    → Shows (join_with_byte 10 (line_codes number lines)) (join_with_byte 10 (map text_of lines))
 shows_lines number [] = λ rest. refl
 shows_lines number (pieces ∷ []) = shows_line number pieces
 shows_lines number (pieces ∷ (next ∷ lines)) =
-    both (line_code number pieces) (10 ∷ join_with_byte 10 (line_codes (number + 1) (next ∷ lines))) (text_of pieces) (10 ∷ join_with_byte 10 (map text_of (next ∷ lines)))
+    both (line_code number pieces) (10 ∷ join_with_byte 10 (line_codes (number + 1) (next ∷ lines))) (text_of pieces)
+    (10 ∷ join_with_byte 10 (map text_of (next ∷ lines)))
     (shows_line number pieces)
     (λ rest. ap (λ l. 10 ∷ l) (shows_lines (number + 1) (next ∷ lines) rest))
 
 pub code_shows_the_lines : CodeShowsTheLines
 code_shows_the_lines lines =
-    ap plain (sym (append-nil (code_of lines))) ∙ shows_lines 1 lines [] ∙ append-nil (join_with_byte 10 (map text_of lines))
+    ap plain (sym (append-nil (code_of lines))) ∙ shows_lines 1 lines []
+    ∙ append-nil (join_with_byte 10 (map text_of lines))
 
 pub code_shows_the_source : CodeShowsTheSource
-code_shows_the_source source lines e = code_shows_the_lines lines ∙ ap (join_with_byte 10) e ∙ join_with_byte-slice_split 10 source
+code_shows_the_source source lines e =
+    code_shows_the_lines lines ∙ ap (join_with_byte 10) e ∙ join_with_byte-slice_split 10 source
 
 -- the first bytes of a run, and the others
 onto_text : (links : List Link) (n : ℕ) (occurrence : Option ℕ) (runs : List Run) (line : List ℕ)
-    → text_of (pieces_of links line (onto_runs n occurrence runs)) ≡ take n line ++ text_of (pieces_of links (drop n line) runs)
+    → text_of (pieces_of links line (onto_runs n occurrence runs))
+    ≡ take n line ++ text_of (pieces_of links (drop n line) runs)
 onto_text links n occurrence [] line = refl
 onto_text links n occurrence (run ∷ runs) line = by (same_mark occurrence run.occurrence)
   where
-    by : (b : Bool) → text_of (pieces_of links line (cond b (record { len = n + run.len; occurrence = occurrence } ∷ runs) (record { len = n; occurrence = occurrence } ∷ (run ∷ runs))))
+    by : (b : Bool) → text_of
+        (pieces_of links line (cond b (record { len = n + run.len; occurrence = occurrence } ∷ runs)
+        (record { len = n; occurrence = occurrence } ∷ (run ∷ runs))))
         ≡ take n line ++ (take run.len (drop n line) ++ text_of (pieces_of links (drop run.len (drop n line)) runs))
     by true =
-        rw (take-add n run.len line, drop-drop run.len n line) (append_assoc (take n line) (take run.len (drop n line)) (text_of (pieces_of links (drop (n + run.len) line) runs)))
+        rw (take-add n run.len line, drop-drop run.len n line)
+        (append_assoc (take n line) (take run.len (drop n line))
+        (text_of (pieces_of links (drop (n + run.len) line) runs)))
     by false = refl
 
 pub pieces_have_the_text : PiecesHaveTheText
@@ -129,4 +155,5 @@ pieces_have_the_text links [] [] same = refl
 pieces_have_the_text links (byte ∷ line) [] same = absurd (omega (arith, same))
 pieces_have_the_text links [] (occurrence ∷ marks) same = absurd (omega (arith, same))
 pieces_have_the_text links (byte ∷ line) (occurrence ∷ marks) same =
-    onto_text links 1 occurrence (runs_of marks) (byte ∷ line) ∙ ap (λ l. byte ∷ l) (pieces_have_the_text links line marks (omega (arith, same)))
+    onto_text links 1 occurrence (runs_of marks) (byte ∷ line)
+    ∙ ap (λ l. byte ∷ l) (pieces_have_the_text links line marks (omega (arith, same)))

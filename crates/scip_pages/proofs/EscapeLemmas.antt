@@ -1,5 +1,6 @@
 -- What escaped texts show, and that they have no marks.
-use Rattle.std.proofs.Common.{◌≡◌, ◌≢◌, ◌∙◌, sym, refl, ap, subst, ℕ, ◌==◌, Bool, true, false, List, [], ◌∷◌, ◌++◌, ◌||◌, inl, inr, append_assoc}
+use Rattle.std.proofs.Common.{◌≡◌, ◌≢◌, ◌∙◌, sym, refl, ap, subst, ℕ, ◌==◌, Bool, true, false, List, [], ◌∷◌, ◌++◌}
+use Rattle.std.proofs.Common.{◌||◌, inl, inr, append_assoc}
 use Rattle.std.specs.Prelude.{IsSome}
 use Rattle.std.specs.List.{AllByRecursion, list_any}
 use Rattle.std.proofs.lemmas.Bool.Decides.{eqb_tells}
@@ -10,11 +11,13 @@ use Rattle.scip_pages.specs.EscapeLaws.{ShowsTheText, ShowsTheRest, HasNoMarks, 
 
 -- what holds of a number, and of each other number, holds of all
 is_or_not : (P : ℕ → Type 0) (k byte : ℕ) → P k → ((byte == k) ≡ false → byte ≢ k → P byte) → P byte
-is_or_not P k byte same other = elim (eqb_tells byte k) [ inl hit ↦ subst P (sym hit.1) same | inr miss ↦ other miss.0 miss.1 ]
+is_or_not P k byte same other =
+    elim (eqb_tells byte k) [ inl hit ↦ subst P (sym hit.1) same | inr miss ↦ other miss.0 miss.1 ]
 
 -- the bytes that have references, and each other byte
 by_byte : (P : ℕ → Type 0) → P 38 → P 60 → P 62 → P 34 → P 39 → P 13
-    → ((byte : ℕ) → (byte == 38) ≡ false → (byte == 60) ≡ false → escape_byte byte ≡ byte ∷ [] → byte ≢ 60 → byte ≢ 62 → byte ≢ 34 → byte ≢ 39 → byte ≢ 13 → P byte)
+    → ((byte : ℕ) → (byte == 38) ≡ false → (byte == 60) ≡ false → escape_byte byte ≡ byte ∷ [] → byte ≢ 60 → byte ≢ 62
+    → byte ≢ 34 → byte ≢ 39 → byte ≢ 13 → P byte)
     → (byte : ℕ) → P byte
 by_byte P amp lt gt quot apos cr other byte =
     is_or_not P 38 byte amp (λ a a'.
@@ -46,7 +49,8 @@ IsNoMark b = (b ≢ 60) × (b ≢ 62) × (b ≢ 34) × (b ≢ 39) × (b ≢ 13)
 other_than : (a b : ℕ) → (a == b) ≡ false → a ≢ b
 other_than a b miss e = eqb-false a b miss e
 
-no_mark : (b : ℕ) → (b == 60) ≡ false → (b == 62) ≡ false → (b == 34) ≡ false → (b == 39) ≡ false → (b == 13) ≡ false → IsNoMark b
+no_mark : (b : ℕ) → (b == 60) ≡ false → (b == 62) ≡ false → (b == 34) ≡ false → (b == 39) ≡ false → (b == 13) ≡ false
+    → IsNoMark b
 no_mark b c d e f g = (other_than b 60 c, other_than b 62 d, other_than b 34 e, other_than b 39 f, other_than b 13 g)
 
 all_append : (P : ℕ → Type 0) (xs ys : List ℕ) → AllByRecursion P xs → AllByRecursion P ys → AllByRecursion P (xs ++ ys)
@@ -54,18 +58,64 @@ all_append P [] ys a b = b
 all_append P (x ∷ xs) ys a b = (a.0, all_append P xs ys a.1 b)
 
 byte_has_no_marks : (byte : ℕ) → AllByRecursion IsNoMark (escape_byte byte)
-byte_has_no_marks = by_byte (λ byte. AllByRecursion IsNoMark (escape_byte byte))
-    (no_mark 38 refl refl refl refl refl, (no_mark 97 refl refl refl refl refl, (no_mark 109 refl refl refl refl refl, (no_mark 112 refl refl refl refl refl, (no_mark 59 refl refl refl refl refl, tt)))))
-    (no_mark 38 refl refl refl refl refl, (no_mark 108 refl refl refl refl refl, (no_mark 116 refl refl refl refl refl, (no_mark 59 refl refl refl refl refl, tt))))
-    (no_mark 38 refl refl refl refl refl, (no_mark 103 refl refl refl refl refl, (no_mark 116 refl refl refl refl refl, (no_mark 59 refl refl refl refl refl, tt))))
-    (no_mark 38 refl refl refl refl refl, (no_mark 113 refl refl refl refl refl, (no_mark 117 refl refl refl refl refl, (no_mark 111 refl refl refl refl refl, (no_mark 116 refl refl refl refl refl, (no_mark 59 refl refl refl refl refl, tt))))))
-    (no_mark 38 refl refl refl refl refl, (no_mark 35 refl refl refl refl refl, (no_mark 51 refl refl refl refl refl, (no_mark 57 refl refl refl refl refl, (no_mark 59 refl refl refl refl refl, tt)))))
-    (no_mark 38 refl refl refl refl refl, (no_mark 35 refl refl refl refl refl, (no_mark 49 refl refl refl refl refl, (no_mark 51 refl refl refl refl refl, (no_mark 59 refl refl refl refl refl, tt)))))
+byte_has_no_marks = by_byte (λ byte. AllByRecursion IsNoMark (escape_byte byte)) (
+  no_mark 38 refl refl refl refl refl,
+  (
+    no_mark 97 refl refl refl refl refl,
+    (
+      no_mark 109 refl refl refl refl refl,
+      (no_mark 112 refl refl refl refl refl, (no_mark 59 refl refl refl refl refl, tt)),
+    ),
+  ),
+) (
+  no_mark 38 refl refl refl refl refl,
+  (
+    no_mark 108 refl refl refl refl refl,
+    (no_mark 116 refl refl refl refl refl, (no_mark 59 refl refl refl refl refl, tt)),
+  ),
+) (
+  no_mark 38 refl refl refl refl refl,
+  (
+    no_mark 103 refl refl refl refl refl,
+    (no_mark 116 refl refl refl refl refl, (no_mark 59 refl refl refl refl refl, tt)),
+  ),
+) (
+  no_mark 38 refl refl refl refl refl,
+  (
+    no_mark 113 refl refl refl refl refl,
+    (
+      no_mark 117 refl refl refl refl refl,
+      (
+        no_mark 111 refl refl refl refl refl,
+        (no_mark 116 refl refl refl refl refl, (no_mark 59 refl refl refl refl refl, tt)),
+      ),
+    ),
+  ),
+) (
+  no_mark 38 refl refl refl refl refl,
+  (
+    no_mark 35 refl refl refl refl refl,
+    (
+      no_mark 51 refl refl refl refl refl,
+      (no_mark 57 refl refl refl refl refl, (no_mark 59 refl refl refl refl refl, tt)),
+    ),
+  ),
+) (
+  no_mark 38 refl refl refl refl refl,
+  (
+    no_mark 35 refl refl refl refl refl,
+    (
+      no_mark 49 refl refl refl refl refl,
+      (no_mark 51 refl refl refl refl refl, (no_mark 59 refl refl refl refl refl, tt)),
+    ),
+  ),
+)
     (λ byte a b same c d e f g. rw same ((c, d, e, f, g), tt))
 
 pub has_no_marks : HasNoMarks
 has_no_marks [] = tt
-has_no_marks (byte ∷ text) = all_append IsNoMark (escape_byte byte) (escape text) (byte_has_no_marks byte) (has_no_marks text)
+has_no_marks (byte ∷ text) =
+    all_append IsNoMark (escape_byte byte) (escape text) (byte_has_no_marks byte) (has_no_marks text)
 
 -- each `&` begins a reference
 abbrev OnlyReferences : List ℕ → Type 0
@@ -76,7 +126,8 @@ passes : (xs rest : List ℕ) → list_any (λ b. b == 38) xs ≡ false → Only
 passes [] rest none more = more
 passes (x ∷ xs) rest none more = by (x == 38) refl none (λ others. passes xs rest others more)
   where
-    by : (b : Bool) → (x == 38) ≡ b → (b || list_any (λ y. y == 38) xs) ≡ false → (list_any (λ y. y == 38) xs ≡ false → OnlyReferences (xs ++ rest)) → OnlyReferences ((x ∷ xs) ++ rest)
+    by : (b : Bool) → (x == 38) ≡ b → (b || list_any (λ y. y == 38) xs) ≡ false
+        → (list_any (λ y. y == 38) xs ≡ false → OnlyReferences (xs ++ rest)) → OnlyReferences ((x ∷ xs) ++ rest)
     by true is none more = absurd cc
     by false is none more = (λ e. absurd (other_than x 38 is e), more none)
 

@@ -1,5 +1,6 @@
 -- Each column is at one offset.
-use Rattle.std.proofs.Common.{◌≡◌, ◌∙◌, sym, refl, ap, subst, ℕ, suc, zero, ◌+◌, ◌<◌, ◌≤◌, ◌==◌, ◌&&◌, Bool, true, false, cond, List, [], ◌∷◌, length, take, drop, get_or, inl, inr, ◌⊎◌, arith, ◌-◌}
+use Rattle.std.proofs.Common.{◌≡◌, ◌∙◌, sym, refl, ap, subst, ℕ, suc, zero, ◌+◌, ◌<◌, ◌≤◌, ◌==◌, ◌&&◌, Bool, true}
+use Rattle.std.proofs.Common.{false, cond, List, [], ◌∷◌, length, take, drop, get_or, inl, inr, ◌⊎◌, arith, ◌-◌}
 use Rattle.std.specs.Prelude.{Option, None, Some}
 use Rattle.std.specs.List.{find, range_with_len}
 use Rattle.std.proofs.lemmas.List.Sums.{sum_by_more}
@@ -12,12 +13,16 @@ use Rattle.scip_pages.specs.ColumnLaws.{AtOneOffset, IsAtItsOffset}
 use Rattle.scip_pages.proofs.ColumnLemmas.{units_rise, is_at_inside}
 
 -- the first number that passes
-find_first : (p : ℕ → Bool) (n a k : ℕ) → a ≤ k → k < a + n → p k ≡ true → ((j : ℕ) → j < k → p j ≡ false) → find p (range_with_len a n) ≡ Some k
+find_first : (p : ℕ → Bool) (n a k : ℕ) → a ≤ k → k < a + n → p k ≡ true → ((j : ℕ) → j < k → p j ≡ false)
+    → find p (range_with_len a n) ≡ Some k
 find_first p zero a k least most passes others = absurd (omega (arith, least, most))
-find_first p (suc n) a k least most passes others = by (cases_eq a k) (λ later. find_first p n (a + 1) k later (omega (arith, most)) passes others)
+find_first p (suc n) a k least most passes others =
+    by (cases_eq a k) (λ later. find_first p n (a + 1) k later (omega (arith, most)) passes others)
   where
-    by : (a ≡ k) ⊎ (a ≡ k → ⊥) → (a + 1 ≤ k → find p (range_with_len (a + 1) n) ≡ Some k) → find p (range_with_len a (suc n)) ≡ Some k
-    by (inl same) more = ap (λ b. cond b (Some a) (find p (range_with_len (a + 1) n))) (ap p same ∙ passes) ∙ ap Some same
+    by : (a ≡ k) ⊎ (a ≡ k → ⊥) → (a + 1 ≤ k → find p (range_with_len (a + 1) n) ≡ Some k)
+        → find p (range_with_len a (suc n)) ≡ Some k
+    by (inl same) more = ap (λ b. cond b (Some a) (find p (range_with_len (a + 1) n))) (ap p same ∙ passes)
+        ∙ ap Some same
     by (inr other) more = rw (others a (omega (arith, least, other))) (more (omega (arith, least, other)))
 
 -- what is found is among the numbers, and passes
@@ -26,13 +31,16 @@ is_found p zero a k e = absurd cc
 is_found p (suc n) a k e = by (p a) refl e (λ later. is_found p n (a + 1) k later)
   where
     by : (b : Bool) → p a ≡ b → cond b (Some a) (find p (range_with_len (a + 1) n)) ≡ Some k
-        → (find p (range_with_len (a + 1) n) ≡ Some k → (k < (a + 1) + n) × (p k ≡ true)) → (k < a + suc n) × (p k ≡ true)
+        → (find p (range_with_len (a + 1) n) ≡ Some k → (k < (a + 1) + n) × (p k ≡ true))
+        → (k < a + suc n) × (p k ≡ true)
     by true is e more = let same : a ≡ k = cc in (omega (arith, same), sym (ap p same) ∙ is)
     by false is e more = let found : (k < (a + 1) + n) × (p k ≡ true) = more e in (omega (arith, found.0), found.1)
 
-units_later : (unit : ColumnUnit) (line : List ℕ) (a d : ℕ) → units_in unit (take a line) ≤ units_in unit (take (a + d) line)
+units_later : (unit : ColumnUnit) (line : List ℕ) (a d : ℕ)
+    → units_in unit (take a line) ≤ units_in unit (take (a + d) line)
 units_later unit line a zero = let e : a + 0 ≡ a = omega arith in rw e (omega arith)
-units_later unit line a (suc d) = let e : a + suc d ≡ (a + d) + 1 = omega arith in rw e (omega (arith, units_later unit line a d, units_rise unit line (a + d)))
+units_later unit line a (suc d) = let e : a + suc d ≡ (a + d) + 1 = omega arith in
+    rw e (omega (arith, units_later unit line a d, units_rise unit line (a + d)))
 
 -- a first byte counts for something
 counts : (unit : ColumnUnit) (byte : ℕ) → is_first_byte byte ≡ true → 1 ≤ units_of unit byte
@@ -41,15 +49,19 @@ counts Utf16 byte first = rw first (grind (arith, nat_tests))
 counts Utf32 byte first = rw first (omega arith)
 
 -- no offset before one at a column is at it
-not_before : (unit : ColumnUnit) (line : List ℕ) (column offset : ℕ) → offset ≤ length line → is_at unit line column offset ≡ true
+not_before : (unit : ColumnUnit) (line : List ℕ) (column offset : ℕ) → offset ≤ length line
+    → is_at unit line column offset ≡ true
     → (a : ℕ) → a < offset → is_at unit line column a ≡ false
 not_before unit line column offset inside at a before = false_from_ne_true (is_at unit line column a) (λ also.
     let here : (is_uncut (drop offset line) ≡ true) × ((units_in unit (take offset line) == column) ≡ true) =
     and_parts (is_uncut (drop offset line)) (units_in unit (take offset line) == column) at in
     let there : (is_first_byte (get_or line a 0) ≡ true) × ((units_in unit (take a line) == column) ≡ true) =
-    and_parts (is_first_byte (get_or line a 0)) (units_in unit (take a line) == column) (sym (is_at_inside unit line column a (omega (arith, inside, before))) ∙ also) in
+    and_parts (is_first_byte (get_or line a 0)) (units_in unit (take a line) == column)
+    (sym (is_at_inside unit line column a (omega (arith, inside, before))) ∙ also) in
     let e : (a + 1) + (offset - (a + 1)) ≡ offset = omega (arith, before) in
-    let later : units_in unit (take (a + 1) line) ≤ units_in unit (take offset line) = subst (λ n. units_in unit (take (a + 1) line) ≤ units_in unit (take n line)) e (units_later unit line (a + 1) (offset - (a + 1))) in
+    let later : units_in unit (take (a + 1) line) ≤ units_in unit (take offset line) =
+    subst (λ n. units_in unit (take (a + 1) line) ≤ units_in unit (take n line)) e
+    (units_later unit line (a + 1) (offset - (a + 1))) in
     omega (
       arith,
       later,
@@ -61,7 +73,8 @@ not_before unit line column offset inside at a before = false_from_ne_true (is_a
 
 pub at_one_offset : AtOneOffset
 at_one_offset unit line column offset inside at =
-    find_first (is_at unit line column) (length line + 1) 0 offset (omega arith) (omega (arith, inside)) at (not_before unit line column offset inside at)
+    find_first (is_at unit line column) (length line + 1) 0 offset (omega arith) (omega (arith, inside)) at
+    (not_before unit line column offset inside at)
 
 pub is_at_its_offset : IsAtItsOffset
 is_at_its_offset unit line column offset e =

@@ -1,5 +1,7 @@
 -- Spans laid over bytes, and runs of marks.
-use Rattle.std.proofs.Common.{◌≡◌, ◌≢◌, ◌∙◌, sym, refl, ap, subst, ℕ, suc, zero, ◌+◌, ◌-◌, ◌<◌, ◌≤◌, ◌==◌, ◌&&◌, Bool, true, false, cond, nat_lt, nat_le, List, [], ◌∷◌, length, take, drop, set, get_or, inl, inr, ◌⊎◌, arith, get_or-set_other, get_or-set_same}
+use Rattle.std.proofs.Common.{◌≡◌, ◌≢◌, ◌∙◌, sym, refl, ap, subst, ℕ, suc, zero, ◌+◌, ◌-◌, ◌<◌, ◌≤◌, ◌==◌, ◌&&◌, Bool}
+use Rattle.std.proofs.Common.{true, false, cond, nat_lt, nat_le, List, [], ◌∷◌, length, take, drop, set, get_or, inl}
+use Rattle.std.proofs.Common.{inr, ◌⊎◌, arith, get_or-set_other, get_or-set_same}
 use Rattle.std.specs.Prelude.{Option, None, Some}
 use Rattle.std.specs.List.{prefix_len}
 use Rattle.std.proofs.lemmas.List.Sums.{fold_more}
@@ -22,12 +24,16 @@ lt_next p at other = by (cases_lt p at)
     by (inr more) = rw (le-ltb p at more, le-ltb p (at + 1) (omega (arith, more, other))) refl
 
 pub laid_on : (span : Span) (at : ℕ) (old : Option Span) → span.start ≤ at → at < span.end → laid span at old at ≡ old
-laid_on span at old least most = rw (le-leb span.start at least, lt-ltb at span.end most, le-ltb at at (omega arith)) refl
+laid_on span at old least most =
+    rw (le-leb span.start at least, lt-ltb at span.end most, le-ltb at at (omega arith)) refl
 
-pub laid_next : (span : Span) (at : ℕ) (old : Option Span) → span.start ≤ at → at < span.end → laid span (at + 1) old at ≡ Some (narrower old span)
-laid_next span at old least most = rw (le-leb span.start at least, lt-ltb at span.end most, lt-ltb at (at + 1) (omega arith)) refl
+pub laid_next : (span : Span) (at : ℕ) (old : Option Span) → span.start ≤ at → at < span.end
+    → laid span (at + 1) old at ≡ Some (narrower old span)
+laid_next span at old least most =
+    rw (le-leb span.start at least, lt-ltb at span.end most, lt-ltb at (at + 1) (omega arith)) refl
 
-pub laid_other : (span : Span) (at p : ℕ) (old : Option Span) → (p ≡ at → ⊥) → laid span (at + 1) old p ≡ laid span at old p
+pub laid_other : (span : Span) (at p : ℕ) (old : Option Span) → (p ≡ at → ⊥)
+    → laid span (at + 1) old p ≡ laid span at old p
 laid_other span at p old other = rw (lt_next p at other) refl
 
 -- before it is laid on any byte, and once it is laid on all
@@ -38,7 +44,8 @@ laid_none span p old = by (cases_lt p span.start)
     by (inl less) = rw (lt-leb span.start p less) refl
     by (inr more) = rw (le-leb span.start p more, le-ltb p span.start more, and-false (nat_lt p span.end)) refl
 
-pub laid_all : (span : Span) (at p : ℕ) (old : Option Span) → (span.end ≤ at) ⊎ (p < at) → laid span at old p ≡ cond (covers span p) (Some (narrower old span)) old
+pub laid_all : (span : Span) (at p : ℕ) (old : Option Span) → (span.end ≤ at) ⊎ (p < at)
+    → laid span at old p ≡ cond (covers span p) (Some (narrower old span)) old
 laid_all span at p old (inr less) = rw (lt-ltb p at less, and-true (covers span p)) refl
 laid_all span at p old (inl ends) = by (cases_lt p span.end)
   where
@@ -48,8 +55,12 @@ laid_all span at p old (inl ends) = by (cases_lt p span.end)
 
 -- a byte's narrowest span, of one more span
 pub span_at_more : (spans : List Span) (i p : ℕ) (d : Span) → i < length spans
-    → span_at (take (i + 1) spans) p ≡ cond (covers (get_or spans i d) p) (Some (narrower (span_at (take i spans) p) (get_or spans i d))) (span_at (take i spans) p)
-span_at_more spans i p d inside = fold_more (λ (found : Option Span) (span : Span). cond (covers span p) (Some (narrower found span)) found) None spans i d inside
+    → span_at (take (i + 1) spans) p
+    ≡ cond (covers (get_or spans i d) p) (Some (narrower (span_at (take i spans) p) (get_or spans i d)))
+    (span_at (take i spans) p)
+span_at_more spans i p d inside =
+    fold_more (λ (found : Option Span) (span : Span). cond (covers span p) (Some (narrower found span)) found) None
+    spans i d inside
 
 same_is : (a b : Option ℕ) → same_mark a b ≡ true → a ≡ b
 same_is None None e = refl
@@ -66,13 +77,18 @@ run n mark = record { len = n; occurrence = mark }
 
 -- the first run, and what is behind it
 pub runs_step : (mark : Option ℕ) (marks : List (Option ℕ))
-    → runs_of (mark ∷ marks) ≡ record { len = prefix_len (same_mark mark) marks + 1; occurrence = mark } ∷ runs_of (drop (prefix_len (same_mark mark) marks) marks)
+    → runs_of (mark ∷ marks)
+    ≡ record { len = prefix_len (same_mark mark) marks + 1; occurrence = mark }
+    ∷ runs_of (drop (prefix_len (same_mark mark) marks) marks)
 runs_step mark [] = refl
 runs_step mark (x ∷ marks) = by (same_mark mark x) refl (runs_step x marks)
   where
     by : (b : Bool) → same_mark mark x ≡ b
-        → runs_of (x ∷ marks) ≡ run (prefix_len (same_mark x) marks + 1) x ∷ runs_of (drop (prefix_len (same_mark x) marks) marks)
-        → runs_of (mark ∷ (x ∷ marks)) ≡ run (prefix_len (same_mark mark) (x ∷ marks) + 1) mark ∷ runs_of (drop (prefix_len (same_mark mark) (x ∷ marks)) (x ∷ marks))
+        → runs_of (x ∷ marks) ≡ run (prefix_len (same_mark x) marks + 1) x
+        ∷ runs_of (drop (prefix_len (same_mark x) marks) marks)
+        → runs_of (mark ∷ (x ∷ marks))
+        ≡ run (prefix_len (same_mark mark) (x ∷ marks) + 1) mark
+        ∷ runs_of (drop (prefix_len (same_mark mark) (x ∷ marks)) (x ∷ marks))
     by false other first =
         ap (onto_runs 1 mark) first
         ∙ rw other (ap (λ (rs : List Run). run 1 mark ∷ rs) (sym first))
@@ -80,9 +96,12 @@ runs_step mark (x ∷ marks) = by (same_mark mark x) refl (runs_step x marks)
         let k : ℕ = prefix_len (same_mark x) marks in
         let n : 1 + k ≡ suc k = omega arith in
         let m : 1 + (k + 1) ≡ suc k + 1 = omega arith in
-        let whole : onto_runs 1 x (run (k + 1) x ∷ runs_of (drop k marks)) ≡ run (1 + (k + 1)) x ∷ runs_of (drop k marks) = rw (same_same x) refl in
+        let whole : onto_runs 1 x (run (k + 1) x ∷ runs_of (drop k marks))
+        ≡ run (1 + (k + 1)) x ∷ runs_of (drop k marks) = rw (same_same x) refl in
         let e : mark ≡ x = same_is mark x same in
-        subst (λ (y : Option ℕ). runs_of (y ∷ (x ∷ marks)) ≡ run (prefix_len (same_mark y) (x ∷ marks) + 1) y ∷ runs_of (drop (prefix_len (same_mark y) (x ∷ marks)) (x ∷ marks))) (sym e)
+        subst (λ (y : Option ℕ). runs_of (y ∷ (x ∷ marks))
+        ≡ run (prefix_len (same_mark y) (x ∷ marks) + 1) y
+        ∷ runs_of (drop (prefix_len (same_mark y) (x ∷ marks)) (x ∷ marks))) (sym e)
         (ap (onto_runs 1 x) first ∙ whole ∙ rw (same_same x, n, m) refl)
 
 -- what is behind the first of some marks
@@ -98,6 +117,8 @@ length-behind (mark ∷ marks) some = rw (behind-cons mark marks) (omega arith)
 
 -- the first run of marks that are one at least
 pub runs_next : (marks : List (Option ℕ)) (d : Option ℕ) → 1 ≤ length marks
-    → runs_of marks ≡ record { len = prefix_len (same_mark (get_or marks 0 d)) (behind marks) + 1; occurrence = get_or marks 0 d } ∷ runs_of (drop (prefix_len (same_mark (get_or marks 0 d)) (behind marks)) (behind marks))
+    → runs_of marks ≡ record
+    { len = prefix_len (same_mark (get_or marks 0 d)) (behind marks) + 1; occurrence = get_or marks 0 d }
+    ∷ runs_of (drop (prefix_len (same_mark (get_or marks 0 d)) (behind marks)) (behind marks))
 runs_next [] d some = absurd (omega (arith, some))
 runs_next (mark ∷ marks) d some = rw (behind-cons mark marks) (runs_step mark marks)

@@ -1,5 +1,6 @@
 -- The units of a text, counted by its bytes in UTF-8, and in the form that they are units of.
-use Rattle.std.proofs.Common.{◌≡◌, ◌∙◌, sym, refl, subst, ℕ, ◌+◌, ◌/◌, ◌<◌, ◌≤◌, List, [], ◌∷◌, length, ◌⊎◌, inl, inr, arith, length-append}
+use Rattle.std.proofs.Common.{◌≡◌, ◌∙◌, sym, refl, subst, ℕ, ◌+◌, ◌/◌, ◌<◌, ◌≤◌, List, [], ◌∷◌, length, ◌⊎◌, inl, inr}
+use Rattle.std.proofs.Common.{arith, length-append}
 use Rattle.std.specs.Prelude.{IsUtf8}
 use Rattle.std.specs.List.{sum_by, flat_map}
 use Rattle.std.specs.Str.{chars}
@@ -38,7 +39,8 @@ CountsOne c = (sum_by (units_of Utf16) (encode c) ≡ length (encode_utf16 c)) �
 
 one_byte : (c : ℕ) → c < 128 → CountsOne c
 unfolding encode
-one_byte c small = let a = of_ascii c small in rw (lt-ltb c 128 small, lt-ltb c 65536 (omega arith), a.0, a.1) (refl, refl)
+one_byte c small = let a = of_ascii c small in
+    rw (lt-ltb c 128 small, lt-ltb c 65536 (omega arith), a.0, a.1) (refl, refl)
 
 two_bytes : (c : ℕ) → 128 ≤ c → c < 2048 → CountsOne c
 unfolding encode
@@ -50,13 +52,27 @@ three_bytes : (c : ℕ) → 2048 ≤ c → c < 65536 → CountsOne c
 unfolding encode
 three_bytes c least small =
     let a = of_lead (224 + c / 4096) (omega arith) (omega arith) in let b = of_next (c / 64) in let d = of_next c in
-    rw (le-ltb c 128 (omega arith), le-ltb c 2048 least, lt-ltb c 65536 small, a.0, a.1, b.0, b.1, d.0, d.1) (refl, refl)
+    rw (le-ltb c 128 (omega arith), le-ltb c 2048 least, lt-ltb c 65536 small, a.0, a.1, b.0, b.1, d.0, d.1)
+    (refl, refl)
 
 four_bytes : (c : ℕ) → 65536 ≤ c → CountsOne c
 unfolding encode
 four_bytes c least =
-    let a = of_wide (240 + c / 262144) (omega arith) in let b = of_next (c / 4096) in let d = of_next (c / 64) in let e = of_next c in
-    rw (le-ltb c 128 (omega arith), le-ltb c 2048 (omega arith), le-ltb c 65536 least, a.0, a.1, b.0, b.1, d.0, d.1, e.0, e.1) (refl, refl)
+    let a = of_wide (240 + c / 262144) (omega arith) in let b = of_next (c / 4096) in let d = of_next (c / 64) in
+    let e = of_next c in
+    rw (
+      le-ltb c 128 (omega arith),
+      le-ltb c 2048 (omega arith),
+      le-ltb c 65536 least,
+      a.0,
+      a.1,
+      b.0,
+      b.1,
+      d.0,
+      d.1,
+      e.0,
+      e.1,
+    ) (refl, refl)
 
 counts_one : (c : ℕ) → CountsOne c
 counts_one c = by_bytes c (cases_lt c 128) (cases_lt c 2048) (cases_lt c 65536)
@@ -69,14 +85,17 @@ counts_one c = by_bytes c (cases_lt c 128) (cases_lt c 2048) (cases_lt c 65536)
 
 all_utf16 : (cs : List ℕ) → sum_by (units_of Utf16) (encodes cs) ≡ length (flat_map encode_utf16 cs)
 all_utf16 [] = refl
-all_utf16 (c ∷ cs) = sum_by-append (units_of Utf16) (encode c) (encodes cs) ∙ rw ((counts_one c).0, all_utf16 cs) (sym (length-append (encode_utf16 c) (flat_map encode_utf16 cs)))
+all_utf16 (c ∷ cs) = sum_by-append (units_of Utf16) (encode c) (encodes cs)
+    ∙ rw ((counts_one c).0, all_utf16 cs) (sym (length-append (encode_utf16 c) (flat_map encode_utf16 cs)))
 
 all_utf32 : (cs : List ℕ) → sum_by (units_of Utf32) (encodes cs) ≡ length cs
 all_utf32 [] = refl
-all_utf32 (c ∷ cs) = sum_by-append (units_of Utf32) (encode c) (encodes cs) ∙ rw ((counts_one c).1, all_utf32 cs) (omega arith)
+all_utf32 (c ∷ cs) = sum_by-append (units_of Utf32) (encode c) (encodes cs)
+    ∙ rw ((counts_one c).1, all_utf32 cs) (omega arith)
 
 pub counts_utf16 : CountsUtf16
-counts_utf16 text utf8 = subst (λ (bytes : List ℕ). sum_by (units_of Utf16) bytes ≡ length (flat_map encode_utf16 (chars bytes))) utf8.1.1
+counts_utf16 text utf8 =
+    subst (λ (bytes : List ℕ). sum_by (units_of Utf16) bytes ≡ length (flat_map encode_utf16 (chars bytes))) utf8.1.1
     (rw (chars-encodes utf8.0 utf8.1.0) (all_utf16 utf8.0))
 
 pub counts_utf32 : CountsUtf32

@@ -42,7 +42,8 @@ target_code (Some target) = attribute (codes "href") target
 abbrev pub linked : Option Link → List ℕ → List ℕ
 linked None text = escape text
 linked (Some link) text =
-    mark (codes "a" ++ target_code link.target ++ attribute (codes "title") link.label) ++ escape text ++ mark (codes "/a")
+    mark (codes "a" ++ target_code link.target ++ attribute (codes "title") link.label) ++ escape text
+    ++ mark (codes "/a")
 
 abbrev pub piece_code : Piece → List ℕ
 piece_code piece = linked piece.link piece.text

@@ -1,5 +1,6 @@
 -- Columns of a line, and the bytes where they are. (`scip.proto`, Document, position_encoding)
-use Rattle.std.specs.Prelude.{ℕ, ◌+◌, ◌==◌, ℤ, pos, Bool, true, nat_lt, nat_le, ◌&&◌, ◌||◌, cond, List, [], ◌∷◌, length, take, drop, sum_by, Option, None, Some}
+use Rattle.std.specs.Prelude.{ℕ, ◌+◌, ◌==◌, ℤ, pos, Bool, true, nat_lt, nat_le, ◌&&◌, ◌||◌, cond, List, [], ◌∷◌, length}
+use Rattle.std.specs.Prelude.{take, drop, sum_by, Option, None, Some}
 use Rattle.std.specs.List.{find, range_with_len}
 use Rattle.std.specs.Ordering.{int_eq}
 use Rattle.scip_pages.specs.declared.columns.ColumnUnit.{ColumnUnit}

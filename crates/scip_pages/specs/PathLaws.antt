@@ -4,7 +4,8 @@ use Rattle.scip_pages.specs.Paths.{components, path_fault, place_of}
 
 -- A path without a fault leads from a folder to a place below it: through no name but its own.
 abbrev pub StaysBelow : Type 0
-StaysBelow = (folder : List (List ℕ)) (path : List ℕ) → path_fault path ≡ None → place_of folder path ≡ folder ++ components path
+StaysBelow = (folder : List (List ℕ)) (path : List ℕ) → path_fault path ≡ None
+    → place_of folder path ≡ folder ++ components path
 
 -- Two such paths that lead to one place are one path.
 abbrev pub HasItsOwnPlace : Type 0

@@ -1,5 +1,6 @@
 -- Paths of pages: those paths of documents that lead to one place each, below the folder of the pages.
-use Rattle.std.specs.Prelude.{ℕ, ◌==◌, Bool, cond, List, [], ◌∷◌, ◌++◌, length, take, ◌-◌, nat_eq, codes, Option, None, Some}
+use Rattle.std.specs.Prelude.{ℕ, ◌==◌, Bool, cond, List, [], ◌∷◌, ◌++◌, length, take, ◌-◌, nat_eq, codes, Option, None}
+use Rattle.std.specs.Prelude.{Some}
 use Rattle.std.specs.List.{list_any, slice_split, starts_with}
 use Rattle.std.specs.Str.{bytes_eq}
 use Rattle.scip_pages.specs.declared.paths.PathFault.{PathFault}

@@ -24,7 +24,8 @@ name_len (Some r) = length r.name
 -- What a byte shows, with what stands behind it: a `<`, nothing; a `&`, what its reference stands for; another
 -- byte, itself.
 abbrev pub shown_at : ℕ → List ℕ → List ℕ
-shown_at byte behind = cond (byte == 60) [] (cond (byte == 38) (byte_referred (reference_behind behind) ∷ []) (byte ∷ []))
+shown_at byte behind = cond (byte == 60) []
+    (cond (byte == 38) (byte_referred (reference_behind behind) ∷ []) (byte ∷ []))
 
 -- How many of the bytes behind it belong to the same mark or reference.
 abbrev pub more_at : ℕ → List ℕ → ℕ

@@ -1,5 +1,6 @@
 -- What of a line occurrences mark, byte by byte, and the runs of bytes of one mark.
-use Rattle.std.specs.Prelude.{ℕ, ◌+◌, ◌-◌, ◌==◌, Bool, true, false, nat_lt, nat_le, ◌&&◌, cond, List, [], ◌∷◌, length, map, Option, None, Some, fold}
+use Rattle.std.specs.Prelude.{ℕ, ◌+◌, ◌-◌, ◌==◌, Bool, true, false, nat_lt, nat_le, ◌&&◌, cond, List, [], ◌∷◌, length}
+use Rattle.std.specs.Prelude.{map, Option, None, Some, fold}
 use Rattle.std.specs.List.{range_with_len}
 use Rattle.std.specs.Option.{option_map, option_and_then}
 use Rattle.scip_model.specs.Range.{RangeNumbers}
@@ -11,12 +12,14 @@ use Rattle.scip_pages.specs.Columns.{offset_of}
 -- Where a range begins on a line with a number: on its first line at its column, on a later one at the line's start.
 abbrev pub start_on : ColumnUnit → ℕ → List ℕ → RangeNumbers → Option ℕ
 start_on unit number line range =
-    cond (range.start_line == number) (offset_of unit line range.start_column) (cond (nat_lt range.start_line number) (Some 0) None)
+    cond (range.start_line == number) (offset_of unit line range.start_column)
+    (cond (nat_lt range.start_line number) (Some 0) None)
 
 -- Where it ends there: on its last line at its column, on an earlier one at the line's end.
 abbrev pub end_on : ColumnUnit → ℕ → List ℕ → RangeNumbers → Option ℕ
 end_on unit number line range =
-    cond (range.end_line == number) (offset_of unit line range.end_column) (cond (nat_lt number range.end_line) (Some (length line)) None)
+    cond (range.end_line == number) (offset_of unit line range.end_column)
+    (cond (nat_lt number range.end_line) (Some (length line)) None)
 
 -- the bytes from one offset up to, and without, another; none where there is none between them
 abbrev pub span_between : ℕ → ℕ → ℕ → Option Span
@@ -26,7 +29,8 @@ span_between occurrence from to =
 -- What a range marks of a line: nothing where it isn't there, is empty, or has a column that the line hasn't.
 abbrev pub span_on : ColumnUnit → ℕ → List ℕ → ℕ → RangeNumbers → Option Span
 span_on unit number line occurrence range =
-    option_and_then (λ from. option_and_then (λ to. span_between occurrence from to) (end_on unit number line range)) (start_on unit number line range)
+    option_and_then (λ from. option_and_then (λ to. span_between occurrence from to) (end_on unit number line range))
+    (start_on unit number line range)
 
 -- a span is as wide as it has bytes, and covers those
 abbrev pub width : Span → ℕ
@@ -42,7 +46,8 @@ narrower (Some other) span = cond (nat_lt (width span) (width other)) span other
 
 -- Of the spans that cover a byte the narrowest, and of several such the first listed.
 abbrev pub span_at : List Span → ℕ → Option Span
-span_at spans at = fold (λ (found : Option Span) (span : Span). cond (covers span at) (Some (narrower found span)) found) None spans
+span_at spans at = fold (λ (found : Option Span) (span : Span). cond (covers span at)
+    (Some (narrower found span)) found) None spans
 
 -- The bytes of a line, each with the number of the occurrence that marks it.
 abbrev pub number_of : Option Span → Option ℕ

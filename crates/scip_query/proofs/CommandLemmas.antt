@@ -1,5 +1,6 @@
 -- The command of a line is what the grammar says: `Found` of what is read, `Exact` of what is in the grammar.
-use Rattle.std.proofs.Common.{◌≡◌, ℕ, ◌<◌, ◌≤◌, ◌==◌, Bool, true, false, not, ◌&&◌, List, [], ◌∷◌, ◌++◌, length, cond, refl, ◌∙◌, ap, arith}
+use Rattle.std.proofs.Common.{◌≡◌, ℕ, ◌<◌, ◌≤◌, ◌==◌, Bool, true, false, not, ◌&&◌, List, [], ◌∷◌, ◌++◌, length, cond}
+use Rattle.std.proofs.Common.{refl, ◌∙◌, ap, arith}
 use Rattle.std.specs.Prelude.{Option, None, Some, nat_le, nat_lt}
 use Rattle.std.specs.List.{list_all, AllPass}
 use Rattle.std.specs.Option.{option_and_then, option_map}
@@ -11,19 +12,23 @@ use Rattle.std.proofs.lemmas.Str.{IsUtf8-from_is_utf8, is_utf8-from_IsUtf8}
 use Rattle.scip_query.specs.Commands.{is_digit, value_of, max_digits}
 use Rattle.scip_query.specs.CommandReading.{Parts, with_first, parts_of, is_written, at_most, number_of, path_of}
 
-pub bind_some : {A B : Type 0} (o : Option A) (f : A → Option B) (y : B) → option_and_then f o ≡ Some y → (x : A) × (o ≡ Some x) × (f x ≡ Some y)
+pub bind_some : {A B : Type 0} (o : Option A) (f : A → Option B) (y : B) → option_and_then f o ≡ Some y
+    → (x : A) × (o ≡ Some x) × (f x ≡ Some y)
 bind_some None f y e = absurd cc
 bind_some (Some x) f y e = (x, refl, e)
 
-pub map_some : {A B : Type 0} (f : A → B) (o : Option A) (y : B) → option_map f o ≡ Some y → (x : A) × (o ≡ Some x) × (f x ≡ y)
+pub map_some : {A B : Type 0} (f : A → B) (o : Option A) (y : B) → option_map f o ≡ Some y
+    → (x : A) × (o ≡ Some x) × (f x ≡ y)
 map_some f None y e = absurd cc
 map_some f (Some x) y e = (x, refl, cc)
 
 -- Exact: a word without a space, a space and what stands behind it
-pub parts_exact : (word behind : List ℕ) → list_all (λ b. not (b == 32)) word ≡ true → parts_of (word ++ 32 ∷ behind) ≡ Some (record { word = word; behind = behind })
+pub parts_exact : (word behind : List ℕ) → list_all (λ b. not (b == 32)) word ≡ true
+    → parts_of (word ++ 32 ∷ behind) ≡ Some (record { word = word; behind = behind })
 parts_exact [] behind e = refl
 parts_exact (b ∷ word) behind e = by (parts_exact word behind) (b == 32) refl where
-  by : (list_all (λ x. not (x == 32)) word ≡ true → parts_of (word ++ 32 ∷ behind) ≡ Some (record { word = word; behind = behind })) → (t : Bool) → (b == 32) ≡ t
+  by : (list_all (λ x. not (x == 32)) word ≡ true
+      → parts_of (word ++ 32 ∷ behind) ≡ Some (record { word = word; behind = behind })) → (t : Bool) → (b == 32) ≡ t
       → parts_of (b ∷ word ++ 32 ∷ behind) ≡ Some (record { word = b ∷ word; behind = behind })
   by rest true is = let clash : false ≡ true = rw is at e in absurd cc
   by rest false is = rw is (ap (option_map (with_first b)) (rest (rw is at e)))
@@ -32,7 +37,8 @@ parts_exact (b ∷ word) behind e = by (parts_exact word behind) (b == 32) refl 
 pub parts_found : (line : List ℕ) (parts : Parts) → parts_of line ≡ Some parts → line ≡ parts.word ++ 32 ∷ parts.behind
 parts_found [] parts e = absurd cc
 parts_found (b ∷ line) parts e = by (parts_found line) (b == 32) refl where
-  by : ((inner : Parts) → parts_of line ≡ Some inner → line ≡ inner.word ++ 32 ∷ inner.behind) → (t : Bool) → (b == 32) ≡ t → b ∷ line ≡ parts.word ++ 32 ∷ parts.behind
+  by : ((inner : Parts) → parts_of line ≡ Some inner → line ≡ inner.word ++ 32 ∷ inner.behind) → (t : Bool)
+      → (b == 32) ≡ t → b ∷ line ≡ parts.word ++ 32 ∷ parts.behind
   by rest true is =
       let first : Parts = record { word = []; behind = line } in
       let found : Some first ≡ Some parts = rw is at e in

@@ -1,5 +1,6 @@
 -- Conversations: what stands a byte later, what a refusal leaves, and what is due at the end (`ConversingSteps`).
-use Rattle.std.proofs.Common.{◌≡◌, ℕ, ◌+◌, ◌<◌, ◌==◌, false, List, [], ◌∷◌, ◌++◌, length, take, drop, get_or, cond, refl, sym, ◌∙◌, ap, subst, append_assoc, arith}
+use Rattle.std.proofs.Common.{◌≡◌, ℕ, ◌+◌, ◌<◌, ◌==◌, false, List, [], ◌∷◌, ◌++◌, length, take, drop, get_or, cond}
+use Rattle.std.proofs.Common.{refl, sym, ◌∙◌, ap, subst, append_assoc, arith}
 use Rattle.std.specs.Prelude.{Option, None, Some, Result, Ok, Err, min}
 use Rattle.std.specs.List.{flat_map, count_by}
 use Rattle.std.proofs.Math.Seq.{take-append_seam}
@@ -14,13 +15,15 @@ use Rattle.streams.proofs.WholeWriteLemmas.{IsWritten-nil, IsWritten-trans, IsCu
 use Rattle.scip_query.specs.Commands.{lines_of}
 use Rattle.scip_query.specs.AnswerText.{answer_to, answer_text}
 use Rattle.scip_query.specs.Conversing.{is_line_end, ended_lines, Replies, IsDue, LeavesFeed, IsConversed}
-use Rattle.scip_query.specs.ConversingSteps.{kept_line, kept_with, Stands, IsCutShort, IsHalted, Goes, AnswersNext, Concludes}
+use Rattle.scip_query.specs.ConversingSteps.{kept_line, kept_with, Stands, IsCutShort, IsHalted, Goes, AnswersNext}
+use Rattle.scip_query.specs.ConversingSteps.{Concludes}
 use Rattle.scip_query.specs.declared.answer_fault.AnswerFault.{AnswerFault}
 use Rattle.scip_query.specs.declared.answer_fault.AnswerFault.TheVariants.{Read, Write, Memory}
 use Rattle.scip_query.specs.declared.conversation.Conversation.{Conversation}
 use Rattle.scip_query.proofs.LineLemmas.{line_ended, last_line, line_there, kept_with-is, kept_answer, kept_nothing}
 
-count_after : (bytes : List ℕ) (b : ℕ) → count_by is_line_end (bytes ++ b ∷ []) ≡ count_by is_line_end bytes + cond (b == 10) 1 0
+count_after : (bytes : List ℕ) (b : ℕ)
+    → count_by is_line_end (bytes ++ b ∷ []) ≡ count_by is_line_end bytes + cond (b == 10) 1 0
 count_after bytes b = omega (arith, sum_by-append (λ x. cond (is_line_end x) 1 0) bytes (b ∷ []))
 
 -- a byte behind bytes, and what is behind it
@@ -28,9 +31,12 @@ further : (read : List ℕ) (b : ℕ) (behind : List ℕ) → (read ++ b ∷ [])
 further read b behind = append_assoc read (b ∷ []) behind
 
 -- bytes up to one of them, that one, and the others
-pub taken_all : (read bytes : List ℕ) (i : ℕ) → i < length bytes → ((read ++ take i bytes) ++ get_or bytes i 0 ∷ []) ++ drop (i + 1) bytes ≡ read ++ bytes
+pub taken_all : (read bytes : List ℕ) (i : ℕ) → i < length bytes
+    → ((read ++ take i bytes) ++ get_or bytes i 0 ∷ []) ++ drop (i + 1) bytes ≡ read ++ bytes
 taken_all read bytes i within =
-    ap (λ l. l ++ drop (i + 1) bytes) (append_assoc read (take i bytes) (get_or bytes i 0 ∷ []) ∙ ap (λ l. read ++ l) (sym (take_more bytes i 0 within)))
+    ap (λ l. l ++ drop (i + 1) bytes)
+    (append_assoc read (take i bytes) (get_or bytes i 0 ∷ [])
+    ∙ ap (λ l. read ++ l) (sym (take_more bytes i 0 within)))
     ∙ append_assoc read (take (i + 1) bytes) (drop (i + 1) bytes)
     ∙ ap (λ l. read ++ l) (take-append-drop (i + 1) bytes)
 
@@ -40,7 +46,8 @@ counted a n written e = omega (arith, e)
 
 module _ {W : Type 0} (contents : W → Option (List ℕ)) (failures : W → ℕ) where
   -- a text that is cut off is cut off too where more was due
-  cut_off_more : (a b : W) (due more : List ℕ) (n : ℕ) → IsCutOff contents failures a b due n → IsCutOff contents failures a b (due ++ more) n
+  cut_off_more : (a b : W) (due more : List ℕ) (n : ℕ) → IsCutOff contents failures a b due n
+      → IsCutOff contents failures a b (due ++ more) n
   cut_off_more a b due more n p =
       let short : n < length due = p.short in
       record {
@@ -52,13 +59,17 @@ module _ {W : Type 0} (contents : W → Option (List ℕ)) (failures : W → ℕ
   module _ (index : Index) (first : W) where
     -- ---- the answers to some lines, and to one more
 
-    due_more : (ended : List (List ℕ)) (line : List ℕ) → flat_map (answer_to index) ended ++ answer_to index (kept_line line) ≡ flat_map (answer_to index) (ended ++ line ∷ [])
+    due_more : (ended : List (List ℕ)) (line : List ℕ)
+        → flat_map (answer_to index) ended ++ answer_to index (kept_line line)
+        ≡ flat_map (answer_to index) (ended ++ line ∷ [])
     due_more ended line =
-        ap (λ l. flat_map (answer_to index) ended ++ l) (kept_answer index line ∙ sym (append-nil (answer_to index line)))
+        ap (λ l. flat_map (answer_to index) ended ++ l)
+        (kept_answer index line ∙ sym (append-nil (answer_to index line)))
         ∙ sym (flat_map-append (answer_to index) ended (line ∷ []))
 
     -- where the answer to the line that is begun went out
-    line_written : (read : List ℕ) (talk : Conversation) (before after : W) (s : Stands contents failures index first read talk before)
+    line_written : (read : List ℕ) (talk : Conversation) (before after : W)
+        (s : Stands contents failures index first read talk before)
         → IsWritten contents failures before after (answer_to index talk.line.items)
         → IsWritten contents failures first after (flat_map (answer_to index) (s.ended ++ s.begun ∷ []))
     line_written read talk before after s p =
@@ -66,16 +77,21 @@ module _ {W : Type 0} (contents : W → Option (List ℕ)) (failures : W → ℕ
         (IsWritten-trans contents failures first before after _ _ s.answered
         (subst (λ l. IsWritten contents failures before after (answer_to index l)) s.kept p))
 
-    line_cut_off : (read : List ℕ) (talk : Conversation) (before after : W) (n : ℕ) (s : Stands contents failures index first read talk before)
+    line_cut_off : (read : List ℕ) (talk : Conversation) (before after : W) (n : ℕ)
+        (s : Stands contents failures index first read talk before)
         → IsCutOff contents failures before after (answer_to index talk.line.items) n
-        → IsCutOff contents failures first after (flat_map (answer_to index) (s.ended ++ s.begun ∷ [])) (length (flat_map (answer_to index) s.ended) + n)
+        → IsCutOff contents failures first after (flat_map (answer_to index) (s.ended ++ s.begun ∷ []))
+        (length (flat_map (answer_to index) s.ended) + n)
     line_cut_off read talk before after n s p =
-        subst (λ l. IsCutOff contents failures first after l (length (flat_map (answer_to index) s.ended) + n)) (due_more s.ended s.begun)
+        subst (λ l. IsCutOff contents failures first after l (length (flat_map (answer_to index) s.ended) + n))
+        (due_more s.ended s.begun)
         (IsCutOff-after contents failures first before after _ _ n s.answered
         (subst (λ l. IsCutOff contents failures before after (answer_to index l) n) s.kept p))
 
-    length_more : (read : List ℕ) (talk : Conversation) (now : W) (s : Stands contents failures index first read talk now)
-        → length (flat_map (answer_to index) s.ended) + length (answer_to index talk.line.items) ≡ length (flat_map (answer_to index) (s.ended ++ s.begun ∷ []))
+    length_more : (read : List ℕ) (talk : Conversation) (now : W)
+        (s : Stands contents failures index first read talk now)
+        → length (flat_map (answer_to index) s.ended) + length (answer_to index talk.line.items)
+        ≡ length (flat_map (answer_to index) (s.ended ++ s.begun ∷ []))
     length_more read talk now s =
         ap (λ l. length (flat_map (answer_to index) s.ended) + length (answer_to index l)) s.kept
         ∙ sym (length-append (flat_map (answer_to index) s.ended) (answer_to index (kept_line s.begun)))
@@ -83,7 +99,8 @@ module _ {W : Type 0} (contents : W → Option (List ℕ)) (failures : W → ℕ
 
     -- ---- before the first byte
 
-    pub starts : (talk : Conversation) → talk.line.items ≡ [] → talk.written ≡ 0 → Stands contents failures index first [] talk first
+    pub starts : (talk : Conversation) → talk.line.items ≡ [] → talk.written ≡ 0
+        → Stands contents failures index first [] talk first
     starts talk line written = record {
       ended = [];
       begun = [];
@@ -97,21 +114,26 @@ module _ {W : Type 0} (contents : W → Option (List ℕ)) (failures : W → ℕ
 
     -- ---- one byte
 
-    pub byte_kept : (read : List ℕ) (b : ℕ) (talk next : Conversation) (now : W) → (b == 10) ≡ false → Stands contents failures index first read talk now
-        → next.line.items ≡ kept_with talk.line.items b → next.written ≡ talk.written → Stands contents failures index first (read ++ b ∷ []) next now
+    pub byte_kept : (read : List ℕ) (b : ℕ) (talk next : Conversation) (now : W) → (b == 10) ≡ false
+        → Stands contents failures index first read talk now
+        → next.line.items ≡ kept_with talk.line.items b → next.written ≡ talk.written
+        → Stands contents failures index first (read ++ b ∷ []) next now
     byte_kept read b talk next now inside s line written = record {
       ended = s.ended;
       begun = s.begun ++ b ∷ [];
       lines = λ behind.
-          ap lines_of (further read b behind) ∙ s.lines (b ∷ behind) ∙ ap (λ l. s.ended ++ lines_of l) (sym (further s.begun b behind));
+          ap lines_of (further read b behind) ∙ s.lines (b ∷ behind)
+          ∙ ap (λ l. s.ended ++ lines_of l) (sym (further s.begun b behind));
       ends = count_after read b ∙ ap (λ t. count_by is_line_end read + cond t 1 0) inside ∙ omega (arith, s.ends);
-      unended = count_after s.begun b ∙ ap (λ t. count_by is_line_end s.begun + cond t 1 0) inside ∙ omega (arith, s.unended);
+      unended = count_after s.begun b ∙ ap (λ t. count_by is_line_end s.begun + cond t 1 0) inside
+          ∙ omega (arith, s.unended);
       kept = line ∙ ap (λ l. kept_with l b) s.kept ∙ kept_with-is s.begun b;
       answered = s.answered;
       written = written ∙ s.written;
     }
 
-    pub byte_refused : (read : List ℕ) (b : ℕ) (talk : Conversation) (now : W) → Stands contents failures index first read talk now
+    pub byte_refused : (read : List ℕ) (b : ℕ) (talk : Conversation) (now : W)
+        → Stands contents failures index first read talk now
         → IsHalted contents failures index first (read ++ b ∷ []) now
     byte_refused read b talk now s = record {
       ended = s.ended;
@@ -122,31 +144,39 @@ module _ {W : Type 0} (contents : W → Option (List ℕ)) (failures : W → ℕ
     }
 
     -- the lines where a `\n` ends the one that is begun
-    one_line_more : (read : List ℕ) (talk : Conversation) (now : W) (s : Stands contents failures index first read talk now) (behind : List ℕ)
+    one_line_more : (read : List ℕ) (talk : Conversation) (now : W)
+        (s : Stands contents failures index first read talk now) (behind : List ℕ)
         → lines_of ((read ++ 10 ∷ []) ++ behind) ≡ s.ended ++ s.begun ∷ lines_of behind
     one_line_more read talk now s behind =
-        ap lines_of (further read 10 behind) ∙ s.lines (10 ∷ behind) ∙ ap (λ l. s.ended ++ l) (line_ended s.begun behind s.unended)
+        ap lines_of (further read 10 behind) ∙ s.lines (10 ∷ behind)
+        ∙ ap (λ l. s.ended ++ l) (line_ended s.begun behind s.unended)
 
-    pub line_goes : (read : List ℕ) (talk next : Conversation) (before after : W) (result : Result (Unit {0}) AnswerFault)
+    pub line_goes : (read : List ℕ) (talk next : Conversation) (before after : W)
+        (result : Result (Unit {0}) AnswerFault)
         → Stands contents failures index first read talk before
         → AnswersNext contents failures before after talk next (answer_to index talk.line.items) result
         → Goes contents failures index first (read ++ 10 ∷ []) next after result
     line_goes read talk next before after (Ok done) s p = record {
       ended = s.ended ++ s.begun ∷ [];
       begun = [];
-      lines = λ behind. one_line_more read talk before s behind ∙ sym (append_assoc s.ended (s.begun ∷ []) (lines_of behind));
+      lines = λ behind. one_line_more read talk before s behind
+          ∙ sym (append_assoc s.ended (s.begun ∷ []) (lines_of behind));
       ends = count_after read 10 ∙ omega (arith, s.ends, length-append s.ended (s.begun ∷ []));
       unended = refl;
       kept = p.1;
       answered = line_written read talk before after s p.0;
-      written = p.2 ∙ counted (length (flat_map (answer_to index) s.ended)) (length (answer_to index talk.line.items)) talk.written s.written
+      written = p.2 ∙ counted (length (flat_map (answer_to index) s.ended))
+          (length (answer_to index talk.line.items)) talk.written s.written
           ∙ ap (λ n. min n last_count) (length_more read talk before s);
     }
     line_goes read talk next before after (Err Read) s p = absurd p
     line_goes read talk next before after (Err (Write count)) s p = record {
       ended = s.ended ++ s.begun ∷ [];
       sent = length (flat_map (answer_to index) s.ended) + p.0;
-      lines = λ behind. (lines_of behind, one_line_more read talk before s behind ∙ sym (append_assoc s.ended (s.begun ∷ []) (lines_of behind)));
+      lines = λ behind. (
+        lines_of behind,
+        one_line_more read talk before s behind ∙ sym (append_assoc s.ended (s.begun ∷ []) (lines_of behind)),
+      );
       cut_off = line_cut_off read talk before after p.0 s p.1;
       counted = p.2 ∙ counted (length (flat_map (answer_to index) s.ended)) p.0 talk.written s.written;
     }
@@ -158,7 +188,8 @@ module _ {W : Type 0} (contents : W → Option (List ℕ)) (failures : W → ℕ
 
     -- what a refusal leaves stays so where more was read
     pub refused_further : (read more : List ℕ) (talk next : Conversation) (now : W) (fault : AnswerFault)
-        → Goes contents failures index first read talk now (Err fault) → Goes contents failures index first (read ++ more) next now (Err fault)
+        → Goes contents failures index first read talk now (Err fault)
+        → Goes contents failures index first (read ++ more) next now (Err fault)
     refused_further read more talk next now Read p = absurd p
     refused_further read more talk next now (Write count) p = record {
       ended = p.ended;
@@ -179,38 +210,50 @@ module _ {W : Type 0} (contents : W → Option (List ℕ)) (failures : W → ℕ
 
     -- ---- the end of the bytes
 
-    lines_read : (read : List ℕ) (talk : Conversation) (now : W) (s : Stands contents failures index first read talk now) → lines_of read ≡ s.ended ++ lines_of s.begun
-    lines_read read talk now s = ap lines_of (sym (append-nil read)) ∙ s.lines [] ∙ ap (λ l. s.ended ++ lines_of l) (append-nil s.begun)
+    lines_read : (read : List ℕ) (talk : Conversation) (now : W)
+        (s : Stands contents failures index first read talk now) → lines_of read ≡ s.ended ++ lines_of s.begun
+    lines_read read talk now s =
+        ap lines_of (sym (append-nil read)) ∙ s.lines [] ∙ ap (λ l. s.ended ++ lines_of l) (append-nil s.begun)
 
-    pub nothing_begun : (read : List ℕ) (talk : Conversation) (now : W) → Stands contents failures index first read talk now → talk.line.items ≡ []
+    pub nothing_begun : (read : List ℕ) (talk : Conversation) (now : W)
+        → Stands contents failures index first read talk now → talk.line.items ≡ []
         → IsWritten contents failures first now (answer_text index read)
     nothing_begun read talk now s e =
         let none : s.begun ≡ [] = kept_nothing s.begun (sym s.kept ∙ e) in
-        let lines : lines_of read ≡ s.ended = lines_read read talk now s ∙ ap (λ l. s.ended ++ lines_of l) none ∙ append-nil s.ended in
+        let lines : lines_of read ≡ s.ended =
+        lines_read read talk now s ∙ ap (λ l. s.ended ++ lines_of l) none ∙ append-nil s.ended in
         subst (λ l. IsWritten contents failures first now (flat_map (answer_to index) l)) (sym lines) s.answered
 
     begun_line : (begun : List ℕ) → (begun ≡ [] → ⊥) → count_by is_line_end begun ≡ 0 → lines_of begun ≡ begun ∷ []
     begun_line [] some none = absurd (some refl)
     begun_line (b ∷ begun) some none = last_line b begun none
 
-    begun_there : (begun behind : List ℕ) → (begun ≡ [] → ⊥) → (next : List ℕ) × (others : List (List ℕ)) × (lines_of (begun ++ behind) ≡ next ∷ others)
+    begun_there : (begun behind : List ℕ) → (begun ≡ [] → ⊥)
+        → (next : List ℕ) × (others : List (List ℕ)) × (lines_of (begun ++ behind) ≡ next ∷ others)
     begun_there [] behind some = absurd (some refl)
     begun_there (b ∷ begun) behind some = line_there [] b (begun ++ behind)
 
-    pub last_concludes : (read : List ℕ) (talk next : Conversation) (before after : W) (result : Result (Unit {0}) AnswerFault)
+    pub last_concludes : (read : List ℕ) (talk next : Conversation) (before after : W)
+        (result : Result (Unit {0}) AnswerFault)
         → Stands contents failures index first read talk before → (talk.line.items ≡ [] → ⊥)
         → AnswersNext contents failures before after talk next (answer_to index talk.line.items) result
         → Concludes contents failures index first read after result
     last_concludes read talk next before after (Ok done) s some p =
-        let lines : lines_of read ≡ s.ended ++ s.begun ∷ [] = lines_read read talk before s ∙ ap (λ l. s.ended ++ l) (begun_line s.begun (λ e. some (s.kept ∙ ap kept_line e)) s.unended) in
-        subst (λ l. IsWritten contents failures first after (flat_map (answer_to index) l)) (sym lines) (line_written read talk before after s p.0)
+        let lines : lines_of read ≡ s.ended ++ s.begun ∷ [] =
+        lines_read read talk before s
+        ∙ ap (λ l. s.ended ++ l) (begun_line s.begun (λ e. some (s.kept ∙ ap kept_line e)) s.unended) in
+        subst (λ l. IsWritten contents failures first after (flat_map (answer_to index) l)) (sym lines)
+        (line_written read talk before after s p.0)
     last_concludes read talk next before after (Err Read) s some p = absurd p
     last_concludes read talk next before after (Err (Write count)) s some p =
-        let lines : lines_of read ≡ s.ended ++ s.begun ∷ [] = lines_read read talk before s ∙ ap (λ l. s.ended ++ l) (begun_line s.begun (λ e. some (s.kept ∙ ap kept_line e)) s.unended) in
+        let lines : lines_of read ≡ s.ended ++ s.begun ∷ [] =
+        lines_read read talk before s
+        ∙ ap (λ l. s.ended ++ l) (begun_line s.begun (λ e. some (s.kept ∙ ap kept_line e)) s.unended) in
         let sent = length (flat_map (answer_to index) s.ended) + p.0 in (
           sent,
           p.2 ∙ counted (length (flat_map (answer_to index) s.ended)) p.0 talk.written s.written,
-          subst (λ l. IsCutOff contents failures first after (flat_map (answer_to index) l) sent) (sym lines) (line_cut_off read talk before after p.0 s p.1),
+          subst (λ l. IsCutOff contents failures first after (flat_map (answer_to index) l) sent) (sym lines)
+              (line_cut_off read talk before after p.0 s p.1),
         )
     last_concludes read talk next before after (Err Memory) s some p = record {
       ended = s.ended;
@@ -223,7 +266,8 @@ module _ {W : Type 0} (contents : W → Option (List ℕ)) (failures : W → ℕ
     -- ---- what is due
 
     halted_due : (all : List ℕ) (ended others : List (List ℕ)) (next : List ℕ) → lines_of all ≡ ended ++ next ∷ others
-        → (k : ℕ) × (k < length (lines_of all)) × (flat_map (answer_to index) ended ≡ flat_map (answer_to index) (take k (lines_of all)))
+        → (k : ℕ) × (k < length (lines_of all))
+        × (flat_map (answer_to index) ended ≡ flat_map (answer_to index) (take k (lines_of all)))
     halted_due all ended others next e = (
       length ended,
       rw e (omega (arith, length-append ended (next ∷ others))),
@@ -231,17 +275,29 @@ module _ {W : Type 0} (contents : W → Option (List ℕ)) (failures : W → ℕ
     )
 
     -- at the end of the bytes
-    pub concluded_due : (known left : Option (List ℕ)) (read : List ℕ) (now : W) (result : Result (Unit {0}) AnswerFault)
+    pub concluded_due : (known left : Option (List ℕ)) (read : List ℕ) (now : W)
+        (result : Result (Unit {0}) AnswerFault)
         → ((all : List ℕ) → known ≡ Some all → all ≡ read) → Concludes contents failures index first read now result
         → IsConversed contents failures index first now known left result
     concluded_due known left read now (Ok done) is p =
-        record { due = answer_text index read; replies = p; some = (read, None, refl); told = λ all e. ap (answer_text index) (sym (is all e)) }
+        record {
+          due = answer_text index read;
+          replies = p;
+          some = (read, None, refl);
+          told = λ all e. ap (answer_text index) (sym (is all e));
+        }
     concluded_due known left read now (Err Read) is p = absurd p
     concluded_due known left read now (Err (Write count)) is p =
-        record { due = answer_text index read; replies = p; some = (read, None, refl); told = λ all e. ap (answer_text index) (sym (is all e)) }
+        record {
+          due = answer_text index read;
+          replies = p;
+          some = (read, None, refl);
+          told = λ all e. ap (answer_text index) (sym (is all e));
+        }
     concluded_due known left read now (Err Memory) is p =
         let found = p.lines [] in
-        let of = λ (all : List ℕ) (e : all ≡ read). halted_due all p.ended found.1 found.0 (ap lines_of (e ∙ sym (append-nil read)) ∙ found.2) in
+        let of = λ (all : List ℕ) (e : all ≡ read). halted_due all p.ended found.1 found.0
+        (ap lines_of (e ∙ sym (append-nil read)) ∙ found.2) in
         record {
           due = flat_map (answer_to index) p.ended;
           replies = p.answered;
@@ -255,7 +311,8 @@ module _ {W : Type 0} (contents : W → Option (List ℕ)) (failures : W → ℕ
       replies : Replies contents failures first now due (Err (Write count))
       is : due ≡ answer_text index all
 
-    all_due : (read rest : List ℕ) (now : W) (count : ℕ) → IsCutShort contents failures index first read now count → AreCutOff (read ++ rest) now count
+    all_due : (read rest : List ℕ) (now : W) (count : ℕ) → IsCutShort contents failures index first read now count
+        → AreCutOff (read ++ rest) now count
     all_due read rest now count p =
         let found = p.lines rest in
         record {
@@ -265,13 +322,20 @@ module _ {W : Type 0} (contents : W → Option (List ℕ)) (failures : W → ℕ
         }
 
     -- on the way
-    pub halted_on_the_way : (known left : Option (List ℕ)) (read : List ℕ) (talk : Conversation) (now : W) (fault : AnswerFault)
-        → ((all : List ℕ) → known ≡ Some all → (rest : List ℕ) × (all ≡ read ++ rest)) → Goes contents failures index first read talk now (Err fault)
+    pub halted_on_the_way : (known left : Option (List ℕ)) (read : List ℕ) (talk : Conversation) (now : W)
+        (fault : AnswerFault)
+        → ((all : List ℕ) → known ≡ Some all → (rest : List ℕ) × (all ≡ read ++ rest))
+        → Goes contents failures index first read talk now (Err fault)
         → IsConversed contents failures index first now known left (Err fault)
     halted_on_the_way known left read talk now Read is p = absurd p
     halted_on_the_way None left read talk now (Write count) is p =
         let whole = all_due read [] now count p in
-        record { due = whole.due; replies = whole.replies; some = (read ++ [], None, whole.is); told = λ all e. absurd cc }
+        record {
+          due = whole.due;
+          replies = whole.replies;
+          some = (read ++ [], None, whole.is);
+          told = λ all e. absurd cc;
+        }
     halted_on_the_way (Some known) left read talk now (Write count) is p =
         let behind = is known refl in
         let whole = all_due read behind.0 now count p in
@@ -295,7 +359,8 @@ module _ {W : Type 0} (contents : W → Option (List ℕ)) (failures : W → ℕ
 
     -- where the bytes aren't read to their end
     pub unread_due : (known left : Option (List ℕ)) (read : List ℕ) (talk : Conversation) (now : W)
-        → ((all : List ℕ) → known ≡ Some all → (rest : List ℕ) × (left ≡ Some rest) × (all ≡ read ++ rest)) → Stands contents failures index first read talk now
+        → ((all : List ℕ) → known ≡ Some all → (rest : List ℕ) × (left ≡ Some rest) × (all ≡ read ++ rest))
+        → Stands contents failures index first read talk now
         → IsConversed contents failures index first now known left (Err Read)
     unread_due known left read talk now is s =
         let ended : ended_lines read ≡ s.ended =
@@ -312,15 +377,19 @@ module _ {W : Type 0} (contents : W → Option (List ℕ)) (failures : W → ℕ
 
     -- ---- the feed
 
-    pub concluded_feed : {R : Type 0} (faults reads ends : R → ℕ) (before after : R) (read : List ℕ) (now : W) (result : Result (Unit {0}) AnswerFault)
-        → Concludes contents failures index first read now result → IsReadThrough faults ends before after → LeavesFeed faults reads ends before after result
+    pub concluded_feed : {R : Type 0} (faults reads ends : R → ℕ) (before after : R) (read : List ℕ) (now : W)
+        (result : Result (Unit {0}) AnswerFault)
+        → Concludes contents failures index first read now result → IsReadThrough faults ends before after
+        → LeavesFeed faults reads ends before after result
     concluded_feed faults reads ends before after read now (Ok done) p through = through
     concluded_feed faults reads ends before after read now (Err Read) p through = absurd p
     concluded_feed faults reads ends before after read now (Err (Write count)) p through = through.0
     concluded_feed faults reads ends before after read now (Err Memory) p through = through.0
 
-    pub halted_feed : {R : Type 0} (faults reads ends : R → ℕ) (before after : R) (read : List ℕ) (talk : Conversation) (now : W) (fault : AnswerFault)
-        → Goes contents failures index first read talk now (Err fault) → faults after ≡ faults before → LeavesFeed faults reads ends before after (Err fault)
+    pub halted_feed : {R : Type 0} (faults reads ends : R → ℕ) (before after : R) (read : List ℕ) (talk : Conversation)
+        (now : W) (fault : AnswerFault)
+        → Goes contents failures index first read talk now (Err fault) → faults after ≡ faults before
+        → LeavesFeed faults reads ends before after (Err fault)
     halted_feed faults reads ends before after read talk now Read p same = absurd p
     halted_feed faults reads ends before after read talk now (Write count) p same = same
     halted_feed faults reads ends before after read talk now Memory p same = same

@@ -1,7 +1,9 @@
 -- A run of a table: what compares as equal, which stands together where the table rises.
-use Rattle.std.proofs.Common.{◌≡◌, ℕ, zero, suc, ◌+◌, ◌≤◌, Bool, true, false, not, ◌&&◌, List, [], ◌∷◌, length, take, drop, get_or, refl, sym, ◌∙◌, ap, subst, arith}
+use Rattle.std.proofs.Common.{◌≡◌, ℕ, zero, suc, ◌+◌, ◌≤◌, Bool, true, false, not, ◌&&◌, List, [], ◌∷◌, length, take}
+use Rattle.std.proofs.Common.{drop, get_or, refl, sym, ◌∙◌, ap, subst, arith}
 use Rattle.std.specs.List.{filter, find, slice_get, All, AllWithin}
-use Rattle.std.specs.List.Sorted.{IsPermutation, IsSortedBy, IsStableBy, ties, IsPartitionedBy, IsPartitionPoint, IsNonDecreasingBy}
+use Rattle.std.specs.List.Sorted.{IsPermutation, IsSortedBy, IsStableBy, ties, IsPartitionedBy, IsPartitionPoint}
+use Rattle.std.specs.List.Sorted.{IsNonDecreasingBy}
 use Rattle.std.specs.Fn.{AlwaysReturns, Called, Mut}
 use Rattle.std.specs.declared.cmp.Ordering.{Ordering}
 use Rattle.std.specs.declared.cmp.Ordering.TheVariants.{Less, Equal, Greater}
@@ -36,7 +38,8 @@ gt_reversed Less = refl
 gt_reversed Equal = refl
 gt_reversed Greater = refl
 
-index_below : (a b : Ordering) → (is_lt b ≡ true → is_lt a ≡ true) → (is_eq b ≡ true → is_gt a ≡ false) → ordering_index a ≤ ordering_index b
+index_below : (a b : Ordering) → (is_lt b ≡ true → is_lt a ≡ true) → (is_eq b ≡ true → is_gt a ≡ false)
+    → ordering_index a ≤ ordering_index b
 index_below Less b less equal = omega arith
 index_below Equal Less less equal = let clash : false ≡ true = less refl in cc
 index_below Equal Equal less equal = omega arith
@@ -68,20 +71,25 @@ tied Greater = refl
 
 -- of a list whose elements fail a test, then pass it, and then fail it again, those in the middle pass
 pub filter_run : {X : Type 0} (p : X → Bool) (xs : List X) (from n : ℕ) → AllWithin (λ y. p y ≡ false) xs 0 from
-    → AllWithin (λ y. p y ≡ true) (drop from xs) 0 n → AllWithin (λ y. p y ≡ false) (drop from xs) n (length (drop from xs))
+    → AllWithin (λ y. p y ≡ true) (drop from xs) 0 n
+    → AllWithin (λ y. p y ≡ false) (drop from xs) n (length (drop from xs))
     → filter p xs ≡ take n (drop from xs)
 filter_run p [] zero zero before within behind = refl
 filter_run p [] zero (suc n) before within behind = refl
 filter_run p [] (suc from) zero before within behind = refl
 filter_run p [] (suc from) (suc n) before within behind = refl
 filter_run p (x ∷ xs) (suc from) n before within behind =
-    rw (before zero x (omega arith) (omega arith)) (filter_run p xs from n (λ k d low high. before (suc k) d (omega arith) (omega arith)) within behind)
+    rw (before zero x (omega arith) (omega arith))
+    (filter_run p xs from n (λ k d low high. before (suc k) d (omega arith) (omega arith)) within behind)
 filter_run p (x ∷ xs) zero (suc n) before within behind =
     rw (within zero x (omega arith) (omega arith))
-    (ap (λ l. x ∷ l) (filter_run p xs zero n (λ k d low high. absurd (omega arith)) (λ k d low high. within (suc k) d (omega arith) (omega arith)) (λ k d low high. behind (suc k) d (omega arith) (omega arith))))
+    (ap (λ l. x ∷ l) (filter_run p xs zero n (λ k d low high. absurd (omega arith))
+    (λ k d low high. within (suc k) d (omega arith) (omega arith))
+    (λ k d low high. behind (suc k) d (omega arith) (omega arith))))
 filter_run p (x ∷ xs) zero zero before within behind =
     rw (behind zero x (omega arith) (omega arith))
-    (filter_run p xs zero zero (λ k d low high. absurd (omega arith)) (λ k d low high. absurd (omega arith)) (λ k d low high. behind (suc k) d (omega arith) (omega arith)))
+    (filter_run p xs zero zero (λ k d low high. absurd (omega arith)) (λ k d low high. absurd (omega arith))
+    (λ k d low high. behind (suc k) d (omega arith) (omega arith)))
 
 pub first_and_others : {X : Type 0} (P : X → Type 0) (x : X) (xs : List X) → P x → All P xs → All P (x ∷ xs)
 first_and_others P x xs first others zero d h = first
@@ -110,32 +118,38 @@ find_first p (x ∷ xs) = by (find_first p xs) (p x) refl where
 pub filter_swap : {X : Type 0} (p q : X → Bool) (xs : List X) → filter p (filter q xs) ≡ filter q (filter p xs)
 filter_swap p q [] = refl
 filter_swap p q (x ∷ xs) = by (filter_swap p q xs) (p x) refl (q x) refl where
-  by : filter p (filter q xs) ≡ filter q (filter p xs) → (a : Bool) → p x ≡ a → (b : Bool) → q x ≡ b → filter p (filter q (x ∷ xs)) ≡ filter q (filter p (x ∷ xs))
+  by : filter p (filter q xs) ≡ filter q (filter p xs) → (a : Bool) → p x ≡ a → (b : Bool) → q x ≡ b
+      → filter p (filter q (x ∷ xs)) ≡ filter q (filter p (x ∷ xs))
   by rest true e true f = rw (e, f, e) (ap (λ l. x ∷ l) rest)
   by rest true e false f = rw (e, f) rest
   by rest false e true f = rw (e, f, e) rest
   by rest false e false f = rw (e, f) rest
 
 -- what one call answers
-pub answer_of : {F X R : Type 0} (g : Mut F X R) (P : X → R → Type 0) (f : F) (a : X) (r : R) (f' : F) → Called g f a r f' → AlwaysReturns g P f → P a r
+pub answer_of : {F X R : Type 0} (g : Mut F X R) (P : X → R → Type 0) (f : F) (a : X) (r : R) (f' : F)
+    → Called g f a r f' → AlwaysReturns g P f → P a r
 answer_of g P f a r f' call always = (always.at (a ∷ []) r f' call).0
 
 module _ {N : Type 0} (to : N → Ordering) (xs : List N) (rises : Rises to xs) where
   pub less_first : IsPartitionedBy (λ n. is_lt (to n)) xs
-  less_first i j d before inside less = less_below (to (get_or xs i d)) (to (get_or xs j d)) (rises i j d before inside) less
+  less_first i j d before inside less =
+      less_below (to (get_or xs i d)) (to (get_or xs j d)) (rises i j d before inside) less
 
   -- behind the lesser ones the equal ones come first
-  pub equal_first : (from : ℕ) → AllWithin (λ n. is_lt (to n) ≡ false) xs from (length xs) → IsPartitionedBy (λ n. is_eq (to n)) (drop from xs)
+  pub equal_first : (from : ℕ) → AllWithin (λ n. is_lt (to n) ≡ false) xs from (length xs)
+      → IsPartitionedBy (λ n. is_eq (to n)) (drop from xs)
   equal_first from least i j d before inside equal =
       rw (get_or-drop from xs i d)
-      (equal_below (to (get_or xs (from + i) d)) (to (get_or xs (from + j) d)) (rises (from + i) (from + j) d (omega arith) (omega (arith, length-drop from xs)))
+      (equal_below (to (get_or xs (from + i) d)) (to (get_or xs (from + j) d))
+      (rises (from + i) (from + j) d (omega arith) (omega (arith, length-drop from xs)))
       (least (from + i) d (omega arith) (omega (arith, length-drop from xs))) (rw (get_or-drop from xs j d) at equal))
 
   pub is_run : (from n : ℕ) → IsPartitionPoint (λ m. is_lt (to m) ≡ true) (λ m. is_lt (to m) ≡ false) xs from
       → IsPartitionPoint (λ m. is_eq (to m) ≡ true) (λ m. is_eq (to m) ≡ false) (drop from xs) n
       → filter (λ m. is_eq (to m)) xs ≡ take n (drop from xs)
   is_run from n split equal =
-      filter_run (λ m. is_eq (to m)) xs from n (λ k d low high. less_not_equal (to (get_or xs k d)) (split.0 k d low high)) equal.0 equal.1
+      filter_run (λ m. is_eq (to m)) xs from n
+      (λ k d low high. less_not_equal (to (get_or xs k d)) (split.0 k d low high)) equal.0 equal.1
 
 module _ {N K : Type 0} {R : K → K → Ordering} (o : IsTotalOrder R) (key : N → K) where
   abbrev pub below : N → N → Bool
@@ -148,8 +162,10 @@ module _ {N K : Type 0} {R : K → K → Ordering} (o : IsTotalOrder R) (key : N
       let b = key (get_or xs j d) in
       let later : is_lt (R b a) ≡ false = sorted_far below (ranks_by o key) xs sorted i j d before inside in
       index_below (R a s) (R b s)
-      (λ less. not_false (is_lt (R a s)) (λ e. let clash : true ≡ false = sym less ∙ (ranks_by o (λ (k : K). k)).chain b a s later e in cc))
-      (λ equal. ap is_gt (o.antisymm a s) ∙ gt_reversed (R s a) ∙ ap is_lt (sym (o.congr b s a (equal_is (R b s) equal))) ∙ later)
+      (λ less. not_false (is_lt (R a s))
+      (λ e. let clash : true ≡ false = sym less ∙ (ranks_by o (λ (k : K). k)).chain b a s later e in cc))
+      (λ equal. ap is_gt (o.antisymm a s) ∙ gt_reversed (R s a)
+      ∙ ap is_lt (sym (o.congr b s a (equal_is (R b s) equal))) ∙ later)
 
   abbrev pub has : K → N → Bool
   has s m = is_eq (R (key m) s)
@@ -163,14 +179,20 @@ module _ {N K : Type 0} {R : K → K → Ordering} (o : IsTotalOrder R) (key : N
       ∙ ap (λ r. is_eq (ordering_reverse r)) one ∙ ap is_eq (sym turned)
 
   -- a table keeps the order of those with a key
-  pub kept_order : (all xs : List N) → IsPermutation all xs → IsStableBy below all xs → (s : K) → filter (has s) xs ≡ filter (has s) all
+  pub kept_order : (all xs : List N) → IsPermutation all xs → IsStableBy below all xs → (s : K)
+      → filter (has s) xs ≡ filter (has s) all
   kept_order all xs permutation stable s = by (filter (has s) all) refl where
     by : (l : List N) → filter (has s) all ≡ l → filter (has s) xs ≡ filter (has s) all
-    by [] none = all_fail (has s) xs (All-permutation (λ m. has s m ≡ false) all xs permutation (none_pass (has s) all none)) ∙ sym none
+    by [] none = all_fail (has s) xs
+        (All-permutation (λ m. has s m ≡ false) all xs permutation (none_pass (has s) all none)) ∙ sym none
     by (x ∷ rest) some =
-        let passes : has s x ≡ true = subst (All (λ m. has s m ≡ true)) some (filter_passes (has s) all) zero x (omega arith) in
+        let passes : has s x ≡ true =
+        subst (All (λ m. has s m ≡ true)) some (filter_passes (has s) all) zero x (omega arith) in
         (λ i. filter (λ m. sym (tie s x passes m) i) xs) ∙ stable x ∙ (λ i. filter (λ m. tie s x passes m i) all)
 
-pub nondecreasing_rises : {N : Type 0} (key : N → ℕ) (xs : List N) → IsNonDecreasingBy key xs → (s : ℕ) → Rises (λ n. nat_cmp (key n) s) xs
+pub nondecreasing_rises : {N : Type 0} (key : N → ℕ) (xs : List N) → IsNonDecreasingBy key xs → (s : ℕ)
+    → Rises (λ n. nat_cmp (key n) s) xs
 nondecreasing_rises key xs rising s =
-    sorted_rises nat_cmp_total key xs (λ k d low high. not_below (key (get_or xs (k + 1) d)) (key (get_or xs k d)) (rising k (k + 1) d (omega arith) high)) s
+    sorted_rises nat_cmp_total key xs
+    (λ k d low high. not_below (key (get_or xs (k + 1) d)) (key (get_or xs k d))
+    (rising k (k + 1) d (omega arith) high)) s

@@ -15,13 +15,15 @@ use Rattle.scip_query.specs.declared.position.Position.{Position}
 use Rattle.scip_query.specs.declared.place.Place.{Place}
 use Rattle.scip_query.specs.declared.place.EntryPlace.{EntryPlace}
 use Rattle.scip_query.specs.OccurrenceAt.{innermost_cmp}
-use Rattle.scip_query.specs.Tables.{numbers, path_listed, symbol_listed, entry_symbol_listed, path_cmp, symbol_cmp, entry_symbol_cmp, inner_cmp, IsInnermostFirst}
+use Rattle.scip_query.specs.Tables.{numbers, path_listed, symbol_listed, entry_symbol_listed, path_cmp, symbol_cmp}
+use Rattle.scip_query.specs.Tables.{entry_symbol_cmp, inner_cmp, IsInnermostFirst}
 use Rattle.std.specs.List.{slice_get}
 use Rattle.std.specs.Prelude.{Some}
 use Rattle.std.specs.Option.{unwrap_or}
 
 pub positions_total : IsTotalOrder position_cmp
-positions_total = then_total (on_total (λ (p : Position). p.line) nat_cmp_total) (on_total (λ (p : Position). p.column) nat_cmp_total)
+positions_total = then_total (on_total (λ (p : Position). p.line) nat_cmp_total)
+    (on_total (λ (p : Position). p.column) nat_cmp_total)
 
 pub innermost_total : IsTotalOrder innermost_cmp
 innermost_total =
@@ -43,21 +45,25 @@ inner_ranks occurrences = ranks_by (options_total innermost_total) (slice_get oc
 
 pub numbers_more : (n : ℕ) → numbers (n + 1) ≡ numbers n ++ n ∷ []
 numbers_more n =
-    sym (map-id (numbers (n + 1))) ∙ map-range_with_len_more (λ (k : ℕ). k) 0 n n (omega arith) ∙ ap (λ l. l ++ n ∷ []) (map-id (numbers n))
+    sym (map-id (numbers (n + 1))) ∙ map-range_with_len_more (λ (k : ℕ). k) 0 n n (omega arith)
+    ∙ ap (λ l. l ++ n ∷ []) (map-id (numbers n))
 
 pub map_numbers_more : {X : Type 0} (f : ℕ → X) (n : ℕ) → map f (numbers (n + 1)) ≡ map f (numbers n) ++ f n ∷ []
 map_numbers_more f n = map-range_with_len_more f 0 n n (omega arith)
 
-pub zipped_more : {A B : Type 0} (R : A → B → Type 0) (xs : List A) (ys : List B) (x : A) (y : B) → AllZip R xs ys → R x y → AllZip R (xs ++ x ∷ []) (ys ++ y ∷ [])
+pub zipped_more : {A B : Type 0} (R : A → B → Type 0) (xs : List A) (ys : List B) (x : A) (y : B) → AllZip R xs ys
+    → R x y → AllZip R (xs ++ x ∷ []) (ys ++ y ∷ [])
 zipped_more R [] [] x y all r = (r, tt)
 zipped_more R [] (b ∷ ys) x y all r = absurd all
 zipped_more R (a ∷ xs) [] x y all r = absurd all
 zipped_more R (a ∷ xs) (b ∷ ys) x y all r = (all.0, zipped_more R xs ys x y all.1 r)
 
 -- a document's own table
-pub table_at : (documents : List Document) (tables : List (List ℕ)) (number : ℕ) (d : Document) → AllZip IsInnermostFirst documents tables → slice_get documents number ≡ Some d
+pub table_at : (documents : List Document) (tables : List (List ℕ)) (number : ℕ) (d : Document)
+    → AllZip IsInnermostFirst documents tables → slice_get documents number ≡ Some d
     → IsInnermostFirst d (unwrap_or (slice_get tables number) [])
 table_at [] tables number d all e = absurd cc
 table_at (x ∷ documents) [] number d all e = absurd all
-table_at (x ∷ documents) (t ∷ tables) zero d all e = let same : x ≡ d = cc in subst (λ y. IsInnermostFirst y t) same all.0
+table_at (x ∷ documents) (t ∷ tables) zero d all e = let same : x ≡ d = cc in
+    subst (λ y. IsInnermostFirst y t) same all.0
 table_at (x ∷ documents) (t ∷ tables) (suc number) d all e = table_at documents tables number d all.1 e

@@ -1,5 +1,6 @@
 -- What is answered to commands. (The texts are this project's own.)
-use Rattle.std.specs.Prelude.{ℕ, ℤ, ◌==◌, nat_le, cond, List, [], ◌∷◌, ◌++◌, length, Option, None, Some, Result, Ok, Err, codes}
+use Rattle.std.specs.Prelude.{ℕ, ℤ, ◌==◌, nat_le, cond, List, [], ◌∷◌, ◌++◌, length, Option, None, Some, Result, Ok}
+use Rattle.std.specs.Prelude.{Err, codes}
 use Rattle.std.specs.List.{flat_map, slice_split}
 use Rattle.std.specs.Fmt.{decimal, signed_decimal}
 use Rattle.scip_model.specs.Range.{RangeNumbers}
@@ -21,7 +22,8 @@ line_end = 10 ∷ []
 abbrev pub count_line : ℕ → List ℕ
 count_line n = codes "= " ++ decimal n ++ line_end
 
--- where an occurrence begins and ends, its roles and a name, which is its document's path in an answer: `L C L2 E ROLE NAME`
+-- where an occurrence begins and ends, its roles and a name, which is its document's path in an answer: `L C L2 E ROLE
+-- NAME`
 abbrev pub line_of : RangeNumbers → ℤ → List ℕ → List ℕ
 line_of range roles name =
     decimal range.start_line ++ space ++ decimal range.start_column ++ space

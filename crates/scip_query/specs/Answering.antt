@@ -13,7 +13,8 @@ line_or_none None = []
 line_or_none (Some site) = site_line site
 
 -- the answer goes out whole, or is cut off; where memory runs out, nothing of it goes out. (Nothing is read.)
-abbrev pub Answers : {W : Type 0} → (W → Option (List ℕ)) → (W → ℕ) → W → W → List ℕ → Result (Unit {0}) AnswerFault → Type 0
+abbrev pub Answers : {W : Type 0} → (W → Option (List ℕ)) → (W → ℕ) → W → W → List ℕ → Result (Unit {0}) AnswerFault
+    → Type 0
 Answers contents failures before after due (Ok done) = IsWritten contents failures before after due
 Answers contents failures before after due (Err Read) = ⊥
 Answers contents failures before after due (Err (Write count)) = IsCutOff contents failures before after due count

@@ -13,18 +13,22 @@ use Rattle.scip_query.specs.declared.place.Place.{Place}
 -- a symbol, asked for in the document with a number, where there is one
 abbrev pub subject_in : Index → ℕ → List ℕ → Option Subject
 subject_in index number symbol =
-    option_map (λ (d : Document). record { asked = record { number = number; document = d }; symbol = symbol }) (slice_get index.documents number)
+    option_map (λ (d : Document). record { asked = record { number = number; document = d }; symbol = symbol })
+    (slice_get index.documents number)
 
 -- where its occurrences are listed, its definitions among them
 abbrev pub references_in : Index → ℕ → List ℕ → List Place
 references_in index number symbol =
-    unwrap_or (option_map (λ (s : Subject). map (λ (site : Site). site.place) (references_of index s)) (subject_in index number symbol)) []
+    unwrap_or (option_map (λ (s : Subject). map (λ (site : Site). site.place) (references_of index s))
+    (subject_in index number symbol)) []
 
 -- those that define it
 abbrev pub definitions_in : Index → ℕ → List ℕ → List Place
 definitions_in index number symbol =
-    unwrap_or (option_map (λ (s : Subject). map (λ (site : Site). site.place) (definitions_of index s)) (subject_in index number symbol)) []
+    unwrap_or (option_map (λ (s : Subject). map (λ (site : Site). site.place) (definitions_of index s))
+    (subject_in index number symbol)) []
 
 -- its documentation
 abbrev pub documentation_in : Index → ℕ → List ℕ → List (List ℕ)
-documentation_in index number symbol = unwrap_or (option_map (documentation_of index) (subject_in index number symbol)) []
+documentation_in index number symbol =
+    unwrap_or (option_map (documentation_of index) (subject_in index number symbol)) []

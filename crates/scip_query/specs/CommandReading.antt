@@ -1,5 +1,6 @@
 -- The command of a line, as a function: where the grammar gives the line a command, that one (a law of the crate).
-use Rattle.std.specs.Prelude.{ℕ, ◌==◌, Bool, nat_le, nat_lt, ◌&&◌, cond, List, [], ◌∷◌, ◌++◌, length, codes, Option, None, Some}
+use Rattle.std.specs.Prelude.{ℕ, ◌==◌, Bool, nat_le, nat_lt, ◌&&◌, cond, List, [], ◌∷◌, ◌++◌, length, codes, Option}
+use Rattle.std.specs.Prelude.{None, Some}
 use Rattle.std.specs.List.{list_all}
 use Rattle.std.specs.Option.{option_and_then, option_map}
 use Rattle.std.specs.Str.{bytes_eq, is_utf8}
@@ -25,7 +26,8 @@ with_first b parts = record { word = b ∷ parts.word; behind = parts.behind }
 
 abbrev pub parts_of : List ℕ → Option Parts
 parts_of [] = None
-parts_of (b ∷ line) = cond (b == 32) (Some (record { word = []; behind = line })) (option_map (with_first b) (parts_of line))
+parts_of (b ∷ line) = cond (b == 32) (Some (record { word = []; behind = line }))
+    (option_map (with_first b) (parts_of line))
 
 abbrev pub is_written : List ℕ → Bool
 is_written word = list_all is_digit word && (nat_lt 0 (length word) && nat_le (length word) max_digits)

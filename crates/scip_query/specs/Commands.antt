@@ -1,5 +1,6 @@
 -- Commands: one a line. (The grammar is this project's own.)
-use Rattle.std.specs.Prelude.{◌≡◌, ℕ, ◌-◌, ◌<◌, ◌≤◌, ◌==◌, Bool, nat_le, ◌&&◌, cond, List, [], ◌∷◌, ◌++◌, length, map, codes}
+use Rattle.std.specs.Prelude.{◌≡◌, ℕ, ◌-◌, ◌<◌, ◌≤◌, ◌==◌, Bool, nat_le, ◌&&◌, cond, List, [], ◌∷◌, ◌++◌, length, map}
+use Rattle.std.specs.Prelude.{codes}
 use Rattle.std.specs.List.{AllPass, onto_first}
 use Rattle.std.specs.Str.{IsUtf8}
 use Rattle.std.specs.Int.Digits.{number_from_digits}

@@ -12,8 +12,10 @@ use Rattle.scip_query.specs.declared.answer_fault.AnswerFault.{AnswerFault}
 use Rattle.scip_query.specs.declared.answer_fault.AnswerFault.TheVariants.{Read, Write, Memory}
 
 -- the due text goes out whole, or is cut off when `count` bytes of it went out. (Counts stop at the last u64.)
-abbrev pub Replies : {W : Type 0} → (W → Option (List ℕ)) → (W → ℕ) → W → W → List ℕ → Result (Unit {0}) AnswerFault → Type 0
-Replies contents failures before after due (Err (Write count)) = (n : ℕ) × (count ≡ min n last_count) × IsCutOff contents failures before after due n
+abbrev pub Replies : {W : Type 0} → (W → Option (List ℕ)) → (W → ℕ) → W → W → List ℕ → Result (Unit {0}) AnswerFault
+    → Type 0
+Replies contents failures before after due (Err (Write count)) =
+    (n : ℕ) × (count ≡ min n last_count) × IsCutOff contents failures before after due n
 Replies contents failures before after due other = IsWritten contents failures before after due
 
 abbrev pub is_line_end : ℕ → Bool
@@ -23,17 +25,23 @@ is_line_end b = b == 10
 abbrev pub ended_lines : List ℕ → List (List ℕ)
 ended_lines bytes = take (count_by is_line_end bytes) (lines_of bytes)
 
--- what is due, where `all` was left to read and `left` still is: the answers to all lines; at Read those to the lines that
+-- what is due, where `all` was left to read and `left` still is: the answers to all lines; at Read those to the lines
+-- that
 -- had ended; at Memory those to the lines before some line
 abbrev pub IsDue : Index → List ℕ → Option (List ℕ) → List ℕ → Result (Unit {0}) AnswerFault → Type 0
 IsDue index all left due (Ok done) = due ≡ answer_text index all
-IsDue index all left due (Err Read) = (read : List ℕ) × (rest : List ℕ) × (left ≡ Some rest) × (all ≡ read ++ rest) × (due ≡ flat_map (answer_to index) (ended_lines read))
+IsDue index all left due (Err Read) =
+    (read : List ℕ) × (rest : List ℕ) × (left ≡ Some rest) × (all ≡ read ++ rest)
+    × (due ≡ flat_map (answer_to index) (ended_lines read))
 IsDue index all left due (Err (Write count)) = due ≡ answer_text index all
-IsDue index all left due (Err Memory) = (k : ℕ) × (k < length (lines_of all)) × (due ≡ flat_map (answer_to index) (take k (lines_of all)))
+IsDue index all left due (Err Memory) =
+    (k : ℕ) × (k < length (lines_of all)) × (due ≡ flat_map (answer_to index) (take k (lines_of all)))
 
--- The answers to commands, of which `known` tells all bytes before the call and `left` those after it: so much of a text went out that is
+-- The answers to commands, of which `known` tells all bytes before the call and `left` those after it: so much of a
+-- text went out that is
 -- due to them; where they aren't told, to some bytes.
-pub record IsConversed {W : Type 0} (contents : W → Option (List ℕ)) (failures : W → ℕ) (index : Index) (before after : W) (known left : Option (List ℕ)) (result : Result (Unit {0}) AnswerFault) : Type 0 where
+pub record IsConversed {W : Type 0} (contents : W → Option (List ℕ)) (failures : W → ℕ) (index : Index)
+    (before after : W) (known left : Option (List ℕ)) (result : Result (Unit {0}) AnswerFault) : Type 0 where
   pub due : List ℕ
   pub replies : Replies contents failures before after due result
   pub some : (all : List ℕ) × (rest : Option (List ℕ)) × IsDue index all rest due result

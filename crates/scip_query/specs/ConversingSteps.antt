@@ -1,7 +1,9 @@
 -- What stands while commands are read and answered, a byte at a time, and what a refusal leaves.
--- `contents` and `failures` are the sink's; `first` is the sink before the first byte, `now` the sink here, and `read` the
+-- `contents` and `failures` are the sink's; `first` is the sink before the first byte, `now` the sink here, and `read`
+-- the
 -- bytes that were read in between.
-use Rattle.std.specs.Prelude.{◌≡◌, ℕ, ◌+◌, nat_le, cond, min, List, [], ◌∷◌, ◌++◌, length, take, Option, Result, Ok, Err}
+use Rattle.std.specs.Prelude.{◌≡◌, ℕ, ◌+◌, nat_le, cond, min, List, [], ◌∷◌, ◌++◌, length, take, Option, Result, Ok}
+use Rattle.std.specs.Prelude.{Err}
 use Rattle.std.specs.List.{flat_map, count_by}
 use Rattle.streams.specs.Streams.{last_count, more_by}
 use Rattle.streams.specs.WholeWrites.{IsWritten, IsCutOff}
@@ -25,7 +27,8 @@ abbrev pub kept_with : List ℕ → ℕ → List ℕ
 kept_with kept byte = cond (nat_le (length kept) max_command_length) (kept ++ byte ∷ []) kept
 
 -- the lines that ended are answered, and of the one that is begun so much is kept
-pub record Stands {W : Type 0} (contents : W → Option (List ℕ)) (failures : W → ℕ) (index : Index) (first : W) (read : List ℕ) (talk : Conversation) (now : W) : Type 0 where
+pub record Stands {W : Type 0} (contents : W → Option (List ℕ)) (failures : W → ℕ) (index : Index) (first : W)
+    (read : List ℕ) (talk : Conversation) (now : W) : Type 0 where
   pub ended : List (List ℕ)
   pub begun : List ℕ
   pub lines : (behind : List ℕ) → lines_of (read ++ behind) ≡ ended ++ lines_of (begun ++ behind)
@@ -36,7 +39,8 @@ pub record Stands {W : Type 0} (contents : W → Option (List ℕ)) (failures : 
   pub written : talk.written ≡ min (length (flat_map (answer_to index) ended)) last_count
 
 -- a write failed when so many bytes of the answers to some first lines had gone out
-pub record IsCutShort {W : Type 0} (contents : W → Option (List ℕ)) (failures : W → ℕ) (index : Index) (first : W) (read : List ℕ) (now : W) (count : ℕ) : Type 0 where
+pub record IsCutShort {W : Type 0} (contents : W → Option (List ℕ)) (failures : W → ℕ) (index : Index) (first : W)
+    (read : List ℕ) (now : W) (count : ℕ) : Type 0 where
   pub ended : List (List ℕ)
   pub sent : ℕ
   pub lines : (behind : List ℕ) → (others : List (List ℕ)) × (lines_of (read ++ behind) ≡ ended ++ others)
@@ -44,28 +48,40 @@ pub record IsCutShort {W : Type 0} (contents : W → Option (List ℕ)) (failure
   pub counted : count ≡ min sent last_count
 
 -- the lines before some line are answered, and nothing went out of its answer
-pub record IsHalted {W : Type 0} (contents : W → Option (List ℕ)) (failures : W → ℕ) (index : Index) (first : W) (read : List ℕ) (now : W) : Type 0 where
+pub record IsHalted {W : Type 0} (contents : W → Option (List ℕ)) (failures : W → ℕ) (index : Index) (first : W)
+    (read : List ℕ) (now : W) : Type 0 where
   pub ended : List (List ℕ)
-  pub lines : (behind : List ℕ) → (next : List ℕ) × (others : List (List ℕ)) × (lines_of (read ++ behind) ≡ ended ++ next ∷ others)
+  pub lines : (behind : List ℕ)
+      → (next : List ℕ) × (others : List (List ℕ)) × (lines_of (read ++ behind) ≡ ended ++ next ∷ others)
   pub answered : IsWritten contents failures first now (flat_map (answer_to index) ended)
 
 -- what a step on the way leaves. (It reads nothing.)
-abbrev pub Goes : {W : Type 0} → (W → Option (List ℕ)) → (W → ℕ) → Index → W → List ℕ → Conversation → W → Result (Unit {0}) AnswerFault → Type 0
+abbrev pub Goes : {W : Type 0} → (W → Option (List ℕ)) → (W → ℕ) → Index → W → List ℕ → Conversation → W
+    → Result (Unit {0}) AnswerFault → Type 0
 Goes contents failures index first read talk now (Ok done) = Stands contents failures index first read talk now
 Goes contents failures index first read talk now (Err Read) = ⊥
-Goes contents failures index first read talk now (Err (Write count)) = IsCutShort contents failures index first read now count
+Goes contents failures index first read talk now (Err (Write count)) =
+    IsCutShort contents failures index first read now count
 Goes contents failures index first read talk now (Err Memory) = IsHalted contents failures index first read now
 
--- an answer went out, as a whole or up to a failed write, and is counted behind those before it; or memory ran out before it
-abbrev pub AnswersNext : {W : Type 0} → (W → Option (List ℕ)) → (W → ℕ) → W → W → Conversation → Conversation → List ℕ → Result (Unit {0}) AnswerFault → Type 0
-AnswersNext contents failures before after talk next due (Ok done) = IsWritten contents failures before after due × (next.line.items ≡ []) × (next.written ≡ more_by (length due) talk.written)
+-- an answer went out, as a whole or up to a failed write, and is counted behind those before it; or memory ran out
+-- before it
+abbrev pub AnswersNext : {W : Type 0} → (W → Option (List ℕ)) → (W → ℕ) → W → W → Conversation → Conversation → List ℕ
+    → Result (Unit {0}) AnswerFault → Type 0
+AnswersNext contents failures before after talk next due (Ok done) =
+    IsWritten contents failures before after due × (next.line.items ≡ [])
+    × (next.written ≡ more_by (length due) talk.written)
 AnswersNext contents failures before after talk next due (Err Read) = ⊥
-AnswersNext contents failures before after talk next due (Err (Write count)) = (n : ℕ) × IsCutOff contents failures before after due n × (count ≡ more_by n talk.written)
+AnswersNext contents failures before after talk next due (Err (Write count)) =
+    (n : ℕ) × IsCutOff contents failures before after due n × (count ≡ more_by n talk.written)
 AnswersNext contents failures before after talk next due (Err Memory) = after ≡ before
 
 -- at the end of the bytes: all lines are answered, the last one too where no `\n` ends it
-abbrev pub Concludes : {W : Type 0} → (W → Option (List ℕ)) → (W → ℕ) → Index → W → List ℕ → W → Result (Unit {0}) AnswerFault → Type 0
-Concludes contents failures index first read now (Ok done) = IsWritten contents failures first now (answer_text index read)
+abbrev pub Concludes : {W : Type 0} → (W → Option (List ℕ)) → (W → ℕ) → Index → W → List ℕ → W
+    → Result (Unit {0}) AnswerFault → Type 0
+Concludes contents failures index first read now (Ok done) =
+    IsWritten contents failures first now (answer_text index read)
 Concludes contents failures index first read now (Err Read) = ⊥
-Concludes contents failures index first read now (Err (Write count)) = (n : ℕ) × (count ≡ min n last_count) × IsCutOff contents failures first now (answer_text index read) n
+Concludes contents failures index first read now (Err (Write count)) =
+    (n : ℕ) × (count ≡ min n last_count) × IsCutOff contents failures first now (answer_text index read) n
 Concludes contents failures index first read now (Err Memory) = IsHalted contents failures index first read now

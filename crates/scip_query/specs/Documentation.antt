@@ -26,7 +26,8 @@ texts_of None = []
 texts_of (Some entry) = entry.documentation
 
 abbrev pub documentation_of : Index → Subject → List (List ℕ)
-documentation_of index subject = texts_of (find (λ (entry : SymbolInformation). bytes_eq entry.symbol subject.symbol) (entries_for index subject))
+documentation_of index subject =
+    texts_of (find (λ (entry : SymbolInformation). bytes_eq entry.symbol subject.symbol) (entries_for index subject))
 
 -- of what is at a position of the document that a path names
 abbrev pub documentation_at : Index → List ℕ → Position → Result (List (List ℕ)) Miss

@@ -33,7 +33,8 @@ references_of index subject = filter (is_of subject) (sites_of index)
 
 -- those that define it
 abbrev pub definitions_of : Index → Subject → List Site
-definitions_of index subject = filter (λ (site : Site). is_of subject site && is_definition site.occurrence) (sites_of index)
+definitions_of index subject =
+    filter (λ (site : Site). is_of subject site && is_definition site.occurrence) (sites_of index)
 
 -- of what is at a position of the document that a path names
 abbrev pub references_at : Index → List ℕ → Position → Result (List Site) Miss

@@ -20,7 +20,8 @@ pub record Numbered : Type 0 where
 
 -- the documents of an index, each with its number from 0
 abbrev pub numbered_documents : Index → List Numbered
-numbered_documents index = map (λ (d : ℕ × Document). record { number = d.0; document = d.1 }) (enumerate_from 0 index.documents)
+numbered_documents index =
+    map (λ (d : ℕ × Document). record { number = d.0; document = d.1 }) (enumerate_from 0 index.documents)
 
 -- the occurrences of a document
 abbrev pub sites_in : Numbered → List Site

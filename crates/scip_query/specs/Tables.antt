@@ -44,11 +44,14 @@ symbol_listed documents place = symbol_or_none (occurrence_listed documents plac
 
 -- the document with a number
 abbrev pub numbered_listed : List Document → ℕ → Option Numbered
-numbered_listed documents number = option_map (λ (d : Document). record { number = number; document = d }) (slice_get documents number)
+numbered_listed documents number =
+    option_map (λ (d : Document). record { number = number; document = d }) (slice_get documents number)
 
 abbrev pub site_or_none : Place → Option Document → Option Site
 site_or_none place None = None
-site_or_none place (Some d) = option_map (λ (o : Occurrence). record { place = place; document = d; occurrence = o }) (slice_get d.occurrences place.occurrence)
+site_or_none place (Some d) =
+    option_map (λ (o : Occurrence). record { place = place; document = d; occurrence = o })
+    (slice_get d.occurrences place.occurrence)
 
 -- the site at a place
 abbrev pub site_listed : List Document → Place → Option Site
@@ -140,7 +143,8 @@ entry_places_in list entries = map (λ (k : ℕ). record { list = list; entry = 
 -- those of documents, and then those of the external symbols
 abbrev pub entry_places_from : ℕ → List SymbolInformation → List Document → List EntryPlace
 entry_places_from list external [] = entry_places_in list external
-entry_places_from list external (d ∷ documents) = entry_places_in list d.symbols ++ entry_places_from (list + 1) external documents
+entry_places_from list external (d ∷ documents) =
+    entry_places_in list d.symbols ++ entry_places_from (list + 1) external documents
 
 -- the documents by path
 abbrev pub IsByPath : List Document → List ℕ → Type 0
@@ -158,7 +162,8 @@ IsBySymbol documents = IsTable (symbol_cmp documents) (places_from 0 documents)
 abbrev pub AreEntriesBySymbol : Index → List EntryPlace → Type 0
 AreEntriesBySymbol index = IsTable (entry_symbol_cmp index) (entry_places_from 0 index.external_symbols index.documents)
 
-pub record AreTables (index : Index) (path_table : List ℕ) (inner_tables : List (List ℕ)) (symbol_table : List Place) (entry_table : List EntryPlace) : Type 0 where
+pub record AreTables (index : Index) (path_table : List ℕ) (inner_tables : List (List ℕ)) (symbol_table : List Place)
+    (entry_table : List EntryPlace) : Type 0 where
   pub by_path : IsByPath index.documents path_table
   pub inner : AllZip IsInnermostFirst index.documents inner_tables
   pub by_symbol : IsBySymbol index.documents symbol_table

@@ -1,5 +1,6 @@
 -- A text behind a front.
-use Rattle.std.proofs.Common.{◌≡◌, ◌≢◌, ℕ, Bool, true, false, not, cond, eqb, Option, Some, None, MatchOption, Ok, Err, List, [], ◌∷◌, ◌++◌, length, refl, ap, sym, ◌∙◌, subst}
+use Rattle.std.proofs.Common.{◌≡◌, ◌≢◌, ℕ, Bool, true, false, not, cond, eqb, Option, Some, None, MatchOption, Ok, Err}
+use Rattle.std.proofs.Common.{List, [], ◌∷◌, ◌++◌, length, refl, ap, sym, ◌∙◌, subst}
 use Rattle.std.specs.List.{list_all}
 use Rattle.std.specs.Str.Pattern.{FindsTextPrefix, StripsPrefix}
 use Rattle.std.proofs.lemmas.Bool.{eqb-true}
@@ -20,7 +21,8 @@ pub after-some : (front text rest : List ℕ) → after front text ≡ Some rest
 after-some [] text rest e = cc
 after-some (c ∷ front) [] rest e = cc
 after-some (c ∷ front) (b ∷ text) rest e =
-    tested (eqb b c) e (λ t q. let same = eqb-true b c t in let more = after-some front text rest q in cc) (λ f q. absurd cc)
+    tested (eqb b c) e (λ t q. let same = eqb-true b c t in let more = after-some front text rest q in cc)
+    (λ f q. absurd cc)
 
 pub after-none : (front text : List ℕ) → ((rest : List ℕ) → text ≢ front ++ rest) → after front text ≡ None
 after-none [] text h = absurd (h text refl)
@@ -64,7 +66,8 @@ after-kept [] p c r other h e = absurd cc
 after-kept (x ∷ front) [] c r other h e = both (not (eqb c x)) _ h (λ t _. tested-not (eqb c x) t (after front other))
 after-kept (x ∷ front) (y ∷ p) c r other h e =
     both (not (eqb c x)) _ h (λ _ others.
-    elim (eqb y x) as (λ t. cond t (after front (p ++ (c ∷ r))) None ≡ None → cond t (after front (p ++ (c ∷ other))) None ≡ None) [
+    elim (eqb y x) as (λ t. cond t (after front (p ++ (c ∷ r))) None ≡ None
+    → cond t (after front (p ++ (c ∷ other))) None ≡ None) [
       | true ↦ λ e. after-kept front p c r other others e
       | false ↦ λ e. refl
     ] e)

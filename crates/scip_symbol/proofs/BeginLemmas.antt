@@ -1,8 +1,14 @@
 -- Where the reader stops, what it has read begins a spelling.
-use Rattle.std.proofs.Common.{◌≡◌, ◌≢◌, ℕ, zero, suc, ◌<◌, ◌⊎◌, inl, inr, false, None, Ok, Err, List, [], ◌∷◌, ◌++◌, codes, length, refl, ap, sym, ◌∙◌, subst, arith, append_assoc}
+use Rattle.std.proofs.Common.{◌≡◌, ◌≢◌, ℕ, zero, suc, ◌<◌, ◌⊎◌, inl, inr, false, None, Ok, Err, List, [], ◌∷◌, ◌++◌}
+use Rattle.std.proofs.Common.{codes, length, refl, ap, sym, ◌∙◌, subst, arith, append_assoc}
 use Rattle.scip_symbol.specs.Names.{doubled}
-use Rattle.scip_symbol.specs.SpellsSymbol.{SpellsScheme, scheme, SpellsPart, empty, SpellsName, simple, quoted, descriptor, SpellsDescriptor, namespace, method, type_parameter, parameter, SpellsDescriptors, last, more, SpellsSymbol, local, global}
-use Rattle.scip_symbol.specs.Reading.{Read, Front, ◌>>=◌, after, expect_at, undoubled_at, run_at, some_at, simple_at, name_at, disambiguator_at, suffix_at, enclosed_at, descriptor_at, last_or_led, descriptors_at, spaced_at, part_of, part_at, global_at, local_of, local_at, symbol_at}
+use Rattle.scip_symbol.specs.SpellsSymbol.{SpellsScheme, scheme, SpellsPart, empty, SpellsName, simple, quoted}
+use Rattle.scip_symbol.specs.SpellsSymbol.{descriptor, SpellsDescriptor, namespace, method, type_parameter, parameter}
+use Rattle.scip_symbol.specs.SpellsSymbol.{SpellsDescriptors, last, more, SpellsSymbol, local, global}
+use Rattle.scip_symbol.specs.Reading.{Read, Front, ◌>>=◌, after, expect_at, undoubled_at, run_at, some_at, simple_at}
+use Rattle.scip_symbol.specs.Reading.{name_at, disambiguator_at, suffix_at, enclosed_at, descriptor_at, last_or_led}
+use Rattle.scip_symbol.specs.Reading.{descriptors_at, spaced_at, part_of, part_at, global_at, local_of, local_at}
+use Rattle.scip_symbol.specs.Reading.{symbol_at}
 use Rattle.scip_symbol.specs.declared.symbol.Suffix.{Suffix}
 use Rattle.scip_symbol.specs.declared.symbol.Suffix.TheVariants as suffix
 use Rattle.scip_symbol.specs.declared.symbol.Descriptor.{Descriptor}
@@ -13,7 +19,8 @@ use Rattle.scip_symbol.proofs.AfterLemmas.{after-some, expect-found, expect-err}
 use Rattle.scip_symbol.proofs.DoubledLemmas.{doubled-append}
 use Rattle.scip_symbol.proofs.UndoubledLemmas.{undoubled-found, undoubled-open}
 use Rattle.scip_symbol.proofs.NameLemmas.{run-found, simple-found, name-found}
-use Rattle.scip_symbol.proofs.DescriptorLemmas.{method-sign, descriptor-found, descriptor-falls, descriptors-step, led-err}
+use Rattle.scip_symbol.proofs.DescriptorLemmas.{method-sign, descriptor-found, descriptor-falls, descriptors-step}
+use Rattle.scip_symbol.proofs.DescriptorLemmas.{led-err}
 use Rattle.scip_symbol.proofs.SymbolLemmas.{not-space, local-there, spells-some, spaced-found, part-found}
 
 heads : {x y : ℕ} {xs ys : List ℕ} → x ∷ xs ≡ y ∷ ys → x ≡ y
@@ -40,11 +47,14 @@ pub record StopsIn {A : Type 0} (Spells : List ℕ → A → Type 0) (text : Lis
   pub count : left ≡ length rest
   pub begins : Begins Spells front
 
-at-once : {A : Type 0} (Spells : List ℕ → A → Type 0) (text : List ℕ) (left : ℕ) → left ≡ length text → Begins Spells [] → StopsIn Spells text left
+at-once : {A : Type 0} (Spells : List ℕ → A → Type 0) (text : List ℕ) (left : ℕ) → left ≡ length text → Begins Spells []
+    → StopsIn Spells text left
 at-once Spells text left count b = record { front = []; rest = text; split = refl; count = count; begins = b }
 
-at-end : {A : Type 0} (Spells : List ℕ → A → Type 0) (text : List ℕ) (left : ℕ) → left ≡ 0 → Begins Spells text → StopsIn Spells text left
-at-end Spells text left count b = record { front = text; rest = []; split = sym (append_nil text); count = count; begins = b }
+at-end : {A : Type 0} (Spells : List ℕ → A → Type 0) (text : List ℕ) (left : ℕ) → left ≡ 0 → Begins Spells text
+    → StopsIn Spells text left
+at-end Spells text left count b =
+    record { front = text; rest = []; split = sym (append_nil text); count = count; begins = b }
 
 -- ---- names
 
@@ -73,9 +83,14 @@ open-quote inside word e =
     ap (λ l. 96 ∷ (l ++ codes "`")) (doubled-append 96 word (codes "a"))
     ∙ ap (λ l. 96 ∷ l) (append_assoc (doubled 96 word) (codes "a") (codes "`"))
     ∙ ap (λ l. 96 ∷ (l ++ codes "a`")) (sym e) in
-    record { behind = codes "a`"; value = word ++ codes "a"; spelled = subst (λ l. SpellsName l (word ++ codes "a")) same (quoted (some-behind word 97)) }
+    record {
+      behind = codes "a`";
+      value = word ++ codes "a";
+      spelled = subst (λ l. SpellsName l (word ++ codes "a")) same (quoted (some-behind word 97));
+    }
 
-quoted-begins : (text inside : List ℕ) (left : ℕ) → text ≡ 96 ∷ inside → (undoubled_at 96 false inside >>= some_at) ≡ Err left → StopsIn SpellsName text left
+quoted-begins : (text inside : List ℕ) (left : ℕ) → text ≡ 96 ∷ inside
+    → (undoubled_at 96 false inside >>= some_at) ≡ Err left → StopsIn SpellsName text left
 quoted-begins text inside left opened e =
     bind_err (undoubled_at 96 false inside) some_at left e
     (λ q.
@@ -109,14 +124,17 @@ record SuffixStops (text : List ℕ) (left : ℕ) : Type 0 where
   count : left ≡ length rest
   behind : List ℕ
   suffix : Suffix
-  spelled : (word name : List ℕ) → SpellsName word name → SpellsDescriptor (word ++ (front ++ behind)) (descriptor name suffix)
+  spelled : (word name : List ℕ) → SpellsName word name
+      → SpellsDescriptor (word ++ (front ++ behind)) (descriptor name suffix)
 
-disambiguator-begins : (text inside : List ℕ) (left : ℕ) → text ≡ 40 ∷ inside → disambiguator_at inside ≡ Err left → SuffixStops text left
+disambiguator-begins : (text inside : List ℕ) (left : ℕ) → text ≡ 40 ∷ inside → disambiguator_at inside ≡ Err left
+    → SuffixStops text left
 unfolding disambiguator_at
 disambiguator-begins text inside left opened e =
     let run = run-found inside in
     let d = (run_at inside).0 in
-    bind_err (expect_at (codes ")") (run_at inside).1) (λ rest. expect_at (codes ".") rest >>= λ behind. Ok (d, behind)) left e
+    bind_err (expect_at (codes ")") (run_at inside).1)
+    (λ rest. expect_at (codes ".") rest >>= λ behind. Ok (d, behind)) left e
     (λ q. record {
       front = 40 ∷ d;
       rest = (run_at inside).1;
@@ -124,18 +142,22 @@ disambiguator-begins text inside left opened e =
       count = expect-err 41 (run_at inside).1 left q;
       behind = codes ").";
       suffix = suffix.Method d;
-      spelled = λ word name n. subst (λ l. SpellsDescriptor l (descriptor name (suffix.Method d))) (method-sign word d) (method n run.1);
+      spelled = λ word name n. subst (λ l. SpellsDescriptor l (descriptor name (suffix.Method d))) (method-sign word d)
+          (method n run.1);
     })
     (λ rest is q. bind_err (expect_at (codes ".") rest) (λ behind. Ok (d, behind)) left q
     (λ r. record {
       front = 40 ∷ (d ++ codes ")");
       rest = rest;
-      split = opened ∙ ap (λ l. 40 ∷ l) (run.0 ∙ ap (λ l. d ++ l) (expect-found (codes ")") (run_at inside).1 rest is) ∙ sym (append_assoc d (codes ")") rest));
+      split = opened ∙ ap (λ l. 40 ∷ l)
+          (run.0 ∙ ap (λ l. d ++ l) (expect-found (codes ")") (run_at inside).1 rest is)
+          ∙ sym (append_assoc d (codes ")") rest));
       count = expect-err 46 rest left r;
       behind = codes ".";
       suffix = suffix.Method d;
       spelled = λ word name n. subst (λ l. SpellsDescriptor l (descriptor name (suffix.Method d)))
-          (method-sign word d ∙ ap (λ l. word ++ (40 ∷ l)) (sym (append_assoc d (codes ")") (codes ".")))) (method n run.1);
+          (method-sign word d ∙ ap (λ l. word ++ (40 ∷ l)) (sym (append_assoc d (codes ")") (codes "."))))
+          (method n run.1);
     })
     (λ _ _ r. absurd cc))
 
@@ -174,8 +196,10 @@ suffix-begins text left e =
 
 -- ---- descriptors
 
-enclosed-begins : (s : Suffix) (opening closing : ℕ) (text inside : List ℕ) (left : ℕ) → text ≡ opening ∷ inside → enclosed_at s (closing ∷ []) inside ≡ Err left
-    → ((word name : List ℕ) → SpellsName word name → SpellsDescriptor ((opening ∷ word) ++ (closing ∷ [])) (descriptor name s)) → StopsIn SpellsDescriptor text left
+enclosed-begins : (s : Suffix) (opening closing : ℕ) (text inside : List ℕ) (left : ℕ) → text ≡ opening ∷ inside
+    → enclosed_at s (closing ∷ []) inside ≡ Err left
+    → ((word name : List ℕ) → SpellsName word name
+    → SpellsDescriptor ((opening ∷ word) ++ (closing ∷ [])) (descriptor name s)) → StopsIn SpellsDescriptor text left
 unfolding enclosed_at
 enclosed-begins s opening closing text inside left opened e spells =
     bind_err (name_at inside) (λ x. expect_at (closing ∷ []) x.1 >>= λ rest. Ok (descriptor x.0 s, rest)) left e
@@ -190,7 +214,8 @@ enclosed-begins s opening closing text inside left opened e spells =
       begins = record {
         behind = b.behind ++ (closing ∷ []);
         value = descriptor b.value s;
-        spelled = subst (λ l. SpellsDescriptor l (descriptor b.value s)) (append_assoc (opening ∷ n.front) b.behind (closing ∷ [])) (spells (n.front ++ b.behind) b.value b.spelled);
+        spelled = subst (λ l. SpellsDescriptor l (descriptor b.value s))
+            (append_assoc (opening ∷ n.front) b.behind (closing ∷ [])) (spells (n.front ++ b.behind) b.value b.spelled);
       };
     })
     (λ x is q.
@@ -222,7 +247,8 @@ plain-begins text left e =
       begins = record {
         behind = b.behind ++ codes "/";
         value = descriptor b.value suffix.Namespace;
-        spelled = subst (λ l. SpellsDescriptor l (descriptor b.value suffix.Namespace)) (append_assoc n.front b.behind (codes "/")) (namespace b.spelled);
+        spelled = subst (λ l. SpellsDescriptor l (descriptor b.value suffix.Namespace))
+            (append_assoc n.front b.behind (codes "/")) (namespace b.spelled);
       };
     })
     (λ x is q.
@@ -238,7 +264,8 @@ plain-begins text left e =
       begins = record {
         behind = s.behind;
         value = descriptor x.0 s.suffix;
-        spelled = subst (λ l. SpellsDescriptor l (descriptor x.0 s.suffix)) (sym (append_assoc n.0 s.front s.behind)) (s.spelled n.0 x.0 n.2);
+        spelled = subst (λ l. SpellsDescriptor l (descriptor x.0 s.suffix)) (sym (append_assoc n.0 s.front s.behind))
+            (s.spelled n.0 x.0 n.2);
       };
     })
     (λ _ _ r. absurd cc))
@@ -248,10 +275,13 @@ unfolding descriptor_at
 descriptor-begins text left e =
     chosen (after (codes "[") text) e (λ _ e.
     chosen (after (codes "(") text) e (λ _ e. plain-begins text left e)
-    (λ inside some q. enclosed-begins suffix.Parameter 40 41 text inside left (after-some (codes "(") text inside some) q (λ word name n. parameter n)))
-    (λ inside some q. enclosed-begins suffix.TypeParameter 91 93 text inside left (after-some (codes "[") text inside some) q (λ word name n. type_parameter n))
+    (λ inside some q. enclosed-begins suffix.Parameter 40 41 text inside left
+    (after-some (codes "(") text inside some) q (λ word name n. parameter n)))
+    (λ inside some q. enclosed-begins suffix.TypeParameter 91 93 text inside left
+    (after-some (codes "[") text inside some) q (λ word name n. type_parameter n))
 
-others-begin : (text : List ℕ) (left : ℕ) (x : Descriptor × List ℕ) → descriptor_at text ≡ Ok x → last_or_led x.0 x.1 (descriptors_at x.1) ≡ Err left
+others-begin : (text : List ℕ) (left : ℕ) (x : Descriptor × List ℕ) → descriptor_at text ≡ Ok x
+    → last_or_led x.0 x.1 (descriptors_at x.1) ≡ Err left
     → (descriptors_at x.1 ≡ Err left → StopsIn SpellsDescriptors x.1 left) → StopsIn SpellsDescriptors text left
 others-begin text left (d, []) is e further = absurd cc
 others-begin text left (d, c ∷ r) is e further = led-err d (descriptors_at (c ∷ r)) left e (λ q.
@@ -266,25 +296,35 @@ others-begin text left (d, c ∷ r) is e further = led-err d (descriptors_at (c 
       begins = record {
         behind = b.behind;
         value = d ∷ b.value;
-        spelled = subst (λ l. SpellsDescriptors l (d ∷ b.value)) (sym (append_assoc w.word o.front b.behind)) (more w.spells b.spelled);
+        spelled = subst (λ l. SpellsDescriptors l (d ∷ b.value)) (sym (append_assoc w.word o.front b.behind))
+            (more w.spells b.spelled);
       };
     })
 
-descriptors-begin : (n : ℕ) (text : List ℕ) (left : ℕ) → length text < n → descriptors_at text ≡ Err left → StopsIn SpellsDescriptors text left
+descriptors-begin : (n : ℕ) (text : List ℕ) (left : ℕ) → length text < n → descriptors_at text ≡ Err left
+    → StopsIn SpellsDescriptors text left
 descriptors-begin zero text left below e = absurd (omega arith)
 descriptors-begin (suc n) text left below e =
     bind_err (descriptor_at text) (λ x. last_or_led x.0 x.1 (descriptors_at x.1)) left (sym (descriptors-step text) ∙ e)
     (λ q.
     let s = descriptor-begins text left q in
     let b = s.begins in
-    record { front = s.front; rest = s.rest; split = s.split; count = s.count; begins = record { behind = b.behind; value = b.value ∷ []; spelled = last b.spelled } })
-    (λ x is q. others-begin text left x is q (λ r. descriptors-begin n x.1 left (omega (arith, descriptor-falls text x is)) r))
+    record {
+      front = s.front;
+      rest = s.rest;
+      split = s.split;
+      count = s.count;
+      begins = record { behind = b.behind; value = b.value ∷ []; spelled = last b.spelled };
+    })
+    (λ x is q. others-begin text left x is q
+    (λ r. descriptors-begin n x.1 left (omega (arith, descriptor-falls text x is)) r))
 
 -- ---- schemes and parts
 
 -- one that begins with a space stops there; another one is read to the end of the text
 spaced-stops : (text : List ℕ) (left : ℕ) → spaced_at text ≡ Err left
-    → (left ≡ length text) ⊎ ((left ≡ 0) × ((word : List ℕ) × (text ≡ doubled 32 word) × ((rest : List ℕ) → word ≢ 32 ∷ rest)))
+    → (left ≡ length text) ⊎
+    ((left ≡ 0) × ((word : List ℕ) × (text ≡ doubled 32 word) × ((rest : List ℕ) → word ≢ 32 ∷ rest)))
 unfolding spaced_at
 spaced-stops text left e =
     chosen (after (codes " ") text) e
@@ -297,7 +337,8 @@ spaced-stops text left e =
 no-less : (a b : ℕ) → a ≡ b → b < a → ⊥
 no-less a b e h = omega arith
 
-letter-behind : (word : List ℕ) → ((rest : List ℕ) → word ≢ 32 ∷ rest) → (rest : List ℕ) → word ++ 97 ∷ [] ≡ 32 ∷ rest → ⊥
+letter-behind : (word : List ℕ) → ((rest : List ℕ) → word ≢ 32 ∷ rest) → (rest : List ℕ) → word ++ 97 ∷ [] ≡ 32 ∷ rest
+    → ⊥
 letter-behind [] h rest e = no-less 97 32 (heads e) (omega arith)
 letter-behind (b ∷ word) h rest e = h word (ap (λ c. c ∷ word) (heads e))
 
@@ -305,14 +346,17 @@ no-dot-behind : (word : List ℕ) → word ++ 97 ∷ [] ≡ 46 ∷ [] → ⊥
 no-dot-behind [] e = no-less 97 46 (heads e) (omega arith)
 no-dot-behind (b ∷ word) e = some-behind word 97 (tails e)
 
-part-open : (text word : List ℕ) → text ≡ doubled 32 word → ((rest : List ℕ) → word ≢ 32 ∷ rest) → Begins SpellsPart text
+part-open : (text word : List ℕ) → text ≡ doubled 32 word → ((rest : List ℕ) → word ≢ 32 ∷ rest)
+    → Begins SpellsPart text
 part-open text word e h =
-    let same : doubled 32 (word ++ codes "a") ≡ text ++ codes "a" = doubled-append 32 word (codes "a") ∙ ap (λ l. l ++ codes "a") (sym e) in
+    let same : doubled 32 (word ++ codes "a") ≡ text ++ codes "a" =
+    doubled-append 32 word (codes "a") ∙ ap (λ l. l ++ codes "a") (sym e) in
     record {
       behind = codes "a";
       value = word ++ codes "a";
       spelled = subst (λ l. SpellsPart l (word ++ codes "a")) same
-          (spells-some (word ++ codes "a") (some-behind word 97) (record { no_space_first = letter-behind word h; no_dot = no-dot-behind word }));
+          (spells-some (word ++ codes "a") (some-behind word 97)
+          (record { no_space_first = letter-behind word h; no_dot = no-dot-behind word }));
     }
 
 one-dot : Begins SpellsPart []
@@ -329,9 +373,14 @@ part-begins text left e =
     (λ _ _ q. absurd cc)
 
 one-scheme : Begins SpellsScheme []
-one-scheme = record { behind = codes "a"; value = codes "a"; spelled = scheme (record { some = λ e. cc; no_space_first = λ r e. cc; not_local = λ r e. cc }) }
+one-scheme = record {
+  behind = codes "a";
+  value = codes "a";
+  spelled = scheme (record { some = λ e. cc; no_space_first = λ r e. cc; not_local = λ r e. cc });
+}
 
-scheme-open : (text word : List ℕ) → after (codes "local") text ≡ None → text ≡ doubled 32 word → ((rest : List ℕ) → word ≢ 32 ∷ rest) → Begins SpellsScheme text
+scheme-open : (text word : List ℕ) → after (codes "local") text ≡ None → text ≡ doubled 32 word
+    → ((rest : List ℕ) → word ≢ 32 ∷ rest) → Begins SpellsScheme text
 scheme-open text [] none e h = subst (Begins SpellsScheme) (sym e) one-scheme
 scheme-open text (b ∷ word) none e h = record {
   behind = [];
@@ -343,7 +392,8 @@ scheme-open text (b ∷ word) none e h = record {
   }));
 }
 
-scheme-begins : (text : List ℕ) (left : ℕ) → after (codes "local") text ≡ None → spaced_at text ≡ Err left → StopsIn SpellsScheme text left
+scheme-begins : (text : List ℕ) (left : ℕ) → after (codes "local") text ≡ None → spaced_at text ≡ Err left
+    → StopsIn SpellsScheme text left
 scheme-begins text left none e = elim (spaced-stops text left e) [
   | inl count ↦ at-once SpellsScheme text left count one-scheme
   | inr o ↦ at-end SpellsScheme text left o.0 (scheme-open text o.1.0 none o.1.1 o.1.2)
@@ -353,7 +403,8 @@ scheme-begins text left none e = elim (spaced-stops text left e) [
 
 -- what stands before the descriptors, the version, the name and the manager
 abbrev BeforeDescriptors : List ℕ → Type 0
-BeforeDescriptors p = (text : List ℕ) (ds : List Descriptor) → SpellsDescriptors text ds → (s : SymbolParts) × SpellsSymbol (p ++ text) s
+BeforeDescriptors p = (text : List ℕ) (ds : List Descriptor) → SpellsDescriptors text ds
+    → (s : SymbolParts) × SpellsSymbol (p ++ text) s
 
 abbrev BeforeVersion : List ℕ → Type 0
 BeforeVersion p = (word part : List ℕ) → SpellsPart word part → BeforeDescriptors (p ++ (word ++ codes " "))
@@ -371,42 +422,60 @@ grouped s m n v ds = simp append_assoc
 behind-scheme : (sc s : List ℕ) → SpellsScheme sc s → BeforeManager (sc ++ codes " ")
 behind-scheme sc s of_s m manager of_m n name of_n v version of_v ds descriptors of_ds = (
   Global (record { scheme = s; manager = manager; name = name; version = version; descriptors = descriptors }),
-  subst (λ l. SpellsSymbol l (Global (record { scheme = s; manager = manager; name = name; version = version; descriptors = descriptors })))
+  subst (λ l. SpellsSymbol l
+      (Global (record { scheme = s; manager = manager; name = name; version = version; descriptors = descriptors })))
       (grouped sc m n v ds) (global of_s of_m of_n of_v of_ds),
 )
 
 no-more : (p : List ℕ) → Begins SpellsSymbol (p ++ []) → Begins SpellsSymbol p
 no-more p b = subst (Begins SpellsSymbol) (append_nil p) b
 
-in-descriptors : (p front : List ℕ) → BeforeDescriptors p → Begins SpellsDescriptors front → Begins SpellsSymbol (p ++ front)
+in-descriptors : (p front : List ℕ) → BeforeDescriptors p → Begins SpellsDescriptors front
+    → Begins SpellsSymbol (p ++ front)
 in-descriptors p front before b =
     let s = before (front ++ b.behind) b.value b.spelled in
-    record { behind = b.behind; value = s.0; spelled = subst (λ l. SpellsSymbol l s.0) (sym (append_assoc p front b.behind)) s.1 }
+    record {
+      behind = b.behind;
+      value = s.0;
+      spelled = subst (λ l. SpellsSymbol l s.0) (sym (append_assoc p front b.behind)) s.1;
+    }
 
 gathered : (p front b n : List ℕ) → (p ++ ((front ++ b) ++ codes " ")) ++ n ≡ (p ++ front) ++ (b ++ (32 ∷ n))
 gathered p front b n = simp append_assoc
 
 -- a part that begins, of which whatever it becomes may be gone on from
 in-part : {A : Type 0} (Spells : List ℕ → A → Type 0) (p front : List ℕ) → Begins Spells front
-    → ((word : List ℕ) (x : A) → Spells word x → Begins SpellsSymbol (p ++ (word ++ codes " "))) → Begins SpellsSymbol (p ++ front)
+    → ((word : List ℕ) (x : A) → Spells word x → Begins SpellsSymbol (p ++ (word ++ codes " ")))
+    → Begins SpellsSymbol (p ++ front)
 in-part Spells p front b next =
     let n = next (front ++ b.behind) b.value b.spelled in
-    record { behind = b.behind ++ (32 ∷ n.behind); value = n.value; spelled = subst (λ l. SpellsSymbol l n.value) (gathered p front b.behind n.behind) n.spelled }
+    record {
+      behind = b.behind ++ (32 ∷ n.behind);
+      value = n.value;
+      spelled = subst (λ l. SpellsSymbol l n.value) (gathered p front b.behind n.behind) n.spelled;
+    }
 
 one-descriptor : Begins SpellsDescriptors []
-one-descriptor = record { behind = codes "a/"; value = descriptor (codes "a") suffix.Namespace ∷ []; spelled = last (namespace (simple refl)) }
+one-descriptor = record {
+  behind = codes "a/";
+  value = descriptor (codes "a") suffix.Namespace ∷ [];
+  spelled = last (namespace (simple refl));
+}
 
 to-descriptors : (p : List ℕ) → BeforeDescriptors p → Begins SpellsSymbol p
 to-descriptors p before = no-more p (in-descriptors p [] before one-descriptor)
 
 to-version : (p : List ℕ) → BeforeVersion p → Begins SpellsSymbol p
-to-version p before = no-more p (in-part SpellsPart p [] one-dot (λ word x is. to-descriptors (p ++ (word ++ codes " ")) (before word x is)))
+to-version p before = no-more p
+    (in-part SpellsPart p [] one-dot (λ word x is. to-descriptors (p ++ (word ++ codes " ")) (before word x is)))
 
 to-name : (p : List ℕ) → BeforeName p → Begins SpellsSymbol p
-to-name p before = no-more p (in-part SpellsPart p [] one-dot (λ word x is. to-version (p ++ (word ++ codes " ")) (before word x is)))
+to-name p before = no-more p
+    (in-part SpellsPart p [] one-dot (λ word x is. to-version (p ++ (word ++ codes " ")) (before word x is)))
 
 to-manager : (p : List ℕ) → BeforeManager p → Begins SpellsSymbol p
-to-manager p before = no-more p (in-part SpellsPart p [] one-dot (λ word x is. to-name (p ++ (word ++ codes " ")) (before word x is)))
+to-manager p before = no-more p
+    (in-part SpellsPart p [] one-dot (λ word x is. to-name (p ++ (word ++ codes " ")) (before word x is)))
 
 spaced-over : (p word rest : List ℕ) → p ++ (word ++ (32 ∷ rest)) ≡ (p ++ (word ++ codes " ")) ++ rest
 spaced-over p word rest = simp append_assoc
@@ -414,8 +483,10 @@ spaced-over p word rest = simp append_assoc
 -- a part: it stops there, or further on
 module _ {B : Type 0} (Before : List ℕ → Type 0) (to : (p : List ℕ) → Before p → Begins SpellsSymbol p) where
   in-stage : (g : List ℕ × List ℕ → Read B) (p text behind : List ℕ) (left : ℕ) → text ≡ p ++ behind
-      → ((word part : List ℕ) → SpellsPart word part → Before (p ++ (word ++ codes " "))) → (part_at behind >>= g) ≡ Err left
-      → ((q : List ℕ) (x : List ℕ × List ℕ) → text ≡ q ++ x.1 → Before q → g x ≡ Err left → StopsIn SpellsSymbol text left)
+      → ((word part : List ℕ) → SpellsPart word part → Before (p ++ (word ++ codes " ")))
+      → (part_at behind >>= g) ≡ Err left
+      → ((q : List ℕ) (x : List ℕ × List ℕ) → text ≡ q ++ x.1 → Before q → g x ≡ Err left
+      → StopsIn SpellsSymbol text left)
       → StopsIn SpellsSymbol text left
   in-stage g p text behind left split before e further =
       bind_err (part_at behind) g left e
@@ -430,9 +501,11 @@ module _ {B : Type 0} (Before : List ℕ → Type 0) (to : (p : List ℕ) → Be
       })
       (λ x is q.
       let m = part-found behind x is in
-      further (p ++ (m.word ++ codes " ")) x (split ∙ ap (λ l. p ++ l) m.split ∙ spaced-over p m.word x.1) (before m.word x.0 m.spells) q)
+      further (p ++ (m.word ++ codes " ")) x (split ∙ ap (λ l. p ++ l) m.split ∙ spaced-over p m.word x.1)
+      (before m.word x.0 m.spells) q)
 
-descriptors-stage : {B : Type 0} (g : List Descriptor → B) (p text behind : List ℕ) (left : ℕ) → text ≡ p ++ behind → BeforeDescriptors p
+descriptors-stage : {B : Type 0} (g : List Descriptor → B) (p text behind : List ℕ) (left : ℕ) → text ≡ p ++ behind
+    → BeforeDescriptors p
     → (descriptors_at behind >>= λ ds. Ok (g ds)) ≡ Err left → StopsIn SpellsSymbol text left
 descriptors-stage g p text behind left split before e =
     bind_err (descriptors_at behind) (λ ds. Ok (g ds)) left e
@@ -447,7 +520,8 @@ descriptors-stage g p text behind left split before e =
     })
     (λ _ _ q. absurd cc)
 
-global-begins : (text : List ℕ) (left : ℕ) → after (codes "local") text ≡ None → global_at text ≡ Err left → StopsIn SpellsSymbol text left
+global-begins : (text : List ℕ) (left : ℕ) → after (codes "local") text ≡ None → global_at text ≡ Err left
+    → StopsIn SpellsSymbol text left
 unfolding global_at
 global-begins text left none e =
     bind_err (spaced_at text) _ left e
@@ -458,21 +532,26 @@ global-begins text left none e =
       rest = s.rest;
       split = s.split;
       count = s.count;
-      begins = in-part SpellsScheme [] s.front s.begins (λ sc x is. to-manager (sc ++ codes " ") (behind-scheme sc x is));
+      begins = in-part SpellsScheme [] s.front s.begins
+          (λ sc x is. to-manager (sc ++ codes " ") (behind-scheme sc x is));
     })
     (λ s is q.
     let f = spaced-found text s is in
     let of_s = scheme (record {
       some = f.some;
       no_space_first = f.no_space_first;
-      not_local = λ rest is. local-there text (doubled 32 rest ++ (32 ∷ s.1)) none (f.split ∙ ap (λ w. doubled 32 w ++ (32 ∷ s.1)) is);
+      not_local = λ rest is. local-there text (doubled 32 rest ++ (32 ∷ s.1)) none
+          (f.split ∙ ap (λ w. doubled 32 w ++ (32 ∷ s.1)) is);
     }) in
-    in-stage BeforeName to-name _ (doubled 32 s.0 ++ codes " ") text s.1 left (f.split ∙ sym (append_assoc (doubled 32 s.0) (codes " ") s.1)) (behind-scheme (doubled 32 s.0) s.0 of_s) q (λ p m split before q.
+    in-stage BeforeName to-name _ (doubled 32 s.0 ++ codes " ") text s.1 left
+    (f.split ∙ sym (append_assoc (doubled 32 s.0) (codes " ") s.1)) (behind-scheme (doubled 32 s.0) s.0 of_s) q
+    (λ p m split before q.
     in-stage BeforeVersion to-version _ p text m.1 left split before q (λ p n split before q.
     in-stage BeforeDescriptors to-descriptors _ p text n.1 left split before q (λ p v split before q.
     descriptors-stage _ p text v.1 left split before q))))
 
-local-name-begins : (text : List ℕ) (x : List ℕ × List ℕ) (left : ℕ) → text ≡ codes "local " ++ (x.0 ++ x.1) → SpellsSymbol (codes "local " ++ x.0) (Local x.0)
+local-name-begins : (text : List ℕ) (x : List ℕ × List ℕ) (left : ℕ) → text ≡ codes "local " ++ (x.0 ++ x.1)
+    → SpellsSymbol (codes "local " ++ x.0) (Local x.0)
     → local_of x ≡ Err left → StopsIn SpellsSymbol text left
 local-name-begins text (name, []) left e is q = absurd cc
 local-name-begins text (name, b ∷ rest) left e is q = record {
@@ -480,10 +559,15 @@ local-name-begins text (name, b ∷ rest) left e is q = record {
   rest = b ∷ rest;
   split = e;
   count = cc;
-  begins = record { behind = []; value = Local name; spelled = subst (λ l. SpellsSymbol l (Local name)) (sym (append_nil (codes "local " ++ name))) is };
+  begins = record {
+    behind = [];
+    value = Local name;
+    spelled = subst (λ l. SpellsSymbol l (Local name)) (sym (append_nil (codes "local " ++ name))) is;
+  };
 }
 
-local-begins : (text rest : List ℕ) (left : ℕ) → text ≡ codes "local" ++ rest → local_at rest ≡ Err left → StopsIn SpellsSymbol text left
+local-begins : (text rest : List ℕ) (left : ℕ) → text ≡ codes "local" ++ rest → local_at rest ≡ Err left
+    → StopsIn SpellsSymbol text left
 unfolding local_at
 local-begins text rest left split e =
     bind_err (expect_at (codes " ") rest) (λ rest. simple_at rest >>= local_of) left e
@@ -495,7 +579,8 @@ local-begins text rest left split e =
       begins = record { behind = codes " a"; value = Local (codes "a"); spelled = local {name = codes "a"} refl };
     })
     (λ r is q.
-    let opened : text ≡ codes "local " ++ r = split ∙ ap (λ l. codes "local" ++ l) (expect-found (codes " ") rest r is) in
+    let opened : text ≡ codes "local " ++ r =
+    split ∙ ap (λ l. codes "local" ++ l) (expect-found (codes " ") rest r is) in
     bind_err (simple_at r) local_of left q
     (λ w. record {
       front = codes "local ";

@@ -1,5 +1,6 @@
 -- Texts with their marks doubled.
-use Rattle.std.proofs.Common.{◌≡◌, ℕ, suc, ◌<◌, true, false, cond, List, [], ◌∷◌, ◌++◌, length, get_or, take, ◌≤◌, eqb, refl, ap, sym, ◌∙◌, arith, append_assoc}
+use Rattle.std.proofs.Common.{◌≡◌, ℕ, suc, ◌<◌, true, false, cond, List, [], ◌∷◌, ◌++◌, length, get_or, take, ◌≤◌, eqb}
+use Rattle.std.proofs.Common.{refl, ap, sym, ◌∙◌, arith, append_assoc}
 use Rattle.std.specs.List.{position_or_len, before_first, after_first}
 use Rattle.std.proofs.lemmas.List.Sums.{split_at_first, fails_before_first, passes_at_first}
 use Rattle.std.proofs.lemmas.List.{length-take-le, get_or-take}
@@ -28,14 +29,16 @@ module _ (m : ℕ) where
 
   -- a text cut at its first mark
   pub doubled-cut : (bs front rest : List ℕ) → position_or_len (λ b. eqb b m) bs < length bs
-      → front ≡ before_first (λ b. eqb b m) bs → rest ≡ after_first (λ b. eqb b m) bs → doubled m bs ≡ front ++ (m ∷ m ∷ doubled m rest)
+      → front ≡ before_first (λ b. eqb b m) bs → rest ≡ after_first (λ b. eqb b m) bs
+      → doubled m bs ≡ front ++ (m ∷ m ∷ doubled m rest)
   doubled-cut bs front rest within f r =
       let at = position_or_len (λ b. eqb b m) bs in
       let here = get_or bs at 0 in
       let back = after_first (λ b. eqb b m) bs in
       let shorter : at ≤ length bs = omega arith in
       let front_clean : doubled m (take at bs) ≡ take at bs =
-      clean (take at bs) (λ k below. let near : k < at = omega (arith, length-take-le at bs shorter) in rw (get_or-take at bs k 0 near) (fails_before_first (λ b. eqb b m) bs k 0 near)) in
+      clean (take at bs) (λ k below. let near : k < at = omega (arith, length-take-le at bs shorter) in
+      rw (get_or-take at bs k 0 near) (fails_before_first (λ b. eqb b m) bs k 0 near)) in
       ap (doubled m) (split_at_first (λ b. eqb b m) bs 0 within)
       ∙ (doubled-append (take at bs) (here ∷ back)
       ∙ (ap (λ l. l ++ doubled m (here ∷ back)) front_clean

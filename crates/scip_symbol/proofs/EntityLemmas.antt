@@ -7,9 +7,11 @@ use Rattle.proto_lex.specs.Lexes.{identifier, sign}
 use Rattle.scip_symbol.specs.Path.{IsGoodPath}
 use Rattle.scip_symbol.specs.Parts.{IsScheme, IsPart, IsSuffix, IsDescriptor, IsGlobal}
 use Rattle.scip_symbol.specs.Package.{Package, IsPackage}
-use Rattle.scip_symbol.specs.Entities.{Entity, OfFile, OfPackage, OfDeclaration, suffix_of, namespace_of, step_descriptor, descriptors_of, scheme_text, IsIdentifier, IsEntity}
+use Rattle.scip_symbol.specs.Entities.{Entity, OfFile, OfPackage, OfDeclaration, suffix_of, namespace_of}
+use Rattle.scip_symbol.specs.Entities.{step_descriptor, descriptors_of, scheme_text, IsIdentifier, IsEntity}
 use Rattle.proto_decl.specs.declared.kind.DeclarationKind.{DeclarationKind}
-use Rattle.proto_decl.specs.declared.kind.DeclarationKind.TheVariants.{Message, Enum, Service, Field, Oneof, Value, Method}
+use Rattle.proto_decl.specs.declared.kind.DeclarationKind.TheVariants.{Message, Enum, Service, Field, Oneof, Value}
+use Rattle.proto_decl.specs.declared.kind.DeclarationKind.TheVariants.{Method}
 use Rattle.proto_decl.specs.declared.declaration.DeclarationStep.{DeclarationStep}
 use Rattle.scip_symbol.specs.declared.symbol.Descriptor.{Descriptor}
 
@@ -35,20 +37,26 @@ kind-suffix Oneof = tt
 kind-suffix Value = tt
 kind-suffix Method = refl
 
-namespaces-are : (components : List (List ℕ)) → All IsIdentifier components → All IsDescriptor (map namespace_of components)
+namespaces-are : (components : List (List ℕ)) → All IsIdentifier components
+    → All IsDescriptor (map namespace_of components)
 namespaces-are [] h = All-nil IsDescriptor
 namespaces-are (x ∷ xs) h =
-    All-cons IsDescriptor (namespace_of x) (map namespace_of xs) (record { name = identifier-some x (All-head IsIdentifier x xs h); suffix = tt })
+    All-cons IsDescriptor (namespace_of x) (map namespace_of xs)
+    (record { name = identifier-some x (All-head IsIdentifier x xs h); suffix = tt })
     (namespaces-are xs (All-tail IsIdentifier x xs h))
 
 IsNamed : DeclarationStep → Type 0
 IsNamed step = IsIdentifier step.name
 
-steps-are : (way : List DeclarationStep) → All (λ step. IsIdentifier step.name) way → All IsDescriptor (map step_descriptor way)
+steps-are : (way : List DeclarationStep) → All (λ step. IsIdentifier step.name) way
+    → All IsDescriptor (map step_descriptor way)
 steps-are [] h = All-nil IsDescriptor
 steps-are (x ∷ xs) h =
     All-cons IsDescriptor (step_descriptor x) (map step_descriptor xs)
-    (record { name = identifier-some x.name (All-head (λ (step : DeclarationStep). IsIdentifier step.name) x xs h); suffix = kind-suffix x.kind })
+    (record {
+      name = identifier-some x.name (All-head (λ (step : DeclarationStep). IsIdentifier step.name) x xs h);
+      suffix = kind-suffix x.kind;
+    })
     (steps-are xs (All-tail (λ (step : DeclarationStep). IsIdentifier step.name) x xs h))
 
 map-some : {A B : Type 0} (f : A → B) (xs : List A) → xs ≢ [] → map f xs ≢ []
@@ -60,15 +68,20 @@ append-some xs [] h = absurd (h refl)
 append-some xs (y ∷ ys) h = behind-none xs y ys
 
 entity-is : (e : Entity) → IsEntity e → (descriptors_of e ≢ []) × All IsDescriptor (descriptors_of e)
-entity-is (OfFile path) is =
-    (λ e. cc, All-cons IsDescriptor (namespace_of path) [] (record { name = path-some path is; suffix = tt }) (All-nil IsDescriptor))
+entity-is (OfFile path) is = (
+  λ e. cc,
+  All-cons IsDescriptor (namespace_of path) [] (record { name = path-some path is; suffix = tt })
+      (All-nil IsDescriptor),
+)
 entity-is (OfPackage components) is = (map-some namespace_of components is.0, namespaces-are components is.1)
 entity-is (OfDeclaration components way) is = (
   append-some (map namespace_of components) (map step_descriptor way) (map-some step_descriptor way is.1),
-  All-append IsDescriptor (map namespace_of components) (map step_descriptor way) (namespaces-are components is.0) (steps-are way is.2),
+  All-append IsDescriptor (map namespace_of components) (map step_descriptor way) (namespaces-are components is.0)
+      (steps-are way is.2),
 )
 
-pub entity-has : (e : Entity) (ds : List Descriptor) → IsEntity e → ds ≡ descriptors_of e → (ds ≢ []) × All IsDescriptor ds
+pub entity-has : (e : Entity) (ds : List Descriptor) → IsEntity e → ds ≡ descriptors_of e
+    → (ds ≢ []) × All IsDescriptor ds
 entity-has e ds is same = subst (λ (l : List Descriptor). (l ≢ []) × All IsDescriptor l) (sym same) (entity-is e is)
 
 first_byte : List ℕ → ℕ
@@ -82,8 +95,10 @@ scheme-starts rest e = eqb-false 115 108 refl (ap first_byte e)
 scheme-is : IsScheme scheme_text
 scheme-is = record { some = λ e. cc; no_space_first = λ rest e. cc; not_local = scheme-starts }
 
-pub global-is : (p : Package) (s m n v : List ℕ) (ds own : List Descriptor) → IsPackage p → s ≡ scheme_text → m ≡ p.manager → n ≡ p.name → v ≡ p.version
-    → ds ≡ own → own ≢ [] → All IsDescriptor own → IsGlobal (record { scheme = s; manager = m; name = n; version = v; descriptors = ds })
+pub global-is : (p : Package) (s m n v : List ℕ) (ds own : List Descriptor) → IsPackage p → s ≡ scheme_text
+    → m ≡ p.manager → n ≡ p.name → v ≡ p.version
+    → ds ≡ own → own ≢ [] → All IsDescriptor own
+    → IsGlobal (record { scheme = s; manager = m; name = n; version = v; descriptors = ds })
 global-is p s m n v ds own is es em en ev ed some good = record {
   scheme = subst IsScheme (sym es) scheme-is;
   manager = subst IsPart (sym em) is.manager;

@@ -1,5 +1,6 @@
 -- Where the reader stops, the longest front of the text that begins some symbol's spelling ends.
-use Rattle.std.proofs.Common.{◌≡◌, ℕ, zero, suc, ◌+◌, ◌-◌, ◌<◌, ◌≤◌, inl, inr, Err, List, [], ◌∷◌, ◌++◌, length, take, refl, ap, sym, ◌∙◌, subst, arith, append_assoc, length-append}
+use Rattle.std.proofs.Common.{◌≡◌, ℕ, zero, suc, ◌+◌, ◌-◌, ◌<◌, ◌≤◌, inl, inr, Err, List, [], ◌∷◌, ◌++◌, length, take}
+use Rattle.std.proofs.Common.{refl, ap, sym, ◌∙◌, subst, arith, append_assoc, length-append}
 use Rattle.std.proofs.Math.Seq.{take-append_seam}
 use Rattle.std.proofs.lemmas.Bool.{cases_lt}
 use Rattle.scip_symbol.specs.LongestFront.{BeginsSymbol, IsLongestFront}
@@ -14,21 +15,27 @@ begun : (front : List ℕ) → Begins SpellsSymbol front → BeginsSymbol front
 begun front b = record { behind = b.behind; symbol = b.value; spelled = b.spelled }
 
 -- a front that is longer takes the next byte in
-longer : (front : List ℕ) (b : ℕ) (rest : List ℕ) (n : ℕ) → length front < n → (more : List ℕ) × (take n (front ++ (b ∷ rest)) ≡ front ++ (b ∷ more))
+longer : (front : List ℕ) (b : ℕ) (rest : List ℕ) (n : ℕ) → length front < n
+    → (more : List ℕ) × (take n (front ++ (b ∷ rest)) ≡ front ++ (b ∷ more))
 longer [] b rest zero h = absurd (omega arith)
 longer [] b rest (suc n) h = (take n rest, refl)
 longer (x ∷ front) b rest zero h = absurd (omega arith)
 longer (x ∷ front) b rest (suc n) h = let more = longer front b rest n (omega arith) in (more.0, ap (λ l. x ∷ l) more.1)
 
-no-longer : {P : Type 0} (text : List ℕ) (left n : ℕ) → StopsAt symbol_at text left → length text < n + left → BeginsSymbol (take n text) → P
+no-longer : {P : Type 0} (text : List ℕ) (left n : ℕ) → StopsAt symbol_at text left → length text < n + left
+    → BeginsSymbol (take n text) → P
 no-longer text left n s h b =
-    let more = longer s.front s.b s.rest n (omega (arith, ap length s.split, length-append s.front (s.b ∷ s.rest), s.count)) in
+    let more = longer s.front s.b s.rest n
+    (omega (arith, ap length s.split, length-append s.front (s.b ∷ s.rest), s.count)) in
     let whole : take n text ++ b.behind ≡ s.front ++ (s.b ∷ (more.0 ++ b.behind)) =
-    ap (λ l. take n l ++ b.behind) s.split ∙ ap (λ l. l ++ b.behind) more.1 ∙ append_assoc s.front (s.b ∷ more.0) b.behind in
-    unspelled (s.front ++ (s.b ∷ (more.0 ++ b.behind))) (length (s.b ∷ (more.0 ++ b.behind))) b.symbol (s.always (more.0 ++ b.behind))
+    ap (λ l. take n l ++ b.behind) s.split ∙ ap (λ l. l ++ b.behind) more.1
+    ∙ append_assoc s.front (s.b ∷ more.0) b.behind in
+    unspelled (s.front ++ (s.b ∷ (more.0 ++ b.behind))) (length (s.b ∷ (more.0 ++ b.behind))) b.symbol
+    (s.always (more.0 ++ b.behind))
     (subst (λ l. SpellsSymbol l b.symbol) whole b.spelled)
 
-none-longer : (text : List ℕ) (left : ℕ) → symbol_at text ≡ Err left → (n : ℕ) → n ≤ length text → BeginsSymbol (take n text) → n + left ≤ length text
+none-longer : (text : List ℕ) (left : ℕ) → symbol_at text ≡ Err left → (n : ℕ) → n ≤ length text
+    → BeginsSymbol (take n text) → n + left ≤ length text
 none-longer text zero e n h b = omega arith
 none-longer text (suc k) e n h b = elim (cases_lt (length text) (n + suc k)) [
   | inl beyond ↦ no-longer text (suc k) n (symbol-stuck text (suc k) e (omega arith)) beyond b
@@ -38,9 +45,11 @@ none-longer text (suc k) e n h b = elim (cases_lt (length text) (n + suc k)) [
 pub longest-front : (text : List ℕ) (left : ℕ) → symbol_at text ≡ Err left → IsLongestFront text (length text - left)
 longest-front text left e =
     let s = symbol-begins text left e in
-    let count : length text ≡ length s.front + left = omega (arith, ap length s.split, length-append s.front s.rest, s.count) in
+    let count : length text ≡ length s.front + left =
+    omega (arith, ap length s.split, length-append s.front s.rest, s.count) in
     let cut : length text - left ≡ length s.front = omega arith in
-    let taken : take (length text - left) text ≡ s.front = ap (λ k. take k text) cut ∙ ap (take (length s.front)) s.split ∙ take-append_seam s.front s.rest in
+    let taken : take (length text - left) text ≡ s.front =
+    ap (λ k. take k text) cut ∙ ap (take (length s.front)) s.split ∙ take-append_seam s.front s.rest in
     record {
       within = omega arith;
       begins = subst BeginsSymbol (sym taken) (begun s.front s.begins);

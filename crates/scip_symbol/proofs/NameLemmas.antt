@@ -1,5 +1,6 @@
 -- Names: what is read is spelled, and what is spelled is read.
-use Rattle.std.proofs.Common.{◌≡◌, ◌≢◌, ℕ, zero, suc, ◌+◌, ◌<◌, true, false, eqb, None, Ok, List, [], ◌∷◌, ◌++◌, codes, length, get_or, refl, ap, sym, ◌∙◌, subst, arith, append_assoc}
+use Rattle.std.proofs.Common.{◌≡◌, ◌≢◌, ℕ, zero, suc, ◌+◌, ◌<◌, true, false, eqb, None, Ok, List, [], ◌∷◌, ◌++◌, codes}
+use Rattle.std.proofs.Common.{length, get_or, refl, ap, sym, ◌∙◌, subst, arith, append_assoc}
 use Rattle.std.specs.List.{list_all}
 use Rattle.std.proofs.lemmas.List.{take-append-drop}
 use Rattle.std.proofs.Math.Seq.{drop-append_seam, take-append_seam}
@@ -19,10 +20,12 @@ use Rattle.scip_symbol.proofs.UndoubledLemmas.{undoubled-found, undoubled-exact}
 
 pub some-found : (x y : List ℕ × List ℕ) → some_at x ≡ Ok y → (x ≡ y) × (y.0 ≢ [])
 some-found ([], rest) y e = absurd cc
-some-found (b ∷ word, rest) y e = let same = same_ok _ refl e in (same, λ none. let p = ap (λ (z : List ℕ × List ℕ). z.0) same in cc)
+some-found (b ∷ word, rest) y e = let same = same_ok _ refl e in
+    (same, λ none. let p = ap (λ (z : List ℕ × List ℕ). z.0) same in cc)
 
 -- what a whole run is
-pub run-simple : (word : List ℕ) → list_all is_identifier_character word ≡ true → word ≢ [] → is_simple_identifier word ≡ true
+pub run-simple : (word : List ℕ) → list_all is_identifier_character word ≡ true → word ≢ []
+    → is_simple_identifier word ≡ true
 run-simple [] h some = absurd (some refl)
 run-simple (b ∷ word) h some = h
 
@@ -30,14 +33,20 @@ pub simple-run : (word : List ℕ) → is_simple_identifier word ≡ true → li
 simple-run [] h = absurd cc
 simple-run (b ∷ word) h = h
 
-pub run-exact : (word rest : List ℕ) → list_all is_identifier_character word ≡ true → starts is_identifier_character rest ≡ false
+pub run-exact : (word rest : List ℕ) → list_all is_identifier_character word ≡ true
+    → starts is_identifier_character rest ≡ false
     → run_at (word ++ rest) ≡ (word, rest)
 run-exact word rest h s =
     rw (prefix_exact is_identifier_character word rest h s, take-append_seam word rest, drop-append_seam word rest) refl
 
-pub run-found : (text : List ℕ) → (text ≡ (run_at text).0 ++ (run_at text).1) × (list_all is_identifier_character (run_at text).0 ≡ true)
+pub run-found : (text : List ℕ)
+    → (text ≡ (run_at text).0 ++ (run_at text).1) × (list_all is_identifier_character (run_at text).0 ≡ true)
     × (starts is_identifier_character (run_at text).1 ≡ false)
-run-found text = (sym (take-append-drop (run_len text) text), prefix_passes is_identifier_character text, prefix_stops is_identifier_character text)
+run-found text = (
+  sym (take-append-drop (run_len text) text),
+  prefix_passes is_identifier_character text,
+  prefix_stops is_identifier_character text,
+)
 
 ascii : (b : ℕ) → is_identifier_character b ≡ true → b < 128
 ascii b t = grind (arith, nat_tests)
@@ -77,7 +86,8 @@ pub record EndsName (rest : List ℕ) : Type 0 where
 pub not-mark : (c b : ℕ) → is_identifier_character c ≡ false → is_identifier_character b ≡ true → eqb b c ≡ false
 not-mark c b f t = ne-test b c (λ e. both_ways (is_identifier_character b) (ap is_identifier_character e ∙ f) t)
 
-pub name-found : (text : List ℕ) (y : List ℕ × List ℕ) → name_at text ≡ Ok y → (word : List ℕ) × (text ≡ word ++ y.1) × SpellsName word y.0
+pub name-found : (text : List ℕ) (y : List ℕ × List ℕ) → name_at text ≡ Ok y
+    → (word : List ℕ) × (text ≡ word ++ y.1) × SpellsName word y.0
 unfolding name_at
 name-found text y e =
     chosen (after (codes "`") text) e
@@ -87,14 +97,16 @@ name-found text y e =
     let last = some-found x.0 y x.2 in
     let u = undoubled-found backtick inside x.0 x.1 in
     let opened : text ≡ 96 ∷ inside = after-some (codes "`") text inside some in
-    let closed : inside ≡ doubled 96 y.0 ++ (96 ∷ y.1) = u.0 ∙ ap (λ (z : List ℕ × List ℕ). doubled 96 z.0 ++ (96 ∷ z.1)) last.0 in (
+    let closed : inside ≡ doubled 96 y.0 ++ (96 ∷ y.1) =
+    u.0 ∙ ap (λ (z : List ℕ × List ℕ). doubled 96 z.0 ++ (96 ∷ z.1)) last.0 in (
       codes "`" ++ doubled backtick y.0 ++ codes "`",
       opened ∙ ap (λ l. 96 ∷ l) closed ∙ sym (append_assoc (96 ∷ doubled 96 y.0) (96 ∷ []) y.1),
       quoted last.1,
     ))
 
 -- a name begins with an identifier character or with a backtick, so with no other sign
-pub name-starts : (c : ℕ) (word name rest : List ℕ) → SpellsName word name → is_identifier_character c ≡ false → eqb 96 c ≡ false
+pub name-starts : (c : ℕ) (word name rest : List ℕ) → SpellsName word name → is_identifier_character c ≡ false
+    → eqb 96 c ≡ false
     → after (c ∷ []) (word ++ rest) ≡ None
 name-starts c word name rest (simple {name = []} h) f q = absurd cc
 name-starts c word name rest (simple {name = b ∷ others} h) f q =
@@ -105,10 +117,13 @@ some-some : (name rest : List ℕ) → name ≢ [] → some_at (name, rest) ≡ 
 some-some [] rest some = absurd (some refl)
 some-some (b ∷ name) rest some = refl
 
-pub name-exact : (word name rest : List ℕ) → SpellsName word name → EndsName rest → name_at (word ++ rest) ≡ Ok (name, rest)
+pub name-exact : (word name rest : List ℕ) → SpellsName word name → EndsName rest
+    → name_at (word ++ rest) ≡ Ok (name, rest)
 unfolding name_at
 name-exact word name rest (simple {name = []} h) ends = absurd cc
 name-exact word name rest (simple {name = b ∷ others} h) ends =
-    both (is_identifier_character b) _ h (λ t _. rw (not-mark 96 b refl t) (simple-exact (b ∷ others) rest h ends.plain))
+    both (is_identifier_character b) _ h
+    (λ t _. rw (not-mark 96 b refl t) (simple-exact (b ∷ others) rest h ends.plain))
 name-exact word name rest (quoted some) ends =
-    ap name_at (append_assoc (96 ∷ doubled 96 name) (96 ∷ []) rest) ∙ rw (undoubled-exact 96 name rest ends.single) (some-some name rest some)
+    ap name_at (append_assoc (96 ∷ doubled 96 name) (96 ∷ []) rest)
+    ∙ rw (undoubled-exact 96 name rest ends.single) (some-some name rest some)

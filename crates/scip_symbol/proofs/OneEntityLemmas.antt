@@ -1,5 +1,6 @@
 -- In facts without a clash a symbol's text names one entity.
-use Rattle.std.proofs.Common.{◌≡◌, ◌≢◌, ℕ, true, List, [], ◌∷◌, ◌++◌, codes, map, refl, ap, sym, ◌∙◌, subst, append_assoc}
+use Rattle.std.proofs.Common.{◌≡◌, ◌≢◌, ℕ, true, List, [], ◌∷◌, ◌++◌, codes, map, refl, ap, sym, ◌∙◌, subst}
+use Rattle.std.proofs.Common.{append_assoc}
 use Rattle.std.specs.Prelude.{All, Contains}
 use Rattle.std.specs.List.{list_all}
 use Rattle.std.proofs.lemmas.List.{append_cancel_left}
@@ -11,11 +12,14 @@ use Rattle.scip_symbol.specs.Parts.{IsSymbol}
 use Rattle.scip_symbol.specs.Package.{Package, IsPackage}
 use Rattle.scip_symbol.specs.SpellsSymbol.{SpellsSymbol}
 use Rattle.scip_symbol.specs.SymbolText.{symbol_text}
-use Rattle.scip_symbol.specs.Entities.{Entity, OfFile, OfPackage, OfDeclaration, suffix_of, namespace_of, step_descriptor, descriptors_of, scheme_text, global_in, symbol_in, IsIdentifier, IsEntity}
+use Rattle.scip_symbol.specs.Entities.{Entity, OfFile, OfPackage, OfDeclaration, suffix_of, namespace_of}
+use Rattle.scip_symbol.specs.Entities.{step_descriptor, descriptors_of, scheme_text, global_in, symbol_in, IsIdentifier}
+use Rattle.scip_symbol.specs.Entities.{IsEntity}
 use Rattle.proto_decl.specs.Ancestors.{scoped, names_of}
 use Rattle.scip_symbol.specs.OneEntity.{Declaration, declaration, IsWithoutClash, IsAmong}
 use Rattle.proto_decl.specs.declared.kind.DeclarationKind.{DeclarationKind}
-use Rattle.proto_decl.specs.declared.kind.DeclarationKind.TheVariants.{Message, Enum, Service, Field, Oneof, Value, Method}
+use Rattle.proto_decl.specs.declared.kind.DeclarationKind.TheVariants.{Message, Enum, Service, Field, Oneof, Value}
+use Rattle.proto_decl.specs.declared.kind.DeclarationKind.TheVariants.{Method}
 use Rattle.proto_decl.specs.declared.declaration.DeclarationStep.{DeclarationStep}
 use Rattle.scip_symbol.specs.declared.symbol.Suffix.TheVariants as suffix
 use Rattle.scip_symbol.specs.declared.symbol.Descriptor.{Descriptor}
@@ -40,7 +44,8 @@ joined p q = cc
 entity-symbol : (p : Package) (e : Entity) → IsPackage p → IsEntity e → IsSymbol (symbol_in p e)
 entity-symbol p e is of =
     let has = entity-has e (descriptors_of e) of refl in
-    global-is p scheme_text p.manager p.name p.version (descriptors_of e) (descriptors_of e) is refl refl refl refl refl has.0 has.1
+    global-is p scheme_text p.manager p.name p.version (descriptors_of e)
+    (descriptors_of e) is refl refl refl refl refl has.0 has.1
 
 list_in : SymbolParts → List Descriptor
 list_in (Local name) = []
@@ -50,7 +55,8 @@ one-list : (p : Package) (ds others : List Descriptor) → global_in p ds ≡ gl
 unfolding list_in
 one-list p ds others e = ap list_in e
 
-same-descriptors : (p : Package) (a b : Entity) → IsPackage p → IsEntity a → IsEntity b → symbol_text (symbol_in p a) ≡ symbol_text (symbol_in p b)
+same-descriptors : (p : Package) (a b : Entity) → IsPackage p → IsEntity a → IsEntity b
+    → symbol_text (symbol_in p a) ≡ symbol_text (symbol_in p b)
     → descriptors_of a ≡ descriptors_of b
 same-descriptors p a b is of_a of_b e =
     one-list p (descriptors_of a) (descriptors_of b) (
@@ -64,7 +70,8 @@ same-namespaces : (xs ys : List (List ℕ)) → map namespace_of xs ≡ map name
 same-namespaces [] [] e = refl
 same-namespaces [] (y ∷ ys) e = absurd cc
 same-namespaces (x ∷ xs) [] e = absurd cc
-same-namespaces (x ∷ xs) (y ∷ ys) e = joined (ap (λ (d : Descriptor). d.name) (heads e)) (same-namespaces xs ys (tails e))
+same-namespaces (x ∷ xs) (y ∷ ys) e =
+    joined (ap (λ (d : Descriptor). d.name) (heads e)) (same-namespaces xs ys (tails e))
 
 kind-no-namespace : (kind : DeclarationKind) → suffix.Namespace ≡ suffix_of kind → ⊥
 kind-no-namespace Message e = cc
@@ -79,7 +86,8 @@ no-step : (name : List ℕ) (step : DeclarationStep) → namespace_of name ≡ s
 no-step name step e = kind-no-namespace step.kind (ap (λ (d : Descriptor). d.suffix) e)
 
 -- namespaces alone are no way to a declaration
-no-way : (xs ys : List (List ℕ)) (way : List DeclarationStep) → way ≢ [] → map namespace_of xs ≡ map namespace_of ys ++ map step_descriptor way → ⊥
+no-way : (xs ys : List (List ℕ)) (way : List DeclarationStep) → way ≢ []
+    → map namespace_of xs ≡ map namespace_of ys ++ map step_descriptor way → ⊥
 no-way xs ys [] some e = some refl
 no-way [] [] (s ∷ way) some e = cc
 no-way [] (y ∷ ys) (s ∷ way) some e = cc
@@ -87,14 +95,16 @@ no-way (x ∷ xs) [] (s ∷ way) some e = no-step x s (heads e)
 no-way (x ∷ xs) (y ∷ ys) (s ∷ way) some e = no-way xs ys (s ∷ way) some (tails e)
 
 same-ways : (xs ys : List (List ℕ)) (way other : List DeclarationStep) → way ≢ [] → other ≢ []
-    → map namespace_of xs ++ map step_descriptor way ≡ map namespace_of ys ++ map step_descriptor other → (xs ≡ ys) × (map step_descriptor way ≡ map step_descriptor other)
+    → map namespace_of xs ++ map step_descriptor way ≡ map namespace_of ys ++ map step_descriptor other
+    → (xs ≡ ys) × (map step_descriptor way ≡ map step_descriptor other)
 same-ways [] [] way other p q e = (refl, e)
 same-ways [] (y ∷ ys) [] other p q e = absurd (p refl)
 same-ways [] (y ∷ ys) (s ∷ way) other p q e = absurd (no-step y s (sym (heads e)))
 same-ways (x ∷ xs) [] way [] p q e = absurd (q refl)
 same-ways (x ∷ xs) [] way (s ∷ other) p q e = absurd (no-step x s (heads e))
 same-ways (x ∷ xs) (y ∷ ys) way other p q e =
-    let rest = same-ways xs ys way other p q (tails e) in (joined (ap (λ (d : Descriptor). d.name) (heads e)) rest.0, rest.1)
+    let rest = same-ways xs ys way other p q (tails e) in
+    (joined (ap (λ (d : Descriptor). d.name) (heads e)) rest.0, rest.1)
 
 -- ---- a file's path is no identifier
 
@@ -102,7 +112,8 @@ words-end : (front : List ℕ) (rest : List ℕ) → list_all is_word (front ++ 
 words-end [] rest h = cc
 words-end (b ∷ front) rest h = both (is_word b) _ h (λ _ t. words-end front rest t)
 
-word-byte : (b : ℕ) (others : List ℕ) → is_letter b ≡ true → list_all is_word others ≡ true → list_all is_word (b ∷ others) ≡ true
+word-byte : (b : ℕ) (others : List ℕ) → is_letter b ≡ true → list_all is_word others ≡ true
+    → list_all is_word (b ∷ others) ≡ true
 word-byte b others h t = rw (h, t) refl
 
 one-byte : (name : List ℕ) (b : ℕ) → b ∷ [] ≡ name ++ codes ".proto" → ⊥
@@ -112,18 +123,21 @@ one-byte (x ∷ (y ∷ name)) b e = cc
 
 path-no-identifier : (path : List ℕ) → IsGoodPath path → IsIdentifier path → ⊥
 path-no-identifier path is (identifier {b = b} {others = others} h t) =
-    words-end is.name (codes "proto") (subst (λ (l : List ℕ). list_all is_word l ≡ true) is.ending (word-byte b others h t))
+    words-end is.name (codes "proto")
+    (subst (λ (l : List ℕ). list_all is_word l ≡ true) is.ending (word-byte b others h t))
 path-no-identifier path is (sign {b = b} h) = one-byte is.name b is.ending
 
 file-no-package : (path : List ℕ) (components : List (List ℕ)) → IsGoodPath path → All IsIdentifier components
     → namespace_of path ∷ [] ≡ map namespace_of components → ⊥
 file-no-package path [] is h e = cc
 file-no-package path (x ∷ xs) is h e =
-    path-no-identifier path is (subst IsIdentifier (sym (ap (λ (d : Descriptor). d.name) (heads e))) (All-head IsIdentifier x xs h))
+    path-no-identifier path is
+    (subst IsIdentifier (sym (ap (λ (d : Descriptor). d.name) (heads e))) (All-head IsIdentifier x xs h))
 
 -- ---- ways without a clash
 
-names-last : (pre : List DeclarationStep) (s t : DeclarationStep) → s.name ≡ t.name → names_of (pre ++ s ∷ []) ≡ names_of (pre ++ t ∷ [])
+names-last : (pre : List DeclarationStep) (s t : DeclarationStep) → s.name ≡ t.name
+    → names_of (pre ++ s ∷ []) ≡ names_of (pre ++ t ∷ [])
 names-last [] s t e = ap (λ (n : List ℕ). n ∷ []) e
 names-last (p ∷ []) s t e = ap (λ (n : List ℕ). scoped p.kind p.name (n ∷ [])) e
 names-last (p ∷ (q ∷ pre)) s t e = ap (scoped p.kind p.name) (names-last (q ∷ pre) s t e)
@@ -136,40 +150,56 @@ some-last [] s = λ e. cc
 some-last (p ∷ pre) s = λ e. cc
 
 module _ (declarations : List Declaration) (apart : IsWithoutClash declarations) (components : List (List ℕ)) where
-  ways : (pre way other : List DeclarationStep) → Contains declarations (declaration components (pre ++ way)) → Contains declarations (declaration components (pre ++ other))
+  ways : (pre way other : List DeclarationStep) → Contains declarations (declaration components (pre ++ way))
+      → Contains declarations (declaration components (pre ++ other))
       → map step_descriptor way ≡ map step_descriptor other → way ≡ other
   ways pre [] [] p q e = refl
   ways pre [] (t ∷ other) p q e = absurd cc
   ways pre (s ∷ way) [] p q e = absurd cc
   ways pre (s ∷ way) (t ∷ other) p q e =
       let grow = λ (x : DeclarationStep) (xs : List DeclarationStep). append_assoc pre (x ∷ []) xs in
-      let p' : Contains declarations (declaration components ((pre ++ s ∷ []) ++ way)) = subst (λ (l : List DeclarationStep). Contains declarations (declaration components l)) (sym (grow s way)) p in
-      let q' : Contains declarations (declaration components ((pre ++ t ∷ []) ++ other)) = subst (λ (l : List DeclarationStep). Contains declarations (declaration components l)) (sym (grow t other)) q in
+      let p' : Contains declarations (declaration components ((pre ++ s ∷ []) ++ way)) =
+      subst (λ (l : List DeclarationStep). Contains declarations (declaration components l)) (sym (grow s way)) p in
+      let q' : Contains declarations (declaration components ((pre ++ t ∷ []) ++ other)) =
+      subst (λ (l : List DeclarationStep). Contains declarations (declaration components l)) (sym (grow t other)) q
+      in
       let hold_s = apart.holder components (pre ++ s ∷ []) way (some-last pre s) p' in
       let hold_t = apart.holder components (pre ++ t ∷ []) other (some-last pre t) q' in
-      let names = ap (λ (l : List (List ℕ)). components ++ l) (names-last pre s t (ap (λ (d : Descriptor). d.name) (heads e))) in
-      let same : s ≡ t = last-same pre s t (ap (λ (d : Declaration). d.way) (apart.one_name (declaration components (pre ++ s ∷ [])) (declaration components (pre ++ t ∷ [])) hold_s hold_t names)) in
-      let q'' : Contains declarations (declaration components ((pre ++ s ∷ []) ++ other)) = subst (λ (x : DeclarationStep). Contains declarations (declaration components ((pre ++ x ∷ []) ++ other))) (sym same) q' in
+      let names = ap (λ (l : List (List ℕ)). components ++ l)
+      (names-last pre s t (ap (λ (d : Descriptor). d.name) (heads e))) in
+      let same : s ≡ t = last-same pre s t
+      (ap (λ (d : Declaration). d.way)
+      (apart.one_name (declaration components (pre ++ s ∷ []))
+      (declaration components (pre ++ t ∷ [])) hold_s hold_t names)) in
+      let q'' : Contains declarations (declaration components ((pre ++ s ∷ []) ++ other)) =
+      subst (λ (x : DeclarationStep). Contains declarations (declaration components ((pre ++ x ∷ []) ++ other)))
+      (sym same) q' in
       joined same (ways (pre ++ s ∷ []) way other p' q'' (tails e))
 
 -- ---- entities
 
 same-entity : (declarations : List Declaration) → IsWithoutClash declarations → (a b : Entity) → IsEntity a → IsEntity b
     → IsAmong declarations a → IsAmong declarations b → descriptors_of a ≡ descriptors_of b → a ≡ b
-same-entity ds apart (OfFile path) (OfFile other) p q m n e = ap (λ (x : List ℕ). OfFile x) (ap (λ (d : Descriptor). d.name) (heads e))
+same-entity ds apart (OfFile path) (OfFile other) p q m n e =
+    ap (λ (x : List ℕ). OfFile x) (ap (λ (d : Descriptor). d.name) (heads e))
 same-entity ds apart (OfFile path) (OfPackage xs) p q m n e = absurd (file-no-package path xs p q.1 e)
 same-entity ds apart (OfFile path) (OfDeclaration xs way) p q m n e = absurd (no-way (path ∷ []) xs way q.1 e)
 same-entity ds apart (OfPackage xs) (OfFile path) p q m n e = absurd (file-no-package path xs q p.1 (sym e))
-same-entity ds apart (OfPackage xs) (OfPackage ys) p q m n e = ap (λ (x : List (List ℕ)). OfPackage x) (same-namespaces xs ys e)
+same-entity ds apart (OfPackage xs) (OfPackage ys) p q m n e =
+    ap (λ (x : List (List ℕ)). OfPackage x) (same-namespaces xs ys e)
 same-entity ds apart (OfPackage xs) (OfDeclaration ys way) p q m n e = absurd (no-way xs ys way q.1 e)
 same-entity ds apart (OfDeclaration xs way) (OfFile path) p q m n e = absurd (no-way (path ∷ []) xs way p.1 (sym e))
 same-entity ds apart (OfDeclaration xs way) (OfPackage ys) p q m n e = absurd (no-way ys xs way p.1 (sym e))
 same-entity ds apart (OfDeclaration xs way) (OfDeclaration ys other) p q m n e =
     let both = same-ways xs ys way other p.1 q.1 e in
-    let n' : Contains ds (declaration xs other) = subst (λ (l : List (List ℕ)). Contains ds (declaration l other)) (sym both.0) n in
+    let n' : Contains ds (declaration xs other) =
+    subst (λ (l : List (List ℕ)). Contains ds (declaration l other)) (sym both.0) n in
     let same = ways ds apart xs [] way other m n' both.1 in
     ap (λ (l : List (List ℕ)). OfDeclaration l way) both.0 ∙ ap (λ (l : List DeclarationStep). OfDeclaration ys l) same
 
-pub one-entity : (p : Package) (declarations : List Declaration) → IsPackage p → IsWithoutClash declarations → (a b : Entity) → IsEntity a → IsEntity b
-    → IsAmong declarations a → IsAmong declarations b → symbol_text (symbol_in p a) ≡ symbol_text (symbol_in p b) → a ≡ b
-one-entity p declarations is apart a b of_a of_b m n e = same-entity declarations apart a b of_a of_b m n (same-descriptors p a b is of_a of_b e)
+pub one-entity : (p : Package) (declarations : List Declaration) → IsPackage p → IsWithoutClash declarations
+    → (a b : Entity) → IsEntity a → IsEntity b
+    → IsAmong declarations a → IsAmong declarations b → symbol_text (symbol_in p a) ≡ symbol_text (symbol_in p b)
+    → a ≡ b
+one-entity p declarations is apart a b of_a of_b m n e =
+    same-entity declarations apart a b of_a of_b m n (same-descriptors p a b is of_a of_b e)

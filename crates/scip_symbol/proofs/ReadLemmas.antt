@@ -4,7 +4,8 @@ use Rattle.std.proofs.lemmas.Bool.{eqb-true}
 use Rattle.scip_symbol.specs.Reading.{Read, ◌>>=◌, choose}
 
 -- a chain that succeeds has a first step that succeeds
-pub bind_ok : {A B : Type 0} (r : Read A) (f : A → Read B) (y : B) → (r >>= f) ≡ Ok y → (x : A) × (r ≡ Ok x) × (f x ≡ Ok y)
+pub bind_ok : {A B : Type 0} (r : Read A) (f : A → Read B) (y : B) → (r >>= f) ≡ Ok y
+    → (x : A) × (r ≡ Ok x) × (f x ≡ Ok y)
 bind_ok (Ok x) f y e = (x, refl, e)
 bind_ok (Err d) f y e = cc
 
@@ -26,10 +27,12 @@ pub chosen : {A B P : Type 0} (o : Option A) {otherwise : B} {next : A → B} {y
 chosen None e p q = p refl e
 chosen (Some x) e p q = q x refl e
 
-pub choose_some : {A B : Type 0} {o : Option A} (otherwise : B) (next : A → B) {x : A} → o ≡ Some x → choose o otherwise next ≡ next x
+pub choose_some : {A B : Type 0} {o : Option A} (otherwise : B) (next : A → B) {x : A} → o ≡ Some x
+    → choose o otherwise next ≡ next x
 choose_some otherwise next e = ap (λ o. choose o otherwise next) e
 
-pub choose_none : {A B : Type 0} {o : Option A} (otherwise : B) (next : A → B) → o ≡ None → choose o otherwise next ≡ otherwise
+pub choose_none : {A B : Type 0} {o : Option A} (otherwise : B) (next : A → B) → o ≡ None
+    → choose o otherwise next ≡ otherwise
 choose_none otherwise next e = ap (λ o. choose o otherwise next) e
 
 -- two tests at once
@@ -37,7 +40,8 @@ pub both : {P : Type 0} (a b : Bool) → (a && b) ≡ true → (a ≡ true → b
 both true b e p = p refl e
 both false b e p = absurd cc
 
-pub tested : {A P : Type 0} (b : Bool) {x y z : A} → cond b x y ≡ z → (b ≡ true → x ≡ z → P) → (b ≡ false → y ≡ z → P) → P
+pub tested : {A P : Type 0} (b : Bool) {x y z : A} → cond b x y ≡ z → (b ≡ true → x ≡ z → P) → (b ≡ false → y ≡ z → P)
+    → P
 tested true e p q = p refl e
 tested false e p q = q refl e
 

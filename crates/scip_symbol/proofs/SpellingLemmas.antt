@@ -1,11 +1,16 @@
 -- Just the parts of a symbol have a spelling, and the printed text is one.
-use Rattle.std.proofs.Common.{◌≡◌, ◌≢◌, ℕ, suc, true, false, cond, List, [], ◌∷◌, ◌++◌, codes, refl, ap, sym, subst, arith}
+use Rattle.std.proofs.Common.{◌≡◌, ◌≢◌, ℕ, suc, true, false, cond, List, [], ◌∷◌, ◌++◌, codes, refl, ap, sym, subst}
+use Rattle.std.proofs.Common.{arith}
 use Rattle.std.specs.Prelude.{All}
 use Rattle.std.proofs.lemmas.List.Elements.{All-cons, All-nil}
 use Rattle.scip_symbol.specs.Names.{is_simple_identifier, doubled, backtick}
 use Rattle.scip_symbol.specs.Parts.{IsScheme, IsPart, IsSuffix, IsDescriptor, IsSymbol}
-use Rattle.scip_symbol.specs.SpellsSymbol.{SpellsScheme, scheme, SpellsPart, empty, part, SpellsName, simple, quoted, descriptor, SpellsDescriptor, namespace, type_, term, meta, macro, method, type_parameter, parameter, SpellsDescriptors, last, more, SpellsSymbol, local, global}
-use Rattle.scip_symbol.specs.SymbolText.{part_text, name_text, front_text, suffix_text, descriptor_text, descriptors_text, symbol_text}
+use Rattle.scip_symbol.specs.SpellsSymbol.{SpellsScheme, scheme, SpellsPart, empty, part, SpellsName, simple, quoted}
+use Rattle.scip_symbol.specs.SpellsSymbol.{descriptor, SpellsDescriptor, namespace, type_, term, meta, macro, method}
+use Rattle.scip_symbol.specs.SpellsSymbol.{type_parameter, parameter, SpellsDescriptors, last, more, SpellsSymbol}
+use Rattle.scip_symbol.specs.SpellsSymbol.{local, global}
+use Rattle.scip_symbol.specs.SymbolText.{part_text, name_text, front_text, suffix_text, descriptor_text}
+use Rattle.scip_symbol.specs.SymbolText.{descriptors_text, symbol_text}
 use Rattle.scip_symbol.specs.declared.symbol.Suffix.{Suffix}
 use Rattle.scip_symbol.specs.declared.symbol.Suffix.TheVariants as suffix
 use Rattle.scip_symbol.specs.declared.symbol.Descriptor.{Descriptor}
@@ -35,7 +40,8 @@ descriptor-is word d (type_parameter {word = w} {name = name} n) = record { name
 descriptor-is word d (parameter {word = w} {name = name} n) = record { name = name-is w name n; suffix = tt }
 
 descriptors-are : (text : List ℕ) (ds : List Descriptor) → SpellsDescriptors text ds → All IsDescriptor ds
-descriptors-are text ds (last {word = w} {d = d} p) = All-cons IsDescriptor d [] (descriptor-is w d p) (All-nil IsDescriptor)
+descriptors-are text ds (last {word = w} {d = d} p) =
+    All-cons IsDescriptor d [] (descriptor-is w d p) (All-nil IsDescriptor)
 descriptors-are text ds (more {word = w} {words = ws} {d = d} {others = others} p q) =
     All-cons IsDescriptor d others (descriptor-is w d p) (descriptors-are ws others q)
 
@@ -52,31 +58,36 @@ scheme-is s p (scheme is) = is
 
 pub spelled-is : (text : List ℕ) (s : SymbolParts) → SpellsSymbol text s → IsSymbol s
 spelled-is text s (local h) = h
-spelled-is text s (global {scheme = sc} {manager = m} {name = n} {version = v} {descriptors = ds} {s = symbol} ps pm pn pv pd) = record {
-  scheme = scheme-is sc symbol.scheme ps;
-  manager = part-is m symbol.manager pm;
-  name = part-is n symbol.name pn;
-  version = part-is v symbol.version pv;
-  some = descriptors-some ds symbol.descriptors pd;
-  descriptors = descriptors-are ds symbol.descriptors pd;
-}
+spelled-is text s (global {scheme = sc} {manager = m} {name = n} {version = v} {descriptors = ds} {s = symbol} ps pm pn
+    pv pd) = record {
+      scheme = scheme-is sc symbol.scheme ps;
+      manager = part-is m symbol.manager pm;
+      name = part-is n symbol.name pn;
+      version = part-is v symbol.version pv;
+      some = descriptors-some ds symbol.descriptors pd;
+      descriptors = descriptors-are ds symbol.descriptors pd;
+    }
 
 -- ---- the printed text
 
 name-spelled : (name : List ℕ) → name ≢ [] → SpellsName (name_text name) name
 name-spelled name some =
-    elim (is_simple_identifier name) as (λ t. is_simple_identifier name ≡ t → SpellsName (cond t name (codes "`" ++ doubled backtick name ++ codes "`")) name) [
+    elim (is_simple_identifier name) as
+    (λ t. is_simple_identifier name ≡ t
+    → SpellsName (cond t name (codes "`" ++ doubled backtick name ++ codes "`")) name) [
       | true ↦ λ t. simple t
       | false ↦ λ _. quoted some
     ] refl
 
-suffix-spelled : (s : Suffix) (name word : List ℕ) → SpellsName word name → IsSuffix s → SpellsDescriptor (front_text s ++ word ++ suffix_text s) (descriptor name s)
+suffix-spelled : (s : Suffix) (name word : List ℕ) → SpellsName word name → IsSuffix s
+    → SpellsDescriptor (front_text s ++ word ++ suffix_text s) (descriptor name s)
 suffix-spelled suffix.Namespace name word n is = namespace n
 suffix-spelled suffix.«Type» name word n is = type_ n
 suffix-spelled suffix.Term name word n is = term n
 suffix-spelled suffix.Meta name word n is = meta n
 suffix-spelled suffix.Macro name word n is = macro n
-suffix-spelled (suffix.Method d) name word n is = subst (λ l. SpellsDescriptor l (descriptor name (suffix.Method d))) (method-sign word d) (method n is)
+suffix-spelled (suffix.Method d) name word n is =
+    subst (λ l. SpellsDescriptor l (descriptor name (suffix.Method d))) (method-sign word d) (method n is)
 suffix-spelled suffix.TypeParameter name word n is = type_parameter n
 suffix-spelled suffix.Parameter name word n is = parameter n
 
@@ -89,12 +100,15 @@ first-of P x xs h = h 0 x (omega arith)
 rest-of : {A : Type 0} (P : A → Type 0) (x : A) (xs : List A) → All P (x ∷ xs) → All P xs
 rest-of P x xs h = λ k d below. h (suc k) d (omega arith)
 
-descriptors-spelled : (ds : List Descriptor) → ds ≢ [] → All IsDescriptor ds → SpellsDescriptors (descriptors_text ds) ds
+descriptors-spelled : (ds : List Descriptor) → ds ≢ [] → All IsDescriptor ds
+    → SpellsDescriptors (descriptors_text ds) ds
 descriptors-spelled [] some h = absurd (some refl)
 descriptors-spelled (d ∷ []) some h =
-    subst (λ l. SpellsDescriptors l (d ∷ [])) (sym (append_nil (descriptor_text d))) (last (descriptor-spelled d (first-of IsDescriptor d [] h)))
+    subst (λ l. SpellsDescriptors l (d ∷ [])) (sym (append_nil (descriptor_text d)))
+    (last (descriptor-spelled d (first-of IsDescriptor d [] h)))
 descriptors-spelled (d ∷ (other ∷ others)) some h =
-    more (descriptor-spelled d (first-of IsDescriptor d (other ∷ others) h)) (descriptors-spelled (other ∷ others) (λ e. cc) (rest-of IsDescriptor d (other ∷ others) h))
+    more (descriptor-spelled d (first-of IsDescriptor d (other ∷ others) h))
+    (descriptors-spelled (other ∷ others) (λ e. cc) (rest-of IsDescriptor d (other ∷ others) h))
 
 part-spelled : (p : List ℕ) → IsPart p → SpellsPart (part_text p) p
 part-spelled [] is = empty
@@ -103,7 +117,8 @@ part-spelled (b ∷ others) is = part is
 pub printed : (s : SymbolParts) → IsSymbol s → SpellsSymbol (symbol_text s) s
 printed (Local name) h = local h
 printed (Global s) is =
-    global (scheme is.scheme) (part-spelled s.manager is.manager) (part-spelled s.name is.name) (part-spelled s.version is.version)
+    global (scheme is.scheme) (part-spelled s.manager is.manager) (part-spelled s.name is.name)
+    (part-spelled s.version is.version)
     (descriptors-spelled s.descriptors is.some is.descriptors)
 
 pub printed-text : (text : List ℕ) (s : SymbolParts) → IsSymbol s → text ≡ symbol_text s → SpellsSymbol text s

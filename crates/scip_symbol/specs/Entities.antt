@@ -6,7 +6,8 @@ use Rattle.scip_symbol.specs.SpellsSymbol.{descriptor}
 use Rattle.scip_symbol.specs.Package.{Package}
 use Rattle.scip_symbol.specs.Path.{IsGoodPath}
 use Rattle.proto_decl.specs.declared.kind.DeclarationKind.{DeclarationKind}
-use Rattle.proto_decl.specs.declared.kind.DeclarationKind.TheVariants.{Message, Enum, Service, Field, Oneof, Value, Method}
+use Rattle.proto_decl.specs.declared.kind.DeclarationKind.TheVariants.{Message, Enum, Service, Field, Oneof, Value}
+use Rattle.proto_decl.specs.declared.kind.DeclarationKind.TheVariants.{Method}
 use Rattle.proto_decl.specs.declared.declaration.DeclarationStep.{DeclarationStep}
 use Rattle.scip_symbol.specs.declared.symbol.Suffix.{Suffix}
 use Rattle.scip_symbol.specs.declared.symbol.Suffix.TheVariants as suffix
@@ -46,7 +47,14 @@ scheme_text = codes "scip-protobuf"
 
 -- the symbol with these descriptors in a package
 abbrev pub global_in : Package → List Descriptor → SymbolParts
-global_in p descriptors = Global (record { scheme = scheme_text; manager = p.manager; name = p.name; version = p.version; descriptors = descriptors })
+global_in p descriptors =
+    Global (record {
+      scheme = scheme_text;
+      manager = p.manager;
+      name = p.name;
+      version = p.version;
+      descriptors = descriptors;
+    })
 
 -- the entity's symbol, in the package that the settings name
 abbrev pub symbol_in : Package → Entity → SymbolParts
@@ -60,4 +68,5 @@ IsIdentifier = Spells Identifier
 abbrev pub IsEntity : Entity → Type 0
 IsEntity (OfFile path) = IsGoodPath path
 IsEntity (OfPackage components) = (components ≢ []) × All IsIdentifier components
-IsEntity (OfDeclaration components way) = All IsIdentifier components × (way ≢ []) × All (λ step. IsIdentifier step.name) way
+IsEntity (OfDeclaration components way) =
+    All IsIdentifier components × (way ≢ []) × All (λ step. IsIdentifier step.name) way

@@ -8,7 +8,9 @@ use Rattle.scip_symbol.specs.Entities.{scheme_text, namespace_of, step_descripto
 
 -- what stands before the descriptors: the scheme, and the manager, name and version of the package
 abbrev pub front_with : (manager name version : List ℕ) → List ℕ
-front_with manager name version = doubled space scheme_text ++ codes " " ++ part_text manager ++ codes " " ++ part_text name ++ codes " " ++ part_text version ++ codes " "
+front_with manager name version =
+    doubled space scheme_text ++ codes " " ++ part_text manager ++ codes " " ++ part_text name ++ codes " "
+    ++ part_text version ++ codes " "
 
 abbrev pub front_in : Package → List ℕ
 front_in p = front_with p.manager p.name p.version

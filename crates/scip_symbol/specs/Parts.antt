@@ -3,7 +3,8 @@ use Rattle.std.specs.Prelude.{◌≡◌, ◌≢◌, ℕ, true, List, [], ◌∷�
 use Rattle.std.specs.List.{list_all}
 use Rattle.scip_symbol.specs.Names.{is_identifier_character, is_simple_identifier, space}
 use Rattle.scip_symbol.specs.declared.symbol.Suffix.{Suffix}
-use Rattle.scip_symbol.specs.declared.symbol.Suffix.TheVariants.{Namespace, «Type», Term, Meta, Macro, Method, TypeParameter, Parameter}
+use Rattle.scip_symbol.specs.declared.symbol.Suffix.TheVariants.{Namespace, «Type», Term, Meta, Macro, Method}
+use Rattle.scip_symbol.specs.declared.symbol.Suffix.TheVariants.{TypeParameter, Parameter}
 use Rattle.scip_symbol.specs.declared.symbol.Descriptor.{Descriptor}
 use Rattle.scip_symbol.specs.declared.symbol.GlobalSymbol.{GlobalSymbol}
 use Rattle.scip_symbol.specs.declared.symbol.SymbolParts.{SymbolParts}

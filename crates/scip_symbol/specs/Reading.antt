@@ -1,5 +1,6 @@
 -- What the reader's private functions give. Public contracts speak of `SpellsSymbol` and `IsLongestFront`.
-use Rattle.std.specs.Prelude.{ℕ, zero, suc, ◌+◌, Bool, true, false, cond, Option, Some, None, Result, Ok, Err, List, [], ◌∷◌, length, take, drop, codes, nat_eq, bytes_eq}
+use Rattle.std.specs.Prelude.{ℕ, zero, suc, ◌+◌, Bool, true, false, cond, Option, Some, None, Result, Ok, Err, List, []}
+use Rattle.std.specs.Prelude.{◌∷◌, length, take, drop, codes, nat_eq, bytes_eq}
 use Rattle.std.specs.List.{prefix_len}
 use Rattle.scip_symbol.specs.Names.{is_identifier_character, space, backtick}
 use Rattle.scip_symbol.specs.SpellsSymbol.{descriptor}
@@ -44,7 +45,8 @@ onto b (Err left) = Err left
 unfoldable pub undoubled_at : (mark : ℕ) → (after_mark : Bool) → List ℕ → Front (List ℕ)
 undoubled_at mark false [] = Err 0
 undoubled_at mark true [] = Ok ([], [])
-undoubled_at mark false (b ∷ text) = cond (nat_eq b mark) (undoubled_at mark true text) (onto b (undoubled_at mark false text))
+undoubled_at mark false (b ∷ text) =
+    cond (nat_eq b mark) (undoubled_at mark true text) (onto b (undoubled_at mark false text))
 undoubled_at mark true (b ∷ text) = cond (nat_eq b mark) (onto mark (undoubled_at mark false text)) (Ok ([], b ∷ text))
 
 -- the identifier characters at the front
@@ -63,7 +65,8 @@ unfoldable pub simple_at : List ℕ → Front (List ℕ)
 simple_at text = some_at (run_at text)
 
 unfoldable pub name_at : List ℕ → Front (List ℕ)
-name_at text = choose (after (codes "`") text) (simple_at text) (λ inside. undoubled_at backtick false inside >>= some_at)
+name_at text = choose (after (codes "`") text) (simple_at text)
+    (λ inside. undoubled_at backtick false inside >>= some_at)
 
 -- such a run, and the signs that close a method behind it
 abbrev pub closed_at : List ℕ × List ℕ → Front (List ℕ)

@@ -30,22 +30,31 @@ descriptor name suffix = record { name = name; suffix = suffix }
 
 pub data SpellsDescriptor : (text : List ℕ) → Descriptor → Type 0 where
   -- <namespace> ::= <name> '/'
-  namespace : {word name : List ℕ} → SpellsName word name → SpellsDescriptor (word ++ codes "/") (descriptor name suffix.Namespace)
+  namespace : {word name : List ℕ} → SpellsName word name
+      → SpellsDescriptor (word ++ codes "/") (descriptor name suffix.Namespace)
   -- <type> ::= <name> '#'
-  type_ : {word name : List ℕ} → SpellsName word name → SpellsDescriptor (word ++ codes "#") (descriptor name suffix.«Type»)
+  type_ : {word name : List ℕ} → SpellsName word name
+      → SpellsDescriptor (word ++ codes "#") (descriptor name suffix.«Type»)
   -- <term> ::= <name> '.'
-  term : {word name : List ℕ} → SpellsName word name → SpellsDescriptor (word ++ codes ".") (descriptor name suffix.Term)
+  term : {word name : List ℕ} → SpellsName word name
+      → SpellsDescriptor (word ++ codes ".") (descriptor name suffix.Term)
   -- <meta> ::= <name> ':'
-  meta : {word name : List ℕ} → SpellsName word name → SpellsDescriptor (word ++ codes ":") (descriptor name suffix.Meta)
+  meta : {word name : List ℕ} → SpellsName word name
+      → SpellsDescriptor (word ++ codes ":") (descriptor name suffix.Meta)
   -- <macro> ::= <name> '!'
-  macro : {word name : List ℕ} → SpellsName word name → SpellsDescriptor (word ++ codes "!") (descriptor name suffix.Macro)
+  macro : {word name : List ℕ} → SpellsName word name
+      → SpellsDescriptor (word ++ codes "!") (descriptor name suffix.Macro)
   -- <method> ::= <name> '(' (<method-disambiguator>)? ').', where a disambiguator is a simple identifier
-  method : {word name disambiguator : List ℕ} → SpellsName word name → list_all is_identifier_character disambiguator ≡ true
-      → SpellsDescriptor (word ++ codes "(" ++ disambiguator ++ codes ").") (descriptor name (suffix.Method disambiguator))
+  method : {word name disambiguator : List ℕ} → SpellsName word name
+      → list_all is_identifier_character disambiguator ≡ true
+      → SpellsDescriptor (word ++ codes "(" ++ disambiguator ++ codes ").")
+      (descriptor name (suffix.Method disambiguator))
   -- <type-parameter> ::= '[' <name> ']'
-  type_parameter : {word name : List ℕ} → SpellsName word name → SpellsDescriptor (codes "[" ++ word ++ codes "]") (descriptor name suffix.TypeParameter)
+  type_parameter : {word name : List ℕ} → SpellsName word name
+      → SpellsDescriptor (codes "[" ++ word ++ codes "]") (descriptor name suffix.TypeParameter)
   -- <parameter> ::= '(' <name> ')'
-  parameter : {word name : List ℕ} → SpellsName word name → SpellsDescriptor (codes "(" ++ word ++ codes ")") (descriptor name suffix.Parameter)
+  parameter : {word name : List ℕ} → SpellsName word name
+      → SpellsDescriptor (codes "(" ++ word ++ codes ")") (descriptor name suffix.Parameter)
 
 -- (<descriptor>)+
 pub data SpellsDescriptors : (text : List ℕ) → List Descriptor → Type 0 where
@@ -58,6 +67,8 @@ pub data SpellsDescriptors : (text : List ℕ) → List Descriptor → Type 0 wh
 pub data SpellsSymbol : (text : List ℕ) → SymbolParts → Type 0 where
   local : {name : List ℕ} → is_simple_identifier name ≡ true → SpellsSymbol (codes "local " ++ name) (Local name)
   global : {scheme manager name version descriptors : List ℕ} {s : GlobalSymbol}
-      → SpellsScheme scheme s.scheme → SpellsPart manager s.manager → SpellsPart name s.name → SpellsPart version s.version
+      → SpellsScheme scheme s.scheme → SpellsPart manager s.manager → SpellsPart name s.name
+      → SpellsPart version s.version
       → SpellsDescriptors descriptors s.descriptors
-      → SpellsSymbol (scheme ++ codes " " ++ manager ++ codes " " ++ name ++ codes " " ++ version ++ codes " " ++ descriptors) (Global s)
+      → SpellsSymbol (scheme ++ codes " " ++ manager ++ codes " " ++ name ++ codes " " ++ version ++ codes " "
+      ++ descriptors) (Global s)

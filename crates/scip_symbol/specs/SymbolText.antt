@@ -3,7 +3,8 @@ use Rattle.std.specs.Prelude.{ℕ, List, [], ◌∷◌, ◌++◌, codes, if◌th
 use Rattle.std.specs.List.{flat_map}
 use Rattle.scip_symbol.specs.Names.{is_simple_identifier, doubled, space, backtick}
 use Rattle.scip_symbol.specs.declared.symbol.Suffix.{Suffix}
-use Rattle.scip_symbol.specs.declared.symbol.Suffix.TheVariants.{Namespace, «Type», Term, Meta, Macro, Method, TypeParameter, Parameter}
+use Rattle.scip_symbol.specs.declared.symbol.Suffix.TheVariants.{Namespace, «Type», Term, Meta, Macro, Method}
+use Rattle.scip_symbol.specs.declared.symbol.Suffix.TheVariants.{TypeParameter, Parameter}
 use Rattle.scip_symbol.specs.declared.symbol.Descriptor.{Descriptor}
 use Rattle.scip_symbol.specs.declared.symbol.GlobalSymbol.{GlobalSymbol}
 use Rattle.scip_symbol.specs.declared.symbol.SymbolParts.{SymbolParts}
@@ -46,7 +47,8 @@ descriptors_text = flat_map descriptor_text
 
 abbrev pub global_text : GlobalSymbol → List ℕ
 global_text s =
-    doubled space s.scheme ++ codes " " ++ part_text s.manager ++ codes " " ++ part_text s.name ++ codes " " ++ part_text s.version ++ codes " "
+    doubled space s.scheme ++ codes " " ++ part_text s.manager ++ codes " " ++ part_text s.name ++ codes " "
+    ++ part_text s.version ++ codes " "
     ++ descriptors_text s.descriptors
 
 abbrev pub symbol_text : SymbolParts → List ℕ

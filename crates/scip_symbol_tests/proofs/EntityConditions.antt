@@ -23,7 +23,8 @@ pub spaced_file : IsEntity (OfFile (codes "a b.proto"))
 spaced_file = record {
   short = omega arith;
   printable = printable (codes "a b.proto") refl;
-  components = All-cons IsComponent (codes "a b.proto") [] (record { some = λ e. cc; no_dot = λ e. cc; no_dots = λ e. cc }) (All-nil IsComponent);
+  components = All-cons IsComponent (codes "a b.proto") []
+      (record { some = λ e. cc; no_dot = λ e. cc; no_dots = λ e. cc }) (All-nil IsComponent);
   name = codes "a b";
   ending = refl;
 }

@@ -1,5 +1,6 @@
 -- What the fields of a message do to one of its parts, against the values of a field number.
-use Rattle.std.proofs.Common.{◌≡◌, refl, ap, sym, ◌∙◌, subst, ℕ, ℤ, pos, true, false, List, [], ◌∷◌, ◌++◌, Option, Some, None}
+use Rattle.std.proofs.Common.{◌≡◌, refl, ap, sym, ◌∙◌, subst, ℕ, ℤ, pos, true, false, List, [], ◌∷◌, ◌++◌, Option, Some}
+use Rattle.std.proofs.Common.{None}
 use Rattle.std.proofs.lemmas.Option.{same_Some}
 use Rattle.std.proofs.lemmas.Bool.{cond-true, cond-false}
 use Rattle.std.specs.Prelude.{nat_eq, is_some}
@@ -7,20 +8,26 @@ use Rattle.std.specs.Str.{is_utf8}
 use Rattle.std.proofs.lemmas.Str.{IsUtf8-from_is_utf8, is_utf8-from_IsUtf8}
 use Rattle.std.proofs.lemmas.List.{append-nil, append_assoc}
 use Rattle.scip_wire.specs.Fields.{Payload, Varint, Fixed64, Delimited, Fixed32, Field}
-use Rattle.scip_wire.specs.Decodes.{payloads, Joined, none, next, last_or, IsOnly, absent, only, GivesText, text, GivesNumber, signed, GivesMessage, message, Text, Texts, Number, OneMessage, Messages}
-use Rattle.scip_wire.specs.Reading.{◌>>=◌, changed, column, add_more, add_last, add_only, text_at, number_at, message_in, number_in, text_column, texts_column, number_column, only_column, messages_column}
+use Rattle.scip_wire.specs.Decodes.{payloads, Joined, none, next, last_or, IsOnly, absent, only, GivesText, text}
+use Rattle.scip_wire.specs.Decodes.{GivesNumber, signed, GivesMessage, message, Text, Texts, Number, OneMessage}
+use Rattle.scip_wire.specs.Decodes.{Messages}
+use Rattle.scip_wire.specs.Reading.{◌>>=◌, changed, column, add_more, add_last, add_only, text_at, number_at}
+use Rattle.scip_wire.specs.Reading.{message_in, number_in, text_column, texts_column, number_column, only_column}
+use Rattle.scip_wire.specs.Reading.{messages_column}
 use Rattle.scip_wire.proofs.OptionLemmas.{bind_some, bind_at, chosen, guard_some, split}
 
 -- ---- any column
 
 joined_next : {A : Type 0} {Gives : Payload → List A → Type 0} {payload : Payload} {others : List Payload} {xs : List A}
-    → Joined Gives (payload ∷ others) xs → (few : List A) × (more : List A) × (Gives payload few) × (Joined Gives others more) × (xs ≡ few ++ more)
+    → Joined Gives (payload ∷ others) xs
+    → (few : List A) × (more : List A) × (Gives payload few) × (Joined Gives others more) × (xs ≡ few ++ more)
 joined_next (next {values = values} {more = more} g j) = (values, more, g, j, refl)
 
 joined_none : {A : Type 0} {Gives : Payload → List A → Type 0} {xs : List A} → Joined Gives [] xs → xs ≡ []
 joined_none none = refl
 
-module _ {S A : Type 0} (add : S → List A → Option S) (values : Payload → Option (List A)) (Gives : Payload → List A → Type 0)
+module _ {S A : Type 0} (add : S → List A → Option S) (values : Payload → Option (List A))
+    (Gives : Payload → List A → Type 0)
     (nothing : (s : S) → add s [] ≡ Some s)
     (joins : (s : S) (xs ys : List A) → add s (xs ++ ys) ≡ (add s xs >>= λ t. add t ys))
     (found : (payload : Payload) (xs : List A) → values payload ≡ Some xs → Gives payload xs)
@@ -44,7 +51,8 @@ module _ {S A : Type 0} (add : S → List A → Option S) (values : Payload → 
       (λ is_not same.
       (h.0, subst (P h.0) (sym (cond-false _ _ _ is_not)) h.1, ap (λ v. add v h.0) (same_Some s u.0 same) ∙ h.2))
 
-  pub column_exact : (fields : List Field) (xs : List A) (s t : S) → Joined Gives (payloads number fields) xs → add s xs ≡ Some t
+  pub column_exact : (fields : List Field) (xs : List A) (s t : S) → Joined Gives (payloads number fields) xs
+      → add s xs ≡ Some t
       → changed (column add values number) fields s ≡ Some t
   unfolding column
   column_exact [] xs s t j e = sym (nothing s) ∙ (ap (add s) (sym (joined_none j)) ∙ e)
@@ -54,11 +62,13 @@ module _ {S A : Type 0} (add : S → List A → Option S) (values : Payload → 
       let n = joined_next (subst (λ ps. Joined Gives ps xs) (cond-true (nat_eq field.number number) _ _ is) j) in
       let u = bind_some (add s n.0) (λ v. add v n.1) t (sym (joins s n.0 n.1) ∙ (ap (add s) (sym n.4) ∙ e)) in
       bind_at (column add values number s field) _ u.0
-      (cond-true (nat_eq field.number number) _ _ is ∙ (bind_at (values field.payload) (add s) n.0 (read field.payload n.0 n.2) ∙ u.1))
+      (cond-true (nat_eq field.number number) _ _ is
+      ∙ (bind_at (values field.payload) (add s) n.0 (read field.payload n.0 n.2) ∙ u.1))
       ∙ column_exact fields n.1 u.0 t n.3 u.2)
       (λ is_not.
       bind_at (column add values number s field) _ s (cond-false (nat_eq field.number number) _ _ is_not)
-      ∙ column_exact fields xs s t (subst (λ ps. Joined Gives ps xs) (cond-false (nat_eq field.number number) _ _ is_not) j) e)
+      ∙ column_exact fields xs s t
+      (subst (λ ps. Joined Gives ps xs) (cond-false (nat_eq field.number number) _ _ is_not) j) e)
 
 -- ---- the three ways to add values
 
@@ -82,18 +92,21 @@ pub only_nothing : {A : Type 0} (s : Option A) → add_only s [] ≡ Some s
 only_nothing None = refl
 only_nothing (Some x) = refl
 
-pub only_joins : {A : Type 0} (s : Option A) (xs ys : List A) → add_only s (xs ++ ys) ≡ (add_only s xs >>= λ t. add_only t ys)
+pub only_joins : {A : Type 0} (s : Option A) (xs ys : List A)
+    → add_only s (xs ++ ys) ≡ (add_only s xs >>= λ t. add_only t ys)
 only_joins None [] ys = refl
 only_joins (Some y) [] ys = refl
 only_joins None (x ∷ xs) ys = only_joins (Some x) xs ys
 only_joins (Some y) (x ∷ xs) ys = refl
 
-only_found : {A : Type 0} (Values : List A → Type 0) (xs : List A) (o : Option A) → add_only None xs ≡ Some o → Values xs → IsOnly Values o
+only_found : {A : Type 0} (Values : List A → Type 0) (xs : List A) (o : Option A) → add_only None xs ≡ Some o
+    → Values xs → IsOnly Values o
 only_found Values [] o e v = subst (IsOnly Values) (same_Some None o e) (absent v)
 only_found Values (x ∷ []) o e v = subst (IsOnly Values) (same_Some (Some x) o e) (only v)
 only_found Values (x ∷ (y ∷ ys)) o e v = absurd (cc)
 
-only_exact : {A : Type 0} {Values : List A → Type 0} {o : Option A} → IsOnly Values o → (xs : List A) × (Values xs) × (add_only None xs ≡ Some o)
+only_exact : {A : Type 0} {Values : List A → Type 0} {o : Option A} → IsOnly Values o
+    → (xs : List A) × (Values xs) × (add_only None xs ≡ Some o)
 only_exact (absent v) = ([], v, refl)
 only_exact (only {value = value} v) = (value ∷ [], v, refl)
 
@@ -119,10 +132,13 @@ text_in_exact (Fixed64 bytes) xs (GivesText.other_type h) = refl
 text_in_exact (Fixed32 bytes) xs (GivesText.other_type h) = refl
 
 number_in_found : (payload : Payload) (xs : List ℤ) → number_in payload ≡ Some xs → GivesNumber payload xs
-number_in_found (Delimited bytes) xs e = subst (GivesNumber (Delimited bytes)) (same_Some [] xs e) (GivesNumber.other_type refl)
+number_in_found (Delimited bytes) xs e =
+    subst (GivesNumber (Delimited bytes)) (same_Some [] xs e) (GivesNumber.other_type refl)
 number_in_found (Varint value) xs e = subst (GivesNumber (Varint value)) (same_Some (number_at value ∷ []) xs e) signed
-number_in_found (Fixed64 bytes) xs e = subst (GivesNumber (Fixed64 bytes)) (same_Some [] xs e) (GivesNumber.other_type refl)
-number_in_found (Fixed32 bytes) xs e = subst (GivesNumber (Fixed32 bytes)) (same_Some [] xs e) (GivesNumber.other_type refl)
+number_in_found (Fixed64 bytes) xs e =
+    subst (GivesNumber (Fixed64 bytes)) (same_Some [] xs e) (GivesNumber.other_type refl)
+number_in_found (Fixed32 bytes) xs e =
+    subst (GivesNumber (Fixed32 bytes)) (same_Some [] xs e) (GivesNumber.other_type refl)
 
 number_in_exact : (payload : Payload) (xs : List ℤ) → GivesNumber payload xs → number_in payload ≡ Some xs
 number_in_exact (Varint value) xs signed = refl
@@ -137,9 +153,12 @@ module _ {A : Type 0} (read : List ℕ → Option A) (IsMessage : List ℕ → A
   message_in_found found (Delimited bytes) xs e =
       let x = bind_some (read bytes) _ xs e in
       subst (GivesMessage IsMessage (Delimited bytes)) (same_Some (x.0 ∷ []) xs x.2) (message (found bytes x.0 x.1))
-  message_in_found found (Varint value) xs e = subst (GivesMessage IsMessage (Varint value)) (same_Some [] xs e) (GivesMessage.other_type refl)
-  message_in_found found (Fixed64 bytes) xs e = subst (GivesMessage IsMessage (Fixed64 bytes)) (same_Some [] xs e) (GivesMessage.other_type refl)
-  message_in_found found (Fixed32 bytes) xs e = subst (GivesMessage IsMessage (Fixed32 bytes)) (same_Some [] xs e) (GivesMessage.other_type refl)
+  message_in_found found (Varint value) xs e =
+      subst (GivesMessage IsMessage (Varint value)) (same_Some [] xs e) (GivesMessage.other_type refl)
+  message_in_found found (Fixed64 bytes) xs e =
+      subst (GivesMessage IsMessage (Fixed64 bytes)) (same_Some [] xs e) (GivesMessage.other_type refl)
+  message_in_found found (Fixed32 bytes) xs e =
+      subst (GivesMessage IsMessage (Fixed32 bytes)) (same_Some [] xs e) (GivesMessage.other_type refl)
 
   message_in_exact : ((bytes : List ℕ) (x : A) → IsMessage bytes x → read bytes ≡ Some x)
       → (payload : Payload) (xs : List A) → GivesMessage IsMessage payload xs → message_in read payload ≡ Some xs
@@ -151,65 +170,89 @@ module _ {A : Type 0} (read : List ℕ → Option A) (IsMessage : List ℕ → A
 
 -- ---- the columns
 
-pub text_found : (number : ℕ) (fields : List Field) (t : List ℕ) → changed (text_column number) fields [] ≡ Some t → Text number fields t
+pub text_found : (number : ℕ) (fields : List Field) (t : List ℕ) → changed (text_column number) fields [] ≡ Some t
+    → Text number fields t
 text_found number fields t e =
-    let c = column_found add_last (message_in text_at) GivesText last_nothing last_joins text_in_found text_in_exact number fields [] t e in
+    let c = column_found add_last
+    (message_in text_at) GivesText last_nothing last_joins text_in_found text_in_exact number fields [] t e in
     record { values = c.0; are_values = c.1; is_last = sym (same_Some (last_or [] c.0) t c.2) }
 
-pub text_exact : (number : ℕ) (fields : List Field) (t : List ℕ) → Text number fields t → changed (text_column number) fields [] ≡ Some t
+pub text_exact : (number : ℕ) (fields : List Field) (t : List ℕ) → Text number fields t
+    → changed (text_column number) fields [] ≡ Some t
 text_exact number fields t h =
-    column_exact add_last (message_in text_at) GivesText last_nothing last_joins text_in_found text_in_exact number fields h.values [] t h.are_values (ap Some (sym h.is_last))
+    column_exact add_last (message_in text_at) GivesText last_nothing last_joins text_in_found text_in_exact number
+    fields h.values [] t h.are_values (ap Some (sym h.is_last))
 
-pub texts_found : (number : ℕ) (fields : List Field) (ts : List (List ℕ)) → changed (texts_column number) fields [] ≡ Some ts → Texts number fields ts
+pub texts_found : (number : ℕ) (fields : List Field) (ts : List (List ℕ))
+    → changed (texts_column number) fields [] ≡ Some ts → Texts number fields ts
 texts_found number fields ts e =
-    let c = column_found add_more (message_in text_at) GivesText more_nothing more_joins text_in_found text_in_exact number fields [] ts e in
+    let c = column_found add_more
+    (message_in text_at) GivesText more_nothing more_joins text_in_found text_in_exact number fields [] ts e in
     subst (Joined GivesText (payloads number fields)) (same_Some c.0 ts c.2) c.1
 
-pub texts_exact : (number : ℕ) (fields : List Field) (ts : List (List ℕ)) → Texts number fields ts → changed (texts_column number) fields [] ≡ Some ts
+pub texts_exact : (number : ℕ) (fields : List Field) (ts : List (List ℕ)) → Texts number fields ts
+    → changed (texts_column number) fields [] ≡ Some ts
 texts_exact number fields ts h =
-    column_exact add_more (message_in text_at) GivesText more_nothing more_joins text_in_found text_in_exact number fields ts [] ts h refl
+    column_exact add_more (message_in text_at) GivesText more_nothing more_joins text_in_found text_in_exact number
+    fields ts [] ts h refl
 
-pub number_found : (number : ℕ) (fields : List Field) (z : ℤ) → changed (number_column number) fields (pos 0) ≡ Some z → Number number fields z
+pub number_found : (number : ℕ) (fields : List Field) (z : ℤ) → changed (number_column number) fields (pos 0) ≡ Some z
+    → Number number fields z
 number_found number fields z e =
-    let c = column_found add_last number_in GivesNumber last_nothing last_joins number_in_found number_in_exact number fields (pos 0) z e in
+    let c = column_found add_last number_in GivesNumber last_nothing last_joins number_in_found number_in_exact number
+    fields (pos 0) z e in
     record { values = c.0; are_values = c.1; is_last = sym (same_Some (last_or (pos 0) c.0) z c.2) }
 
-pub number_exact : (number : ℕ) (fields : List Field) (z : ℤ) → Number number fields z → changed (number_column number) fields (pos 0) ≡ Some z
+pub number_exact : (number : ℕ) (fields : List Field) (z : ℤ) → Number number fields z
+    → changed (number_column number) fields (pos 0) ≡ Some z
 number_exact number fields z h =
-    column_exact add_last number_in GivesNumber last_nothing last_joins number_in_found number_in_exact number fields h.values (pos 0) z h.are_values (ap Some (sym h.is_last))
+    column_exact add_last number_in GivesNumber last_nothing last_joins number_in_found number_in_exact number fields
+    h.values (pos 0) z h.are_values (ap Some (sym h.is_last))
 
 -- a repeated field whose payloads are read by a function of its own
 module _ {A : Type 0} (values : Payload → Option (List A)) (Gives : Payload → List A → Type 0)
     (found : (payload : Payload) (xs : List A) → values payload ≡ Some xs → Gives payload xs)
     (read : (payload : Payload) (xs : List A) → Gives payload xs → values payload ≡ Some xs) (number : ℕ) where
-  pub repeated_found : (fields : List Field) (xs : List A) → changed (column add_more values number) fields [] ≡ Some xs → Joined Gives (payloads number fields) xs
+  pub repeated_found : (fields : List Field) (xs : List A) → changed (column add_more values number) fields [] ≡ Some xs
+      → Joined Gives (payloads number fields) xs
   repeated_found fields xs e =
       let c = column_found add_more values Gives more_nothing more_joins found read number fields [] xs e in
       subst (Joined Gives (payloads number fields)) (same_Some c.0 xs c.2) c.1
 
-  pub repeated_exact : (fields : List Field) (xs : List A) → Joined Gives (payloads number fields) xs → changed (column add_more values number) fields [] ≡ Some xs
-  repeated_exact fields xs h = column_exact add_more values Gives more_nothing more_joins found read number fields xs [] xs h refl
+  pub repeated_exact : (fields : List Field) (xs : List A) → Joined Gives (payloads number fields) xs
+      → changed (column add_more values number) fields [] ≡ Some xs
+  repeated_exact fields xs h =
+      column_exact add_more values Gives more_nothing more_joins found read number fields xs [] xs h refl
 
 module _ {A : Type 0} (read : List ℕ → Option A) (IsMessage : List ℕ → A → Type 0)
     (found : (bytes : List ℕ) (x : A) → read bytes ≡ Some x → IsMessage bytes x)
     (back : (bytes : List ℕ) (x : A) → IsMessage bytes x → read bytes ≡ Some x) (number : ℕ) (fields : List Field) where
-  pub messages_found : (xs : List A) → changed (messages_column read number) fields [] ≡ Some xs → Messages IsMessage number fields xs
+  pub messages_found : (xs : List A) → changed (messages_column read number) fields [] ≡ Some xs
+      → Messages IsMessage number fields xs
   messages_found xs e =
-      repeated_found (message_in read) (GivesMessage IsMessage) (message_in_found read IsMessage found) (message_in_exact read IsMessage back) number fields xs e
+      repeated_found (message_in read) (GivesMessage IsMessage) (message_in_found read IsMessage found)
+      (message_in_exact read IsMessage back) number fields xs e
 
-  pub messages_exact : (xs : List A) → Messages IsMessage number fields xs → changed (messages_column read number) fields [] ≡ Some xs
+  pub messages_exact : (xs : List A) → Messages IsMessage number fields xs
+      → changed (messages_column read number) fields [] ≡ Some xs
   messages_exact xs h =
-      repeated_exact (message_in read) (GivesMessage IsMessage) (message_in_found read IsMessage found) (message_in_exact read IsMessage back) number fields xs h
+      repeated_exact (message_in read) (GivesMessage IsMessage) (message_in_found read IsMessage found)
+      (message_in_exact read IsMessage back) number fields xs h
 
-  pub one_message_found : (o : Option A) → changed (only_column read number) fields None ≡ Some o → OneMessage IsMessage number fields o
+  pub one_message_found : (o : Option A) → changed (only_column read number) fields None ≡ Some o
+      → OneMessage IsMessage number fields o
   one_message_found o e =
-      let c = column_found add_only (message_in read) (GivesMessage IsMessage) only_nothing only_joins (message_in_found read IsMessage found) (message_in_exact read IsMessage back) number fields None o e in
+      let c = column_found add_only (message_in read) (GivesMessage IsMessage) only_nothing only_joins
+      (message_in_found read IsMessage found) (message_in_exact read IsMessage back) number fields None o e in
       only_found (Joined (GivesMessage IsMessage) (payloads number fields)) c.0 o c.2 c.1
 
-  pub one_message_exact : (o : Option A) → OneMessage IsMessage number fields o → changed (only_column read number) fields None ≡ Some o
+  pub one_message_exact : (o : Option A) → OneMessage IsMessage number fields o
+      → changed (only_column read number) fields None ≡ Some o
   one_message_exact o h =
       let v = only_exact h in
-      column_exact add_only (message_in read) (GivesMessage IsMessage) only_nothing only_joins (message_in_found read IsMessage found) (message_in_exact read IsMessage back) number fields v.0 None o v.1 v.2
+      column_exact add_only (message_in read) (GivesMessage IsMessage) only_nothing only_joins
+      (message_in_found read IsMessage found)
+      (message_in_exact read IsMessage back) number fields v.0 None o v.1 v.2
 
 -- a second one is refused, whatever it holds
 pub only_taken : {A : Type 0} (read : List ℕ → Option A) (earlier : Option A) (bytes : List ℕ) → is_some earlier ≡ true

@@ -1,5 +1,6 @@
 -- What the reader computes of each message is what its bytes decode to, and nothing else is.
-use Rattle.std.proofs.Common.{◌≡◌, refl, ap, sym, ◌∙◌, subst, ℕ, zero, suc, ℤ, ◌<◌, List, [], ◌∷◌, ◌++◌, length, Option, Some, None, Result, Ok, Err, arith}
+use Rattle.std.proofs.Common.{◌≡◌, refl, ap, sym, ◌∙◌, subst, ℕ, zero, suc, ℤ, ◌<◌, List, [], ◌∷◌, ◌++◌, length, Option}
+use Rattle.std.proofs.Common.{Some, None, Result, Ok, Err, arith}
 use Rattle.std.proofs.lemmas.Option.{same_Some}
 use Rattle.std.specs.Prelude.{SomeIff, IfOk, MatchResult}
 use Rattle.std.proofs.lemmas.Bool.{le-leb, leb-true, cond-true, cond-false}
@@ -15,14 +16,23 @@ use Rattle.scip_wire.specs.declared.wire_fault.WireFault.{WireFault}
 use Rattle.scip_wire.specs.declared.wire_fault.WireFault.TheVariants.{Memory}
 use Rattle.scip_wire.specs.declared.read.occurrence.OccurrenceParts.{OccurrenceParts}
 use Rattle.scip_wire.specs.Fields.{Payload, Varint, Fixed64, Delimited, Fixed32, max_varint_len}
-use Rattle.scip_wire.specs.Decodes.{low_32_bits, ArePacked, GivesNumbers, one, packed, AreRangeNumbers, on_one_line, over_lines, HoldsOccurrence, GivesOccurrence, occurrence, without_range, IsInfo, IsToolInfo, IsMetadata, IsDocument, Decodes}
+use Rattle.scip_wire.specs.Decodes.{low_32_bits, ArePacked, GivesNumbers, one, packed, AreRangeNumbers, on_one_line}
+use Rattle.scip_wire.specs.Decodes.{over_lines, HoldsOccurrence, GivesOccurrence, occurrence, without_range, IsInfo}
+use Rattle.scip_wire.specs.Decodes.{IsToolInfo, IsMetadata, IsDocument, Decodes}
 use Rattle.scip_wire.specs.Gives.{Gives}
-use Rattle.scip_wire.specs.Reading.{◌>>=◌, fold_in, fold_at, varint_at, add_more, info_step, no_info, info_at, tool_info_step, no_tool_info, tool_info_at, metadata_step, no_metadata, metadata_at, packed_step, packed_at, numbers_in, fits, checked_range, range_at, occurrence_step, no_parts, parts_at, occurrence_of, occurrence_at, occurrence_in, document_step, no_document, document_at, index_step, no_index, index_at}
+use Rattle.scip_wire.specs.Reading.{◌>>=◌, fold_in, fold_at, varint_at, add_more, info_step, no_info, info_at}
+use Rattle.scip_wire.specs.Reading.{tool_info_step, no_tool_info, tool_info_at, metadata_step, no_metadata, metadata_at}
+use Rattle.scip_wire.specs.Reading.{packed_step, packed_at, numbers_in, fits, checked_range, range_at, occurrence_step}
+use Rattle.scip_wire.specs.Reading.{no_parts, parts_at, occurrence_of, occurrence_at, occurrence_in, document_step}
+use Rattle.scip_wire.specs.Reading.{no_document, document_at, index_step, no_index, index_at}
 use Rattle.scip_wire.proofs.OptionLemmas.{bind_some, bind_at, guard_some, split, bind_same, bind_assoc}
 use Rattle.scip_wire.proofs.GivesLemmas.{is_memory}
 use Rattle.scip_wire.proofs.FieldLemmas.{varint_found, varint_exact, varint_falls}
-use Rattle.scip_wire.proofs.FoldLemmas.{fold_done, fold_goes_on, fields_found, fields_exact, both_found, both_exact, parted_found, parted_exact}
-use Rattle.scip_wire.proofs.ColumnLemmas.{text_found, text_exact, texts_found, texts_exact, number_found, number_exact, repeated_found, repeated_exact, messages_found, messages_exact, one_message_found, one_message_exact}
+use Rattle.scip_wire.proofs.FoldLemmas.{fold_done, fold_goes_on, fields_found, fields_exact, both_found, both_exact}
+use Rattle.scip_wire.proofs.FoldLemmas.{parted_found, parted_exact}
+use Rattle.scip_wire.proofs.ColumnLemmas.{text_found, text_exact, texts_found, texts_exact, number_found, number_exact}
+use Rattle.scip_wire.proofs.ColumnLemmas.{repeated_found, repeated_exact, messages_found, messages_exact}
+use Rattle.scip_wire.proofs.ColumnLemmas.{one_message_found, one_message_exact}
 
 -- ---- symbol information
 
@@ -32,14 +42,21 @@ info_found bytes i e =
     let f = fields_found info_step bytes no_info i e in
     let a = both_found _ _ f.0 _ _ (parted_found _ _ _ (λ t. refl) f.0 no_info i f.2) in
     let b = both_found _ _ f.0 _ _ a.1 in
-    record { fields = f.0; has_fields = f.1; symbol = text_found 1 f.0 i.symbol a.0; documentation = texts_found 3 f.0 i.documentation b.0; display_name = text_found 6 f.0 i.display_name b.1 }
+    record {
+      fields = f.0;
+      has_fields = f.1;
+      symbol = text_found 1 f.0 i.symbol a.0;
+      documentation = texts_found 3 f.0 i.documentation b.0;
+      display_name = text_found 6 f.0 i.display_name b.1;
+    }
 
 pub info_exact : (bytes : List ℕ) (i : SymbolInformation) → IsInfo bytes i → info_at bytes ≡ Some i
 unfolding info_at info_step
 info_exact bytes i d =
     fields_exact info_step d.has_fields no_info i (parted_exact _ _ _ (λ t. refl) (λ s. refl) d.fields no_info i
     (both_exact _ _ d.fields _ _ _ _ (text_exact 1 d.fields i.symbol d.symbol)
-    (both_exact _ _ d.fields _ _ _ _ (texts_exact 3 d.fields i.documentation d.documentation) (text_exact 6 d.fields i.display_name d.display_name))))
+    (both_exact _ _ d.fields _ _ _ _ (texts_exact 3 d.fields i.documentation d.documentation)
+    (text_exact 6 d.fields i.display_name d.display_name))))
 
 -- ---- tool information
 
@@ -49,14 +66,22 @@ tool_info_found bytes t e =
     let f = fields_found tool_info_step bytes no_tool_info t e in
     let a = both_found _ _ f.0 _ _ (parted_found _ _ _ (λ t. refl) f.0 no_tool_info t f.2) in
     let b = both_found _ _ f.0 _ _ a.1 in
-    record { fields = f.0; has_fields = f.1; name = text_found 1 f.0 t.name a.0; version = text_found 2 f.0 t.version b.0; arguments = texts_found 3 f.0 t.arguments b.1 }
+    record {
+      fields = f.0;
+      has_fields = f.1;
+      name = text_found 1 f.0 t.name a.0;
+      version = text_found 2 f.0 t.version b.0;
+      arguments = texts_found 3 f.0 t.arguments b.1;
+    }
 
 pub tool_info_exact : (bytes : List ℕ) (t : ToolInfo) → IsToolInfo bytes t → tool_info_at bytes ≡ Some t
 unfolding tool_info_at tool_info_step
 tool_info_exact bytes t d =
-    fields_exact tool_info_step d.has_fields no_tool_info t (parted_exact _ _ _ (λ t. refl) (λ s. refl) d.fields no_tool_info t
+    fields_exact tool_info_step d.has_fields no_tool_info t
+    (parted_exact _ _ _ (λ t. refl) (λ s. refl) d.fields no_tool_info t
     (both_exact _ _ d.fields _ _ _ _ (text_exact 1 d.fields t.name d.name)
-    (both_exact _ _ d.fields _ _ _ _ (text_exact 2 d.fields t.version d.version) (texts_exact 3 d.fields t.arguments d.arguments))))
+    (both_exact _ _ d.fields _ _ _ _ (text_exact 2 d.fields t.version d.version)
+    (texts_exact 3 d.fields t.arguments d.arguments))))
 
 -- ---- metadata
 
@@ -79,32 +104,43 @@ metadata_found bytes m e =
 pub metadata_exact : (bytes : List ℕ) (m : Metadata) → IsMetadata bytes m → metadata_at bytes ≡ Some m
 unfolding metadata_at metadata_step
 metadata_exact bytes m d =
-    fields_exact metadata_step d.has_fields no_metadata m (parted_exact _ _ _ (λ t. refl) (λ s. refl) d.fields no_metadata m
+    fields_exact metadata_step d.has_fields no_metadata m
+    (parted_exact _ _ _ (λ t. refl) (λ s. refl) d.fields no_metadata m
     (both_exact _ _ d.fields _ _ _ _ (number_exact 1 d.fields m.version d.version)
-    (both_exact _ _ d.fields _ _ _ _ (one_message_exact tool_info_at IsToolInfo tool_info_found tool_info_exact 2 d.fields m.tool_info d.tool_info)
-    (both_exact _ _ d.fields _ _ _ _ (text_exact 3 d.fields m.project_root d.project_root) (number_exact 4 d.fields m.text_document_encoding d.text_document_encoding)))))
+    (both_exact _ _ d.fields _ _ _ _
+    (one_message_exact tool_info_at IsToolInfo tool_info_found tool_info_exact 2 d.fields m.tool_info d.tool_info)
+    (both_exact _ _ d.fields _ _ _ _ (text_exact 3 d.fields m.project_root d.project_root)
+    (number_exact 4 d.fields m.text_document_encoding d.text_document_encoding)))))
 
 -- ---- the numbers of a range
 
-pub varint_shortens : (bytes : List ℕ) (x : ℕ × List ℕ) → varint_at max_varint_len bytes ≡ Some x → length x.1 < length bytes
+pub varint_shortens : (bytes : List ℕ) (x : ℕ × List ℕ) → varint_at max_varint_len bytes ≡ Some x
+    → length x.1 < length bytes
 varint_shortens bytes x e = varint_falls (varint_found max_varint_len bytes x e)
 
-packed_in_found : (bound : ℕ) (bytes s t : List ℕ) → fold_in (varint_at max_varint_len) packed_step bound bytes s ≡ Some t → (ns : List ℕ) × (ArePacked bytes ns) × (t ≡ s ++ ns)
+packed_in_found : (bound : ℕ) (bytes s t : List ℕ)
+    → fold_in (varint_at max_varint_len) packed_step bound bytes s ≡ Some t
+    → (ns : List ℕ) × (ArePacked bytes ns) × (t ≡ s ++ ns)
 unfolding fold_in packed_step
 packed_in_found zero [] s t e = ([], ArePacked.none, sym (same_Some s t e) ∙ sym (append-nil s))
 packed_in_found (suc bound) [] s t e = ([], ArePacked.none, sym (same_Some s t e) ∙ sym (append-nil s))
 packed_in_found zero (byte ∷ bytes) s t e = absurd (cc)
 packed_in_found (suc bound) (byte ∷ bytes) s t e =
     let x = bind_some (varint_at max_varint_len (byte ∷ bytes)) _ t e in
-    let h = packed_in_found bound x.0.1 (s ++ low_32_bits x.0.0 ∷ []) t x.2 in
-    (low_32_bits x.0.0 ∷ h.0, ArePacked.next (varint_found max_varint_len (byte ∷ bytes) x.0 x.1) h.1, h.2 ∙ append_assoc s (low_32_bits x.0.0 ∷ []) h.0)
+    let h = packed_in_found bound x.0.1 (s ++ low_32_bits x.0.0 ∷ []) t x.2 in (
+      low_32_bits x.0.0 ∷ h.0,
+      ArePacked.next (varint_found max_varint_len (byte ∷ bytes) x.0 x.1) h.1,
+      h.2 ∙ append_assoc s (low_32_bits x.0.0 ∷ []) h.0,
+    )
 
-packed_exact_on : {bytes ns : List ℕ} → ArePacked bytes ns → (s : List ℕ) → fold_at (varint_at max_varint_len) packed_step bytes s ≡ Some (s ++ ns)
+packed_exact_on : {bytes ns : List ℕ} → ArePacked bytes ns → (s : List ℕ)
+    → fold_at (varint_at max_varint_len) packed_step bytes s ≡ Some (s ++ ns)
 unfolding packed_step
 packed_exact_on ArePacked.none s = fold_done (varint_at max_varint_len) packed_step s ∙ ap Some (sym (append-nil s))
 packed_exact_on (ArePacked.next {bytes = []} v vs) s = absurd (omega (arith, varint_falls v))
 packed_exact_on (ArePacked.next {bytes = byte ∷ bytes} {rest = rest} {value = value} {numbers = ns} v vs) s =
-    sym (fold_goes_on (varint_at max_varint_len) packed_step varint_shortens byte bytes s (s ++ low_32_bits value ∷ []) (value, rest) (varint_exact v) refl)
+    sym (fold_goes_on (varint_at max_varint_len) packed_step varint_shortens byte bytes s (s ++ low_32_bits value ∷ [])
+    (value, rest) (varint_exact v) refl)
     ∙ (packed_exact_on vs (s ++ low_32_bits value ∷ []) ∙ ap Some (append_assoc s (low_32_bits value ∷ []) ns))
 
 packed_found : (bytes ns : List ℕ) → packed_at bytes ≡ Some ns → ArePacked bytes ns
@@ -120,8 +156,10 @@ packed_exact bytes ns h = packed_exact_on h []
 numbers_in_found : (payload : Payload) (xs : List ℕ) → numbers_in payload ≡ Some xs → GivesNumbers payload xs
 numbers_in_found (Varint value) xs e = subst (GivesNumbers (Varint value)) (same_Some (low_32_bits value ∷ []) xs e) one
 numbers_in_found (Delimited bytes) xs e = packed (packed_found bytes xs e)
-numbers_in_found (Fixed64 bytes) xs e = subst (GivesNumbers (Fixed64 bytes)) (same_Some [] xs e) (GivesNumbers.other_type refl refl)
-numbers_in_found (Fixed32 bytes) xs e = subst (GivesNumbers (Fixed32 bytes)) (same_Some [] xs e) (GivesNumbers.other_type refl refl)
+numbers_in_found (Fixed64 bytes) xs e =
+    subst (GivesNumbers (Fixed64 bytes)) (same_Some [] xs e) (GivesNumbers.other_type refl refl)
+numbers_in_found (Fixed32 bytes) xs e =
+    subst (GivesNumbers (Fixed32 bytes)) (same_Some [] xs e) (GivesNumbers.other_type refl refl)
 
 numbers_in_exact : (payload : Payload) (xs : List ℕ) → GivesNumbers payload xs → numbers_in payload ≡ Some xs
 numbers_in_exact (Varint value) xs one = refl
@@ -136,13 +174,27 @@ numbers_in_exact (Fixed32 bytes) xs (GivesNumbers.other_type h k) = refl
 checked_found : (r x : RangeNumbers) → checked_range r ≡ Some x → (r ≡ x) × IsRange r
 unfolding checked_range
 checked_found r x e =
-    let g = guard_some (fits r) (Some r) x e in
-    (same_Some r x g.1, grind (arith, g.0, leb-true r.start_line max_range_number, leb-true r.start_column max_range_number, leb-true r.end_line max_range_number, leb-true r.end_column max_range_number))
+    let g = guard_some (fits r) (Some r) x e in (
+      same_Some r x g.1,
+      grind (
+        arith,
+        g.0,
+        leb-true r.start_line max_range_number,
+        leb-true r.start_column max_range_number,
+        leb-true r.end_line max_range_number,
+        leb-true r.end_column max_range_number,
+      ),
+    )
 
 checked_exact : (r : RangeNumbers) → IsRange r → checked_range r ≡ Some r
 unfolding checked_range
 checked_exact r h =
-    rw (le-leb r.start_line max_range_number h.start_line, le-leb r.start_column max_range_number h.start_column, le-leb r.end_line max_range_number h.end_line, le-leb r.end_column max_range_number h.end_column) refl
+    rw (
+      le-leb r.start_line max_range_number h.start_line,
+      le-leb r.start_column max_range_number h.start_column,
+      le-leb r.end_line max_range_number h.end_line,
+      le-leb r.end_column max_range_number h.end_column,
+    ) refl
 
 range_found : (ns : List ℕ) (r : RangeNumbers) → range_at ns ≡ Some r → (AreRangeNumbers ns r) × (IsRange r)
 unfolding range_at
@@ -162,7 +214,8 @@ unfolding range_at
 range_exact on_one_line h = checked_exact _ h
 range_exact over_lines h = checked_exact _ h
 
-parts_found : (bytes : List ℕ) (o : OccurrenceParts) → parts_at bytes ≡ Some o → HoldsOccurrence bytes o.numbers o.symbol o.symbol_roles
+parts_found : (bytes : List ℕ) (o : OccurrenceParts) → parts_at bytes ≡ Some o
+    → HoldsOccurrence bytes o.numbers o.symbol o.symbol_roles
 unfolding parts_at occurrence_step
 parts_found bytes o e =
     let f = fields_found occurrence_step bytes no_parts o e in
@@ -182,38 +235,53 @@ unfolding parts_at occurrence_step
 parts_exact bytes ns symbol roles d =
     let o : OccurrenceParts = record { numbers = ns; symbol = symbol; symbol_roles = roles } in
     fields_exact occurrence_step d.has_fields no_parts o (parted_exact _ _ _ (λ t. refl) (λ s. refl) d.fields no_parts o
-    (both_exact _ _ d.fields _ _ _ _ (repeated_exact numbers_in GivesNumbers numbers_in_found numbers_in_exact 1 d.fields ns d.range)
-    (both_exact _ _ d.fields _ _ _ _ (text_exact 2 d.fields symbol d.symbol_text) (number_exact 3 d.fields roles d.symbol_roles))))
+    (both_exact _ _ d.fields _ _ _ _
+    (repeated_exact numbers_in GivesNumbers numbers_in_found numbers_in_exact 1 d.fields ns d.range)
+    (both_exact _ _ d.fields _ _ _ _ (text_exact 2 d.fields symbol d.symbol_text)
+    (number_exact 3 d.fields roles d.symbol_roles))))
 
-occurrence_found_of : (bytes ns symbol : List ℕ) (roles : ℤ) (os : List Occurrence) → HoldsOccurrence bytes ns symbol roles
-    → occurrence_of (record { numbers = ns; symbol = symbol; symbol_roles = roles }) ≡ Some os → GivesOccurrence (Delimited bytes) os
+occurrence_found_of : (bytes ns symbol : List ℕ) (roles : ℤ) (os : List Occurrence)
+    → HoldsOccurrence bytes ns symbol roles
+    → occurrence_of (record { numbers = ns; symbol = symbol; symbol_roles = roles }) ≡ Some os
+    → GivesOccurrence (Delimited bytes) os
 unfolding occurrence_of
-occurrence_found_of bytes [] symbol roles os h e = subst (GivesOccurrence (Delimited bytes)) (same_Some [] os e) (without_range h)
+occurrence_found_of bytes [] symbol roles os h e =
+    subst (GivesOccurrence (Delimited bytes)) (same_Some [] os e) (without_range h)
 occurrence_found_of bytes (n ∷ ns) symbol roles os h e =
     let r = bind_some (range_at (n ∷ ns)) _ os e in
     let k = range_found (n ∷ ns) r.0 r.1 in
-    subst (GivesOccurrence (Delimited bytes)) (same_Some _ os r.2) (occurrence {occurrence = record { range = r.0; symbol = symbol; symbol_roles = roles }} h k.0 k.1)
+    subst (GivesOccurrence (Delimited bytes)) (same_Some _ os r.2)
+    (occurrence {occurrence = record { range = r.0; symbol = symbol; symbol_roles = roles }} h k.0 k.1)
 
-occurrence_in_found : (payload : Payload) (os : List Occurrence) → occurrence_in payload ≡ Some os → GivesOccurrence payload os
+occurrence_in_found : (payload : Payload) (os : List Occurrence) → occurrence_in payload ≡ Some os
+    → GivesOccurrence payload os
 unfolding occurrence_at
 occurrence_in_found (Delimited bytes) os e =
     let p = bind_some (parts_at bytes) occurrence_of os e in
     occurrence_found_of bytes p.0.numbers p.0.symbol p.0.symbol_roles os (parts_found bytes p.0 p.1) p.2
-occurrence_in_found (Varint value) os e = subst (GivesOccurrence (Varint value)) (same_Some [] os e) (GivesOccurrence.other_type refl)
-occurrence_in_found (Fixed64 bytes) os e = subst (GivesOccurrence (Fixed64 bytes)) (same_Some [] os e) (GivesOccurrence.other_type refl)
-occurrence_in_found (Fixed32 bytes) os e = subst (GivesOccurrence (Fixed32 bytes)) (same_Some [] os e) (GivesOccurrence.other_type refl)
+occurrence_in_found (Varint value) os e =
+    subst (GivesOccurrence (Varint value)) (same_Some [] os e) (GivesOccurrence.other_type refl)
+occurrence_in_found (Fixed64 bytes) os e =
+    subst (GivesOccurrence (Fixed64 bytes)) (same_Some [] os e) (GivesOccurrence.other_type refl)
+occurrence_in_found (Fixed32 bytes) os e =
+    subst (GivesOccurrence (Fixed32 bytes)) (same_Some [] os e) (GivesOccurrence.other_type refl)
 
-occurrence_exact_of : {ns : List ℕ} {range : RangeNumbers} (symbol : List ℕ) (roles : ℤ) → AreRangeNumbers ns range → IsRange range
-    → occurrence_of (record { numbers = ns; symbol = symbol; symbol_roles = roles }) ≡ Some (record { range = range; symbol = symbol; symbol_roles = roles } ∷ [])
+occurrence_exact_of : {ns : List ℕ} {range : RangeNumbers} (symbol : List ℕ) (roles : ℤ) → AreRangeNumbers ns range
+    → IsRange range
+    → occurrence_of (record { numbers = ns; symbol = symbol; symbol_roles = roles })
+    ≡ Some (record { range = range; symbol = symbol; symbol_roles = roles } ∷ [])
 unfolding occurrence_of
 occurrence_exact_of symbol roles on_one_line h = bind_at _ _ _ (range_exact on_one_line h)
 occurrence_exact_of symbol roles over_lines h = bind_at _ _ _ (range_exact over_lines h)
 
-occurrence_in_exact : (payload : Payload) (os : List Occurrence) → GivesOccurrence payload os → occurrence_in payload ≡ Some os
+occurrence_in_exact : (payload : Payload) (os : List Occurrence) → GivesOccurrence payload os
+    → occurrence_in payload ≡ Some os
 unfolding occurrence_at occurrence_of
 occurrence_in_exact (Delimited bytes) os (occurrence {numbers = ns} {occurrence = o} h k r) =
-    bind_at (parts_at bytes) occurrence_of _ (parts_exact bytes ns o.symbol o.symbol_roles h) ∙ occurrence_exact_of o.symbol o.symbol_roles k r
-occurrence_in_exact (Delimited bytes) os (without_range {symbol = symbol} {roles = roles} h) = bind_at (parts_at bytes) occurrence_of _ (parts_exact bytes [] symbol roles h)
+    bind_at (parts_at bytes) occurrence_of _ (parts_exact bytes ns o.symbol o.symbol_roles h)
+    ∙ occurrence_exact_of o.symbol o.symbol_roles k r
+occurrence_in_exact (Delimited bytes) os (without_range {symbol = symbol} {roles = roles} h) =
+    bind_at (parts_at bytes) occurrence_of _ (parts_exact bytes [] symbol roles h)
 occurrence_in_exact (Delimited bytes) os (GivesOccurrence.other_type h) = absurd (cc)
 occurrence_in_exact (Varint value) os (GivesOccurrence.other_type h) = refl
 occurrence_in_exact (Fixed64 bytes) os (GivesOccurrence.other_type h) = refl
@@ -233,7 +301,8 @@ document_found bytes d e =
       fields = f.0;
       has_fields = f.1;
       relative_path = text_found 1 f.0 d.relative_path a.0;
-      occurrences = repeated_found occurrence_in GivesOccurrence occurrence_in_found occurrence_in_exact 2 f.0 d.occurrences b.0;
+      occurrences = repeated_found occurrence_in GivesOccurrence occurrence_in_found occurrence_in_exact 2 f.0
+          d.occurrences b.0;
       symbols = messages_found info_at IsInfo info_found info_exact 3 f.0 d.symbols c.0;
       language = text_found 4 f.0 d.language g.0;
       position_encoding = number_found 6 f.0 d.position_encoding g.1;
@@ -242,11 +311,16 @@ document_found bytes d e =
 pub document_exact : (bytes : List ℕ) (d : Document) → IsDocument bytes d → document_at bytes ≡ Some d
 unfolding document_at document_step
 document_exact bytes d h =
-    fields_exact document_step h.has_fields no_document d (parted_exact _ _ _ (λ t. refl) (λ s. refl) h.fields no_document d
+    fields_exact document_step h.has_fields no_document d
+    (parted_exact _ _ _ (λ t. refl) (λ s. refl) h.fields no_document d
     (both_exact _ _ h.fields _ _ _ _ (text_exact 1 h.fields d.relative_path h.relative_path)
-    (both_exact _ _ h.fields _ _ _ _ (repeated_exact occurrence_in GivesOccurrence occurrence_in_found occurrence_in_exact 2 h.fields d.occurrences h.occurrences)
-    (both_exact _ _ h.fields _ _ _ _ (messages_exact info_at IsInfo info_found info_exact 3 h.fields d.symbols h.symbols)
-    (both_exact _ _ h.fields _ _ _ _ (text_exact 4 h.fields d.language h.language) (number_exact 6 h.fields d.position_encoding h.position_encoding))))))
+    (both_exact _ _ h.fields _ _ _ _
+    (repeated_exact occurrence_in GivesOccurrence occurrence_in_found occurrence_in_exact 2 h.fields d.occurrences
+    h.occurrences)
+    (both_exact _ _ h.fields _ _ _ _
+    (messages_exact info_at IsInfo info_found info_exact 3 h.fields d.symbols h.symbols)
+    (both_exact _ _ h.fields _ _ _ _ (text_exact 4 h.fields d.language h.language)
+    (number_exact 6 h.fields d.position_encoding h.position_encoding))))))
 
 -- ---- the index
 
@@ -268,8 +342,10 @@ pub index_exact : {bytes : List ℕ} {i : Index} → Decodes bytes i → index_a
 unfolding index_at index_step
 index_exact {bytes} {i} d =
     fields_exact index_step d.has_fields no_index i (parted_exact _ _ _ (λ t. refl) (λ s. refl) d.fields no_index i
-    (both_exact _ _ d.fields _ _ _ _ (one_message_exact metadata_at IsMetadata metadata_found metadata_exact 1 d.fields i.metadata d.metadata)
-    (both_exact _ _ d.fields _ _ _ _ (messages_exact document_at IsDocument document_found document_exact 2 d.fields i.documents d.documents)
+    (both_exact _ _ d.fields _ _ _ _
+    (one_message_exact metadata_at IsMetadata metadata_found metadata_exact 1 d.fields i.metadata d.metadata)
+    (both_exact _ _ d.fields _ _ _ _
+    (messages_exact document_at IsDocument document_found document_exact 2 d.fields i.documents d.documents)
     (messages_exact info_at IsInfo info_found info_exact 3 d.fields i.external_symbols d.external_symbols))))
 
 -- bytes decode to at most one index
@@ -279,11 +355,14 @@ same_index {i = i} {j = j} d e = same_Some i j (sym (index_exact d) ∙ index_ex
 -- a range that is made exactly where its numbers fit
 pub checked_of : (o : Option RangeNumbers) (r : RangeNumbers) → SomeIff o (IsRange r) r → o ≡ checked_range r
 unfolding checked_range
-checked_of None r h = split (fits r) (λ t. absurd (h (checked_found r r (cond-true (fits r) _ _ t)).1)) (λ f. sym (cond-false (fits r) _ _ f))
+checked_of None r h = split (fits r) (λ t. absurd (h (checked_found r r (cond-true (fits r) _ _ t)).1))
+    (λ f. sym (cond-false (fits r) _ _ f))
 checked_of (Some x) r h = ap Some h.1 ∙ sym (checked_exact r h.0)
 
 -- packed numbers that are added to others
-packed_in_after : (bound : ℕ) (bytes s t : List ℕ) → fold_in (varint_at max_varint_len) packed_step bound bytes (s ++ t) ≡ (fold_in (varint_at max_varint_len) packed_step bound bytes t >>= add_more s)
+packed_in_after : (bound : ℕ) (bytes s t : List ℕ)
+    → fold_in (varint_at max_varint_len) packed_step bound bytes (s ++ t)
+    ≡ (fold_in (varint_at max_varint_len) packed_step bound bytes t >>= add_more s)
 unfolding fold_in packed_step
 packed_in_after zero [] s t = refl
 packed_in_after zero (byte ∷ bytes) s t = refl
@@ -294,18 +373,22 @@ packed_in_after (suc bound) (byte ∷ bytes) s t =
     ∙ packed_in_after bound x.1 s (t ++ low_32_bits x.0 ∷ []))
     ∙ sym (bind_assoc (varint_at max_varint_len (byte ∷ bytes)) _ (add_more s))
 
-pub fold_of_packed : (bytes numbers : List ℕ) → fold_at (varint_at max_varint_len) packed_step bytes numbers ≡ (packed_at bytes >>= add_more numbers)
+pub fold_of_packed : (bytes numbers : List ℕ)
+    → fold_at (varint_at max_varint_len) packed_step bytes numbers ≡ (packed_at bytes >>= add_more numbers)
 unfolding packed_at fold_at
 fold_of_packed bytes numbers =
-    ap (fold_in (varint_at max_varint_len) packed_step (length bytes) bytes) (sym (append-nil numbers)) ∙ packed_in_after (length bytes) bytes numbers []
+    ap (fold_in (varint_at max_varint_len) packed_step (length bytes) bytes) (sym (append-nil numbers))
+    ∙ packed_in_after (length bytes) bytes numbers []
 
 -- ---- what a reader of the index answers
 
-pub found_of : (r : Result Index WireFault) (bytes : List ℕ) → Gives (λ i. i) r (index_at bytes) → IfOk r (λ i. Decodes bytes i)
+pub found_of : (r : Result Index WireFault) (bytes : List ℕ) → Gives (λ i. i) r (index_at bytes)
+    → IfOk r (λ i. Decodes bytes i)
 found_of (Ok i) bytes h = index_found bytes i h
 found_of (Err e) bytes h = tt
 
-pub only_of : (r : Result Index WireFault) (bytes : List ℕ) → Gives (λ i. i) r (index_at bytes) → (index : Index) → Decodes bytes index
+pub only_of : (r : Result Index WireFault) (bytes : List ℕ) → Gives (λ i. i) r (index_at bytes) → (index : Index)
+    → Decodes bytes index
     → MatchResult r (λ i. i ≡ index) (λ e. e ≡ Memory)
 only_of (Ok i) bytes h index d = same_Some i index (sym h ∙ index_exact d)
 only_of (Err e) bytes h index d = is_memory e (index_at bytes) index h (index_exact d)

@@ -1,5 +1,6 @@
 -- `fold_at`, `both` and `parted`: over the items that a reader finds in bytes, and over parts of a whole.
-use Rattle.std.proofs.Common.{◌≡◌, refl, ap, sym, ◌∙◌, subst, ℕ, zero, suc, ◌+◌, ◌<◌, ◌≤◌, Bool, true, false, List, [], ◌∷◌, length, Option, Some, None, arith}
+use Rattle.std.proofs.Common.{◌≡◌, refl, ap, sym, ◌∙◌, subst, ℕ, zero, suc, ◌+◌, ◌<◌, ◌≤◌, Bool, true, false, List, []}
+use Rattle.std.proofs.Common.{◌∷◌, length, Option, Some, None, arith}
 use Rattle.std.specs.Prelude.{◌==◌}
 use Rattle.std.proofs.lemmas.Bool.{eqb-true}
 use Rattle.scip_wire.specs.declared.wire_fault.WireFault.{WireFault}
@@ -11,7 +12,8 @@ use Rattle.std.proofs.lemmas.Option.{same_Some}
 use Rattle.scip_wire.specs.Fields.{Field, IsField, field as one_field, HasFields, none, next}
 use Rattle.scip_wire.specs.Reading.{field_at, changed, fold_in, fold_at, both, parted}
 use Rattle.scip_wire.proofs.OptionLemmas.{bind_some, bind_at, bind_none, bind_same}
-use Rattle.scip_wire.proofs.FieldLemmas.{field_found, field_exact, field_falls, payload_falls, payload_length, varint_falls}
+use Rattle.scip_wire.proofs.FieldLemmas.{field_found, field_exact, field_falls, payload_falls, payload_length}
+use Rattle.scip_wire.proofs.FieldLemmas.{varint_falls}
 use Rattle.scip_wire.proofs.GivesLemmas.{fails_too}
 
 -- ---- over bytes
@@ -19,7 +21,8 @@ use Rattle.scip_wire.proofs.GivesLemmas.{fails_too}
 module _ {S A : Type 0} (read : List ℕ → Option (A × List ℕ)) (step : S → A → Option S)
     (falls : (bytes : List ℕ) (x : A × List ℕ) → read bytes ≡ Some x → length x.1 < length bytes) where
   -- a greater bound than the number of bytes changes nothing
-  pub fold_enough : (n m : ℕ) (bytes : List ℕ) (s : S) → length bytes ≤ n → length bytes ≤ m → fold_in read step n bytes s ≡ fold_in read step m bytes s
+  pub fold_enough : (n m : ℕ) (bytes : List ℕ) (s : S) → length bytes ≤ n → length bytes ≤ m
+      → fold_in read step n bytes s ≡ fold_in read step m bytes s
   unfolding fold_in
   fold_enough zero zero [] s h k = refl
   fold_enough zero (suc m) [] s h k = refl
@@ -33,7 +36,8 @@ module _ {S A : Type 0} (read : List ℕ → Option (A × List ℕ)) (step : S �
       bind_same (step s x.0) _ _ (λ t _. fold_enough n m x.1 t (omega arith) (omega arith)))
 
   pub fold_goes_on : (byte : ℕ) (bytes : List ℕ) (s t : S) (x : A × List ℕ)
-      → read (byte ∷ bytes) ≡ Some x → step s x.0 ≡ Some t → fold_at read step x.1 t ≡ fold_at read step (byte ∷ bytes) s
+      → read (byte ∷ bytes) ≡ Some x → step s x.0 ≡ Some t
+      → fold_at read step x.1 t ≡ fold_at read step (byte ∷ bytes) s
   unfolding fold_in fold_at
   fold_goes_on byte bytes s t x e k =
       let l : length x.1 < length (byte ∷ bytes) = falls (byte ∷ bytes) x e in
@@ -45,7 +49,8 @@ module _ {S A : Type 0} (read : List ℕ → Option (A × List ℕ)) (step : S �
   fold_done s = refl
 
   -- it ends where an item can't be read, and where a step fails
-  pub fold_unread : (byte : ℕ) (bytes : List ℕ) (s : S) → read (byte ∷ bytes) ≡ None → fold_at read step (byte ∷ bytes) s ≡ None
+  pub fold_unread : (byte : ℕ) (bytes : List ℕ) (s : S) → read (byte ∷ bytes) ≡ None
+      → fold_at read step (byte ∷ bytes) s ≡ None
   unfolding fold_in fold_at
   fold_unread byte bytes s e = bind_none (read (byte ∷ bytes)) _ e
 
@@ -77,15 +82,18 @@ module _ {S : Type 0} (step : S → Field → Option S) where
   unfolding fold_at
   fields_found bytes s t e = fields_in_found (length bytes) bytes s t e
 
-  pub fields_exact : {bytes : List ℕ} {fields : List Field} → HasFields bytes fields → (s t : S) → changed step fields s ≡ Some t → fold_at field_at step bytes s ≡ Some t
+  pub fields_exact : {bytes : List ℕ} {fields : List Field} → HasFields bytes fields → (s t : S)
+      → changed step fields s ≡ Some t → fold_at field_at step bytes s ≡ Some t
   fields_exact none s t e = fold_done field_at step s ∙ e
   fields_exact (next {bytes = []} f fs) s t e = absurd (omega (arith, field_falls f))
   fields_exact (next {bytes = byte ∷ bytes} {rest = rest} {field = field} {fields = fields} f fs) s t e =
       let u = bind_some (step s field) _ t e in
-      sym (fold_goes_on field_at step field_shortens byte bytes s u.0 (field, rest) (field_exact f) u.1) ∙ fields_exact fs u.0 t u.2
+      sym (fold_goes_on field_at step field_shortens byte bytes s u.0 (field, rest) (field_exact f) u.1)
+      ∙ fields_exact fs u.0 t u.2
 
 -- bytes have at most one field list
-pub same_fields : {bytes : List ℕ} {fields others : List Field} → HasFields bytes fields → HasFields bytes others → fields ≡ others
+pub same_fields : {bytes : List ℕ} {fields others : List Field} → HasFields bytes fields → HasFields bytes others
+    → fields ≡ others
 same_fields none none = refl
 same_fields none (next f fs) = absurd (omega (arith, field_falls f))
 same_fields (next f fs) none = absurd (omega (arith, field_falls f))
@@ -97,7 +105,8 @@ same_fields (next {rest = rest} {field = x} {fields = xs} f fs) (next {rest = af
 -- ---- over parts
 
 module _ {S T A : Type 0} (left : S → A → Option S) (right : T → A → Option T) where
-  pub both_found : (xs : List A) (s t : S × T) → changed (both left right) xs s ≡ Some t → (changed left xs s.0 ≡ Some t.0) × (changed right xs s.1 ≡ Some t.1)
+  pub both_found : (xs : List A) (s t : S × T) → changed (both left right) xs s ≡ Some t
+      → (changed left xs s.0 ≡ Some t.0) × (changed right xs s.1 ≡ Some t.1)
   unfolding both
   both_found [] s t e = let same = same_Some s t e in (rw same refl, rw same refl)
   both_found (x ∷ xs) s t e =
@@ -110,7 +119,8 @@ module _ {S T A : Type 0} (left : S → A → Option S) (right : T → A → Opt
         bind_at (right s.1 x) _ b.0 b.1 ∙ (ap (λ (p : S × T). changed right xs p.1) same ∙ h.1),
       )
 
-  pub both_exact : (xs : List A) (a c : S) (b d : T) → changed left xs a ≡ Some c → changed right xs b ≡ Some d → changed (both left right) xs (a, b) ≡ Some (c, d)
+  pub both_exact : (xs : List A) (a c : S) (b d : T) → changed left xs a ≡ Some c → changed right xs b ≡ Some d
+      → changed (both left right) xs (a, b) ≡ Some (c, d)
   unfolding both
   both_exact [] a c b d e f = rw (same_Some a c e, same_Some b d f) refl
   both_exact (x ∷ xs) a c b d e f =
@@ -119,7 +129,8 @@ module _ {S T A : Type 0} (left : S → A → Option S) (right : T → A → Opt
       rw (s.1, t.1) (both_exact xs s.0 c t.0 d s.2 t.2)
 
 module _ {S T A : Type 0} (parts : S → T) (whole : T → S) (step : T → A → Option T) where
-  pub parted_found : ((t : T) → parts (whole t) ≡ t) → (xs : List A) (s t : S) → changed (parted parts whole step) xs s ≡ Some t → changed step xs (parts s) ≡ Some (parts t)
+  pub parted_found : ((t : T) → parts (whole t) ≡ t) → (xs : List A) (s t : S)
+      → changed (parted parts whole step) xs s ≡ Some t → changed step xs (parts s) ≡ Some (parts t)
   unfolding parted
   parted_found back [] s t e = ap (λ x. Some (parts x)) (same_Some s t e)
   parted_found back (x ∷ xs) s t e =
@@ -139,35 +150,46 @@ module _ {S T A : Type 0} (parts : S → T) (whole : T → S) (step : T → A �
 -- ---- a turn of a loop over the items that a reader finds in bytes
 
 -- bytes that aren't empty
-there_are : (bytes : List ℕ) (empty : Bool) → empty ≡ (length bytes == 0) → empty ≡ false → (byte : ℕ) × (rest : List ℕ) × (bytes ≡ byte ∷ rest)
+there_are : (bytes : List ℕ) (empty : Bool) → empty ≡ (length bytes == 0) → empty ≡ false
+    → (byte : ℕ) × (rest : List ℕ) × (bytes ≡ byte ∷ rest)
 there_are [] empty e f = absurd (cc)
 there_are (byte ∷ rest) empty e f = (byte, rest, refl)
 
 there_are_none : (bytes : List ℕ) (empty : Bool) → empty ≡ (length bytes == 0) → empty ≡ true → bytes ≡ []
 there_are_none [] empty e t = refl
-there_are_none (byte ∷ rest) empty e t = absurd (let h : length (byte ∷ rest) ≡ 0 = eqb-true _ 0 (sym e ∙ t) in omega arith)
+there_are_none (byte ∷ rest) empty e t =
+    absurd (let h : length (byte ∷ rest) ≡ 0 = eqb-true _ 0 (sym e ∙ t) in omega arith)
 
-module _ {S A : Type 0} (read : List ℕ → Option (A × List ℕ)) (step : S → A → Option S) (bytes : List ℕ) (s : S) (empty : Bool) (known : empty ≡ (length bytes == 0)) where
+module _ {S A : Type 0} (read : List ℕ → Option (A × List ℕ)) (step : S → A → Option S) (bytes : List ℕ) (s : S)
+    (empty : Bool) (known : empty ≡ (length bytes == 0)) where
   pub goes_on : ((bytes : List ℕ) (x : A × List ℕ) → read bytes ≡ Some x → length x.1 < length bytes)
       → empty ≡ false → (x : A) (rest : List ℕ) (t : S) → read bytes ≡ Some (x, rest) → step s x ≡ Some t
       → fold_at read step rest t ≡ fold_at read step bytes s
   goes_on falls f x rest t e k =
       let b = there_are bytes empty known f in
-      fold_goes_on read step falls b.0 b.1 s t (x, rest) (ap read (sym b.2) ∙ e) k ∙ ap (λ l. fold_at read step l s) (sym b.2)
+      fold_goes_on read step falls b.0 b.1 s t (x, rest) (ap read (sym b.2) ∙ e) k
+      ∙ ap (λ l. fold_at read step l s) (sym b.2)
 
-  pub unread : empty ≡ false → (e : WireFault) (all : Option S) → fold_at read step bytes s ≡ all → Fails e (read bytes) → Fails e all
+  pub unread : empty ≡ false → (e : WireFault) (all : Option S) → fold_at read step bytes s ≡ all → Fails e (read bytes)
+      → Fails e all
   unread f e all same fails =
       let b = there_are bytes empty known f in
-      fails_too e (read bytes) all (λ none. sym same ∙ (ap (λ l. fold_at read step l s) b.2 ∙ fold_unread read step b.0 b.1 s (ap read (sym b.2) ∙ none))) fails
+      fails_too e (read bytes) all
+      (λ none. sym same ∙ (ap (λ l. fold_at read step l s) b.2
+      ∙ fold_unread read step b.0 b.1 s (ap read (sym b.2) ∙ none))) fails
 
-  pub failed : empty ≡ false → (e : WireFault) (all : Option S) (x : A) (rest : List ℕ) → fold_at read step bytes s ≡ all
+  pub failed : empty ≡ false → (e : WireFault) (all : Option S) (x : A) (rest : List ℕ)
+      → fold_at read step bytes s ≡ all
       → read bytes ≡ Some (x, rest) → Fails e (step s x) → Fails e all
   failed f e all x rest same k fails =
       let b = there_are bytes empty known f in
-      fails_too e (step s x) all (λ none. sym same ∙ (ap (λ l. fold_at read step l s) b.2 ∙ fold_failed read step b.0 b.1 s (x, rest) (ap read (sym b.2) ∙ k) none)) fails
+      fails_too e (step s x) all
+      (λ none. sym same ∙ (ap (λ l. fold_at read step l s) b.2
+      ∙ fold_failed read step b.0 b.1 s (x, rest) (ap read (sym b.2) ∙ k) none)) fails
 
   pub is_done : empty ≡ true → (all : Option S) → fold_at read step bytes s ≡ all → all ≡ Some s
-  is_done t all same = sym same ∙ (ap (λ l. fold_at read step l s) (there_are_none bytes empty known t) ∙ fold_done read step s)
+  is_done t all same = sym same
+      ∙ (ap (λ l. fold_at read step l s) (there_are_none bytes empty known t) ∙ fold_done read step s)
 
 len_of_view : (payload : Payload) → payload_length (payload_view payload) ≡ payload_len payload
 unfolding payload_length
@@ -176,10 +198,12 @@ len_of_view (TheVariants.Fixed64 bytes) = refl
 len_of_view (TheVariants.Delimited bytes) = refl
 len_of_view (TheVariants.Fixed32 bytes) = refl
 
-field_fits : {bytes rest : List ℕ} {x : Field} → IsField bytes x rest → payload_length x.payload + length rest ≤ length bytes
+field_fits : {bytes rest : List ℕ} {x : Field} → IsField bytes x rest
+    → payload_length x.payload + length rest ≤ length bytes
 field_fits (one_field tag above below p) = omega (arith, varint_falls tag, payload_falls p)
 
 -- a payload lies inside the bytes
-pub payload_fits : (bytes rest : List ℕ) (number : ℕ) (payload : Payload) → field_at bytes ≡ Some (record { number = number; payload = payload_view payload }, rest)
+pub payload_fits : (bytes rest : List ℕ) (number : ℕ) (payload : Payload)
+    → field_at bytes ≡ Some (record { number = number; payload = payload_view payload }, rest)
     → payload_len payload + length rest ≤ length bytes
 payload_fits bytes rest number payload e = rw (← len_of_view payload) (field_fits (field_found bytes _ e))

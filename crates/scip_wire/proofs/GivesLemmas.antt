@@ -6,7 +6,8 @@ use Rattle.scip_wire.specs.declared.wire_fault.WireFault.TheVariants.{Memory}
 use Rattle.scip_wire.specs.Gives.{Fails}
 
 -- where nothing of the inner is nothing of the outer
-pub fails_too : {X Y : Type 0} (e : WireFault) (inner : Option X) (outer : Option Y) → (inner ≡ None → outer ≡ None) → Fails e inner → Fails e outer
+pub fails_too : {X Y : Type 0} (e : WireFault) (inner : Option X) (outer : Option Y) → (inner ≡ None → outer ≡ None)
+    → Fails e inner → Fails e outer
 fails_too e inner outer h (inl memory) = inl memory
 fails_too e inner outer h (inr none) = inr (h none)
 

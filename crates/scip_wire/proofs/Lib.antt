@@ -1,4 +1,5 @@
--- In each file, `.._found` says that what the reader reads is what the bytes hold, and `.._exact` that it reads all that
+-- In each file, `.._found` says that what the reader reads is what the bytes hold, and `.._exact` that it reads all
+-- that
 -- they hold.
 
 -- Options, and what a fault says.

@@ -2,7 +2,8 @@
 use Rattle.std.proofs.Common.{◌≡◌, refl, ap, Bool, true, false, cond, Option, Some, None}
 use Rattle.scip_wire.specs.Reading.{◌>>=◌}
 
-pub bind_some : {A B : Type 0} (o : Option A) (f : A → Option B) (y : B) → (o >>= f) ≡ Some y → (x : A) × (o ≡ Some x) × (f x ≡ Some y)
+pub bind_some : {A B : Type 0} (o : Option A) (f : A → Option B) (y : B) → (o >>= f) ≡ Some y
+    → (x : A) × (o ≡ Some x) × (f x ≡ Some y)
 bind_some None f y e = absurd (cc)
 bind_some (Some x) f y e = (x, refl, e)
 
@@ -12,7 +13,8 @@ bind_at o f x e = ap (λ p. p >>= f) e
 pub bind_none : {A B : Type 0} (o : Option A) (f : A → Option B) → o ≡ None → (o >>= f) ≡ None
 bind_none o f e = ap (λ p. p >>= f) e
 
-pub chosen : {A P : Type 0} (b : Bool) (x y z : A) → cond b x y ≡ z → (b ≡ true → x ≡ z → P) → (b ≡ false → y ≡ z → P) → P
+pub chosen : {A P : Type 0} (b : Bool) (x y z : A) → cond b x y ≡ z → (b ≡ true → x ≡ z → P) → (b ≡ false → y ≡ z → P)
+    → P
 chosen true x y z e on_true on_false = on_true refl e
 chosen false x y z e on_true on_false = on_false refl e
 
@@ -27,7 +29,8 @@ guard_none true o y e = absurd (cc)
 guard_none false o y e = (refl, e)
 
 -- two continuations that agree on what comes
-pub bind_same : {A B : Type 0} (o : Option A) (f g : A → Option B) → ((x : A) → o ≡ Some x → f x ≡ g x) → (o >>= f) ≡ (o >>= g)
+pub bind_same : {A B : Type 0} (o : Option A) (f g : A → Option B) → ((x : A) → o ≡ Some x → f x ≡ g x)
+    → (o >>= f) ≡ (o >>= g)
 bind_same None f g h = refl
 bind_same (Some x) f g h = h x refl
 
@@ -35,6 +38,7 @@ pub split : {P : Type 0} (b : Bool) → (b ≡ true → P) → (b ≡ false → 
 split true on_true on_false = on_true refl
 split false on_true on_false = on_false refl
 
-pub bind_assoc : {A B C : Type 0} (o : Option A) (f : A → Option B) (g : B → Option C) → ((o >>= f) >>= g) ≡ (o >>= λ x. f x >>= g)
+pub bind_assoc : {A B C : Type 0} (o : Option A) (f : A → Option B) (g : B → Option C)
+    → ((o >>= f) >>= g) ≡ (o >>= λ x. f x >>= g)
 bind_assoc None f g = refl
 bind_assoc (Some x) f g = refl

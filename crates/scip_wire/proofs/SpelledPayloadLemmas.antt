@@ -1,19 +1,23 @@
 -- What the payloads of spelled fields are, and what they give.
-use Rattle.std.proofs.Common.{◌≡◌, ℕ, ℤ, pos, negsuc, zero, suc, ◌%◌, ◌^◌, ◌<◌, true, false, cond, nat_eq, List, [], ◌∷◌, ◌++◌, map, Option, Some, None, refl, sym, ap, ◌∙◌, arith, FitsSigned, All, IsUtf8}
+use Rattle.std.proofs.Common.{◌≡◌, ℕ, ℤ, pos, negsuc, zero, suc, ◌%◌, ◌^◌, ◌<◌, true, false, cond, nat_eq, List, []}
+use Rattle.std.proofs.Common.{◌∷◌, ◌++◌, map, Option, Some, None, refl, sym, ap, ◌∙◌, arith, FitsSigned, All, IsUtf8}
 use Rattle.std.specs.Int.{w32, cast_signed}
 use Rattle.std.proofs.Common.{to_z, of_z}
 use Rattle.std.proofs.lemmas.Int.{to_z-of_z}
 use Rattle.std.proofs.lemmas.List.Elements.{All-head, All-tail}
 use Rattle.scip_wire.specs.Fields.{Payload, Varint, Delimited, Field}
 use Rattle.scip_wire.specs.Decodes.{payloads, Joined, none, next, IsLast, GivesText, text, GivesNumber, signed}
-use Rattle.scip_wire.specs.Spelling.{bytes_of, text_fields, int_fields, number_fields, in_64_bits, repeated_text_fields, repeated_message_fields, optional_message_fields}
+use Rattle.scip_wire.specs.Spelling.{bytes_of, text_fields, int_fields, number_fields, in_64_bits, repeated_text_fields}
+use Rattle.scip_wire.specs.Spelling.{repeated_message_fields, optional_message_fields}
 
 -- ---- the payloads of spelled fields
 
 pub payloads-append : (n : ℕ) (fs gs : List Field) → payloads n (fs ++ gs) ≡ payloads n fs ++ payloads n gs
 payloads-append n [] gs = refl
 payloads-append n (f ∷ fs) gs =
-    elim (nat_eq f.number n) as (λ b. cond b (f.payload ∷ payloads n (fs ++ gs)) (payloads n (fs ++ gs)) ≡ cond b (f.payload ∷ payloads n fs) (payloads n fs) ++ payloads n gs) [
+    elim (nat_eq f.number n) as
+    (λ b. cond b (f.payload ∷ payloads n (fs ++ gs)) (payloads n (fs ++ gs))
+    ≡ cond b (f.payload ∷ payloads n fs) (payloads n fs) ++ payloads n gs) [
       | true ↦ ap (λ l. f.payload ∷ l) (payloads-append n fs gs)
       | false ↦ payloads-append n fs gs
     ]
@@ -31,11 +35,13 @@ other_number : (n k v : ℕ) → nat_eq k n ≡ false → payloads n (number_fie
 other_number n k zero e = refl
 other_number n k (suc v) e = rw e refl
 
-pub other_messages : {A : Type 0} (fields : A → List Field) (n k : ℕ) (xs : List A) → nat_eq k n ≡ false → payloads n (repeated_message_fields k fields xs) ≡ []
+pub other_messages : {A : Type 0} (fields : A → List Field) (n k : ℕ) (xs : List A) → nat_eq k n ≡ false
+    → payloads n (repeated_message_fields k fields xs) ≡ []
 other_messages fields n k [] e = refl
 other_messages fields n k (x ∷ xs) e = rw e (other_messages fields n k xs e)
 
-pub other_message : {A : Type 0} (fields : A → List Field) (n k : ℕ) (o : Option A) → nat_eq k n ≡ false → payloads n (optional_message_fields k fields o) ≡ []
+pub other_message : {A : Type 0} (fields : A → List Field) (n k : ℕ) (o : Option A) → nat_eq k n ≡ false
+    → payloads n (optional_message_fields k fields o) ≡ []
 other_message fields n k None e = refl
 other_message fields n k (Some x) e = rw e refl
 
@@ -61,7 +67,8 @@ pub same_text : (k : ℕ) (t : List ℕ) → nat_eq k k ≡ true → payloads k 
 same_text k [] e = refl
 same_text k (b ∷ bs) e = rw e refl
 
-pub same_texts : (k : ℕ) (ts : List (List ℕ)) → nat_eq k k ≡ true → payloads k (repeated_text_fields k ts) ≡ map Delimited ts
+pub same_texts : (k : ℕ) (ts : List (List ℕ)) → nat_eq k k ≡ true
+    → payloads k (repeated_text_fields k ts) ≡ map Delimited ts
 same_texts k [] e = refl
 same_texts k (t ∷ ts) e = rw e (ap (λ l. Delimited t ∷ l) (same_texts k ts e))
 
@@ -83,9 +90,15 @@ other_int n k z e = other_number n k (in_64_bits z) e
 pub same_int : (k : ℕ) (z : ℤ) → nat_eq k k ≡ true → payloads k (int_fields k z) ≡ number_payloads (in_64_bits z)
 same_int k z e = same_number k (in_64_bits z) e
 
-number_given : (v : ℕ) (z : ℤ) → (v ≡ 0 → z ≡ pos 0) → (0 < v → z ≡ cast_signed w32 (v % 2 ^ 32)) → IsLast (pos 0) (Joined GivesNumber (number_payloads v)) z
+number_given : (v : ℕ) (z : ℤ) → (v ≡ 0 → z ≡ pos 0) → (0 < v → z ≡ cast_signed w32 (v % 2 ^ 32))
+    → IsLast (pos 0) (Joined GivesNumber (number_payloads v)) z
 number_given zero z absent_one given = record { values = []; are_values = none; is_last = absent_one refl }
-number_given (suc v) z absent_one given = record { values = cast_signed w32 (suc v % 2 ^ 32) ∷ []; are_values = next signed none; is_last = given (omega arith) }
+number_given (suc v) z absent_one given =
+    record {
+      values = cast_signed w32 (suc v % 2 ^ 32) ∷ [];
+      are_values = next signed none;
+      is_last = given (omega arith);
+    }
 
 -- the low 32 bits of a number in 64 bits
 low_bits : (z : ℤ) → FitsSigned w32 z → in_64_bits z % 2 ^ 32 ≡ of_z w32 z
@@ -102,4 +115,5 @@ in_64_bits-lt (negsuc n) fits = omega arith
 
 pub int_given : (z : ℤ) → FitsSigned w32 z → IsLast (pos 0) (Joined GivesNumber (number_payloads (in_64_bits z))) z
 int_given z fits =
-    number_given (in_64_bits z) z (in_64_bits-zero z fits) (λ _. sym (ap (to_z w32) (low_bits z fits) ∙ to_z-of_z w32 z fits))
+    number_given (in_64_bits z) z (in_64_bits-zero z fits)
+    (λ _. sym (ap (to_z w32) (low_bits z fits) ∙ to_z-of_z w32 z fits))

@@ -1,5 +1,6 @@
 -- Steps of a shortest varint.
-use Rattle.std.proofs.Common.{◌≡◌, ℕ, zero, suc, ◌+◌, ◌/◌, ◌%◌, ◌^◌, ◌<◌, ◌≤◌, true, false, cond, List, [], ◌∷◌, ◌++◌, length, refl, sym, ap, ◌∙◌, arith, nat_lt, inl, inr, pow-suc, append_assoc}
+use Rattle.std.proofs.Common.{◌≡◌, ℕ, zero, suc, ◌+◌, ◌/◌, ◌%◌, ◌^◌, ◌<◌, ◌≤◌, true, false, cond, List, [], ◌∷◌, ◌++◌}
+use Rattle.std.proofs.Common.{length, refl, sym, ap, ◌∙◌, arith, nat_lt, inl, inr, pow-suc, append_assoc}
 use Rattle.std.proofs.lemmas.Bool.{cases_lt}
 use Rattle.std.proofs.lemmas.Bool.Decides.{nat_tests}
 use Rattle.scip_wire.specs.Spelling.{varint, varint_of_groups}
@@ -18,7 +19,8 @@ group_last zero n h = refl
 group_last (suc further) n h = rw (below n h) refl
 
 -- more than one group is left
-pub group_more : (further n : ℕ) → 128 ≤ n → varint_of_groups (suc further) n ≡ (n % 128 + 128) ∷ varint_of_groups further (n / 128)
+pub group_more : (further n : ℕ) → 128 ≤ n
+    → varint_of_groups (suc further) n ≡ (n % 128 + 128) ∷ varint_of_groups further (n / 128)
 unfolding varint_of_groups
 group_more further n h = rw (not_below n h) refl
 
@@ -30,7 +32,8 @@ one_more_group (suc further) n fits =
       | inl h ↦ group_last (suc further) n h ∙ sym (group_last (suc (suc further)) n h)
       | inr h ↦
           let tail : n / 128 < 128 ^ suc further = omega (arith, pow-suc 128 (suc further)) in
-          group_more further n h ∙ ap (λ l. (n % 128 + 128) ∷ l) (one_more_group further (n / 128) tail) ∙ sym (group_more (suc further) n h)
+          group_more further n h ∙ ap (λ l. (n % 128 + 128) ∷ l) (one_more_group further (n / 128) tail)
+          ∙ sym (group_more (suc further) n h)
     ]
 
 pub varint_last : (n : ℕ) → n < 128 → varint n ≡ n ∷ []
@@ -44,7 +47,8 @@ groups_le : (further n : ℕ) → length (varint_of_groups further n) ≤ furthe
 unfolding varint_of_groups
 groups_le zero n = omega arith
 groups_le (suc further) n =
-    elim (nat_lt n 128) as (λ b. length (cond b (n ∷ []) ((n % 128 + 128) ∷ varint_of_groups further (n / 128))) ≤ suc further + 1) [
+    elim (nat_lt n 128) as (λ b. length (cond b (n ∷ []) ((n % 128 + 128) ∷ varint_of_groups further (n / 128)))
+    ≤ suc further + 1) [
       | true ↦ omega arith
       | false ↦ omega (arith, groups_le further (n / 128))
     ]
@@ -53,5 +57,7 @@ pub length-varint-le : (n : ℕ) → length (varint n) ≤ 10
 length-varint-le n = groups_le 9 n
 
 -- a byte goes from the front of what is to come to the end of what stands
-pub pushed : (out items whole target : List ℕ) (b : ℕ) (tail : List ℕ) → items ≡ out ++ b ∷ [] → whole ≡ b ∷ tail → out ++ whole ≡ target → items ++ tail ≡ target
-pushed out items whole target b tail e w t = ap (λ l. l ++ tail) e ∙ append_assoc out (b ∷ []) tail ∙ ap (λ l. out ++ l) (sym w) ∙ t
+pub pushed : (out items whole target : List ℕ) (b : ℕ) (tail : List ℕ) → items ≡ out ++ b ∷ [] → whole ≡ b ∷ tail
+    → out ++ whole ≡ target → items ++ tail ≡ target
+pushed out items whole target b tail e w t =
+    ap (λ l. l ++ tail) e ∙ append_assoc out (b ∷ []) tail ∙ ap (λ l. out ++ l) (sym w) ∙ t

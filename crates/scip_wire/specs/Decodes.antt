@@ -2,7 +2,8 @@
 -- `scip.proto`). Fields come in any order; the last of a singular number or text wins, and repeated
 -- ones are joined in order. Fields that no line names are left out, and so are those that a line
 -- names but that have another wire type.
-use Rattle.std.specs.Prelude.{◌≡◌, ℕ, ℤ, pos, ◌%◌, ◌^◌, Bool, true, false, cond, nat_eq, List, [], ◌∷◌, ◌++◌, Option, Some, None}
+use Rattle.std.specs.Prelude.{◌≡◌, ℕ, ℤ, pos, ◌%◌, ◌^◌, Bool, true, false, cond, nat_eq, List, [], ◌∷◌, ◌++◌, Option}
+use Rattle.std.specs.Prelude.{Some, None}
 use Rattle.std.specs.Int.{w32, cast_signed}
 use Rattle.std.specs.Str.{IsUtf8}
 use Rattle.scip_model.specs.Range.{RangeNumbers, IsRange}
@@ -19,7 +20,8 @@ use Rattle.scip_wire.specs.Fields.{Payload, Varint, Delimited, Field, IsVarint, 
 -- the payloads of the records with this number, in order
 abbrev pub payloads : ℕ → List Field → List Payload
 payloads number [] = []
-payloads number (field ∷ fields) = cond (nat_eq field.number number) (field.payload ∷ payloads number fields) (payloads number fields)
+payloads number (field ∷ fields) =
+    cond (nat_eq field.number number) (field.payload ∷ payloads number fields) (payloads number fields)
 
 -- the values that payloads give, joined in order, where `Gives` says which values one payload gives
 pub data Joined {A : Type 0} (Gives : Payload → List A → Type 0) : List Payload → List A → Type 0 where
@@ -116,7 +118,8 @@ low_32_bits value = value % 2 ^ 32
 pub data ArePacked : List ℕ → List ℕ → Type 0 where
   none : ArePacked [] []
   next : {bytes rest : List ℕ} {value : ℕ} {numbers : List ℕ}
-      → IsVarint max_varint_len bytes value rest → ArePacked rest numbers → ArePacked bytes (low_32_bits value ∷ numbers)
+      → IsVarint max_varint_len bytes value rest → ArePacked rest numbers
+      → ArePacked bytes (low_32_bits value ∷ numbers)
 
 -- repeated int32s, packed or not
 pub data GivesNumbers : Payload → List ℕ → Type 0 where
@@ -127,9 +130,11 @@ pub data GivesNumbers : Payload → List ℕ → Type 0 where
 -- `Occurrence.range`: [line, column, end column] on one line, or [line, column, end line, end column]
 pub data AreRangeNumbers : List ℕ → RangeNumbers → Type 0 where
   on_one_line : {line column end_column : ℕ}
-      → AreRangeNumbers (line ∷ column ∷ end_column ∷ []) (record { start_line = line; start_column = column; end_line = line; end_column = end_column })
+      → AreRangeNumbers (line ∷ column ∷ end_column ∷ [])
+      (record { start_line = line; start_column = column; end_line = line; end_column = end_column })
   over_lines : {line column end_line end_column : ℕ}
-      → AreRangeNumbers (line ∷ column ∷ end_line ∷ end_column ∷ []) (record { start_line = line; start_column = column; end_line = end_line; end_column = end_column })
+      → AreRangeNumbers (line ∷ column ∷ end_line ∷ end_column ∷ [])
+      (record { start_line = line; start_column = column; end_line = end_line; end_column = end_column })
 
 -- what an occurrence's bytes hold: the numbers of its range, its symbol and its roles
 pub record HoldsOccurrence (bytes numbers symbol : List ℕ) (roles : ℤ) : Type 0 where
@@ -146,7 +151,8 @@ pub data GivesOccurrence : Payload → List Occurrence → Type 0 where
       → HoldsOccurrence bytes numbers occurrence.symbol occurrence.symbol_roles
       → AreRangeNumbers numbers occurrence.range → IsRange occurrence.range
       → GivesOccurrence (Delimited bytes) (occurrence ∷ [])
-  without_range : {bytes symbol : List ℕ} {roles : ℤ} → HoldsOccurrence bytes [] symbol roles → GivesOccurrence (Delimited bytes) []
+  without_range : {bytes symbol : List ℕ} {roles : ℤ} → HoldsOccurrence bytes [] symbol roles
+      → GivesOccurrence (Delimited bytes) []
   other_type : {payload : Payload} → is_delimited payload ≡ false → GivesOccurrence payload []
 
 pub record IsDocument (bytes : List ℕ) (document : Document) : Type 0 where

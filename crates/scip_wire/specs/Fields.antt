@@ -34,16 +34,21 @@ pub data IsVarint : ℕ → List ℕ → ℕ → List ℕ → Type 0 where
 -- A payload of a wire type: a varint, eight bytes, bytes behind their length, or four bytes.
 -- Of the other types, groups (3 and 4) among them, there is none.
 pub data IsPayload : ℕ → List ℕ → Payload → List ℕ → Type 0 where
-  varint : {value : ℕ} {bytes rest : List ℕ} → IsVarint max_varint_len bytes value rest → IsPayload 0 bytes (Varint value) rest
-  fixed64 : {bytes inside rest : List ℕ} → bytes ≡ inside ++ rest → length inside ≡ 8 → IsPayload 1 bytes (Fixed64 inside) rest
-  delimited : {bytes inside rest : List ℕ} → IsVarint max_varint_len bytes (length inside) (inside ++ rest) → IsPayload 2 bytes (Delimited inside) rest
-  fixed32 : {bytes inside rest : List ℕ} → bytes ≡ inside ++ rest → length inside ≡ 4 → IsPayload 5 bytes (Fixed32 inside) rest
+  varint : {value : ℕ} {bytes rest : List ℕ} → IsVarint max_varint_len bytes value rest
+      → IsPayload 0 bytes (Varint value) rest
+  fixed64 : {bytes inside rest : List ℕ} → bytes ≡ inside ++ rest → length inside ≡ 8
+      → IsPayload 1 bytes (Fixed64 inside) rest
+  delimited : {bytes inside rest : List ℕ} → IsVarint max_varint_len bytes (length inside) (inside ++ rest)
+      → IsPayload 2 bytes (Delimited inside) rest
+  fixed32 : {bytes inside rest : List ℕ} → bytes ≡ inside ++ rest → length inside ≡ 4
+      → IsPayload 5 bytes (Fixed32 inside) rest
 
 -- A field's record: its tag, which is below 2 ^ 32 and holds the field's number and the wire
 -- type, and its payload.
 pub data IsField : List ℕ → Field → List ℕ → Type 0 where
   field : {number type : ℕ} {payload : Payload} {a b c : List ℕ}
-      → IsVarint max_varint_len a (8 * number + type) b → 0 < number → number ≤ max_field_number → IsPayload type b payload c
+      → IsVarint max_varint_len a (8 * number + type) b → 0 < number → number ≤ max_field_number
+      → IsPayload type b payload c
       → IsField a (record { number = number; payload = payload }) c
 
 -- the bytes are the records of these fields, in order

@@ -1,5 +1,6 @@
 -- What the reader computes, as functions on lists: None where it refuses.
-use Rattle.std.specs.Prelude.{ℕ, ℤ, pos, zero, suc, ◌+◌, ◌-◌, ◌*◌, ◌/◌, ◌%◌, ◌^◌, Bool, cond, nat_eq, nat_lt, nat_le, ◌&&◌, List, [], ◌∷◌, ◌++◌, length, take, drop, Option, Some, None, option_and_then}
+use Rattle.std.specs.Prelude.{ℕ, ℤ, pos, zero, suc, ◌+◌, ◌-◌, ◌*◌, ◌/◌, ◌%◌, ◌^◌, Bool, cond, nat_eq, nat_lt, nat_le}
+use Rattle.std.specs.Prelude.{◌&&◌, List, [], ◌∷◌, ◌++◌, length, take, drop, Option, Some, None, option_and_then}
 use Rattle.std.specs.Int.{w32, cast_signed}
 use Rattle.std.specs.Str.{is_utf8}
 use Rattle.scip_model.specs.Range.{RangeNumbers, max_range_number}
@@ -33,7 +34,8 @@ unfoldable pub payload_at : ℕ → List ℕ → Option (Payload × List ℕ)
 payload_at type bytes =
     cond (nat_eq type 0) (varint_at max_varint_len bytes >>= λ value. Some (Varint value.0, value.1))
     (cond (nat_eq type 1) (piece_at 8 bytes >>= λ piece. Some (Fixed64 piece.0, piece.1))
-    (cond (nat_eq type 2) (varint_at max_varint_len bytes >>= λ size. piece_at size.0 size.1 >>= λ piece. Some (Delimited piece.0, piece.1))
+    (cond (nat_eq type 2) (varint_at max_varint_len bytes >>= λ size. piece_at size.0 size.1 >>= λ piece. Some
+    (Delimited piece.0, piece.1))
     (cond (nat_eq type 5) (piece_at 4 bytes >>= λ piece. Some (Fixed32 piece.0, piece.1)) None)))
 
 unfoldable pub field_at : List ℕ → Option (Field × List ℕ)
@@ -51,7 +53,8 @@ changed step [] s = Some s
 changed step (x ∷ xs) s = step s x >>= changed step xs
 
 -- over the items that a reader finds in bytes, up to their end
-unfoldable pub fold_in : {S A : Type 0} → (List ℕ → Option (A × List ℕ)) → (S → A → Option S) → ℕ → List ℕ → S → Option S
+unfoldable pub fold_in : {S A : Type 0} → (List ℕ → Option (A × List ℕ)) → (S → A → Option S) → ℕ → List ℕ → S
+    → Option S
 fold_in read step zero [] s = Some s
 fold_in read step zero (byte ∷ bytes) s = None
 fold_in read step (suc bound) [] s = Some s
@@ -72,7 +75,8 @@ parted parts whole step s x = step (parts s) x >>= λ t. Some (whole t)
 -- ---- the columns of a message: what a field does to one of its parts
 
 -- the values of a payload are added where the field has this number
-unfoldable pub column : {S A : Type 0} → (S → List A → Option S) → (Payload → Option (List A)) → ℕ → S → Field → Option S
+unfoldable pub column : {S A : Type 0} → (S → List A → Option S) → (Payload → Option (List A)) → ℕ → S → Field
+    → Option S
 column add values number s field = cond (nat_eq field.number number) (values field.payload >>= add s) (Some s)
 
 abbrev pub add_more : {A : Type 0} → List A → List A → Option (List A)
@@ -183,14 +187,16 @@ numbers_in (Fixed32 _) = Some []
 
 -- the range of these numbers, each of which has to fit
 abbrev pub fits : RangeNumbers → Bool
-fits r = nat_le r.start_line max_range_number && nat_le r.start_column max_range_number && nat_le r.end_line max_range_number && nat_le r.end_column max_range_number
+fits r = nat_le r.start_line max_range_number && nat_le r.start_column max_range_number
+    && nat_le r.end_line max_range_number && nat_le r.end_column max_range_number
 
 unfoldable pub checked_range : RangeNumbers → Option RangeNumbers
 checked_range r = cond (fits r) (Some r) None
 
 unfoldable pub range_at : List ℕ → Option RangeNumbers
 range_at (a ∷ b ∷ c ∷ []) = checked_range (record { start_line = a; start_column = b; end_line = a; end_column = c })
-range_at (a ∷ b ∷ c ∷ d ∷ []) = checked_range (record { start_line = a; start_column = b; end_line = c; end_column = d })
+range_at (a ∷ b ∷ c ∷ d ∷ []) =
+    checked_range (record { start_line = a; start_column = b; end_line = c; end_column = d })
 range_at _ = None
 
 -- an occurrence's parts, before its range is made of its numbers
@@ -211,7 +217,8 @@ unfoldable pub occurrence_of : OccurrenceParts → Option (List Occurrence)
 occurrence_of parts = made parts.numbers parts.symbol parts.symbol_roles where
   made : List ℕ → List ℕ → ℤ → Option (List Occurrence)
   made [] symbol roles = Some []
-  made (n ∷ ns) symbol roles = range_at (n ∷ ns) >>= λ range. Some (record { range = range; symbol = symbol; symbol_roles = roles } ∷ [])
+  made (n ∷ ns) symbol roles =
+      range_at (n ∷ ns) >>= λ range. Some (record { range = range; symbol = symbol; symbol_roles = roles } ∷ [])
 
 unfoldable pub occurrence_at : List ℕ → Option (List Occurrence)
 occurrence_at bytes = parts_at bytes >>= occurrence_of
@@ -227,8 +234,15 @@ occurrence_in (Fixed32 _) = Some []
 
 unfoldable pub document_step : Document → Field → Option Document
 document_step = parted (λ d. (d.relative_path, (d.occurrences, (d.symbols, (d.language, d.position_encoding)))))
-    (λ t. record { relative_path = t.0; occurrences = t.1.0; symbols = t.1.1.0; language = t.1.1.1.0; position_encoding = t.1.1.1.1 })
-    (both (text_column 1) (both (column add_more occurrence_in 2) (both (messages_column info_at 3) (both (text_column 4) (number_column 6)))))
+    (λ t. record {
+      relative_path = t.0;
+      occurrences = t.1.0;
+      symbols = t.1.1.0;
+      language = t.1.1.1.0;
+      position_encoding = t.1.1.1.1;
+    })
+    (both (text_column 1) (both (column add_more occurrence_in 2)
+    (both (messages_column info_at 3) (both (text_column 4) (number_column 6)))))
 
 abbrev pub no_document : Document
 no_document = record { relative_path = []; occurrences = []; symbols = []; language = []; position_encoding = pos 0 }

@@ -1,6 +1,7 @@
 -- The bytes of an index, written by one rule (Protocol Buffers encoding; field numbers of `scip.proto`):
 -- fields by rising number, each varint the shortest, absent what is 0 or empty but in a repeated field.
-use Rattle.std.specs.Prelude.{ℕ, zero, suc, ◌+◌, ◌-◌, ◌*◌, ◌/◌, ◌%◌, ◌^◌, ℤ, pos, negsuc, List, [], ◌∷◌, ◌++◌, length, map, flat_map, nat_eq, nat_lt, Option, Some, None, if◌then◌else◌}
+use Rattle.std.specs.Prelude.{ℕ, zero, suc, ◌+◌, ◌-◌, ◌*◌, ◌/◌, ◌%◌, ◌^◌, ℤ, pos, negsuc, List, [], ◌∷◌, ◌++◌, length}
+use Rattle.std.specs.Prelude.{map, flat_map, nat_eq, nat_lt, Option, Some, None, if◌then◌else◌}
 use Rattle.std.specs.List.{concat}
 use Rattle.scip_model.specs.Range.{RangeNumbers}
 use Rattle.scip_model.specs.declared.records.Index.{Index}
@@ -137,4 +138,5 @@ document_record d = field_bytes (bytes_field 2 (bytes_of (document_fields d)))
 -- the metadata's record, those of the documents, and those of the external entries, one after another
 abbrev pub joined_pieces : Option Metadata → (documents : List (List ℕ)) → List SymbolInformation → List ℕ
 joined_pieces metadata documents external_symbols =
-    bytes_of (optional_message_fields 1 metadata_fields metadata) ++ concat documents ++ bytes_of (repeated_message_fields 3 info_fields external_symbols)
+    bytes_of (optional_message_fields 1 metadata_fields metadata) ++ concat documents
+    ++ bytes_of (repeated_message_fields 3 info_fields external_symbols)

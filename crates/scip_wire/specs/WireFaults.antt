@@ -1,7 +1,8 @@
 -- What is said of a fault of an index's bytes.
 use Rattle.std.specs.Prelude.{ℕ, List, Option, Some, None, codes}
 use Rattle.scip_wire.specs.declared.wire_fault.WireFault.{WireFault}
-use Rattle.scip_wire.specs.declared.wire_fault.WireFault.TheVariants.{Truncated, Varint, FieldZero, Group, WireType, Repeated, Utf8, BadRange, Memory}
+use Rattle.scip_wire.specs.declared.wire_fault.WireFault.TheVariants.{Truncated, Varint, FieldZero, Group, WireType}
+use Rattle.scip_wire.specs.declared.wire_fault.WireFault.TheVariants.{Repeated, Utf8, BadRange, Memory}
 
 abbrev pub name_of : WireFault → List ℕ
 name_of (Truncated at) = codes "Truncated"

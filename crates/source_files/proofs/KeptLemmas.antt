@@ -7,7 +7,8 @@ use Rattle.source_tree.specs.Reading.{max_kept_length}
 use Rattle.source_files.specs.Source.{MayKeep}
 
 -- bytes that are no more than what is kept are kept whole
-pub kept_whole : {A E : Type 0} (items : A → List ℕ) (read : Result (Option A) E) → IfOk read (λ o. IfSome o (λ a. length (items a) ≤ max_kept_length))
+pub kept_whole : {A E : Type 0} (items : A → List ℕ) (read : Result (Option A) E)
+    → IfOk read (λ o. IfSome o (λ a. length (items a) ≤ max_kept_length))
     → IfOk read (λ o. MayKeep (λ _. ⊤) (option_map items o))
 kept_whole items (Ok (Some a)) few = (items a, tt, sym (take_all max_kept_length (items a) few))
 kept_whole items (Ok None) few = tt

@@ -8,7 +8,8 @@ use Rattle.source_files.specs.Roots.{IsUnreadableBelow}
 use Rattle.source_files.specs.Loads.{HasBadPath, HasSamePath}
 
 -- why files below several roots can't be read
-abbrev pub MayStopBelow : (List ℕ → Option (List (List ℕ)) → Type 0) → (List ℕ → Option (List ℕ) → Type 0) → (roots : List (List ℕ)) → LoadFault → Type 0
+abbrev pub MayStopBelow : (List ℕ → Option (List (List ℕ)) → Type 0) → (List ℕ → Option (List ℕ) → Type 0)
+    → (roots : List (List ℕ)) → LoadFault → Type 0
 MayStopBelow lists gives roots (Unreadable name) = IsUnreadableBelow lists gives roots (string_bytes name)
 MayStopBelow lists gives roots Memory = ⊤
 MayStopBelow lists gives roots other = ⊥

@@ -9,13 +9,16 @@ use Rattle.source_files.specs.Roots.{AreBelow, AreBelowEach, IsUnreadableBelow}
 
 -- the first file of all without a good path has this one
 abbrev pub HasBadPath : (path : List ℕ) → (sources included : List SourceFile) → Type 0
-HasBadPath path sources included = (number : ℕ) × (bad : HaveBadPath sources included number) × (path ≡ bad.first.file.path)
+HasBadPath path sources included =
+    (number : ℕ) × (bad : HaveBadPath sources included number) × (path ≡ bad.first.file.path)
 
 -- of the sources by path the first with the path of the one before it has this one
 abbrev pub HasSamePath : (path : List ℕ) → (sources included : List SourceFile) → Type 0
-HasSamePath path sources included = (number : ℕ) × (same : HaveSamePath sources included number) × (path ≡ same.first.repeats.second.path)
+HasSamePath path sources included =
+    (number : ℕ) × (same : HaveSamePath sources included number) × (path ≡ same.first.repeats.second.path)
 
-module _ (lists : List ℕ → Option (List (List ℕ)) → Type 0) (gives : List ℕ → Option (List ℕ) → Type 0) (root : List ℕ) (roots : List (List ℕ)) where
+module _ (lists : List ℕ → Option (List (List ℕ)) → Type 0) (gives : List ℕ → Option (List ℕ) → Type 0) (root : List ℕ)
+    (roots : List (List ℕ)) where
   -- this holds of the sources below the root and the files below the included roots, all of which can be read
   pub record OfFiles (Holds : (sources included : List SourceFile) → Type 0) : Type 0 where
     pub sources : List SourceFile
@@ -28,7 +31,8 @@ module _ (lists : List ℕ → Option (List (List ℕ)) → Type 0) (gives : Lis
   abbrev pub IsTreeBelow : List TreeFile → Type 0
   IsTreeBelow files = OfFiles (λ sources included. IsTreeOf sources included files)
 
-  -- why there is no tree: something can't be read, the first of all; or these files make none; of memory nothing is said
+  -- why there is no tree: something can't be read, the first of all; or these files make none; of memory nothing is
+  -- said
   abbrev pub MayNotLoad : LoadFault → Type 0
   MayNotLoad (Unreadable name) = IsUnreadableBelow lists gives (root ∷ roots) (string_bytes name)
   MayNotLoad TooMany = OfFiles AreTooMany

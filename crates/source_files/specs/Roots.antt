@@ -20,7 +20,8 @@ module _ (lists : List ℕ → Option (List (List ℕ)) → Type 0) (gives : Lis
   -- what can't be read first: the root, which can't be listed, or a source, those before which can be read
   pub data IsUnreadable (root : List ℕ) : List ℕ → Type 0 where
     of_root : lists root None → IsUnreadable root root
-    of_source : (sources : List SourceFile) (path : List ℕ) (behind : List (List ℕ)) → lists root (Some (paths_of sources ++ path ∷ behind))
+    of_source : (sources : List SourceFile) (path : List ℕ) (behind : List (List ℕ))
+        → lists root (Some (paths_of sources ++ path ∷ behind))
         → All (IsHeld root) sources
         → gives (path_below root path) None → IsUnreadable root path
 

@@ -1,5 +1,6 @@
 -- Lists that rise strictly, and lists sorted stably: each is told by its elements.
-use Rattle.std.proofs.Common.{◌≡◌, ◌⊎◌, inl, inr, ℕ, ◌+◌, Bool, true, false, zero, suc, List, [], ◌∷◌, get_or, refl, ap, sym, ◌∙◌, subst, arith}
+use Rattle.std.proofs.Common.{◌≡◌, ◌⊎◌, inl, inr, ℕ, ◌+◌, Bool, true, false, zero, suc, List, [], ◌∷◌, get_or, refl, ap}
+use Rattle.std.proofs.Common.{sym, ◌∙◌, subst, arith}
 use Rattle.std.specs.declared.cmp.Ordering.{Ordering}
 use Rattle.std.specs.declared.cmp.Ordering.TheVariants.{Less, Equal, Greater}
 use Rattle.std.specs.Ordering.{is_lt, ordering_reverse}
@@ -8,7 +9,9 @@ use Rattle.std.specs.List.{All, AllByRecursion, Contains, filter}
 use Rattle.std.specs.List.Sorted.{IsSortedBy, IsStrictlySortedBy, ties}
 use Rattle.std.proofs.lemmas.Bool.{cases_Bool, cond-true, cond-false}
 use Rattle.std.proofs.lemmas.Cmp.{tied_itself}
-use Rattle.std.proofs.lemmas.List.Elements.{All-from_recursion, recursion_from_All, All-contains, All-filter, All-head, Contains-append_left, Contains-append_right, Contains-append_cases, Contains-push}
+use Rattle.std.proofs.lemmas.List.Elements.{All-from_recursion, recursion_from_All, All-contains, All-filter, All-head}
+use Rattle.std.proofs.lemmas.List.Elements.{Contains-append_left, Contains-append_right, Contains-append_cases}
+use Rattle.std.proofs.lemmas.List.Elements.{Contains-push}
 use Rattle.std.proofs.lemmas.List.Sorted.{sorted_far}
 
 -- ---- membership
@@ -51,27 +54,32 @@ module _ {X : Type 0} {R : X → X → Ordering} (order : IsTotalOrder R) where
     | inl same ↦ sym same
     | inr later ↦ elim (in_either x xs y right) [
       | inl same ↦ same
-      | inr also ↦ absurd (not_both x y (of_each (λ z. R x z ≡ Less) xs y p also) (of_each (λ z. R y z ≡ Less) ys x q later))
+      | inr also ↦ absurd (not_both x y (of_each (λ z. R x z ≡ Less) xs y p also)
+          (of_each (λ z. R y z ≡ Less) ys x q later))
     ]
   ]
 
   -- what is behind the first stands behind the other's first, where both begin alike
-  behind_both : (x y : X) (xs ys : List X) → AllByRecursion (λ z. R x z ≡ Less) xs → x ≡ y → ((z : X) → Contains (x ∷ xs) z → Contains (y ∷ ys) z)
+  behind_both : (x y : X) (xs ys : List X) → AllByRecursion (λ z. R x z ≡ Less) xs → x ≡ y
+      → ((z : X) → Contains (x ∷ xs) z → Contains (y ∷ ys) z)
       → (z : X) → Contains xs z → Contains ys z
   behind_both x y xs ys p same into z there = elim (in_either y ys z (into z (behind_it x xs z there))) [
     | inr later ↦ later
-    | inl first ↦ absurd (not_below_itself x (subst (λ w. R x w ≡ Less) (sym (same ∙ first)) (of_each (λ w. R x w ≡ Less) xs z p there)))
+    | inl first ↦ absurd (not_below_itself x
+        (subst (λ w. R x w ≡ Less) (sym (same ∙ first)) (of_each (λ w. R x w ≡ Less) xs z p there)))
   ]
 
   -- two lists that rise strictly and have the same elements are one
-  pub rising_one : (xs ys : List X) → IsStrictlySortedBy R xs → IsStrictlySortedBy R ys → ((z : X) → Contains xs z → Contains ys z) → ((z : X) → Contains ys z → Contains xs z) → xs ≡ ys
+  pub rising_one : (xs ys : List X) → IsStrictlySortedBy R xs → IsStrictlySortedBy R ys
+      → ((z : X) → Contains xs z → Contains ys z) → ((z : X) → Contains ys z → Contains xs z) → xs ≡ ys
   unfolding IsStrictlySortedBy
   rising_one [] [] p q into back = refl
   rising_one [] (y ∷ ys) p q into back = absurd (in_nothing y (back y (in_front y ys)))
   rising_one (x ∷ xs) [] p q into back = absurd (in_nothing x (into x (in_front x xs)))
   rising_one (x ∷ xs) (y ∷ ys) p q into back =
       let same : x ≡ y = one_head x y xs ys p.0 q.0 (into x (in_front x xs)) (back y (in_front y ys)) in
-      let rest : xs ≡ ys = rising_one xs ys p.1 q.1 (behind_both x y xs ys p.0 same into) (behind_both y x ys xs q.0 (sym same) back) in
+      let rest : xs ≡ ys = rising_one xs ys p.1 q.1 (behind_both x y xs ys p.0 same into)
+      (behind_both y x ys xs q.0 (sym same) back) in
       cc
 
 -- ---- sorted lists
@@ -92,9 +100,11 @@ module _ {X : Type 0} (lt : X → X → Bool) (order : IsStrictWeakOrder lt) whe
   pub ascends_from : (xs : List X) → IsSortedBy lt xs → Ascends lt xs
   ascends_from [] up = tt
   ascends_from (x ∷ xs) up = (
-    recursion_from_All (λ y. lt y x ≡ false) xs (λ k d within. sorted_far lt order (x ∷ xs) up 0 (suc k) d (omega arith) (omega arith)),
+    recursion_from_All (λ y. lt y x ≡ false) xs
+        (λ k d within. sorted_far lt order (x ∷ xs) up 0 (suc k) d (omega arith) (omega arith)),
     ascends_from xs (λ k d low within.
-        let next : lt (get_or (x ∷ xs) (suc k + 1) d) (get_or (x ∷ xs) (suc k) d) ≡ false = up (suc k) d (omega arith) (omega arith) in
+        let next : lt (get_or (x ∷ xs) (suc k + 1) d) (get_or (x ∷ xs) (suc k) d) ≡ false =
+        up (suc k) d (omega arith) (omega arith) in
         rw add_one (rw add_one at next)),
   )
     where
@@ -121,28 +131,36 @@ module _ {X : Type 0} {R : X → X → Ordering} (order : IsTotalOrder R) where
   alone x xs = kept (ties lt x) x xs (tie x x (not_less_itself x) (not_less_itself x))
 
   -- the other list's first element isn't above the first of this one
-  not_above : (x y : X) (xs ys : List X) → AllByRecursion (λ z. lt z y ≡ false) ys → filter (ties lt x) (x ∷ xs) ≡ filter (ties lt x) (y ∷ ys) → lt x y ≡ false
+  not_above : (x y : X) (xs ys : List X) → AllByRecursion (λ z. lt z y ≡ false) ys
+      → filter (ties lt x) (x ∷ xs) ≡ filter (ties lt x) (y ∷ ys) → lt x y ≡ false
   not_above x y xs ys up same =
       All-head (λ z. lt z y ≡ false) x (filter (ties lt x) xs)
       (subst (All (λ z. lt z y ≡ false)) (sym same ∙ alone x xs)
-      (All-filter (ties lt x) (λ z. lt z y ≡ false) (y ∷ ys) (All-from_recursion (λ z. lt z y ≡ false) (y ∷ ys) (not_less_itself y, up))))
+      (All-filter (ties lt x) (λ z. lt z y ≡ false) (y ∷ ys)
+      (All-from_recursion (λ z. lt z y ≡ false) (y ∷ ys) (not_less_itself y, up))))
 
   one_less : (x y : X) (xs ys : List X) → x ∷ xs ≡ y ∷ ys → (x ≡ y) × (xs ≡ ys)
   one_less x y xs ys e = (cc, cc)
 
   -- two lists that ascend, and of which each element's ties stand in one order, are one
-  pub sorted_one : (xs ys : List X) → Ascends lt xs → Ascends lt ys → ((z : X) → filter (ties lt z) xs ≡ filter (ties lt z) ys) → xs ≡ ys
+  pub sorted_one : (xs ys : List X) → Ascends lt xs → Ascends lt ys
+      → ((z : X) → filter (ties lt z) xs ≡ filter (ties lt z) ys) → xs ≡ ys
   sorted_one [] [] p q same = refl
   sorted_one [] (y ∷ ys) p q same = let none : [] ≡ y ∷ filter (ties lt y) ys = same y ∙ alone y ys in absurd cc
   sorted_one (x ∷ xs) [] p q same = let none : x ∷ filter (ties lt x) xs ≡ [] = sym (alone x xs) ∙ same x in absurd cc
   sorted_one (x ∷ xs) (y ∷ ys) p q same =
-      let tied : ties lt x y ≡ true = tie x y (not_above x y xs ys q.0 (same x)) (not_above y x ys xs p.0 (sym (same y))) in
-      let heads : x ≡ y = (one_less x y (filter (ties lt x) xs) (filter (ties lt x) ys) (sym (alone x xs) ∙ same x ∙ kept (ties lt x) y ys tied)).0 in
+      let tied : ties lt x y ≡ true =
+      tie x y (not_above x y xs ys q.0 (same x)) (not_above y x ys xs p.0 (sym (same y))) in
+      let heads : x ≡ y = (one_less x y (filter (ties lt x) xs) (filter (ties lt x) ys)
+      (sym (alone x xs) ∙ same x ∙ kept (ties lt x) y ys tied)).0 in
       let rest : xs ≡ ys = sorted_one xs ys p.1 q.1 (λ z. tails z heads) in
       cc
     where
       tails : (z : X) → x ≡ y → filter (ties lt z) xs ≡ filter (ties lt z) ys
       tails z heads = elim (cases_Bool (ties lt z x)) [
-        | inl holds ↦ (one_less x y (filter (ties lt z) xs) (filter (ties lt z) ys) (sym (kept (ties lt z) x xs holds) ∙ same z ∙ kept (ties lt z) y ys (subst (λ w. ties lt z w ≡ true) heads holds))).1
-        | inr fails ↦ sym (passed (ties lt z) x xs fails) ∙ same z ∙ passed (ties lt z) y ys (subst (λ w. ties lt z w ≡ false) heads fails)
+        | inl holds ↦ (one_less x y (filter (ties lt z) xs) (filter (ties lt z) ys)
+            (sym (kept (ties lt z) x xs holds) ∙ same z
+            ∙ kept (ties lt z) y ys (subst (λ w. ties lt z w ≡ true) heads holds))).1
+        | inr fails ↦ sym (passed (ties lt z) x xs fails) ∙ same z
+            ∙ passed (ties lt z) y ys (subst (λ w. ties lt z w ≡ false) heads fails)
       ]

@@ -7,7 +7,8 @@ use Rattle.source_tree.specs.Reading.{kept_bytes, max_kept_length}
 pub kept_bytes-fits : (xs ys : List ℕ) → length xs + length ys ≤ max_kept_length → kept_bytes (xs ++ ys) ≡ xs ++ ys
 kept_bytes-fits xs ys fits = take_all max_kept_length (xs ++ ys) (omega (arith, length-append xs ys))
 
-pub kept_bytes-cut : (xs ys : List ℕ) (n : ℕ) → length xs + n ≡ max_kept_length → kept_bytes (xs ++ ys) ≡ xs ++ take n ys
+pub kept_bytes-cut : (xs ys : List ℕ) (n : ℕ) → length xs + n ≡ max_kept_length
+    → kept_bytes (xs ++ ys) ≡ xs ++ take n ys
 kept_bytes-cut xs ys n e = ap (λ k. take k (xs ++ ys)) (sym e) ∙ take-append-add xs ys n
 
 take-take-append : (n : ℕ) (xs ys : List ℕ) → take n (take n xs ++ ys) ≡ take n (xs ++ ys)
@@ -16,7 +17,8 @@ take-take-append (suc n) [] ys = refl
 take-take-append (suc n) (x ∷ xs) ys = ap (λ l. x ∷ l) (take-take-append n xs ys)
 
 -- what is kept of more, where what came before was kept
-pub kept_bytes-more : (given part kept_before : List ℕ) → kept_before ≡ kept_bytes given → kept_bytes (kept_before ++ part) ≡ kept_bytes (given ++ part)
+pub kept_bytes-more : (given part kept_before : List ℕ) → kept_before ≡ kept_bytes given
+    → kept_bytes (kept_before ++ part) ≡ kept_bytes (given ++ part)
 kept_bytes-more given part kept_before e = rw e (take-take-append max_kept_length given part)
 
 pub kept_bytes-few : (bytes : List ℕ) → length (kept_bytes bytes) ≤ max_kept_length

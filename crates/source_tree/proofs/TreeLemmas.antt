@@ -1,5 +1,6 @@
 -- The sorted sources and the sorted included files that count are the tree.
-use Rattle.std.proofs.Common.{◌≡◌, inl, inr, ℕ, ◌+◌, ◌<◌, ◌≤◌, Bool, true, false, zero, suc, List, [], ◌∷◌, ◌++◌, map, length, Some, refl, ap, sym, ◌∙◌, subst, arith, length-append}
+use Rattle.std.proofs.Common.{◌≡◌, inl, inr, ℕ, ◌+◌, ◌<◌, ◌≤◌, Bool, true, false, zero, suc, List, [], ◌∷◌, ◌++◌, map}
+use Rattle.std.proofs.Common.{length, Some, refl, ap, sym, ◌∙◌, subst, arith, length-append}
 use Rattle.std.specs.declared.cmp.Ordering.TheVariants.{Less}
 use Rattle.std.specs.Ordering.{nat_cmp}
 use Rattle.std.specs.Prelude.{Result, Ok, Err, OnOk}
@@ -14,17 +15,23 @@ use Rattle.std.proofs.lemmas.Cmp.{on_total, then_total, nat_list_cmp_total}
 use Rattle.std.proofs.lemmas.Slice.Eq.{bytes_eq-Decides}
 use Rattle.std.proofs.lemmas.Map.Made.{AllPairs-from_IsDistinct}
 use Rattle.std.proofs.lemmas.List.Sorted.{IsPermutation-sym, length_permutation, All-permutation, Contains-permutation}
-use Rattle.std.proofs.lemmas.List.Elements.{All-cons, All-head, All-tail, All-map, All-append, All-from_recursion, recursion_from_All, Contains-append_left, Contains-append_right, Contains-append_cases}
+use Rattle.std.proofs.lemmas.List.Elements.{All-cons, All-head, All-tail, All-map, All-append, All-from_recursion}
+use Rattle.std.proofs.lemmas.List.Elements.{recursion_from_All, Contains-append_left, Contains-append_right}
+use Rattle.std.proofs.lemmas.List.Elements.{Contains-append_cases}
 use Rattle.scip_symbol.specs.Path.{IsGoodPath}
-use Rattle.source_tree.specs.Files.{SourceFile, TreeFile, in_tree, path_cmp, paths_of, HasPath, file_cmp, IsByPath, RepeatsAPath}
-use Rattle.source_tree.specs.Trees.{max_files, HaveOwnPaths, IsTree, Counts, IsFileOf, of_source, of_included, HaveGoodPaths, IsTreeOf}
+use Rattle.source_tree.specs.Files.{SourceFile, TreeFile, in_tree, path_cmp, paths_of, HasPath, file_cmp, IsByPath}
+use Rattle.source_tree.specs.Files.{RepeatsAPath}
+use Rattle.source_tree.specs.Trees.{max_files, HaveOwnPaths, IsTree, Counts, IsFileOf, of_source, of_included}
+use Rattle.source_tree.specs.Trees.{HaveGoodPaths, IsTreeOf}
 use Rattle.source_tree.specs.Marks.{marks_of, marked, files_of}
 use Rattle.source_tree.proofs.OrderLemmas.{in_front, behind_it, in_nothing, in_either, ascends_from, not_below_itself}
-use Rattle.source_tree.proofs.PathLemmas.{before, paths_total, paths_rank, AreDistinct, distinct_permutation, distinct_from, rises_from}
+use Rattle.source_tree.proofs.PathLemmas.{before, paths_total, paths_rank, AreDistinct, distinct_permutation}
+use Rattle.source_tree.proofs.PathLemmas.{distinct_from, rises_from}
 use Rattle.source_tree.proofs.CountingLemmas.{counts_found, counts_marked, length-marked, All-marked, distinct_marked}
 
 pub files_total : IsTotalOrder file_cmp
-files_total = then_total (on_total (λ (file : TreeFile). file.is_included) bool_cmp_total) (on_total (λ (file : TreeFile). file.path) nat_list_cmp_total)
+files_total = then_total (on_total (λ (file : TreeFile). file.is_included) bool_cmp_total)
+    (on_total (λ (file : TreeFile). file.path) nat_list_cmp_total)
 
 -- ---- elements of mapped lists
 
@@ -35,7 +42,8 @@ mapped f (z ∷ zs) x there = elim (in_either z zs x there) [
   | inr later ↦ behind_it (f z) (map f zs) (f x) (mapped f zs x later)
 ]
 
-mapped_from : {X Y : Type 0} (f : X → Y) (xs : List X) (y : Y) → Contains (map f xs) y → (x : X) × Contains xs x × (f x ≡ y)
+mapped_from : {X Y : Type 0} (f : X → Y) (xs : List X) (y : Y) → Contains (map f xs) y
+    → (x : X) × Contains xs x × (f x ≡ y)
 mapped_from f [] y there = absurd (in_nothing y there)
 mapped_from {X} f (z ∷ zs) y there = elim (in_either (f z) (map f zs) y there) [
   | inl same ↦ (z, in_front z zs, same)
@@ -57,27 +65,33 @@ back P (x ∷ xs) ys each = back P xs ys (All-tail P x (xs ++ ys) each)
 
 -- ---- in order
 
-below_included : (x : SourceFile) (included : List SourceFile) → AllByRecursion (λ y. file_cmp (in_tree false x) y ≡ Less) (map (in_tree true) included)
+below_included : (x : SourceFile) (included : List SourceFile)
+    → AllByRecursion (λ y. file_cmp (in_tree false x) y ≡ Less) (map (in_tree true) included)
 below_included x [] = tt
 below_included x (y ∷ included) = (refl, below_included x included)
 
-below_both : (x : SourceFile) (sources included : List SourceFile) → AllByRecursion (λ y. path_cmp x y ≡ Less) sources → AllByRecursion (λ y. file_cmp (in_tree false x) y ≡ Less) (files_of sources included)
+below_both : (x : SourceFile) (sources included : List SourceFile) → AllByRecursion (λ y. path_cmp x y ≡ Less) sources
+    → AllByRecursion (λ y. file_cmp (in_tree false x) y ≡ Less) (files_of sources included)
 below_both x [] included up = below_included x included
 below_both x (y ∷ sources) included up = (up.0, below_both x sources included up.1)
 
-below_later : (x : SourceFile) (included : List SourceFile) → AllByRecursion (λ y. path_cmp x y ≡ Less) included → AllByRecursion (λ y. file_cmp (in_tree true x) y ≡ Less) (map (in_tree true) included)
+below_later : (x : SourceFile) (included : List SourceFile) → AllByRecursion (λ y. path_cmp x y ≡ Less) included
+    → AllByRecursion (λ y. file_cmp (in_tree true x) y ≡ Less) (map (in_tree true) included)
 below_later x [] up = tt
 below_later x (y ∷ included) up = (up.0, below_later x included up.1)
 
-rising_included : (included : List SourceFile) → IsStrictlySortedBy path_cmp included → IsStrictlySortedBy file_cmp (map (in_tree true) included)
+rising_included : (included : List SourceFile) → IsStrictlySortedBy path_cmp included
+    → IsStrictlySortedBy file_cmp (map (in_tree true) included)
 unfolding IsStrictlySortedBy
 rising_included [] up = tt
 rising_included (x ∷ included) up = (below_later x included up.0, rising_included included up.1)
 
-rising_files : (sources included : List SourceFile) → IsStrictlySortedBy path_cmp sources → IsStrictlySortedBy path_cmp included → IsStrictlySortedBy file_cmp (files_of sources included)
+rising_files : (sources included : List SourceFile) → IsStrictlySortedBy path_cmp sources
+    → IsStrictlySortedBy path_cmp included → IsStrictlySortedBy file_cmp (files_of sources included)
 unfolding IsStrictlySortedBy
 rising_files [] included up later = rising_included included later
-rising_files (x ∷ sources) included up later = (below_both x sources included up.0, rising_files sources included up.1 later)
+rising_files (x ∷ sources) included up later =
+    (below_both x sources included up.0, rising_files sources included up.1 later)
 
 -- ---- paths of their own
 
@@ -86,33 +100,47 @@ abbrev Own : List TreeFile → Type 0
 Own [] = Unit {0}
 Own (x ∷ files) = AllByRecursion (λ y. x.path ≡ y.path → ⊥) files × Own files
 
-later_differs : (x : TreeFile) (rest : List TreeFile) → AllByRecursion (λ y. x.path ≡ y.path → ⊥) rest → (k : ℕ) (y : TreeFile) → slice_get rest k ≡ Some y → x.path ≡ y.path → ⊥
+later_differs : (x : TreeFile) (rest : List TreeFile) → AllByRecursion (λ y. x.path ≡ y.path → ⊥) rest
+    → (k : ℕ) (y : TreeFile) → slice_get rest k ≡ Some y → x.path ≡ y.path → ⊥
 later_differs x [] each k y at same = absurd cc
-later_differs x (z ∷ rest) each zero y at same = let is : z ≡ y = cc in each.0 (same ∙ ap (λ (f : TreeFile). f.path) (sym is))
+later_differs x (z ∷ rest) each zero y at same = let is : z ≡ y = cc in
+    each.0 (same ∙ ap (λ (f : TreeFile). f.path) (sym is))
 later_differs x (z ∷ rest) each (suc k) y at same = later_differs x rest each.1 k y at same
 
 own_from : (files : List TreeFile) → Own files → HaveOwnPaths files
 own_from [] own i j a b at_a at_b same = absurd cc
 own_from (x ∷ files) own zero zero a b at_a at_b same = refl
-own_from (x ∷ files) own zero (suc j) a b at_a at_b same = absurd (let is : x ≡ a = cc in later_differs x files own.0 j b at_b (ap (λ (f : TreeFile). f.path) is ∙ same))
-own_from (x ∷ files) own (suc i) zero a b at_a at_b same = absurd (let is : x ≡ b = cc in later_differs x files own.0 i a at_a (ap (λ (f : TreeFile). f.path) is ∙ sym same))
+own_from (x ∷ files) own zero (suc j) a b at_a at_b same =
+    absurd (let is : x ≡ a = cc in later_differs x files own.0 j b at_b (ap (λ (f : TreeFile). f.path) is ∙ same))
+own_from (x ∷ files) own (suc i) zero a b at_a at_b same =
+    absurd (let is : x ≡ b = cc in later_differs x files own.0 i a at_a (ap (λ (f : TreeFile). f.path) is ∙ sym same))
 own_from (x ∷ files) own (suc i) (suc j) a b at_a at_b same = ap suc (own_from files own.1 i j a b at_a at_b same)
 
 not_less_alike : (x y : SourceFile) → path_cmp x y ≡ Less → x.path ≡ y.path → ⊥
-not_less_alike x y below same = not_below_itself paths_total x (subst (λ p. slice_cmp nat_cmp x.path p ≡ Less) (sym same) below)
+not_less_alike x y below same =
+    not_below_itself paths_total x (subst (λ p. slice_cmp nat_cmp x.path p ≡ Less) (sym same) below)
 
-own_alike : (flag : Bool) (x : SourceFile) (files : List SourceFile) → AllByRecursion (λ y. path_cmp x y ≡ Less) files → AllByRecursion (λ (y : TreeFile). x.path ≡ y.path → ⊥) (map (in_tree flag) files)
+own_alike : (flag : Bool) (x : SourceFile) (files : List SourceFile) → AllByRecursion (λ y. path_cmp x y ≡ Less) files
+    → AllByRecursion (λ (y : TreeFile). x.path ≡ y.path → ⊥) (map (in_tree flag) files)
 own_alike flag x [] up = tt
 own_alike flag x (y ∷ files) up = (not_less_alike x y up.0, own_alike flag x files up.1)
 
-own_both : (x : SourceFile) (sources included : List SourceFile) → AllByRecursion (λ y. path_cmp x y ≡ Less) sources → (HasPath included x.path → ⊥)
+own_both : (x : SourceFile) (sources included : List SourceFile) → AllByRecursion (λ y. path_cmp x y ≡ Less) sources
+    → (HasPath included x.path → ⊥)
     → AllByRecursion (λ (y : TreeFile). x.path ≡ y.path → ⊥) (files_of sources included)
-own_both x [] included up apart = recursion_from_All (λ (y : TreeFile). x.path ≡ y.path → ⊥) (map (in_tree true) included)
-    (All-map (λ (y : TreeFile). x.path ≡ y.path → ⊥) (in_tree true) included (All-from_recursion (λ (y : SourceFile). x.path ≡ y.path → ⊥) included (go included (λ there. apart there))))
+own_both x [] included up apart =
+    recursion_from_All (λ (y : TreeFile). x.path ≡ y.path → ⊥) (map (in_tree true) included)
+    (All-map (λ (y : TreeFile). x.path ≡ y.path → ⊥) (in_tree true) included
+    (All-from_recursion (λ (y : SourceFile). x.path ≡ y.path → ⊥) included (go included (λ there. apart there))))
   where
-    go : (rest : List SourceFile) → (HasPath rest x.path → ⊥) → AllByRecursion (λ (y : SourceFile). x.path ≡ y.path → ⊥) rest
+    go : (rest : List SourceFile) → (HasPath rest x.path → ⊥)
+        → AllByRecursion (λ (y : SourceFile). x.path ≡ y.path → ⊥) rest
     go [] none = tt
-    go (y ∷ rest) none = (λ same. none (subst (λ p. Contains (paths_of (y ∷ rest)) p) (sym same) (in_front y.path (paths_of rest))), go rest (λ there. none (behind_it y.path (paths_of rest) x.path there)))
+    go (y ∷ rest) none = (
+      λ same. none
+          (subst (λ p. Contains (paths_of (y ∷ rest)) p) (sym same) (in_front y.path (paths_of rest))),
+      go rest (λ there. none (behind_it y.path (paths_of rest) x.path there)),
+    )
 own_both x (y ∷ sources) included up apart = (not_less_alike x y up.0, own_both x sources included up.1 apart)
 
 own_included : (included : List SourceFile) → IsStrictlySortedBy path_cmp included → Own (map (in_tree true) included)
@@ -120,16 +148,20 @@ unfolding IsStrictlySortedBy
 own_included [] up = tt
 own_included (x ∷ included) up = (own_alike true x included up.0, own_included included up.1)
 
-own_files : (sources included : List SourceFile) → IsStrictlySortedBy path_cmp sources → IsStrictlySortedBy path_cmp included
+own_files : (sources included : List SourceFile) → IsStrictlySortedBy path_cmp sources
+    → IsStrictlySortedBy path_cmp included
     → ((file : SourceFile) → Contains sources file → HasPath included file.path → ⊥) → Own (files_of sources included)
 unfolding IsStrictlySortedBy
 own_files [] included up later apart = own_included included later
-own_files (x ∷ sources) included up later apart =
-    (own_both x sources included up.0 (apart x (in_front x sources)), own_files sources included up.1 later (λ file there. apart file (behind_it x sources file there)))
+own_files (x ∷ sources) included up later apart = (
+  own_both x sources included up.0 (apart x (in_front x sources)),
+  own_files sources included up.1 later (λ file there. apart file (behind_it x sources file there)),
+)
 
 -- ---- the tree
 
--- what the code has made of the lists: the sources sorted, none with the path of another, and the included files that count, sorted
+-- what the code has made of the lists: the sources sorted, none with the path of another, and the included files that
+-- count, sorted
 pub record IsMade (sources included listed counted : List SourceFile) : Type 0 where
   pub few : length sources + length included ≤ max_files
   pub good : HaveGoodPaths (sources ++ included)
@@ -143,7 +175,8 @@ module _ (sources included listed counted : List SourceFile) (made : IsMade sour
   listed_distinct = distinct_from listed made.none
 
   counted_distinct : AreDistinct counted
-  counted_distinct = distinct_permutation (marked (marks_of (paths_of sources) included) included) counted made.complete (distinct_marked (paths_of sources) included)
+  counted_distinct = distinct_permutation (marked (marks_of (paths_of sources) included) included) counted made.complete
+      (distinct_marked (paths_of sources) included)
 
   listed_rises : IsStrictlySortedBy path_cmp listed
   listed_rises = rises_from listed (ascends_from before paths_rank listed made.by_path.ascends) listed_distinct
@@ -153,36 +186,49 @@ module _ (sources included listed counted : List SourceFile) (made : IsMade sour
 
   counted_counts : (file : SourceFile) → Contains counted file → Counts sources included file
   counted_counts file there =
-      counts_found sources included file (Contains-permutation counted (marked (marks_of (paths_of sources) included) included) file (IsPermutation-sym (marked (marks_of (paths_of sources) included) included) counted made.complete) there)
+      counts_found sources included file
+      (Contains-permutation counted (marked (marks_of (paths_of sources) included) included) file
+      (IsPermutation-sym (marked (marks_of (paths_of sources) included) included) counted made.complete) there)
 
   counts_counted : (file : SourceFile) → Counts sources included file → Contains counted file
-  counts_counted file it = Contains-permutation (marked (marks_of (paths_of sources) included) included) counted file made.complete (counts_marked sources included file it)
+  counts_counted file it =
+      Contains-permutation (marked (marks_of (paths_of sources) included) included) counted file made.complete
+      (counts_marked sources included file it)
 
   listed_from : (file : SourceFile) → Contains listed file → Contains sources file
-  listed_from file there = Contains-permutation listed sources file (IsPermutation-sym sources listed made.by_path.complete) there
+  listed_from file there =
+      Contains-permutation listed sources file (IsPermutation-sym sources listed made.by_path.complete) there
 
   apart : (file : SourceFile) → Contains listed file → HasPath counted file.path → ⊥
   apart file there path =
       let other = mapped_from (λ (f : SourceFile). f.path) counted file.path path in
-      (counted_counts other.0 other.1).apart (subst (λ p. Contains (paths_of sources) p) (sym other.2) (mapped (λ (f : SourceFile). f.path) sources file (listed_from file there)))
+      (counted_counts other.0 other.1).apart
+      (subst (λ p. Contains (paths_of sources) p) (sym other.2)
+      (mapped (λ (f : SourceFile). f.path) sources file (listed_from file there)))
 
   whole_found : (file : TreeFile) → Contains (files_of listed counted) file → IsFileOf sources included file
-  whole_found file there = elim (Contains-append_cases (map (in_tree false) listed) (map (in_tree true) counted) file there) [
-    | inl one ↦ (let found = mapped_from (in_tree false) listed file one in subst (IsFileOf sources included) found.2 (of_source (listed_from found.0 found.1)))
-    | inr one ↦ (let found = mapped_from (in_tree true) counted file one in subst (IsFileOf sources included) found.2 (of_included (counted_counts found.0 found.1)))
-  ]
+  whole_found file there =
+      elim (Contains-append_cases (map (in_tree false) listed) (map (in_tree true) counted) file there) [
+        | inl one ↦ (let found = mapped_from (in_tree false) listed file one in
+            subst (IsFileOf sources included) found.2 (of_source (listed_from found.0 found.1)))
+        | inr one ↦ (let found = mapped_from (in_tree true) counted file one in
+            subst (IsFileOf sources included) found.2 (of_included (counted_counts found.0 found.1)))
+      ]
 
   whole_if : (file : TreeFile) → IsFileOf sources included file → Contains (files_of listed counted) file
   whole_if file (of_source {file = given} there) =
-      Contains-append_left (map (in_tree false) listed) (map (in_tree true) counted) (in_tree false given) (mapped (in_tree false) listed given (Contains-permutation sources listed given made.by_path.complete there))
+      Contains-append_left (map (in_tree false) listed) (map (in_tree true) counted) (in_tree false given)
+      (mapped (in_tree false) listed given (Contains-permutation sources listed given made.by_path.complete there))
   whole_if file (of_included {file = given} it) =
-      Contains-append_right (map (in_tree false) listed) (map (in_tree true) counted) (in_tree true given) (mapped (in_tree true) counted given (counts_counted given it))
+      Contains-append_right (map (in_tree false) listed) (map (in_tree true) counted) (in_tree true given)
+      (mapped (in_tree true) counted given (counts_counted given it))
 
   pub made_tree_of : IsTreeOf sources included (files_of listed counted)
   made_tree_of = record {
     few = made.few;
     good = made.good;
-    apart = AllPairs-from_IsDistinct bytes_eq-Decides (paths_of sources) (distinct_permutation listed sources (IsPermutation-sym sources listed made.by_path.complete) listed_distinct);
+    apart = AllPairs-from_IsDistinct bytes_eq-Decides (paths_of sources)
+        (distinct_permutation listed sources (IsPermutation-sym sources listed made.by_path.complete) listed_distinct);
     whole = λ file. (whole_found file, whole_if file);
     rising = rising_files listed counted listed_rises counted_rises;
   }
@@ -199,12 +245,16 @@ module _ (sources included listed counted : List SourceFile) (made : IsMade sour
       omega arith
 
   good_files : All (λ (file : TreeFile). IsGoodPath file.path) (files_of listed counted)
-  good_files = All-append (λ (file : TreeFile). IsGoodPath file.path) (map (in_tree false) listed) (map (in_tree true) counted)
+  good_files = All-append (λ (file : TreeFile). IsGoodPath file.path) (map (in_tree false) listed)
+      (map (in_tree true) counted)
       (All-map (λ (file : TreeFile). IsGoodPath file.path) (in_tree false) listed
-      (All-permutation (λ (file : SourceFile). IsGoodPath file.path) sources listed made.by_path.complete (front (λ (file : SourceFile). IsGoodPath file.path) sources included made.good)))
+      (All-permutation (λ (file : SourceFile). IsGoodPath file.path) sources listed made.by_path.complete
+      (front (λ (file : SourceFile). IsGoodPath file.path) sources included made.good)))
       (All-map (λ (file : TreeFile). IsGoodPath file.path) (in_tree true) counted
-      (All-permutation (λ (file : SourceFile). IsGoodPath file.path) (marked (marks_of (paths_of sources) included) included) counted made.complete
-      (All-marked (λ (file : SourceFile). IsGoodPath file.path) (marks_of (paths_of sources) included) included (back (λ (file : SourceFile). IsGoodPath file.path) sources included made.good))))
+      (All-permutation (λ (file : SourceFile). IsGoodPath file.path)
+      (marked (marks_of (paths_of sources) included) included) counted made.complete
+      (All-marked (λ (file : SourceFile). IsGoodPath file.path) (marks_of (paths_of sources) included) included
+      (back (λ (file : SourceFile). IsGoodPath file.path) sources included made.good))))
 
   pub made_tree : IsTree (files_of listed counted)
   made_tree = record {
@@ -215,19 +265,23 @@ module _ (sources included listed counted : List SourceFile) (made : IsMade sour
   }
 
 pub made_from : (sources included listed counted picked : List SourceFile) (marks : List Bool)
-    → length sources + length included ≤ max_files → HaveGoodPaths (sources ++ included) → marks ≡ marks_of (paths_of sources) included
-    → IsByPath sources listed → ((number : ℕ) → RepeatsAPath listed number → ⊥) → picked ≡ marked marks included → IsPermutation picked counted → IsSorted path_cmp counted
+    → length sources + length included ≤ max_files → HaveGoodPaths (sources ++ included)
+    → marks ≡ marks_of (paths_of sources) included
+    → IsByPath sources listed → ((number : ℕ) → RepeatsAPath listed number → ⊥) → picked ≡ marked marks included
+    → IsPermutation picked counted → IsSorted path_cmp counted
     → IsMade sources included listed counted
-made_from sources included listed counted picked marks few good are_marks by_path none are_marked complete ascends = record {
-  few = few;
-  good = good;
-  by_path = by_path;
-  none = none;
-  complete = subst (λ l. IsPermutation l counted) (are_marked ∙ ap (λ m. marked m included) are_marks) complete;
-  ascends = ascends;
-}
+made_from sources included listed counted picked marks few good are_marks by_path none are_marked complete ascends =
+    record {
+      few = few;
+      good = good;
+      by_path = by_path;
+      none = none;
+      complete = subst (λ l. IsPermutation l counted) (are_marked ∙ ap (λ m. marked m included) are_marks) complete;
+      ascends = ascends;
+    }
 
-pub few_from : (sources included : List SourceFile) → (max_files < length sources + length included → ⊥) → length sources + length included ≤ max_files
+pub few_from : (sources included : List SourceFile) → (max_files < length sources + length included → ⊥)
+    → length sources + length included ≤ max_files
 few_from sources included few = elim (cases_lt max_files (length sources + length included)) [
   | inl many ↦ absurd (few many)
   | inr within ↦ within

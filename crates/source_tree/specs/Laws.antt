@@ -13,12 +13,14 @@ OneTree = (sources included : List SourceFile) (files others : List TreeFile)
 
 -- files are sorted by path in one way
 abbrev pub OneSortingByPath : Type 0
-OneSortingByPath = (files sorted other : List SourceFile) → IsByPath files sorted → IsByPath files other → sorted ≡ other
+OneSortingByPath = (files sorted other : List SourceFile) → IsByPath files sorted → IsByPath files other
+    → sorted ≡ other
 
 -- two faults of the same files are one, want of memory aside
 abbrev pub RefusalsExcludeEachOther : Type 0
 RefusalsExcludeEachOther = (sources included : List SourceFile) (fault other : TreeFault)
-    → MayRefuse sources included fault → MayRefuse sources included other → (fault ≡ other) ⊎ ((fault ≡ Memory) ⊎ (other ≡ Memory))
+    → MayRefuse sources included fault → MayRefuse sources included other
+    → (fault ≡ other) ⊎ ((fault ≡ Memory) ⊎ (other ≡ Memory))
 
 -- where there is a tree, no fault but want of memory holds
 abbrev pub TreesAreNotRefused : Type 0

@@ -1,5 +1,6 @@
 -- What a tree is: the sources, which are indexed, and the included files, which are linked alone (the profile's).
-use Rattle.std.specs.Prelude.{◌≡◌, ◌≢◌, ◌↔◌, ℕ, ◌+◌, ◌<◌, ◌≤◌, true, false, List, ◌∷◌, ◌++◌, Some, length, slice_get, All, AllPairs, Contains}
+use Rattle.std.specs.Prelude.{◌≡◌, ◌≢◌, ◌↔◌, ℕ, ◌+◌, ◌<◌, ◌≤◌, true, false, List, ◌∷◌, ◌++◌, Some, length, slice_get}
+use Rattle.std.specs.Prelude.{All, AllPairs, Contains}
 use Rattle.std.specs.List.Sorted.{IsStrictlySortedBy}
 use Rattle.scip_symbol.specs.Path.{IsGoodPath}
 use Rattle.source_tree.specs.Files.{SourceFile, TreeFile, in_tree, paths_of, HasPath, file_cmp}
@@ -10,7 +11,8 @@ max_files = 65536
 
 -- no two files have one path
 abbrev pub HaveOwnPaths : List TreeFile → Type 0
-HaveOwnPaths files = (i j : ℕ) (a b : TreeFile) → slice_get files i ≡ Some a → slice_get files j ≡ Some b → a.path ≡ b.path → i ≡ j
+HaveOwnPaths files = (i j : ℕ) (a b : TreeFile) → slice_get files i ≡ Some a → slice_get files j ≡ Some b
+    → a.path ≡ b.path → i ≡ j
 
 -- What holds of the files of any tree, which are told by their numbers in a list: the sources by path, and then the
 -- included files by path.
@@ -23,7 +25,8 @@ pub record IsTree (files : List TreeFile) : Type 0 where
 -- how many of the files are sources: their numbers are those below this one
 pub record IsSourceCount (files : List TreeFile) (count : ℕ) : Type 0 where
   pub within : count ≤ length files
-  pub sources : (number : ℕ) (file : TreeFile) → slice_get files number ≡ Some file → (number < count) ↔ (file.is_included ≡ false)
+  pub sources : (number : ℕ) (file : TreeFile) → slice_get files number ≡ Some file → (number < count)
+      ↔ (file.is_included ≡ false)
 
 -- An included file counts where it is the first listed of its path, and no source has the path.
 pub record Counts (sources included : List SourceFile) (file : SourceFile) : Type 0 where

@@ -1,5 +1,6 @@
 -- Whole writes (`WholeWrites`): of one text behind another, and by the loop of `write_all`.
-use Rattle.std.proofs.Common.{zero, suc, [], ◌∷◌, ◌<◌, Ok, refl, ◌≡◌, ℕ, ◌≤◌, ◌+◌, ◌-◌, List, length, take, drop, ◌++◌, Option, arith, length-drop, sym, ap, subst, ◌∙◌, take-add}
+use Rattle.std.proofs.Common.{zero, suc, [], ◌∷◌, ◌<◌, Ok, refl, ◌≡◌, ℕ, ◌≤◌, ◌+◌, ◌-◌, List, length, take, drop, ◌++◌}
+use Rattle.std.proofs.Common.{Option, arith, length-drop, sym, ap, subst, ◌∙◌, take-add}
 use Rattle.std.proofs.Math.Seq.{take-append-add}
 use Rattle.std.proofs.lemmas.List.{drop-drop, length-append}
 use Rattle.std.proofs.KnownBytes.{Appends-nil, Appends-trans}
@@ -14,32 +15,38 @@ module _ {W : Type 0} (contents : W → Option (List ℕ)) (failures : W → ℕ
   pub IsWritten-nil : (a : W) → IsWritten contents failures a a []
   IsWritten-nil a = record { written = Appends-nil (contents a); unfailed = refl }
 
-  pub IsWritten-trans : (a b c : W) (first second : List ℕ) → IsWritten contents failures a b first → IsWritten contents failures b c second
+  pub IsWritten-trans : (a b c : W) (first second : List ℕ) → IsWritten contents failures a b first
+      → IsWritten contents failures b c second
       → IsWritten contents failures a c (first ++ second)
   IsWritten-trans a b c first second p q = record {
     written = Appends-trans (contents a) (contents b) (contents c) first second p.written q.written;
     unfailed = q.unfailed ∙ p.unfailed;
   }
 
-  pub IsCutOff-after : (a b c : W) (first second : List ℕ) (count : ℕ) → IsWritten contents failures a b first → IsCutOff contents failures b c second count
+  pub IsCutOff-after : (a b c : W) (first second : List ℕ) (count : ℕ) → IsWritten contents failures a b first
+      → IsCutOff contents failures b c second count
       → IsCutOff contents failures a c (first ++ second) (length first + count)
   IsCutOff-after a b c first second count p q = record {
     short = omega (arith, length-append first second, q.short);
-    written = rw (take-append-add first second count) (Appends-trans (contents a) (contents b) (contents c) first (take count second) p.written q.written);
+    written = rw (take-append-add first second count)
+        (Appends-trans (contents a) (contents b) (contents c) first (take count second) p.written q.written);
     failed = q.failed ∙ ap one_more p.unfailed;
   }
 
 -- ---- the steps of `write_all`, of which `rest` is what is left
 
 -- after n more bytes, what is left begins n further on
-pub rest_further : (bytes rest : List ℕ) (n : ℕ) → length rest ≤ length bytes → rest ≡ drop (length bytes - length rest) bytes → n ≤ length rest
+pub rest_further : (bytes rest : List ℕ) (n : ℕ) → length rest ≤ length bytes
+    → rest ≡ drop (length bytes - length rest) bytes → n ≤ length rest
     → drop n rest ≡ drop (length bytes - length (drop n rest)) bytes
 rest_further bytes rest n fits suffix bound =
-    let count : length bytes - length (drop n rest) ≡ length bytes - length rest + n = omega (arith, length-drop n rest) in
+    let count : length bytes - length (drop n rest) ≡ length bytes - length rest + n =
+    omega (arith, length-drop n rest) in
     rw count (ap (drop n) suffix ∙ drop-drop n (length bytes - length rest) bytes)
 
 -- and what went out ends n further on
-pub sent_further : (bytes rest : List ℕ) (n : ℕ) → length rest ≤ length bytes → rest ≡ drop (length bytes - length rest) bytes → n ≤ length rest
+pub sent_further : (bytes rest : List ℕ) (n : ℕ) → length rest ≤ length bytes
+    → rest ≡ drop (length bytes - length rest) bytes → n ≤ length rest
     → take (length bytes - length rest) bytes ++ take n rest ≡ take (length bytes - length (drop n rest)) bytes
 sent_further bytes rest n fits suffix bound =
     let sent = length bytes - length rest in
@@ -47,6 +54,7 @@ sent_further bytes rest n fits suffix bound =
     rw count (sym (take-add sent n bytes ∙ ap (λ l. take sent bytes ++ take n l) (sym suffix)))
 
 -- a write that took some bytes is no failure
-pub unfailed_write : (failures n : ℕ) (bytes : List ℕ) → 0 < n → failures_after_write {E = Failed} failures (Ok n) bytes ≡ failures
+pub unfailed_write : (failures n : ℕ) (bytes : List ℕ) → 0 < n
+    → failures_after_write {E = Failed} failures (Ok n) bytes ≡ failures
 unfailed_write failures zero bytes p = absurd (omega arith)
 unfailed_write failures (suc n) bytes p = refl

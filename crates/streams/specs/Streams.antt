@@ -1,4 +1,5 @@
--- What one write and one read do to a sink's and a feed's counts. Counts stop at the last u64, where nothing exact is known.
+-- What one write and one read do to a sink's and a feed's counts. Counts stop at the last u64, where nothing exact is
+-- known.
 use Rattle.std.specs.Prelude.{ℕ, zero, suc, ◌+◌, ◌-◌, ◌^◌, min, List, [], ◌∷◌, Result, Ok, Err}
 
 -- the count at which counts stop: the last u64

@@ -17,7 +17,8 @@ use Rattle.proto_grammar.specs.Grammar.Fields.IsLabel.{repeated, optional, no_la
 use Rattle.proto_grammar.specs.Grammar.Fields.IsField.{field}
 use Rattle.proto_grammar.specs.Grammar.Fields.IsOneofField.{oneof_field}
 use Rattle.proto_grammar.specs.Grammar.Fields.IsMapField.{map_field}
-use Rattle.proto_grammar.specs.Grammar.Reserved.{IsInteger, IsRangeEnd, IsRange, IsReservedItem, IsCommaItem, IsReserved}
+use Rattle.proto_grammar.specs.Grammar.Reserved.{IsInteger, IsRangeEnd, IsRange, IsReservedItem, IsCommaItem}
+use Rattle.proto_grammar.specs.Grammar.Reserved.{IsReserved}
 use Rattle.proto_grammar.specs.Grammar.Reserved.IsInteger.{plain, minus}
 use Rattle.proto_grammar.specs.Grammar.Reserved.IsRangeEnd.{number, max}
 use Rattle.proto_grammar.specs.Grammar.Reserved.IsRange.{single, range}
@@ -25,55 +26,71 @@ use Rattle.proto_grammar.specs.Grammar.Reserved.IsReservedItem.{name as a_name, 
 use Rattle.proto_grammar.specs.Grammar.Reserved.IsCommaItem.{comma_item}
 use Rattle.proto_grammar.specs.Grammar.Reserved.IsReserved.{reserved}
 use Rattle.proto_grammar.specs.Reading.Repetition.{span_at, passing}
-use Rattle.proto_grammar.specs.Reading.Fields.{numbered_at, typed_at, label_at, field_at, oneof_field_at, pass_field_at, map_field_at}
-use Rattle.proto_grammar.specs.Reading.Reserved.{plain_integer_at, integer_at, range_end_at, range_at, reserved_item_at, comma_item_at, comma_items_at, reserved_at}
-use Rattle.proto_grammar.proofs.TokenLemmas.{token_exact, one_next, one_others, next_other_kind, next_no_word, next_other_word}
+use Rattle.proto_grammar.specs.Reading.Fields.{numbered_at, typed_at, label_at, field_at, oneof_field_at, pass_field_at}
+use Rattle.proto_grammar.specs.Reading.Fields.{map_field_at}
+use Rattle.proto_grammar.specs.Reading.Reserved.{plain_integer_at, integer_at, range_end_at, range_at, reserved_item_at}
+use Rattle.proto_grammar.specs.Reading.Reserved.{comma_item_at, comma_items_at, reserved_at}
+use Rattle.proto_grammar.proofs.TokenLemmas.{token_exact, one_next, one_others, next_other_kind, next_no_word}
+use Rattle.proto_grammar.proofs.TokenLemmas.{next_other_word}
 use Rattle.proto_grammar.proofs.UntilLemmas.{until_at-exact, passing-exact}
 use Rattle.proto_grammar.proofs.StepsFall.{comma_items_fall}
 use Rattle.proto_grammar.proofs.Exact.Names.{type_exact, pass_type_exact}
 use Rattle.proto_grammar.proofs.Exact.Options.{options_exact, strings_exact}
 
-numbered_exact : {custom : CustomOptions} {first : Span} {a b : List Lexeme} {x : Heading} → IsNumbered custom first a x b → numbered_at custom first a ≡ Some (x, b)
+numbered_exact : {custom : CustomOptions} {first : Span} {a b : List Lexeme} {x : Heading}
+    → IsNumbered custom first a x b → numbered_at custom first a ≡ Some (x, b)
 unfolding numbered_at
-numbered_exact (numbered n q i o s) = rw (token_exact n, token_exact q, token_exact i, options_exact o, token_exact s) refl
+numbered_exact (numbered n q i o s) =
+    rw (token_exact n, token_exact q, token_exact i, options_exact o, token_exact s) refl
 
-typed_exact : {custom : CustomOptions} {first : Span} {label : Option Label} {a b : List Lexeme} {x : Field} → IsTyped custom first label a x b → typed_at custom first label a ≡ Some (x, b)
+typed_exact : {custom : CustomOptions} {first : Span} {label : Option Label} {a b : List Lexeme} {x : Field}
+    → IsTyped custom first label a x b → typed_at custom first label a ≡ Some (x, b)
 unfolding typed_at
 typed_exact (typed t n) = rw (type_exact t, numbered_exact n) refl
 
 label_exact : {a b : List Lexeme} {x : Option Label} → IsLabel a x b → label_at a ≡ Some (x, b)
 unfolding label_at
 label_exact (repeated w) = rw (one_next w, one_others w) refl
-label_exact (optional {a} w) = rw (next_other_word (codes "optional") (codes "repeated") a refl (one_next w), one_next w, one_others w) refl
+label_exact (optional {a} w) =
+    rw (next_other_word (codes "optional") (codes "repeated") a refl (one_next w), one_next w, one_others w) refl
 label_exact (no_label p q) = rw (p, q) refl
 
-pub field_exact : {custom : CustomOptions} {a b : List Lexeme} {x : Field} → IsField custom a x b → field_at custom a ≡ Some (x, b)
+pub field_exact : {custom : CustomOptions} {a b : List Lexeme} {x : Field} → IsField custom a x b
+    → field_at custom a ≡ Some (x, b)
 unfolding field_at span_at
 field_exact (field l t) = rw (label_exact l) (typed_exact t)
 
-pub oneof_field_exact : {custom : CustomOptions} {a b : List Lexeme} {x : Field} → IsOneofField custom a x b → oneof_field_at custom a ≡ Some (x, b)
+pub oneof_field_exact : {custom : CustomOptions} {a b : List Lexeme} {x : Field} → IsOneofField custom a x b
+    → oneof_field_at custom a ≡ Some (x, b)
 unfolding oneof_field_at span_at
 oneof_field_exact (oneof_field t) = typed_exact t
 
-pub pass_field_exact : {custom : CustomOptions} {a b : List Lexeme} {x : Field} → IsField custom a x b → pass_field_at custom a ≡ Some (tt, b)
+pub pass_field_exact : {custom : CustomOptions} {a b : List Lexeme} {x : Field} → IsField custom a x b
+    → pass_field_at custom a ≡ Some (tt, b)
 unfolding pass_field_at span_at
 pass_field_exact (field l (typed t n)) = rw (label_exact l, pass_type_exact t, numbered_exact n) refl
 
-pub map_field_exact : {custom : CustomOptions} {a b : List Lexeme} {x : MapField} → IsMapField custom a x b → map_field_at custom a ≡ Some (x, b)
+pub map_field_exact : {custom : CustomOptions} {a b : List Lexeme} {x : MapField} → IsMapField custom a x b
+    → map_field_at custom a ≡ Some (x, b)
 unfolding map_field_at
-map_field_exact (map_field f l k c v g h) = rw (token_exact f, token_exact l, token_exact k, token_exact c, type_exact v, token_exact g, numbered_exact h) refl
+map_field_exact (map_field f l k c v g h) =
+    rw (token_exact f, token_exact l, token_exact k, token_exact c, type_exact v, token_exact g, numbered_exact h) refl
 
-pub integer_exact : {negative : Bool} {a b : List Lexeme} → IsInteger negative a b → integer_at negative a ≡ Some (tt, b)
+pub integer_exact : {negative : Bool} {a b : List Lexeme} → IsInteger negative a b
+    → integer_at negative a ≡ Some (tt, b)
 unfolding integer_at plain_integer_at
-integer_exact (plain {negative = true} {a = a} n) = rw (next_other_kind Integer Minus a refl (one_next n), token_exact n) refl
+integer_exact (plain {negative = true} {a = a} n) =
+    rw (next_other_kind Integer Minus a refl (one_next n), token_exact n) refl
 integer_exact (plain {negative = false} n) = rw (token_exact n) refl
 integer_exact (minus m n) = rw (one_next m, one_others m, token_exact n) refl
 
-integer_no_word : (word : List ℕ) {negative : Bool} {a b : List Lexeme} → IsInteger negative a b → first_is (is_word word) a ≡ false
+integer_no_word : (word : List ℕ) {negative : Bool} {a b : List Lexeme} → IsInteger negative a b
+    → first_is (is_word word) a ≡ false
 integer_no_word word (plain {a = a} n) = next_no_word Integer word a refl (one_next n)
 integer_no_word word (minus {a = a} m n) = next_no_word Minus word a refl (one_next m)
 
-range_end_exact : {negative : Bool} {a b : List Lexeme} → IsRangeEnd negative a b → range_end_at negative a ≡ Some (tt, b)
+range_end_exact : {negative : Bool} {a b : List Lexeme} → IsRangeEnd negative a b
+    → range_end_at negative a ≡ Some (tt, b)
 unfolding range_end_at
 range_end_exact (number i) = rw (integer_no_word (codes "max") i) (integer_exact i)
 range_end_exact (max w) = rw (one_next w, one_others w) refl
@@ -83,23 +100,28 @@ unfolding range_at
 range_exact (single i none_next) = rw (integer_exact i, none_next) refl
 range_exact (range i w e) = rw (integer_exact i, one_next w, one_others w) (range_end_exact e)
 
-reserved_item_exact : {negative names : Bool} {a b : List Lexeme} → IsReservedItem negative names a b → reserved_item_at negative names a ≡ Some (tt, b)
+reserved_item_exact : {negative names : Bool} {a b : List Lexeme} → IsReservedItem negative names a b
+    → reserved_item_at negative names a ≡ Some (tt, b)
 unfolding reserved_item_at
 reserved_item_exact (a_name t) = strings_exact t
 reserved_item_exact (a_number r) = range_exact r
 
-comma_item_exact : (negative names : Bool) (a b : List Lexeme) → IsCommaItem negative names a b → comma_item_at negative names a ≡ Some (tt, b)
+comma_item_exact : (negative names : Bool) (a b : List Lexeme) → IsCommaItem negative names a b
+    → comma_item_at negative names a ≡ Some (tt, b)
 unfolding comma_item_at
 comma_item_exact negative names a b (comma_item c i) = rw (token_exact c) (reserved_item_exact i)
 
-pub reserved_exact : {negative : Bool} {a b : List Lexeme} → IsReserved negative a b → reserved_at negative a ≡ Some (tt, b)
+pub reserved_exact : {negative : Bool} {a b : List Lexeme} → IsReserved negative a b
+    → reserved_at negative a ≡ Some (tt, b)
 unfolding reserved_at comma_items_at
 reserved_exact {negative} (reserved {names} k is i u s) =
     rw (
       token_exact k,
       is,
       reserved_item_exact i,
-      until_at-exact (not_next Comma) (passing (comma_item_at negative names)) (Passes (IsCommaItem negative names)) (comma_items_fall negative names)
-          (passing-exact (comma_item_at negative names) (IsCommaItem negative names) (comma_item_exact negative names)) u,
+      until_at-exact (not_next Comma) (passing (comma_item_at negative names)) (Passes (IsCommaItem negative names))
+          (comma_items_fall negative names)
+          (passing-exact (comma_item_at negative names) (IsCommaItem negative names) (comma_item_exact negative names))
+          u,
       token_exact s,
     ) refl

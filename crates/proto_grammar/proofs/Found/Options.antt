@@ -1,28 +1,36 @@
 -- What is read is in the grammar: options.
-use Rattle.std.proofs.Common.{◌≡◌, ℕ, zero, suc, ◌==◌, false, Some, None, List, [], ◌∷◌, refl, sym, ◌∙◌, subst, codes, arith}
+use Rattle.std.proofs.Common.{◌≡◌, ℕ, zero, suc, ◌==◌, false, Some, None, List, [], ◌∷◌, refl, sym, ◌∙◌, subst, codes}
+use Rattle.std.proofs.Common.{arith}
 use Rattle.std.proofs.lemmas.Bool.Decides.{nat_tests}
-use Rattle.proto_lex.specs.declared.token.TokenKind.TheVariants.{Identifier, StringLiteral, Semicolon, Equals, OpenBrace, CloseBrace, OpenBracket, CloseBracket, OpenParenthesis, CloseParenthesis, Comma, Dot}
+use Rattle.proto_lex.specs.declared.token.TokenKind.TheVariants.{Identifier, StringLiteral, Semicolon, Equals}
+use Rattle.proto_lex.specs.declared.token.TokenKind.TheVariants.{OpenBrace, CloseBrace, OpenBracket, CloseBracket}
+use Rattle.proto_lex.specs.declared.token.TokenKind.TheVariants.{OpenParenthesis, CloseParenthesis, Comma, Dot}
 use Rattle.proto_grammar.specs.declared.tree.CustomOptions.{CustomOptions}
 use Rattle.proto_grammar.specs.declared.tree.CustomOptions.TheVariants.{Refuse, Skip}
 use Rattle.proto_grammar.specs.Lexeme.{Lexeme}
 use Rattle.proto_grammar.specs.Terminal.{first_is, of_kind, is_word, is_sign, is_numeral, is_number, not_next}
 use Rattle.proto_grammar.specs.Grammar.Repetition.{Passes}
 use Rattle.proto_grammar.specs.Grammar.Repetition.One.{one}
-use Rattle.proto_grammar.specs.Grammar.Options.{IsOptionPart, IsDotPart, IsOptionName, IsLiteral, IsStrings, IsClosed, IsConstant, IsSetting, IsCommaSetting, IsOption, IsOptions}
+use Rattle.proto_grammar.specs.Grammar.Options.{IsOptionPart, IsDotPart, IsOptionName, IsLiteral, IsStrings, IsClosed}
+use Rattle.proto_grammar.specs.Grammar.Options.{IsConstant, IsSetting, IsCommaSetting, IsOption, IsOptions}
 use Rattle.proto_grammar.specs.Grammar.Options.IsOptionPart.{plain, extension}
 use Rattle.proto_grammar.specs.Grammar.Options.IsDotPart.{dot_part}
 use Rattle.proto_grammar.specs.Grammar.Options.IsOptionName.{option_name}
 use Rattle.proto_grammar.specs.Grammar.Options.IsLiteral.{literal}
 use Rattle.proto_grammar.specs.Grammar.Options.IsStrings.{strings}
 use Rattle.proto_grammar.specs.Grammar.Options.IsClosed.{closed, open_brace, close_brace, other}
-use Rattle.proto_grammar.specs.Grammar.Options.IsConstant.{name as a_name, signed, unsigned, strings as some_strings, aggregate}
+use Rattle.proto_grammar.specs.Grammar.Options.IsConstant.{name as a_name, signed, unsigned, strings as some_strings}
+use Rattle.proto_grammar.specs.Grammar.Options.IsConstant.{aggregate}
 use Rattle.proto_grammar.specs.Grammar.Options.IsSetting.{setting}
 use Rattle.proto_grammar.specs.Grammar.Options.IsCommaSetting.{comma_setting}
 use Rattle.proto_grammar.specs.Grammar.Options.IsOption.{option}
 use Rattle.proto_grammar.specs.Grammar.Options.IsOptions.{none, some}
 use Rattle.proto_grammar.specs.Reading.Repetition.{token_that, passing, until_at}
 use Rattle.proto_grammar.specs.Reading.Names.{pass_type_name_at}
-use Rattle.proto_grammar.specs.Reading.Options.{extension_at, part_at, dot_part_at, dot_parts_at, option_name_at, literal_at, literals_at, strings_at, depth_behind, closed_at, aggregate_at, signed_at, constant_at, setting_at, comma_setting_at, comma_settings_at, option_at, bracketed_at, options_at}
+use Rattle.proto_grammar.specs.Reading.Options.{extension_at, part_at, dot_part_at, dot_parts_at, option_name_at}
+use Rattle.proto_grammar.specs.Reading.Options.{literal_at, literals_at, strings_at, depth_behind, closed_at}
+use Rattle.proto_grammar.specs.Reading.Options.{aggregate_at, signed_at, constant_at, setting_at, comma_setting_at}
+use Rattle.proto_grammar.specs.Reading.Options.{comma_settings_at, option_at, bracketed_at, options_at}
 use Rattle.proto_grammar.proofs.OptionSteps.{bind_some, chosen}
 use Rattle.proto_grammar.proofs.TokenLemmas.{token_found}
 use Rattle.proto_grammar.proofs.UntilLemmas.{until_at-found, passing-found}
@@ -32,7 +40,8 @@ use Rattle.proto_grammar.proofs.Found.Names.{pass_name_found, pass_type_name_fou
 pub left_of : {A B : Type 0} {a : A} {rest : B} (x : A × B) → Some (a, rest) ≡ Some x → rest ≡ x.1
 left_of x e = cc
 
-pub part_found : (custom : CustomOptions) (tokens : List Lexeme) (x : Unit {0} × List Lexeme) → part_at custom tokens ≡ Some x → IsOptionPart custom tokens x.1
+pub part_found : (custom : CustomOptions) (tokens : List Lexeme) (x : Unit {0} × List Lexeme)
+    → part_at custom tokens ≡ Some x → IsOptionPart custom tokens x.1
 unfolding part_at extension_at
 part_found Refuse tokens x e =
     chosen (first_is (of_kind OpenParenthesis) tokens) _ _ (Some x) e
@@ -52,36 +61,43 @@ part_found Skip tokens x e =
     let n = bind_some (token_that (of_kind Identifier) tokens) _ x read in
     subst (λ (y : List Lexeme). IsOptionPart Skip tokens y) (left_of x n.2) (plain (token_found _ _ n.1)))
 
-pub dot_part_found : (custom : CustomOptions) (tokens : List Lexeme) (x : Unit {0} × List Lexeme) → dot_part_at custom tokens ≡ Some x → IsDotPart custom tokens x.1
+pub dot_part_found : (custom : CustomOptions) (tokens : List Lexeme) (x : Unit {0} × List Lexeme)
+    → dot_part_at custom tokens ≡ Some x → IsDotPart custom tokens x.1
 unfolding dot_part_at
 dot_part_found custom tokens x e =
     let d = bind_some (token_that (of_kind Dot) tokens) _ x e in
     dot_part (token_found _ _ d.1) (part_found custom _ _ d.2)
 
-pub option_name_found : (custom : CustomOptions) (tokens : List Lexeme) (x : Unit {0} × List Lexeme) → option_name_at custom tokens ≡ Some x → IsOptionName custom tokens x.1
+pub option_name_found : (custom : CustomOptions) (tokens : List Lexeme) (x : Unit {0} × List Lexeme)
+    → option_name_at custom tokens ≡ Some x → IsOptionName custom tokens x.1
 unfolding option_name_at dot_parts_at
 option_name_found custom tokens x e =
     let p = bind_some (part_at custom tokens) _ x e in
     option_name (part_found custom _ _ p.1)
-    (until_at-found (not_next Dot) (passing (dot_part_at custom)) (Passes (IsDotPart custom)) (passing-found (dot_part_at custom) (IsDotPart custom) (dot_part_found custom)) tt p.0.1 x p.2)
+    (until_at-found (not_next Dot) (passing (dot_part_at custom)) (Passes (IsDotPart custom))
+    (passing-found (dot_part_at custom) (IsDotPart custom) (dot_part_found custom)) tt p.0.1 x p.2)
 
-pub literal_found : (tokens : List Lexeme) (x : Unit {0} × List Lexeme) → literal_at tokens ≡ Some x → IsLiteral tokens x.1
+pub literal_found : (tokens : List Lexeme) (x : Unit {0} × List Lexeme) → literal_at tokens ≡ Some x
+    → IsLiteral tokens x.1
 unfolding literal_at
 literal_found tokens x e =
     let t = bind_some (token_that (of_kind StringLiteral) tokens) _ x e in
     subst (λ (y : List Lexeme). IsLiteral tokens y) (left_of x t.2) (literal (token_found _ _ t.1))
 
-pub strings_found : (tokens : List Lexeme) (x : Unit {0} × List Lexeme) → strings_at tokens ≡ Some x → IsStrings tokens x.1
+pub strings_found : (tokens : List Lexeme) (x : Unit {0} × List Lexeme) → strings_at tokens ≡ Some x
+    → IsStrings tokens x.1
 unfolding strings_at literals_at
 strings_found tokens x e =
     let t = bind_some (literal_at tokens) _ x e in
     strings (literal_found _ _ t.1)
-    (until_at-found (not_next StringLiteral) (passing literal_at) (Passes IsLiteral) (passing-found literal_at IsLiteral literal_found) tt t.0.1 x t.2)
+    (until_at-found (not_next StringLiteral) (passing literal_at) (Passes IsLiteral)
+    (passing-found literal_at IsLiteral literal_found) tt t.0.1 x t.2)
 
 not_zero : (depth : ℕ) → (suc depth == 0) ≡ false
 not_zero depth = grind (arith, nat_tests)
 
-closed_found : (depth : ℕ) (tokens : List Lexeme) (x : Unit {0} × List Lexeme) → closed_at depth tokens ≡ Some x → IsClosed depth tokens x.1
+closed_found : (depth : ℕ) (tokens : List Lexeme) (x : Unit {0} × List Lexeme) → closed_at depth tokens ≡ Some x
+    → IsClosed depth tokens x.1
 unfolding closed_at
 closed_found zero [] x e = subst (λ (y : List Lexeme). IsClosed zero [] y) (left_of x e) closed
 closed_found zero (t ∷ rest) x e = subst (λ (y : List Lexeme). IsClosed zero (t ∷ rest) y) (left_of x e) closed
@@ -99,14 +115,16 @@ closed_found (suc depth) (t ∷ rest) x e' =
     (λ no_close same.
     other no_open no_close (one refl) (closed_found (suc depth) rest x (rw (← same) at e))))
 
-aggregate_found : (custom : CustomOptions) (tokens : List Lexeme) (x : Unit {0} × List Lexeme) → aggregate_at custom tokens ≡ Some x → IsConstant custom tokens x.1
+aggregate_found : (custom : CustomOptions) (tokens : List Lexeme) (x : Unit {0} × List Lexeme)
+    → aggregate_at custom tokens ≡ Some x → IsConstant custom tokens x.1
 unfolding aggregate_at
 aggregate_found Refuse tokens x e = cc
 aggregate_found Skip tokens x e =
     let o = bind_some (token_that (of_kind OpenBrace) tokens) _ x e in
     aggregate (token_found _ _ o.1) (closed_found 1 _ _ o.2)
 
-pub constant_found : (custom : CustomOptions) (tokens : List Lexeme) (x : Unit {0} × List Lexeme) → constant_at custom tokens ≡ Some x → IsConstant custom tokens x.1
+pub constant_found : (custom : CustomOptions) (tokens : List Lexeme) (x : Unit {0} × List Lexeme)
+    → constant_at custom tokens ≡ Some x → IsConstant custom tokens x.1
 unfolding constant_at signed_at
 constant_found custom tokens x e =
     chosen (first_is (of_kind Identifier) tokens) _ _ (Some x) e
@@ -115,7 +133,8 @@ constant_found custom tokens x e =
     (λ _ read.
     let s = bind_some (token_that is_sign tokens) _ x read in
     let n = bind_some (token_that is_number s.0.1) _ x s.2 in
-    subst (λ (y : List Lexeme). IsConstant custom tokens y) (left_of x n.2) (signed (token_found _ _ s.1) (token_found _ _ n.1)))
+    subst (λ (y : List Lexeme). IsConstant custom tokens y) (left_of x n.2)
+    (signed (token_found _ _ s.1) (token_found _ _ n.1)))
     (λ _ read. chosen (first_is (of_kind StringLiteral) tokens) _ _ (Some x) read
     (λ _ read. some_strings (strings_found _ _ read))
     (λ _ read. chosen (first_is (of_kind OpenBrace) tokens) _ _ (Some x) read
@@ -124,28 +143,33 @@ constant_found custom tokens x e =
     let n = bind_some (token_that is_numeral tokens) _ x read in
     subst (λ (y : List Lexeme). IsConstant custom tokens y) (left_of x n.2) (unsigned (token_found _ _ n.1))))))
 
-pub setting_found : (custom : CustomOptions) (tokens : List Lexeme) (x : Unit {0} × List Lexeme) → setting_at custom tokens ≡ Some x → IsSetting custom tokens x.1
+pub setting_found : (custom : CustomOptions) (tokens : List Lexeme) (x : Unit {0} × List Lexeme)
+    → setting_at custom tokens ≡ Some x → IsSetting custom tokens x.1
 unfolding setting_at
 setting_found custom tokens x e =
     let n = bind_some (option_name_at custom tokens) _ x e in
     let q = bind_some (token_that (of_kind Equals) n.0.1) _ x n.2 in
     setting (option_name_found custom _ _ n.1) (token_found _ _ q.1) (constant_found custom _ _ q.2)
 
-pub comma_setting_found : (custom : CustomOptions) (tokens : List Lexeme) (x : Unit {0} × List Lexeme) → comma_setting_at custom tokens ≡ Some x → IsCommaSetting custom tokens x.1
+pub comma_setting_found : (custom : CustomOptions) (tokens : List Lexeme) (x : Unit {0} × List Lexeme)
+    → comma_setting_at custom tokens ≡ Some x → IsCommaSetting custom tokens x.1
 unfolding comma_setting_at
 comma_setting_found custom tokens x e =
     let c = bind_some (token_that (of_kind Comma) tokens) _ x e in
     comma_setting (token_found _ _ c.1) (setting_found custom _ _ c.2)
 
-pub option_found : (custom : CustomOptions) (tokens : List Lexeme) (x : Unit {0} × List Lexeme) → option_at custom tokens ≡ Some x → IsOption custom tokens x.1
+pub option_found : (custom : CustomOptions) (tokens : List Lexeme) (x : Unit {0} × List Lexeme)
+    → option_at custom tokens ≡ Some x → IsOption custom tokens x.1
 unfolding option_at
 option_found custom tokens x e =
     let k = bind_some (token_that (is_word (codes "option")) tokens) _ x e in
     let v = bind_some (setting_at custom k.0.1) _ x k.2 in
     let s = bind_some (token_that (of_kind Semicolon) v.0.1) _ x v.2 in
-    subst (λ (y : List Lexeme). IsOption custom tokens y) (left_of x s.2) (option (token_found _ _ k.1) (setting_found custom _ _ v.1) (token_found _ _ s.1))
+    subst (λ (y : List Lexeme). IsOption custom tokens y) (left_of x s.2)
+    (option (token_found _ _ k.1) (setting_found custom _ _ v.1) (token_found _ _ s.1))
 
-pub options_found : (custom : CustomOptions) (tokens : List Lexeme) (x : Unit {0} × List Lexeme) → options_at custom tokens ≡ Some x → IsOptions custom tokens x.1
+pub options_found : (custom : CustomOptions) (tokens : List Lexeme) (x : Unit {0} × List Lexeme)
+    → options_at custom tokens ≡ Some x → IsOptions custom tokens x.1
 unfolding options_at bracketed_at comma_settings_at
 options_found custom tokens x e =
     chosen (first_is (of_kind OpenBracket) tokens) _ _ (Some x) e

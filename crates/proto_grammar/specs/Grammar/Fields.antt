@@ -24,7 +24,8 @@ pub data IsNumbered (custom : CustomOptions) (first : Span) : List Lexeme → He
       → IsNumbered custom first a (record { first = first; name = name; closing = closing }) f
 
 -- type IDENT "=" INT [ fieldOptions ] ";", of a field with this first token and label.
-pub data IsTyped (custom : CustomOptions) (first : Span) (label : Option Label) : List Lexeme → Field → List Lexeme → Type 0 where
+pub data IsTyped (custom : CustomOptions) (first : Span) (label : Option Label) : List Lexeme → Field → List Lexeme
+    → Type 0 where
   typed : {a b c : List Lexeme} {type : FieldType} {heading : Heading}
       → IsType a type b → IsNumbered custom first b heading c
       → IsTyped custom first label a (record { heading = heading; label = label; field_type = type }) c
@@ -48,7 +49,8 @@ pub data IsOneofField (custom : CustomOptions) : List Lexeme → Field → List 
 
 -- mapField = "map" "<" KEY "," type ">" IDENT "=" INT [ fieldOptions ] ";"
 pub data IsMapField (custom : CustomOptions) : List Lexeme → MapField → List Lexeme → Type 0 where
-  map_field : {a b c d e f g h : List Lexeme} {first less key comma greater : Span} {value : FieldType} {heading : Heading}
+  map_field : {a b c d e f g h : List Lexeme} {first less key comma greater : Span} {value : FieldType}
+      {heading : Heading}
       → One (is_word (codes "map")) a first b → One (of_kind Less) b less c → One is_key c key d
       → One (of_kind Comma) d comma e
       → IsType e value f → One (of_kind Greater) f greater g → IsNumbered custom first g heading h

@@ -13,12 +13,14 @@ use Rattle.proto_link.specs.Targets.{IsNamed}
 pub record AreEntitiesOf (number : ℕ) (facts : Facts) (name : List ℕ) (count : ℕ) (parts : List Entity) : Type 0 where
   pub one_each : length parts ≡ count
   pub each : (j : ℕ) (part : Entity) → slice_get parts j ≡ Some part
-      → IsEntityOf number facts (prefix_of name (length (components_of name) - count + j + 1)) (length (components_of name) - count + j + 1) part
+      → IsEntityOf number facts (prefix_of name (length (components_of name) - count + j + 1))
+      (length (components_of name) - count + j + 1) part
 
 -- the same of what a file knows by the names
 pub record AreNamed (files : List File) (file : ℕ) (name : List ℕ) (count : ℕ) (parts : List Entity) : Type 0 where
   pub one_each : length parts ≡ count
-  pub named : (j : ℕ) (part : Entity) → slice_get parts j ≡ Some part → IsNamed files file name (length (components_of name) - count + j + 1) part
+  pub named : (j : ℕ) (part : Entity) → slice_get parts j ≡ Some part
+      → IsNamed files file name (length (components_of name) - count + j + 1) part
 
 -- so many components and one more
 abbrev pub longer : (prefix : List ℕ) (count : ℕ) (component : List ℕ) → List ℕ

@@ -1,5 +1,6 @@
 -- The spans of a tree are at tokens, in the order of a walk.
-use Rattle.std.proofs.Common.{◌≡◌, ℕ, zero, suc, ◌≤◌, Bool, Option, option_to_list, List, [], ◌∷◌, ◌++◌, map, refl, sym, ◌∙◌, ap, append_assoc, append-nil, arith}
+use Rattle.std.proofs.Common.{◌≡◌, ℕ, zero, suc, ◌≤◌, Bool, Option, option_to_list, List, [], ◌∷◌, ◌++◌, map, refl, sym}
+use Rattle.std.proofs.Common.{◌∙◌, ap, append_assoc, append-nil, arith}
 use Rattle.proto_lex.specs.declared.span.Span.{Span}
 use Rattle.proto_lex.specs.declared.token.Token.{Token}
 use Rattle.proto_lex.specs.declared.token.TokenKind.TheVariants.{Identifier}
@@ -23,9 +24,13 @@ use Rattle.proto_grammar.specs.Lexeme.{Lexeme, lexemes_of}
 use Rattle.proto_parse.specs.Limits.{max_message_depth}
 use Rattle.proto_grammar.specs.Tree.{MessageTree}
 use Rattle.proto_grammar.specs.Items.{body_of}
-use Rattle.proto_parse.specs.Walk.{Mark, Among, MarksAreInOrder, each_then, name_then, names_then, literal_then, type_name_then, type_then, heading_then, field_then, map_field_then, enum_then, oneof_then, leaf_then, body_then, message_then, method_then, service_then, item_then, import_then, marks_of_items, marks_of_imports, marks_of_package}
+use Rattle.proto_parse.specs.Walk.{Mark, Among, MarksAreInOrder, each_then, name_then, names_then, literal_then}
+use Rattle.proto_parse.specs.Walk.{type_name_then, type_then, heading_then, field_then, map_field_then, enum_then}
+use Rattle.proto_parse.specs.Walk.{oneof_then, leaf_then, body_then, message_then, method_then, service_then, item_then}
+use Rattle.proto_parse.specs.Walk.{import_then, marks_of_items, marks_of_imports, marks_of_package}
 use Rattle.proto_parse.specs.Walk.Mark.{Name, Other}
-use Rattle.proto_parse.specs.Walk.Among.{none as no_marks, skip, first as at_first, name as at_name, literal as at_literal, other as at_other}
+use Rattle.proto_parse.specs.Walk.Among.{none as no_marks, skip, first as at_first, name as at_name}
+use Rattle.proto_parse.specs.Walk.Among.{literal as at_literal, other as at_other}
 use Rattle.proto_grammar.specs.Grammar.Repetition.{Until, Adds}
 use Rattle.proto_grammar.specs.Grammar.Repetition.One.{one}
 use Rattle.proto_grammar.specs.Grammar.Repetition.Until.{done, more}
@@ -41,30 +46,46 @@ use Rattle.proto_grammar.specs.Grammar.Fields.IsTyped.{typed}
 use Rattle.proto_grammar.specs.Grammar.Fields.IsField.{field}
 use Rattle.proto_grammar.specs.Grammar.Fields.IsOneofField.{oneof_field}
 use Rattle.proto_grammar.specs.Grammar.Fields.IsMapField.{map_field}
-use Rattle.proto_parse.specs.Grammar.Messages.{IsHeading, IsValue, IsEnumItem, IsEnum, IsOneofItem, IsOneof, IsMessageItem, IsMessageOf, IsMessage}
+use Rattle.proto_parse.specs.Grammar.Messages.{IsHeading, IsValue, IsEnumItem, IsEnum, IsOneofItem, IsOneof}
+use Rattle.proto_parse.specs.Grammar.Messages.{IsMessageItem, IsMessageOf, IsMessage}
 use Rattle.proto_parse.specs.Grammar.Messages.IsHeading.{heading}
 use Rattle.proto_parse.specs.Grammar.Messages.IsValue.{value}
-use Rattle.proto_parse.specs.Grammar.Messages.IsEnumItem.{empty as enums-empty, option as enums-option, reserved as enums-reserved, value as enums-value}
+use Rattle.proto_parse.specs.Grammar.Messages.IsEnumItem.{empty as enums-empty, option as enums-option}
+use Rattle.proto_parse.specs.Grammar.Messages.IsEnumItem.{reserved as enums-reserved, value as enums-value}
 use Rattle.proto_parse.specs.Grammar.Messages.IsEnum.{enum}
-use Rattle.proto_parse.specs.Grammar.Messages.IsOneofItem.{empty as oneofs-empty, option as oneofs-option, field as oneofs-field}
+use Rattle.proto_parse.specs.Grammar.Messages.IsOneofItem.{empty as oneofs-empty, option as oneofs-option}
+use Rattle.proto_parse.specs.Grammar.Messages.IsOneofItem.{field as oneofs-field}
 use Rattle.proto_parse.specs.Grammar.Messages.IsOneof.{oneof}
-use Rattle.proto_parse.specs.Grammar.Messages.IsMessageItem.{empty as items-empty, message as items-message, enum as items-enum, option as items-option, oneof as items-oneof, map_field as items-map_field, reserved as items-reserved, extend as items-extend, field as items-field}
+use Rattle.proto_parse.specs.Grammar.Messages.IsMessageItem.{empty as items-empty, message as items-message}
+use Rattle.proto_parse.specs.Grammar.Messages.IsMessageItem.{enum as items-enum, option as items-option}
+use Rattle.proto_parse.specs.Grammar.Messages.IsMessageItem.{oneof as items-oneof, map_field as items-map_field}
+use Rattle.proto_parse.specs.Grammar.Messages.IsMessageItem.{reserved as items-reserved, extend as items-extend}
+use Rattle.proto_parse.specs.Grammar.Messages.IsMessageItem.{field as items-field}
 use Rattle.proto_parse.specs.Grammar.Messages.IsMessageOf.{message}
 use Rattle.proto_parse.specs.Grammar.Services.{IsMethodType, IsMethodEnd, IsMethod, IsServiceItem, IsService}
 use Rattle.proto_parse.specs.Grammar.Services.IsStream.{stream, no_stream}
 use Rattle.proto_parse.specs.Grammar.Services.IsMethodType.{method_type}
 use Rattle.proto_parse.specs.Grammar.Services.IsMethodEnd.{semicolon, body}
 use Rattle.proto_parse.specs.Grammar.Services.IsMethod.{method}
-use Rattle.proto_parse.specs.Grammar.Services.IsServiceItem.{empty as services-empty, option as services-option, method as services-method}
+use Rattle.proto_parse.specs.Grammar.Services.IsServiceItem.{empty as services-empty, option as services-option}
+use Rattle.proto_parse.specs.Grammar.Services.IsServiceItem.{method as services-method}
 use Rattle.proto_parse.specs.Grammar.Services.IsService.{service}
-use Rattle.proto_parse.specs.Grammar.Files.{empty_file, IsSyntax, IsPathLiteral, IsImport, IsPackage, IsStatement, IsFile}
+use Rattle.proto_parse.specs.Grammar.Files.{empty_file, IsSyntax, IsPathLiteral, IsImport, IsPackage, IsStatement}
+use Rattle.proto_parse.specs.Grammar.Files.{IsFile}
 use Rattle.proto_parse.specs.Grammar.Files.IsSyntax.{syntax}
 use Rattle.proto_parse.specs.Grammar.Files.IsPathLiteral.{path_literal}
 use Rattle.proto_parse.specs.Grammar.Files.IsImport.{import}
 use Rattle.proto_parse.specs.Grammar.Files.IsPackage.{package_statement}
-use Rattle.proto_parse.specs.Grammar.Files.IsStatement.{empty as statements-empty, import as statements-import, package_statement as statements-package_statement, option as statements-option, message as statements-message, enum as statements-enum, service as statements-service, extend as statements-extend}
+use Rattle.proto_parse.specs.Grammar.Files.IsStatement.{empty as statements-empty, import as statements-import}
+use Rattle.proto_parse.specs.Grammar.Files.IsStatement.{package_statement as statements-package_statement}
+use Rattle.proto_parse.specs.Grammar.Files.IsStatement.{option as statements-option, message as statements-message}
+use Rattle.proto_parse.specs.Grammar.Files.IsStatement.{enum as statements-enum, service as statements-service}
+use Rattle.proto_parse.specs.Grammar.Files.IsStatement.{extend as statements-extend}
 use Rattle.proto_parse.specs.Grammar.Files.IsFile.{file}
-use Rattle.proto_parse.proofs.Walk.Past.{same_kind, past, at_a_name, at_a_scalar, at_a_key, at_a_literal, at_another, at_its_first, until_past, option_past, options_past, label_past, integer_past, reserved_past, extend_past, method_item_past, joined_past, enum_past, message_past, service_past, package_past, import_kind_past, import_past}
+use Rattle.proto_parse.proofs.Walk.Past.{same_kind, past, at_a_name, at_a_scalar, at_a_key, at_a_literal, at_another}
+use Rattle.proto_parse.proofs.Walk.Past.{at_its_first, until_past, option_past, options_past, label_past, integer_past}
+use Rattle.proto_parse.proofs.Walk.Past.{reserved_past, extend_past, method_item_past, joined_past, enum_past}
+use Rattle.proto_parse.proofs.Walk.Past.{message_past, service_past, package_past, import_kind_past, import_past}
 
 -- marks of two lists
 pub each_then-append : {A : Type 0} (marks_then : A → List Mark → List Mark) (xs ys : List A) (marks : List Mark)
@@ -73,13 +94,18 @@ each_then-append marks_then [] ys marks = refl
 each_then-append marks_then (x ∷ xs) ys marks = ap (marks_then x) (each_then-append marks_then xs ys marks)
 
 -- what a chain of steps puts behind a list that a state holds
-abbrev pub Puts : {S A : Type 0} → (S → List A) → (A → List Mark → List Mark) → S → List Lexeme → S → List Lexeme → List Mark → Type 0
-Puts {S} {A} items_of marks_then s a t b marks = (xs : List A) × (items_of t ≡ items_of s ++ xs) × Among (each_then marks_then xs marks) a
+abbrev pub Puts : {S A : Type 0} → (S → List A) → (A → List Mark → List Mark) → S → List Lexeme → S → List Lexeme
+    → List Mark → Type 0
+Puts {S} {A} items_of marks_then s a t b marks =
+    (xs : List A) × (items_of t ≡ items_of s ++ xs) × Among (each_then marks_then xs marks) a
 
 -- by what each step puts
-pub until_puts : {S A : Type 0} {ends : List Lexeme → Bool} {Step : S → List Lexeme → S → List Lexeme → Type 0} (items_of : S → List A) (marks_then : A → List Mark → List Mark)
-    → ((s t : S) (a b : List Lexeme) → Step s a t b → (marks : List Mark) → Among marks b → Puts items_of marks_then s a t b marks)
-    → (s t : S) (a b : List Lexeme) → Until ends Step s a t b → (marks : List Mark) → Among marks b → Puts items_of marks_then s a t b marks
+pub until_puts : {S A : Type 0} {ends : List Lexeme → Bool} {Step : S → List Lexeme → S → List Lexeme → Type 0}
+    (items_of : S → List A) (marks_then : A → List Mark → List Mark)
+    → ((s t : S) (a b : List Lexeme) → Step s a t b → (marks : List Mark) → Among marks b
+    → Puts items_of marks_then s a t b marks)
+    → (s t : S) (a b : List Lexeme) → Until ends Step s a t b → (marks : List Mark) → Among marks b
+    → Puts items_of marks_then s a t b marks
 until_puts items_of marks_then puts s t a b (done e) marks behind = ([], sym (append-nil (items_of s)), behind)
 until_puts items_of marks_then puts s u a c (more {t = t} {b = b} further first rest) marks behind =
     let later = until_puts items_of marks_then puts t u b c rest marks behind in
@@ -91,102 +117,134 @@ until_puts items_of marks_then puts s u a c (more {t = t} {b = b} further first 
 
 -- an item that is kept, or not
 adds_puts : {A : Type 0} {Item : List Lexeme → Option A → List Lexeme → Type 0} (marks_then : A → List Mark → List Mark)
-    → ((a b : List Lexeme) (x : Option A) → Item a x b → (marks : List Mark) → Among marks b → Among (each_then marks_then (option_to_list x) marks) a)
-    → (s t : List A) (a b : List Lexeme) → Adds Item s a t b → (marks : List Mark) → Among marks b → Puts (λ items. items) marks_then s a t b marks
+    → ((a b : List Lexeme) (x : Option A) → Item a x b → (marks : List Mark) → Among marks b
+    → Among (each_then marks_then (option_to_list x) marks) a)
+    → (s t : List A) (a b : List Lexeme) → Adds Item s a t b → (marks : List Mark) → Among marks b
+    → Puts (λ items. items) marks_then s a t b marks
 adds_puts marks_then puts s t a b (adds {item = x} i) marks behind = (option_to_list x, refl, puts a b x i marks behind)
 
 -- a whole list, from none
-all_marks : {A : Type 0} {ends : List Lexeme → Bool} {Item : List Lexeme → Option A → List Lexeme → Type 0} (marks_then : A → List Mark → List Mark)
-    → ((a b : List Lexeme) (x : Option A) → Item a x b → (marks : List Mark) → Among marks b → Among (each_then marks_then (option_to_list x) marks) a)
-    → {all : List A} {a b : List Lexeme} → Until ends (Adds Item) [] a all b → {marks : List Mark} → Among marks b → Among (each_then marks_then all marks) a
+all_marks : {A : Type 0} {ends : List Lexeme → Bool} {Item : List Lexeme → Option A → List Lexeme → Type 0}
+    (marks_then : A → List Mark → List Mark)
+    → ((a b : List Lexeme) (x : Option A) → Item a x b → (marks : List Mark) → Among marks b
+    → Among (each_then marks_then (option_to_list x) marks) a)
+    → {all : List A} {a b : List Lexeme} → Until ends (Adds Item) [] a all b → {marks : List Mark} → Among marks b
+    → Among (each_then marks_then all marks) a
 all_marks marks_then puts {all} {a} {b} u {marks} behind =
     let p = until_puts (λ items. items) marks_then (adds_puts marks_then puts) [] all a b u marks behind in
     rw p.1 p.2
 
 -- a list from its first item on
-others_marks : {A : Type 0} {ends : List Lexeme → Bool} {Item : List Lexeme → Option A → List Lexeme → Type 0} (marks_then : A → List Mark → List Mark)
-    → ((a b : List Lexeme) (x : Option A) → Item a x b → (marks : List Mark) → Among marks b → Among (each_then marks_then (option_to_list x) marks) a)
-    → {front : A} {all : List A} {a b : List Lexeme} → Until ends (Adds Item) (front ∷ []) a all b → {marks : List Mark} → Among marks b
+others_marks : {A : Type 0} {ends : List Lexeme → Bool} {Item : List Lexeme → Option A → List Lexeme → Type 0}
+    (marks_then : A → List Mark → List Mark)
+    → ((a b : List Lexeme) (x : Option A) → Item a x b → (marks : List Mark) → Among marks b
+    → Among (each_then marks_then (option_to_list x) marks) a)
+    → {front : A} {all : List A} {a b : List Lexeme} → Until ends (Adds Item) (front ∷ []) a all b → {marks : List Mark}
+    → Among marks b
     → (xs : List A) × (all ≡ front ∷ xs) × Among (each_then marks_then xs marks) a
-others_marks marks_then puts {front} {all} {a} {b} u {marks} behind = until_puts (λ items. items) marks_then (adds_puts marks_then puts) (front ∷ []) all a b u marks behind
+others_marks marks_then puts {front} {all} {a} {b} u {marks} behind =
+    until_puts (λ items. items) marks_then (adds_puts marks_then puts) (front ∷ []) all a b u marks behind
 
-dot_name_marks : (a b : List Lexeme) (x : Option Span) → IsDotName a x b → (marks : List Mark) → Among marks b → Among (each_then name_then (option_to_list x) marks) a
+dot_name_marks : (a b : List Lexeme) (x : Option Span) → IsDotName a x b → (marks : List Mark) → Among marks b
+    → Among (each_then name_then (option_to_list x) marks) a
 dot_name_marks a b x (dot_name d n) marks behind = past d (at_a_name n behind)
 
-name_marks : {a b : List Lexeme} {x : List Span} {marks : List Mark} → IsName a x b → Among marks b → Among (names_then x marks) a
+name_marks : {a b : List Lexeme} {x : List Span} {marks : List Mark} → IsName a x b → Among marks b
+    → Among (names_then x marks) a
 name_marks {marks = marks} (name t u) behind =
     let others = others_marks name_then dot_name_marks u behind in
     rw others.1 (at_a_name t others.2)
 
-type_name_marks : {a b : List Lexeme} {x : TypeName} {marks : List Mark} → IsTypeName a x b → Among marks b → Among (type_name_then x marks) a
+type_name_marks : {a b : List Lexeme} {x : TypeName} {marks : List Mark} → IsTypeName a x b → Among marks b
+    → Among (type_name_then x marks) a
 type_name_marks (rooted d n) behind = at_another d (name_marks n behind)
 type_name_marks (plain_name n) behind = name_marks n behind
 
-type_marks : {a b : List Lexeme} {x : FieldType} {marks : List Mark} → IsType a x b → Among marks b → Among (type_then x marks) a
+type_marks : {a b : List Lexeme} {x : FieldType} {marks : List Mark} → IsType a x b → Among marks b
+    → Among (type_then x marks) a
 type_marks (scalar is w) behind = at_a_scalar w behind
 type_marks (named not n) behind = type_name_marks n behind
 
 -- behind the first token of a field: the rest of the field's marks
-numbered_marks : {custom : CustomOptions} {first : Span} {a b : List Lexeme} {x : Heading} {marks : List Mark} → IsNumbered custom first a x b → Among marks b
+numbered_marks : {custom : CustomOptions} {first : Span} {a b : List Lexeme} {x : Heading} {marks : List Mark}
+    → IsNumbered custom first a x b → Among marks b
     → Among (Name x.name ∷ (Other x.closing ∷ marks)) a
 numbered_marks (numbered n q i o s) behind = at_a_name n (past q (past i (options_past o (at_another s behind))))
 
-numbered_first : {custom : CustomOptions} {first : Span} {a b : List Lexeme} {x : Heading} → IsNumbered custom first a x b → x.first ≡ first
+numbered_first : {custom : CustomOptions} {first : Span} {a b : List Lexeme} {x : Heading}
+    → IsNumbered custom first a x b → x.first ≡ first
 numbered_first (numbered n q i o s) = refl
 
-field_marks : {custom : CustomOptions} {a b : List Lexeme} {x : Field} {marks : List Mark} → IsField custom a x b → Among marks b → Among (field_then x marks) a
+field_marks : {custom : CustomOptions} {a b : List Lexeme} {x : Field} {marks : List Mark} → IsField custom a x b
+    → Among marks b → Among (field_then x marks) a
 field_marks (field {t = t} {rest = rest} l (typed y n)) behind =
     rw (numbered_first n) (at_first (label_past l (type_marks y (numbered_marks n behind))))
 
-oneof_field_marks : {custom : CustomOptions} {a b : List Lexeme} {x : Field} {marks : List Mark} → IsOneofField custom a x b → Among marks b → Among (field_then x marks) a
-oneof_field_marks (oneof_field {t = t} {rest = rest} (typed y n)) behind = rw (numbered_first n) (at_first (type_marks y (numbered_marks n behind)))
+oneof_field_marks : {custom : CustomOptions} {a b : List Lexeme} {x : Field} {marks : List Mark}
+    → IsOneofField custom a x b → Among marks b → Among (field_then x marks) a
+oneof_field_marks (oneof_field {t = t} {rest = rest} (typed y n)) behind =
+    rw (numbered_first n) (at_first (type_marks y (numbered_marks n behind)))
 
-map_field_marks : {custom : CustomOptions} {a b : List Lexeme} {x : MapField} {marks : List Mark} → IsMapField custom a x b → Among marks b → Among (map_field_then x marks) a
+map_field_marks : {custom : CustomOptions} {a b : List Lexeme} {x : MapField} {marks : List Mark}
+    → IsMapField custom a x b → Among marks b → Among (map_field_then x marks) a
 map_field_marks (map_field f l k c v g h) behind =
-    rw (numbered_first h) (at_its_first f (past l (at_a_key k (past c (type_marks v (past g (numbered_marks h behind)))))))
+    rw (numbered_first h) (at_its_first f
+    (past l (at_a_key k (past c (type_marks v (past g (numbered_marks h behind)))))))
 
-heading_marks : {word : List ℕ} {a b : List Lexeme} {x : Heading} {marks : List Mark} → IsHeading word a x b → Among marks b → Among (heading_then x marks) a
+heading_marks : {word : List ℕ} {a b : List Lexeme} {x : Heading} {marks : List Mark} → IsHeading word a x b
+    → Among marks b → Among (heading_then x marks) a
 heading_marks (heading f n c) behind = at_its_first f (at_a_name n (at_another c behind))
 
-value_marks : {custom : CustomOptions} {a b : List Lexeme} {x : Heading} {marks : List Mark} → IsValue custom a x b → Among marks b → Among (heading_then x marks) a
+value_marks : {custom : CustomOptions} {a b : List Lexeme} {x : Heading} {marks : List Mark} → IsValue custom a x b
+    → Among marks b → Among (heading_then x marks) a
 value_marks (value (one {t} e) q i o s) behind =
     at_first (at_name (same_kind Identifier t.kind e) (past q (integer_past i (options_past o (at_another s behind)))))
 
-enum_item_marks : (custom : CustomOptions) (a b : List Lexeme) (x : Option Heading) → IsEnumItem custom a x b → (marks : List Mark) → Among marks b
+enum_item_marks : (custom : CustomOptions) (a b : List Lexeme) (x : Option Heading) → IsEnumItem custom a x b
+    → (marks : List Mark) → Among marks b
     → Among (each_then heading_then (option_to_list x) marks) a
 enum_item_marks custom a b x (enums-empty s) marks behind = past s behind
 enum_item_marks custom a b x (enums-option is o) marks behind = option_past o behind
 enum_item_marks custom a b x (enums-reserved is r) marks behind = reserved_past r behind
 enum_item_marks custom a b x (enums-value p q r v) marks behind = value_marks v behind
 
-enum_marks : {custom : CustomOptions} {a b : List Lexeme} {x : Enum} {marks : List Mark} → IsEnum custom a x b → Among marks b → Among (enum_then x marks) a
-enum_marks {custom} (enum h u c) behind = heading_marks h (all_marks heading_then (enum_item_marks custom) u (past c behind))
+enum_marks : {custom : CustomOptions} {a b : List Lexeme} {x : Enum} {marks : List Mark} → IsEnum custom a x b
+    → Among marks b → Among (enum_then x marks) a
+enum_marks {custom} (enum h u c) behind =
+    heading_marks h (all_marks heading_then (enum_item_marks custom) u (past c behind))
 
-oneof_item_marks : (custom : CustomOptions) (a b : List Lexeme) (x : Option Field) → IsOneofItem custom a x b → (marks : List Mark) → Among marks b
+oneof_item_marks : (custom : CustomOptions) (a b : List Lexeme) (x : Option Field) → IsOneofItem custom a x b
+    → (marks : List Mark) → Among marks b
     → Among (each_then field_then (option_to_list x) marks) a
 oneof_item_marks custom a b x (oneofs-empty s) marks behind = past s behind
 oneof_item_marks custom a b x (oneofs-option is o) marks behind = option_past o behind
 oneof_item_marks custom a b x (oneofs-field p q f) marks behind = oneof_field_marks f behind
 
-oneof_marks : {custom : CustomOptions} {a b : List Lexeme} {x : Oneof} {marks : List Mark} → IsOneof custom a x b → Among marks b → Among (oneof_then x marks) a
-oneof_marks {custom} (oneof h u c) behind = heading_marks h (all_marks field_then (oneof_item_marks custom) u (past c behind))
+oneof_marks : {custom : CustomOptions} {a b : List Lexeme} {x : Oneof} {marks : List Mark} → IsOneof custom a x b
+    → Among marks b → Among (oneof_then x marks) a
+oneof_marks {custom} (oneof h u c) behind =
+    heading_marks h (all_marks field_then (oneof_item_marks custom) u (past c behind))
 
 -- the marks of one item of a message
 abbrev message_item_then : MessageItem → List Mark → List Mark
 message_item_then (tree.Message m) marks = message_then m marks
 message_item_then (tree.Leaf leaf) marks = leaf_then leaf marks
 
-body_marks : (items : List MessageItem) (marks : List Mark) → each_then message_item_then items marks ≡ body_then (body_of items) marks
+body_marks : (items : List MessageItem) (marks : List Mark)
+    → each_then message_item_then items marks ≡ body_then (body_of items) marks
 body_marks [] marks = refl
 body_marks (tree.Message m ∷ items) marks = ap (message_then m) (body_marks items marks)
 body_marks (tree.Leaf leaf ∷ items) marks = ap (leaf_then leaf) (body_marks items marks)
 
 -- inner messages are at tokens
 abbrev MarksMessages : (List Lexeme → MessageTree → List Lexeme → Type 0) → Type 0
-MarksMessages Inner = (a b : List Lexeme) (x : MessageTree) → Inner a x b → (marks : List Mark) → Among marks b → Among (message_then x marks) a
+MarksMessages Inner = (a b : List Lexeme) (x : MessageTree) → Inner a x b → (marks : List Mark) → Among marks b
+    → Among (message_then x marks) a
 
-message_item_marks : (custom : CustomOptions) (Inner : List Lexeme → MessageTree → List Lexeme → Type 0) → MarksMessages Inner
-    → (a b : List Lexeme) (x : Option MessageItem) → IsMessageItem custom Inner a x b → (marks : List Mark) → Among marks b
+message_item_marks : (custom : CustomOptions) (Inner : List Lexeme → MessageTree → List Lexeme → Type 0)
+    → MarksMessages Inner
+    → (a b : List Lexeme) (x : Option MessageItem) → IsMessageItem custom Inner a x b → (marks : List Mark)
+    → Among marks b
     → Among (each_then message_item_then (option_to_list x) marks) a
 message_item_marks custom Inner inner a b x (items-empty is s) marks behind = past s behind
 message_item_marks custom Inner inner a b x (items-message {message = m} is i) marks behind = inner a b m i marks behind
@@ -198,7 +256,8 @@ message_item_marks custom Inner inner a b x (items-reserved is r) marks behind =
 message_item_marks custom Inner inner a b x (items-extend is e) marks behind = extend_past e behind
 message_item_marks custom Inner inner a b x (items-field is f) marks behind = field_marks f behind
 
-message_of_marks : (custom : CustomOptions) (Inner : List Lexeme → MessageTree → List Lexeme → Type 0) → MarksMessages Inner → MarksMessages (IsMessageOf custom Inner)
+message_of_marks : (custom : CustomOptions) (Inner : List Lexeme → MessageTree → List Lexeme → Type 0)
+    → MarksMessages Inner → MarksMessages (IsMessageOf custom Inner)
 message_of_marks custom Inner inner a b x (message {items = items'} h u c) marks behind =
     let within = all_marks message_item_then (message_item_marks custom Inner inner) u (past c behind) in
     heading_marks h (rw (← body_marks items' marks) within)
@@ -206,75 +265,112 @@ message_of_marks custom Inner inner a b x (message {items = items'} h u c) marks
 message_marks : (custom : CustomOptions) (levels : ℕ) → MarksMessages (IsMessage custom levels)
 unfolding IsMessage
 message_marks custom zero a b x m marks behind = absurd m
-message_marks custom (suc levels) a b x m marks behind = message_of_marks custom (IsMessage custom levels) (message_marks custom levels) a b x m marks behind
+message_marks custom (suc levels) a b x m marks behind =
+    message_of_marks custom (IsMessage custom levels) (message_marks custom levels) a b x m marks behind
 
-method_type_marks : {a b : List Lexeme} {x : TypeName} {marks : List Mark} → IsMethodType a x b → Among marks b → Among (type_name_then x marks) a
+method_type_marks : {a b : List Lexeme} {x : TypeName} {marks : List Mark} → IsMethodType a x b → Among marks b
+    → Among (type_name_then x marks) a
 method_type_marks (method_type o (stream w) not n c) behind = past o (past w (type_name_marks n (past c behind)))
 method_type_marks (method_type o (no_stream none_next) not n c) behind = past o (type_name_marks n (past c behind))
 
-method_end_marks : {custom : CustomOptions} {a b : List Lexeme} {x : Span} {marks : List Mark} → IsMethodEnd custom a x b → Among marks b → Among (Other x ∷ marks) a
+method_end_marks : {custom : CustomOptions} {a b : List Lexeme} {x : Span} {marks : List Mark}
+    → IsMethodEnd custom a x b → Among marks b → Among (Other x ∷ marks) a
 method_end_marks (semicolon s) behind = at_another s behind
-method_end_marks {custom} {marks = marks} (body o u c) behind = at_another o (until_past marks (method_item_past custom marks) _ _ _ _ u (past c behind))
+method_end_marks {custom} {marks = marks} (body o u c) behind =
+    at_another o (until_past marks (method_item_past custom marks) _ _ _ _ u (past c behind))
 
-method_marks : {custom : CustomOptions} {a b : List Lexeme} {x : Method} {marks : List Mark} → IsMethod custom a x b → Among marks b → Among (method_then x marks) a
-method_marks (method f n i r o c) behind = at_its_first f (at_a_name n (method_type_marks i (past r (method_type_marks o (method_end_marks c behind)))))
+method_marks : {custom : CustomOptions} {a b : List Lexeme} {x : Method} {marks : List Mark} → IsMethod custom a x b
+    → Among marks b → Among (method_then x marks) a
+method_marks (method f n i r o c) behind =
+    at_its_first f (at_a_name n (method_type_marks i (past r (method_type_marks o (method_end_marks c behind)))))
 
-service_item_marks : (custom : CustomOptions) (a b : List Lexeme) (x : Option Method) → IsServiceItem custom a x b → (marks : List Mark) → Among marks b
+service_item_marks : (custom : CustomOptions) (a b : List Lexeme) (x : Option Method) → IsServiceItem custom a x b
+    → (marks : List Mark) → Among marks b
     → Among (each_then method_then (option_to_list x) marks) a
 service_item_marks custom a b x (services-empty s) marks behind = past s behind
 service_item_marks custom a b x (services-option is o) marks behind = option_past o behind
 service_item_marks custom a b x (services-method is m) marks behind = method_marks m behind
 
-service_marks : {custom : CustomOptions} {a b : List Lexeme} {x : Service} {marks : List Mark} → IsService custom a x b → Among marks b → Among (service_then x marks) a
-service_marks {custom} (service h u c) behind = heading_marks h (all_marks method_then (service_item_marks custom) u (past c behind))
+service_marks : {custom : CustomOptions} {a b : List Lexeme} {x : Service} {marks : List Mark} → IsService custom a x b
+    → Among marks b → Among (service_then x marks) a
+service_marks {custom} (service h u c) behind =
+    heading_marks h (all_marks method_then (service_item_marks custom) u (past c behind))
 
-path_literal_marks : (a b : List Lexeme) (x : Option Span) → IsPathLiteral a x b → (marks : List Mark) → Among marks b → Among (each_then literal_then (option_to_list x) marks) a
+path_literal_marks : (a b : List Lexeme) (x : Option Span) → IsPathLiteral a x b → (marks : List Mark) → Among marks b
+    → Among (each_then literal_then (option_to_list x) marks) a
 path_literal_marks a b x (path_literal l) marks behind = at_a_literal l behind
 
-import_marks : {a b : List Lexeme} {x : Import} {marks : List Mark} → IsImport a x b → Among marks b → Among (import_then x marks) a
+import_marks : {a b : List Lexeme} {x : Import} {marks : List Mark} → IsImport a x b → Among marks b
+    → Among (import_then x marks) a
 import_marks (import k i l u s) behind =
     let others = others_marks literal_then path_literal_marks u (past s behind) in
     past k (import_kind_past i (rw others.1 (at_a_literal l others.2)))
 
-pub package_marks : {a b : List Lexeme} {x : List Span} {marks : List Mark} → IsPackage a x b → Among marks b → Among (names_then x marks) a
+pub package_marks : {a b : List Lexeme} {x : List Span} {marks : List Mark} → IsPackage a x b → Among marks b
+    → Among (names_then x marks) a
 package_marks (package_statement k n s) behind = past k (name_marks n (past s behind))
 
 -- what a statement puts into the file
-pub statement_items : (custom : CustomOptions) (f g : File) (a b : List Lexeme) → IsStatement custom f a g b → (marks : List Mark) → Among marks b
+pub statement_items : (custom : CustomOptions) (f g : File) (a b : List Lexeme) → IsStatement custom f a g b
+    → (marks : List Mark) → Among marks b
     → Puts (λ (x : File). x.items) item_then f a g b marks
 statement_items custom f g a b (statements-empty is s) marks behind = ([], sym (append-nil f.items), past s behind)
-statement_items custom f g a b (statements-import is i) marks behind = ([], sym (append-nil f.items), import_past i behind)
-statement_items custom f g a b (statements-package_statement is none_yet p) marks behind = ([], sym (append-nil f.items), package_past p behind)
-statement_items custom f g a b (statements-option is o) marks behind = ([], sym (append-nil f.items), option_past o behind)
-statement_items custom f g a b (statements-message m is i) marks behind = (item.Message m ∷ [], refl, message_marks custom max_message_depth a b m i marks behind)
-statement_items custom f g a b (statements-enum {enum = e} is i) marks behind = (item.Enum e ∷ [], refl, enum_marks i behind)
-statement_items custom f g a b (statements-service {service = s} is i) marks behind = (item.Service s ∷ [], refl, service_marks i behind)
-statement_items custom f g a b (statements-extend is e) marks behind = ([], sym (append-nil f.items), extend_past e behind)
+statement_items custom f g a b (statements-import is i) marks behind =
+    ([], sym (append-nil f.items), import_past i behind)
+statement_items custom f g a b (statements-package_statement is none_yet p) marks behind =
+    ([], sym (append-nil f.items), package_past p behind)
+statement_items custom f g a b (statements-option is o) marks behind =
+    ([], sym (append-nil f.items), option_past o behind)
+statement_items custom f g a b (statements-message m is i) marks behind =
+    (item.Message m ∷ [], refl, message_marks custom max_message_depth a b m i marks behind)
+statement_items custom f g a b (statements-enum {enum = e} is i) marks behind =
+    (item.Enum e ∷ [], refl, enum_marks i behind)
+statement_items custom f g a b (statements-service {service = s} is i) marks behind =
+    (item.Service s ∷ [], refl, service_marks i behind)
+statement_items custom f g a b (statements-extend is e) marks behind =
+    ([], sym (append-nil f.items), extend_past e behind)
 
-statement_imports : (custom : CustomOptions) (f g : File) (a b : List Lexeme) → IsStatement custom f a g b → (marks : List Mark) → Among marks b
+statement_imports : (custom : CustomOptions) (f g : File) (a b : List Lexeme) → IsStatement custom f a g b
+    → (marks : List Mark) → Among marks b
     → Puts (λ (x : File). x.imports) import_then f a g b marks
 statement_imports custom f g a b (statements-empty is s) marks behind = ([], sym (append-nil f.imports), past s behind)
-statement_imports custom f g a b (statements-import {import = x} is i) marks behind = (x ∷ [], refl, import_marks i behind)
-statement_imports custom f g a b (statements-package_statement is none_yet p) marks behind = ([], sym (append-nil f.imports), package_past p behind)
-statement_imports custom f g a b (statements-option is o) marks behind = ([], sym (append-nil f.imports), option_past o behind)
-statement_imports custom f g a b (statements-message m is i) marks behind = ([], sym (append-nil f.imports), message_past custom max_message_depth a b m i marks behind)
-statement_imports custom f g a b (statements-enum is i) marks behind = ([], sym (append-nil f.imports), enum_past i behind)
-statement_imports custom f g a b (statements-service is i) marks behind = ([], sym (append-nil f.imports), service_past i behind)
-statement_imports custom f g a b (statements-extend is e) marks behind = ([], sym (append-nil f.imports), extend_past e behind)
+statement_imports custom f g a b (statements-import {import = x} is i) marks behind =
+    (x ∷ [], refl, import_marks i behind)
+statement_imports custom f g a b (statements-package_statement is none_yet p) marks behind =
+    ([], sym (append-nil f.imports), package_past p behind)
+statement_imports custom f g a b (statements-option is o) marks behind =
+    ([], sym (append-nil f.imports), option_past o behind)
+statement_imports custom f g a b (statements-message m is i) marks behind =
+    ([], sym (append-nil f.imports), message_past custom max_message_depth a b m i marks behind)
+statement_imports custom f g a b (statements-enum is i) marks behind =
+    ([], sym (append-nil f.imports), enum_past i behind)
+statement_imports custom f g a b (statements-service is i) marks behind =
+    ([], sym (append-nil f.imports), service_past i behind)
+statement_imports custom f g a b (statements-extend is e) marks behind =
+    ([], sym (append-nil f.imports), extend_past e behind)
 
 abbrev packages_of : File → List (List Span)
 packages_of f = option_to_list f.package_name
 
-statement_package : (custom : CustomOptions) (f g : File) (a b : List Lexeme) → IsStatement custom f a g b → (marks : List Mark) → Among marks b
+statement_package : (custom : CustomOptions) (f g : File) (a b : List Lexeme) → IsStatement custom f a g b
+    → (marks : List Mark) → Among marks b
     → Puts packages_of names_then f a g b marks
-statement_package custom f g a b (statements-empty is s) marks behind = ([], sym (append-nil (packages_of f)), past s behind)
-statement_package custom f g a b (statements-import is i) marks behind = ([], sym (append-nil (packages_of f)), import_past i behind)
-statement_package custom f g a b (statements-package_statement {components = x} is none_yet p) marks behind = (x ∷ [], rw none_yet refl, package_marks p behind)
-statement_package custom f g a b (statements-option is o) marks behind = ([], sym (append-nil (packages_of f)), option_past o behind)
-statement_package custom f g a b (statements-message m is i) marks behind = ([], sym (append-nil (packages_of f)), message_past custom max_message_depth a b m i marks behind)
-statement_package custom f g a b (statements-enum is i) marks behind = ([], sym (append-nil (packages_of f)), enum_past i behind)
-statement_package custom f g a b (statements-service is i) marks behind = ([], sym (append-nil (packages_of f)), service_past i behind)
-statement_package custom f g a b (statements-extend is e) marks behind = ([], sym (append-nil (packages_of f)), extend_past e behind)
+statement_package custom f g a b (statements-empty is s) marks behind =
+    ([], sym (append-nil (packages_of f)), past s behind)
+statement_package custom f g a b (statements-import is i) marks behind =
+    ([], sym (append-nil (packages_of f)), import_past i behind)
+statement_package custom f g a b (statements-package_statement {components = x} is none_yet p) marks behind =
+    (x ∷ [], rw none_yet refl, package_marks p behind)
+statement_package custom f g a b (statements-option is o) marks behind =
+    ([], sym (append-nil (packages_of f)), option_past o behind)
+statement_package custom f g a b (statements-message m is i) marks behind =
+    ([], sym (append-nil (packages_of f)), message_past custom max_message_depth a b m i marks behind)
+statement_package custom f g a b (statements-enum is i) marks behind =
+    ([], sym (append-nil (packages_of f)), enum_past i behind)
+statement_package custom f g a b (statements-service is i) marks behind =
+    ([], sym (append-nil (packages_of f)), service_past i behind)
+statement_package custom f g a b (statements-extend is e) marks behind =
+    ([], sym (append-nil (packages_of f)), extend_past e behind)
 
 pub syntax_past : {a b : List Lexeme} {marks : List Mark} → IsSyntax a b → Among marks b → Among marks a
 syntax_past (syntax k q t s) behind = past k (past q (joined_past t (past s behind)))
@@ -284,35 +380,48 @@ items_among {custom} f (file {b = b} {c = c} s u) =
     let p = until_puts (λ (x : File). x.items) item_then (statement_items custom) empty_file f b c u [] no_marks in
     syntax_past s (rw p.1 p.2)
 
-pub imports_among : {custom : CustomOptions} {a : List Lexeme} (f : File) → IsFile custom a f → Among (marks_of_imports f) a
+pub imports_among : {custom : CustomOptions} {a : List Lexeme} (f : File) → IsFile custom a f
+    → Among (marks_of_imports f) a
 imports_among {custom} f (file {b = b} {c = c} s u) =
-    let p = until_puts (λ (x : File). x.imports) import_then (statement_imports custom) empty_file f b c u [] no_marks in
+    let p = until_puts (λ (x : File). x.imports) import_then (statement_imports custom) empty_file f b c u [] no_marks
+    in
     syntax_past s (rw p.1 p.2)
 
-pub package_among : {custom : CustomOptions} {a : List Lexeme} (f : File) → IsFile custom a f → Among (marks_of_package f) a
+pub package_among : {custom : CustomOptions} {a : List Lexeme} (f : File) → IsFile custom a f
+    → Among (marks_of_package f) a
 package_among {custom} f (file {b = b} {c = c} s u) =
     let p = until_puts packages_of names_then (statement_package custom) empty_file f b c u [] no_marks in
     syntax_past s (rw p.1 p.2)
 
 -- from an earlier place on too
-from_earlier : (earlier place : ℕ) (spans : List Span) → earlier ≤ place → AreInOrder place spans → AreInOrder earlier spans
+from_earlier : (earlier place : ℕ) (spans : List Span) → earlier ≤ place → AreInOrder place spans
+    → AreInOrder earlier spans
 from_earlier earlier place [] h ordered = tt
 from_earlier earlier place (span ∷ spans) h ordered = (omega (arith, ordered.0), ordered.1, ordered.2)
 
 -- marks are in order where the tokens are
-pub Among-MarksAreInOrder : {marks : List Mark} {tokens : List Lexeme} → Among marks tokens → (place : ℕ) → AreInOrder place (map (λ t. t.span) tokens) → MarksAreInOrder place marks
+pub Among-MarksAreInOrder : {marks : List Mark} {tokens : List Lexeme} → Among marks tokens → (place : ℕ)
+    → AreInOrder place (map (λ t. t.span) tokens) → MarksAreInOrder place marks
 Among-MarksAreInOrder no_marks place ordered = tt
 Among-MarksAreInOrder (skip {t = t} {rest} behind) place ordered =
-    Among-MarksAreInOrder behind place (from_earlier place t.span.end (map (λ u. u.span) rest) (omega (arith, ordered.0, ordered.1)) ordered.2)
-Among-MarksAreInOrder (at_first {t = t} behind) place ordered = (ordered.0, ordered.1, Among-MarksAreInOrder behind t.span.start (omega arith, ordered.1, ordered.2))
-Among-MarksAreInOrder (at_name {t = t} k behind) place ordered = (ordered.0, ordered.1, Among-MarksAreInOrder behind t.span.end ordered.2)
-Among-MarksAreInOrder (at_literal {t = t} k behind) place ordered = (ordered.0, ordered.1, Among-MarksAreInOrder behind t.span.end ordered.2)
-Among-MarksAreInOrder (at_other {t = t} behind) place ordered = (ordered.0, ordered.1, Among-MarksAreInOrder behind t.span.end ordered.2)
+    Among-MarksAreInOrder behind place
+    (from_earlier place t.span.end (map (λ u. u.span) rest) (omega (arith, ordered.0, ordered.1)) ordered.2)
+Among-MarksAreInOrder (at_first {t = t} behind) place ordered =
+    (ordered.0, ordered.1, Among-MarksAreInOrder behind t.span.start (omega arith, ordered.1, ordered.2))
+Among-MarksAreInOrder (at_name {t = t} k behind) place ordered =
+    (ordered.0, ordered.1, Among-MarksAreInOrder behind t.span.end ordered.2)
+Among-MarksAreInOrder (at_literal {t = t} k behind) place ordered =
+    (ordered.0, ordered.1, Among-MarksAreInOrder behind t.span.end ordered.2)
+Among-MarksAreInOrder (at_other {t = t} behind) place ordered =
+    (ordered.0, ordered.1, Among-MarksAreInOrder behind t.span.end ordered.2)
 
-pub spans-lexemes_of : (text : List ℕ) (tokens : List Token) → map (λ t. t.span) (lexemes_of text tokens) ≡ map (λ t. t.span) tokens
+pub spans-lexemes_of : (text : List ℕ) (tokens : List Token)
+    → map (λ t. t.span) (lexemes_of text tokens) ≡ map (λ t. t.span) tokens
 spans-lexemes_of text [] = refl
 spans-lexemes_of text (t ∷ tokens) = ap (λ spans. t.span ∷ spans) (spans-lexemes_of text tokens)
 
 -- of a text's tokens
-pub marks-in_order : (text : List ℕ) (tokens : List Token) (marks : List Mark) → Among marks (lexemes_of text tokens) → AreInOrder 0 (map (λ t. t.span) tokens) → MarksAreInOrder 0 marks
-marks-in_order text tokens marks among ordered = Among-MarksAreInOrder among 0 (rw (spans-lexemes_of text tokens) ordered)
+pub marks-in_order : (text : List ℕ) (tokens : List Token) (marks : List Mark) → Among marks (lexemes_of text tokens)
+    → AreInOrder 0 (map (λ t. t.span) tokens) → MarksAreInOrder 0 marks
+marks-in_order text tokens marks among ordered =
+    Among-MarksAreInOrder among 0 (rw (spans-lexemes_of text tokens) ordered)

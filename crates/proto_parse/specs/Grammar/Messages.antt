@@ -91,7 +91,8 @@ pub data IsExtend : CustomOptions → List Lexeme → List Lexeme → Type 0 whe
 
 -- message | enum | option | oneof | mapField | reserved | field | ";", as the first word chooses. Nothing begins with
 -- `extensions`.
-pub data IsMessageItem (custom : CustomOptions) (Inner : List Lexeme → MessageTree → List Lexeme → Type 0) : List Lexeme → Option MessageItem → List Lexeme → Type 0 where
+pub data IsMessageItem (custom : CustomOptions) (Inner : List Lexeme → MessageTree → List Lexeme → Type 0) : List Lexeme
+    → Option MessageItem → List Lexeme → Type 0 where
   empty : {a b : List Lexeme} {semicolon : Span}
       → message_statement_of a ≡ chosen.Empty → One (of_kind Semicolon) a semicolon b
       → IsMessageItem custom Inner a None b
@@ -118,7 +119,8 @@ pub data IsMessageItem (custom : CustomOptions) (Inner : List Lexeme → Message
       → IsMessageItem custom Inner a (Some (Leaf (leaf.Field field))) b
 
 -- message = "message" IDENT "{" { message | .. | ";" } "}", with what its inner messages are.
-pub data IsMessageOf (custom : CustomOptions) (Inner : List Lexeme → MessageTree → List Lexeme → Type 0) : List Lexeme → MessageTree → List Lexeme → Type 0 where
+pub data IsMessageOf (custom : CustomOptions) (Inner : List Lexeme → MessageTree → List Lexeme → Type 0) : List Lexeme
+    → MessageTree → List Lexeme → Type 0 where
   message : {a b c d : List Lexeme} {heading : Heading} {items : List MessageItem} {close_brace : Span}
       → IsHeading (codes "message") a heading b → Until closes (Adds (IsMessageItem custom Inner)) [] b items c
       → One (of_kind CloseBrace) c close_brace d

@@ -23,8 +23,10 @@ listed_at names name = option_map_or (λ listed. listed.items) (get_by (λ key. 
 abbrev pub owned_at : {X A Y S : Type 0} → HashMap (String Y) (Vec X A) S → (name : List ℕ) → List X
 owned_at names name = option_map_or (λ listed. listed.items) (get_by_text names name) []
 
--- of the declarations of the file with this number the one with this index, a message, an enum or a service, has this name
-pub record IsDeclaredOf (number : ℕ) (declarations : List Declaration) (index : ℕ) (name : List ℕ) (one : DeclaredAt) : Type 0 where
+-- of the declarations of the file with this number the one with this index, a message, an enum or a service, has this
+-- name
+pub record IsDeclaredOf (number : ℕ) (declarations : List Declaration) (index : ℕ) (name : List ℕ)
+    (one : DeclaredAt) : Type 0 where
   pub declaration : Declaration
   pub stands : slice_get declarations index ≡ Some declaration
   pub named : declaration.full_name ≡ name
@@ -32,19 +34,24 @@ pub record IsDeclaredOf (number : ℕ) (declarations : List Declaration) (index 
   pub is : one ≡ record { file = number; index = index; kind = declaration.kind }
 
 abbrev pub IsDeclaredIn : (number : ℕ) → File → (name : List ℕ) → DeclaredAt → Type 0
-IsDeclaredIn number file name one = (facts : Facts) × (file.facts ≡ Some facts) × (index : ℕ) × IsDeclaredOf number facts.declarations index name one
+IsDeclaredIn number file name one =
+    (facts : Facts) × (file.facts ≡ Some facts) × (index : ℕ) × IsDeclaredOf number facts.declarations index name one
 
 -- a declaration of the file with this number, which is one of these
 abbrev pub IsDeclaredBy : List File → (number : ℕ) → (name : List ℕ) → DeclaredAt → Type 0
-IsDeclaredBy files number name one = (file : File) × (slice_get files number ≡ Some file) × IsDeclaredIn number file name one
+IsDeclaredBy files number name one =
+    (file : File) × (slice_get files number ≡ Some file) × IsDeclaredIn number file name one
 
 -- at each name stand the declarations that have it
 abbrev pub AreDeclared : List File → (List ℕ → List DeclaredAt) → Type 0
-AreDeclared files at = (name : List ℕ) (one : DeclaredAt) → Contains (at name) one ↔ ((number : ℕ) × IsDeclaredBy files number name one)
+AreDeclared files at = (name : List ℕ) (one : DeclaredAt) → Contains (at name) one
+    ↔ ((number : ℕ) × IsDeclaredBy files number name one)
 
 -- the name is that of the file's package, or of one around it
 abbrev pub HasPrefix : List File → (number : ℕ) → (name : List ℕ) → Type 0
-HasPrefix files number name = (file : File) × (facts : Facts) × (slice_get files number ≡ Some file) × (file.facts ≡ Some facts) × IsPrefix facts.package_name name
+HasPrefix files number name =
+    (file : File) × (facts : Facts) × (slice_get files number ≡ Some file) × (file.facts ≡ Some facts)
+    × IsPrefix facts.package_name name
 
 -- at each name stand the files that have this package or one below it
 abbrev pub ArePackaged : List File → (List ℕ → List ℕ) → Type 0
@@ -62,15 +69,19 @@ HasPrefixAt prefixes number name = (its : List (List ℕ)) × (slice_get prefixe
 
 -- some of these declarations is one of the file with this number, and is admitted
 abbrev pub IsDeclaring : List DeclaredAt → (NameKind → Bool) → (number : ℕ) → Type 0
-IsDeclaring declared admits number = (one : DeclaredAt) × Contains declared one × (one.file ≡ number) × (admits (OfDeclaration one.kind) ≡ true)
+IsDeclaring declared admits number =
+    (one : DeclaredAt) × Contains declared one × (one.file ≡ number) × (admits (OfDeclaration one.kind) ≡ true)
 
 -- the file with this number gives the name in this role, by the tables
 abbrev pub IsListed : Names → (NameKind → Bool) → (name : List ℕ) → (number : ℕ) → Type 0
-IsListed names admits name number = IsDeclaring (listed_at names.declared name) admits number ⊎ ((admits OfPackage ≡ true) × Contains (owned_at names.packages name) number)
+IsListed names admits name number =
+    IsDeclaring (listed_at names.declared name) admits number
+    ⊎ ((admits OfPackage ≡ true) × Contains (owned_at names.packages name) number)
 
 -- what the tables list of the file with this number is so of its facts
 pub record AreNamesOf (number : ℕ) (facts : Facts) (names : Names) : Type 0 where
   pub declared : (name : List ℕ) (one : DeclaredAt) → Contains (listed_at names.declared name) one → one.file ≡ number
-      → (declaration : Declaration) × (slice_get facts.declarations one.index ≡ Some declaration) × (declaration.full_name ≡ name)
+      → (declaration : Declaration) × (slice_get facts.declarations one.index ≡ Some declaration)
+      × (declaration.full_name ≡ name)
   pub packaged : (name : List ℕ) → Contains (owned_at names.packages name) number → IsPrefix facts.package_name name
   pub in_order : (name : List ℕ) → IsNonDecreasing (owned_at names.packages name)

@@ -1,5 +1,6 @@
 -- What a table of steps says, how it comes from the files, and the rows of the files that are seen by it.
-use Rattle.std.specs.Prelude.{ℕ, ◌≡◌, ◌<◌, ◌↔◌, Bool, true, false, Option, Some, None, List, [], ◌∷◌, length, All, Contains, if◌then◌else◌, not, ◌||◌, ◌&&◌}
+use Rattle.std.specs.Prelude.{ℕ, ◌≡◌, ◌<◌, ◌↔◌, Bool, true, false, Option, Some, None, List, [], ◌∷◌, length, All}
+use Rattle.std.specs.Prelude.{Contains, if◌then◌else◌, not, ◌||◌, ◌&&◌}
 use Rattle.std.specs.List.{slice_get, flat_map}
 use Rattle.std.specs.Option.{is_none}
 use Rattle.std.specs.Str.{bytes_eq}
@@ -26,18 +27,21 @@ pub record HasStep (table : List Steps) (importing : ℕ) (publicly : Bool) (imp
 
 -- the steps lead to files that the table has
 abbrev pub AreWithin : List Steps → Type 0
-AreWithin table = All (λ steps. (publicly : Bool) → All (λ number. number < length table) (targets steps publicly)) table
+AreWithin table = All (λ steps. (publicly : Bool) → All (λ number. number < length table) (targets steps publicly))
+    table
 
 -- the steps of the table are the imports of the files
 pub record IsTableOf (files : List File) (table : List Steps) : Type 0 where
   pub one_each : length table ≡ length files
   pub within : AreWithin table
-  pub steps : (importing imported : ℕ) (publicly : Bool) → HasStep table importing publicly imported ↔ Imports files importing publicly imported
+  pub steps : (importing imported : ℕ) (publicly : Bool) → HasStep table importing publicly imported
+      ↔ Imports files importing publicly imported
 
 -- a row for each file, which has the files that it sees by these imports
 pub record AreRowsBy (Imports : ℕ → Bool → ℕ → Type 0) (files : ℕ) (rows : List (List ℕ)) : Type 0 where
   pub one_each : length rows ≡ files
-  pub each : (file : ℕ) (row : List ℕ) → slice_get rows file ≡ Some row → (other : ℕ) → Contains row other ↔ SeesBy Imports file other
+  pub each : (file : ℕ) (row : List ℕ) → slice_get rows file ≡ Some row → (other : ℕ) → Contains row other
+      ↔ SeesBy Imports file other
 
 -- the number that stands in a map at a path
 abbrev pub number_in : {S : Type 0} → HashMap (Bor (List ℕ)) ℕ S → (path : List ℕ) → Option ℕ
@@ -45,7 +49,8 @@ number_in numbers path = get_by (λ key. bytes_eq path key.now) numbers
 
 -- the map has the number of each path
 abbrev pub AreNumbered : {S : Type 0} → List File → HashMap (Bor (List ℕ)) ℕ S → Type 0
-AreNumbered files numbers = (path : List ℕ) (number : ℕ) → (number_in numbers path ≡ Some number) ↔ HasPathAt files path number
+AreNumbered files numbers = (path : List ℕ) (number : ℕ) → (number_in numbers path ≡ Some number)
+    ↔ HasPathAt files path number
 
 -- the imports of a file; none of a file without facts
 abbrev pub imports_in : Option Facts → List Imported
@@ -66,7 +71,8 @@ is_absent number included import = (not included || is_public import.kind) && is
 
 -- the place of such an import, of the file with this number
 abbrev pub absent_at : (List ℕ → Option ℕ) → (included : Bool) → (file : ℕ) → Imported → List FilePlace
-absent_at names included file import = if is_absent names included import then record { file = file; span = import.span } ∷ [] else []
+absent_at names included file import =
+    if is_absent names included import then record { file = file; span = import.span } ∷ [] else []
 
 -- those of a file
 abbrev pub absents_of : (List ℕ → Option ℕ) → (number : ℕ) → Option File → List FilePlace
@@ -78,13 +84,15 @@ absents_at files names number = absents_of names number (slice_get files number)
 
 -- none of the first so many imports is one
 abbrev pub NoneIsAbsentUpTo : (List ℕ → Option ℕ) → Bool → List Imported → (count : ℕ) → Type 0
-NoneIsAbsentUpTo number included imports count = (k : ℕ) (import : Imported) → k < count → slice_get imports k ≡ Some import → is_absent number included import ≡ false
+NoneIsAbsentUpTo number included imports count = (k : ℕ) (import : Imported) → k < count
+    → slice_get imports k ≡ Some import → is_absent number included import ≡ false
 
 abbrev pub NoneIsAbsent : (List ℕ → Option ℕ) → Bool → List Imported → Type 0
 NoneIsAbsent number included imports = NoneIsAbsentUpTo number included imports (length imports)
 
 -- the first such import stands at this span
-pub record IsFirstAbsent (number : List ℕ → Option ℕ) (included : Bool) (imports : List Imported) (span : Span) : Type 0 where
+pub record IsFirstAbsent (number : List ℕ → Option ℕ) (included : Bool) (imports : List Imported)
+    (span : Span) : Type 0 where
   pub index : ℕ
   pub import : Imported
   pub stands : slice_get imports index ≡ Some import

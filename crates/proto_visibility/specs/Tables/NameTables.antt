@@ -9,7 +9,8 @@ use Rattle.proto_visibility.specs.Tables.ImportTables.{number_in}
 
 -- each item stands before those behind it
 abbrev pub AreInPlace : List Item → Type 0
-AreInPlace items = (j k : ℕ) (a b : Item) → j < k → slice_get items j ≡ Some a → slice_get items k ≡ Some b → Before a.place b.place
+AreInPlace items = (j k : ℕ) (a b : Item) → j < k → slice_get items j ≡ Some a → slice_get items k ≡ Some b
+    → Before a.place b.place
 
 -- none of the first so many items has the name
 abbrev pub HasNone : List Item → (count : ℕ) → (name : List ℕ) → Type 0
@@ -25,12 +26,14 @@ pub record IsFirstNamed (items : List Item) (count : ℕ) (name : List ℕ) (ind
 
 -- the map has the first of so many items with each name
 abbrev pub AreFirst : {S : Type 0} → List Item → (count : ℕ) → HashMap (Bor (List ℕ)) ℕ S → Type 0
-AreFirst items count names = (name : List ℕ) → MatchOption (number_in names name) (HasNone items count name) (IsFirstNamed items count name)
+AreFirst items count names = (name : List ℕ)
+    → MatchOption (number_in names name) (HasNone items count name) (IsFirstNamed items count name)
 
 -- the place of the earlier item, where one of the two is a declaration
 abbrev pub place_if_declared : Option Item → Item → Option FilePlace
 place_if_declared None item = None
-place_if_declared (Some earlier) item = if earlier.is_declaration || item.is_declaration then Some earlier.place else None
+place_if_declared (Some earlier) item =
+    if earlier.is_declaration || item.is_declaration then Some earlier.place else None
 
 abbrev pub clash_with : List Item → (first : Option ℕ) → Item → Option FilePlace
 clash_with items None item = None

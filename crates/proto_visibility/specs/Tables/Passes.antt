@@ -4,7 +4,8 @@ use Rattle.std.specs.List.{slice_get}
 use Rattle.std.specs.HashMap.{HashMap}
 use denote.Ref.{Bor}
 use Rattle.proto_visibility.specs.declared.fault.LinkFault.{LinkFault}
-use Rattle.proto_visibility.specs.declared.fault.LinkFault.TheVariants.{Broken, Duplicate, MissingImport, Unresolved, Memory}
+use Rattle.proto_visibility.specs.declared.fault.LinkFault.TheVariants.{Broken, Duplicate, MissingImport, Unresolved}
+use Rattle.proto_visibility.specs.declared.fault.LinkFault.TheVariants.{Memory}
 use Rattle.proto_visibility.specs.Files.{File}
 use Rattle.proto_visibility.specs.Items.{Item}
 use Rattle.proto_visibility.specs.Clashes.{ClashBy, NoClashBy}
@@ -21,7 +22,8 @@ pub record AreUnreadOf (files : List File) (count : ℕ) (omissions : Omissions)
 -- the clash for which the file with this number is left out, or that it has none
 abbrev pub IsClashOmission : (IsItem : Item → Type 0) → Omissions → (number : ℕ) → Option LinkFault → Type 0
 IsClashOmission IsItem omissions number None = NoClashBy (IsMet IsItem omissions number)
-IsClashOmission IsItem omissions number (Some (Duplicate first second)) = ClashBy (IsMet IsItem omissions number) first second
+IsClashOmission IsItem omissions number (Some (Duplicate first second)) =
+    ClashBy (IsMet IsItem omissions number) first second
 IsClashOmission IsItem omissions number (Some (Broken other)) = ⊥
 IsClashOmission IsItem omissions number (Some (MissingImport place)) = ⊥
 IsClashOmission IsItem omissions number (Some (Unresolved place)) = ⊥
@@ -30,8 +32,10 @@ IsClashOmission IsItem omissions number (Some Memory) = ⊥
 -- those left out at the start stay so, and of the others those with a clash are left out, too
 pub record AreClashesOmitted (items : List Item) (start omissions : Omissions) : Type 0 where
   pub size : length omissions ≡ length start
-  pub stays : (number : ℕ) (fault : LinkFault) → slice_get start number ≡ Some (Some fault) → slice_get omissions number ≡ Some (Some fault)
-  pub told : (number : ℕ) (omission : Option LinkFault) → IsKept start number → slice_get omissions number ≡ Some omission → IsClashOmission (Contains items) omissions number omission
+  pub stays : (number : ℕ) (fault : LinkFault) → slice_get start number ≡ Some (Some fault)
+      → slice_get omissions number ≡ Some (Some fault)
+  pub told : (number : ℕ) (omission : Option LinkFault) → IsKept start number
+      → slice_get omissions number ≡ Some omission → IsClashOmission (Contains items) omissions number omission
 
 -- the item's file is kept so far
 abbrev pub IsOpen : Omissions → Item → Type 0
@@ -45,23 +49,34 @@ HasName items name index = (item : Item) × (slice_get items index ≡ Some item
 
 -- no two of the first so many items of open files clash
 abbrev pub NoneClash : List Item → Omissions → (count : ℕ) → Type 0
-NoneClash items omissions count = (j k : ℕ) (a b : Item) → j < k → k < count → slice_get items j ≡ Some a → slice_get items k ≡ Some b
-    → IsOpen omissions a → IsOpen omissions b → a.full_name ≡ b.full_name → (a.is_declaration || b.is_declaration) ≡ false
+NoneClash items omissions count = (j k : ℕ) (a b : Item) → j < k → k < count → slice_get items j ≡ Some a
+    → slice_get items k ≡ Some b
+    → IsOpen omissions a → IsOpen omissions b → a.full_name ≡ b.full_name
+    → (a.is_declaration || b.is_declaration) ≡ false
 
 -- one of the first so many items is of the file with this number, which is left out for this clash
 abbrev pub IsTold : List Item → (count : ℕ) → Omissions → (number : ℕ) → LinkFault → Type 0
 IsTold items count omissions number fault =
-    (index : ℕ) × (item : Item) × (index < count) × (slice_get items index ≡ Some item) × (item.place.file ≡ number) × IsClashOmission (Contains items) omissions number (Some fault)
+    (index : ℕ) × (item : Item) × (index < count) × (slice_get items index ≡ Some item) × (item.place.file ≡ number)
+    × IsClashOmission (Contains items) omissions number (Some fault)
 
 -- an open item, of which the map has the index of its name, stands there or before
-abbrev pub IsFirst : {S : Type 0} → List Item → Omissions → HashMap (Bor (List ℕ)) ℕ S → (name : List ℕ) → (index : ℕ) → Type 0
-IsFirst items omissions names name index = (first : ℕ) × (number_in names name ≡ Some first) × (first ≤ index) × IsOpenAt items omissions first
+abbrev pub IsFirst : {S : Type 0} → List Item → Omissions → HashMap (Bor (List ℕ)) ℕ S → (name : List ℕ) → (index : ℕ)
+    → Type 0
+IsFirst items omissions names name index =
+    (first : ℕ) × (number_in names name ≡ Some first) × (first ≤ index) × IsOpenAt items omissions first
 
--- The pass over the first so many items: the map has for each name the first item of an open file, or one of a file that was left out.
-pub record ArePassed {S : Type 0} (items : List Item) (start : Omissions) (count : ℕ) (omissions : Omissions) (names : HashMap (Bor (List ℕ)) ℕ S) : Type 0 where
+-- The pass over the first so many items: the map has for each name the first item of an open file, or one of a file
+-- that was left out.
+pub record ArePassed {S : Type 0} (items : List Item) (start : Omissions) (count : ℕ) (omissions : Omissions)
+    (names : HashMap (Bor (List ℕ)) ℕ S) : Type 0 where
   pub size : length omissions ≡ length start
-  pub stays : (number : ℕ) (fault : LinkFault) → slice_get start number ≡ Some (Some fault) → slice_get omissions number ≡ Some (Some fault)
-  pub told : (number : ℕ) (fault : LinkFault) → IsKept start number → slice_get omissions number ≡ Some (Some fault) → IsTold items count omissions number fault
+  pub stays : (number : ℕ) (fault : LinkFault) → slice_get start number ≡ Some (Some fault)
+      → slice_get omissions number ≡ Some (Some fault)
+  pub told : (number : ℕ) (fault : LinkFault) → IsKept start number → slice_get omissions number ≡ Some (Some fault)
+      → IsTold items count omissions number fault
   pub clear : NoneClash items omissions count
-  pub found : (name : List ℕ) (index : ℕ) → number_in names name ≡ Some index → (index < count) × HasName items name index
-  pub first : (index : ℕ) (item : Item) → index < count → slice_get items index ≡ Some item → IsOpen omissions item → IsFirst items omissions names item.full_name index
+  pub found : (name : List ℕ) (index : ℕ) → number_in names name ≡ Some index
+      → (index < count) × HasName items name index
+  pub first : (index : ℕ) (item : Item) → index < count → slice_get items index ≡ Some item → IsOpen omissions item
+      → IsFirst items omissions names item.full_name index

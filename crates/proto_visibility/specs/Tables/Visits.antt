@@ -1,5 +1,6 @@
 -- What a search over files has found.
-use Rattle.std.specs.Prelude.{ℕ, ◌≡◌, ◌<◌, ◌==◌, Bool, false, List, [], ◌∷◌, ◌++◌, length, All, if◌then◌else◌, slice_index_or}
+use Rattle.std.specs.Prelude.{ℕ, ◌≡◌, ◌<◌, ◌==◌, Bool, false, List, [], ◌∷◌, ◌++◌, length, All, if◌then◌else◌}
+use Rattle.std.specs.Prelude.{slice_index_or}
 use Rattle.std.specs.List.{list_any, IsDistinct}
 
 -- of so many files these, in order of first sight
@@ -17,6 +18,7 @@ visit_all found (number ∷ numbers) = visit_all (visit found number) numbers
 
 -- a file's mark says whether it is found, and each is found once
 pub record AreMarked (marks : List Bool) (found : List ℕ) : Type 0 where
-  pub marked : (number : ℕ) → number < length marks → slice_index_or marks number false ≡ list_any (λ other. number == other) found
+  pub marked : (number : ℕ) → number < length marks
+      → slice_index_or marks number false ≡ list_any (λ other. number == other) found
   pub distinct : IsDistinct ◌==◌ found
   pub below : All (λ number. number < length marks) found

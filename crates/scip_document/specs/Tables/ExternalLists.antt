@@ -1,4 +1,5 @@
--- The declarations of included files that uses in sources name, as the code gathers them: each by its file's number and its own.
+-- The declarations of included files that uses in sources name, as the code gathers them: each by its file's number and
+-- its own.
 use Rattle.std.specs.Prelude.{◌≡◌, ◌<◌, ◌⊎◌, ◌↔◌, ⊤, ℕ, true, false, Some, List, length, Contains}
 use Rattle.std.specs.declared.cmp.Ordering.{Ordering}
 use Rattle.std.specs.Ordering.{nat_cmp, ordering_then}
@@ -68,7 +69,8 @@ module _ (files : List File) (chosen : Chosen) where
     pub of_source : IsOfSource source x
 
 -- the entry of a declaration of these facts, with the choice for it
-pub record IsEntryAt (chosen : Chosen) (id : Package) (facts : Facts) (file index : ℕ) (entry : SymbolInformation) : Type 0 where
+pub record IsEntryAt (chosen : Chosen) (id : Package) (facts : Facts) (file index : ℕ)
+    (entry : SymbolInformation) : Type 0 where
   pub declaration : Declaration
   pub choice : Choice
   pub stands : slice_get facts.declarations index ≡ Some declaration

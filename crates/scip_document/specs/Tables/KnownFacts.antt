@@ -18,7 +18,8 @@ pub record InOrder : Type 0 where
 abbrev pub SymbolsNameOne : Type 0
 SymbolsNameOne =
     (id : Package) (declarations : List Way) → IsPackage id → IsWithoutClash declarations
-    → (entity other : Entity) → IsEntity entity → IsEntity other → IsAmong declarations entity → IsAmong declarations other
+    → (entity other : Entity) → IsEntity entity → IsEntity other → IsAmong declarations entity
+    → IsAmong declarations other
     → symbol_text (symbol_in id entity) ≡ symbol_text (symbol_in id other) → entity ≡ other
 
 -- The declarations of files with one declaration a full name are without a clash.

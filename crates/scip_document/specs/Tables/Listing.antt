@@ -1,5 +1,6 @@
 -- The occurrences of a document, list by list: each list is in order of place.
-use Rattle.std.specs.Prelude.{◌≡◌, ℕ, ◌+◌, Bool, true, false, if◌then◌else◌, Option, Some, None, List, [], ◌∷◌, ◌++◌, map, take}
+use Rattle.std.specs.Prelude.{◌≡◌, ℕ, ◌+◌, Bool, true, false, if◌then◌else◌, Option, Some, None, List, [], ◌∷◌, ◌++◌}
+use Rattle.std.specs.Prelude.{map, take}
 use Rattle.std.specs.List.{slice_get, list_any}
 use Rattle.std.specs.Str.{bytes_eq}
 use Rattle.std.specs.Option.{option_and_then, option_map}
@@ -52,7 +53,8 @@ keeps_by None = false
 keeps_by (Some choice) = choice.keep
 
 abbrev pub keeps : Chosen → (file index : ℕ) → Bool
-keeps chosen file index = keeps_by (option_and_then (λ (of_file : List Choice). slice_get of_file index) (slice_get chosen file))
+keeps chosen file index =
+    keeps_by (option_and_then (λ (of_file : List Choice). slice_get of_file index) (slice_get chosen file))
 
 abbrev pub is_shown : Chosen → Entity → Bool
 is_shown chosen (link.Package count) = true
@@ -62,7 +64,9 @@ abbrev pub declared_in : Facts → (index : ℕ) → Option symbols.Entity
 declared_in facts index = option_map (declaration_at facts) (slice_get facts.declarations index)
 
 abbrev pub declared_by : List File → (file index : ℕ) → Option symbols.Entity
-declared_by files file index = option_and_then (λ (f : File). option_and_then (λ (facts : Facts). declared_in facts index) f.facts) (slice_get files file)
+declared_by files file index =
+    option_and_then (λ (f : File). option_and_then (λ (facts : Facts). declared_in facts index) f.facts)
+    (slice_get files file)
 
 -- what a part of a full name names
 abbrev pub entity_of : List File → (name : List ℕ) → Entity → Option symbols.Entity
@@ -72,26 +76,32 @@ entity_of files name (link.Declared file index) = declared_by files file index
 -- it has a symbol
 abbrev pub IsNameable : List File → (name : List ℕ) → Entity → Type 0
 IsNameable files name (link.Package count) = symbols.IsEntity (OfPackage (take count (components_of name)))
-IsNameable files name (link.Declared file index) = (facts : Facts) × (declared : Declaration) × HasDeclaration files file index facts declared
+IsNameable files name (link.Declared file index) =
+    (facts : Facts) × (declared : Declaration) × HasDeclaration files file index facts declared
 
 abbrev pub AreNameable : List File → Target → Type 0
-AreNameable files target = (index : ℕ) (part : Entity) → slice_get target.parts index ≡ Some part → IsNameable files target.name part
+AreNameable files target = (index : ℕ) (part : Entity) → slice_get target.parts index ≡ Some part
+    → IsNameable files target.name part
 
 -- the file's own
 abbrev pub own_occurrence : Package → (path : List ℕ) → Occurrence
-own_occurrence id path = record { range = start_of_text; symbol = text_of id (OfFile path); symbol_roles = definition_role }
+own_occurrence id path =
+    record { range = start_of_text; symbol = text_of id (OfFile path); symbol_roles = definition_role }
 
 module _ (id : Package) (encoding : Encoding) (text : List ℕ) where
   abbrev pub at_import : List File → ℕ → Imported → List Occurrence
   at_import files index imported =
-      if has_path files imported.path then occurrence_over encoding text id imported.span (OfFile imported.path) import_role ∷ [] else []
+      if has_path files imported.path then occurrence_over encoding text id imported.span
+      (OfFile imported.path) import_role ∷ [] else []
 
   abbrev pub at_package : Facts → ℕ → Component → List Occurrence
-  at_package facts index component = occurrence_over encoding text id component.span (package_at facts (index + 1)) definition_role ∷ []
+  at_package facts index component =
+      occurrence_over encoding text id component.span (package_at facts (index + 1)) definition_role ∷ []
 
   abbrev pub at_declaration : Chosen → (file : ℕ) → Facts → ℕ → Declaration → List Occurrence
   at_declaration chosen file facts index declared =
-      if keeps chosen file index then occurrence_over encoding text id declared.name (declaration_at facts declared) definition_role ∷ [] else []
+      if keeps chosen file index then occurrence_over encoding text id declared.name
+      (declaration_at facts declared) definition_role ∷ [] else []
 
   abbrev pub at_entity : Span → Option symbols.Entity → List Occurrence
   at_entity span None = []

@@ -24,7 +24,11 @@ fronts_cmp cmp (x ∷ xs) [] = Less
 fronts_cmp cmp (x ∷ xs) (y ∷ ys) = cmp x y
 
 -- The lesser of the two first items leaves; of two that are tied both leave.
-abbrev pub TakesLeast : {X : Type 0} → Ordering → (first second : List X) → Option X → (first_left second_left : List X) → Type 0
-TakesLeast Less first second next first_left second_left = (next ≡ first_of first) × (first_left ≡ drop 1 first) × (second_left ≡ second)
-TakesLeast Equal first second next first_left second_left = (next ≡ first_of first) × (first_left ≡ drop 1 first) × (second_left ≡ drop 1 second)
-TakesLeast Greater first second next first_left second_left = (next ≡ first_of second) × (first_left ≡ first) × (second_left ≡ drop 1 second)
+abbrev pub TakesLeast : {X : Type 0} → Ordering → (first second : List X) → Option X → (first_left second_left : List X)
+    → Type 0
+TakesLeast Less first second next first_left second_left =
+    (next ≡ first_of first) × (first_left ≡ drop 1 first) × (second_left ≡ second)
+TakesLeast Equal first second next first_left second_left =
+    (next ≡ first_of first) × (first_left ≡ drop 1 first) × (second_left ≡ drop 1 second)
+TakesLeast Greater first second next first_left second_left =
+    (next ≡ first_of second) × (first_left ≡ first) × (second_left ≡ drop 1 second)

@@ -1,5 +1,6 @@
 -- The marks of paths of which there is a piece.
-use Rattle.std.specs.Prelude.{◌≡◌, ◌≢◌, ◌<◌, ◌↔◌, ℕ, Bool, true, false, Some, List, length, take, All, Contains, slice_index_or, slice_set}
+use Rattle.std.specs.Prelude.{◌≡◌, ◌≢◌, ◌<◌, ◌↔◌, ℕ, Bool, true, false, Some, List, length, take, All, Contains}
+use Rattle.std.specs.Prelude.{slice_index_or, slice_set}
 use Rattle.std.specs.List.{slice_get}
 use Rattle.scip_model.specs.declared.records.Document.{Document}
 use Rattle.scip_document.specs.Pieces.{paths_of}
@@ -21,13 +22,17 @@ pub record IsMarked (paths : List (List ℕ)) (path : List ℕ) (old new : List 
 -- or it isn't, since no path is that of the piece, or it is marked already
 abbrev pub IsNotMarked : (paths : List (List ℕ)) → (path : List ℕ) → List Bool → (piece : ℕ) → MergeFault → Type 0
 IsNotMarked paths path old piece (Stranger number) = (number ≡ piece) × (Contains paths path → ⊥)
-IsNotMarked paths path old piece (Twice number) = (number ≡ piece) × (other : ℕ) × (slice_get paths other ≡ Some path) × (slice_index_or old other false ≡ true)
+IsNotMarked paths path old piece (Twice number) =
+    (number ≡ piece) × (other : ℕ) × (slice_get paths other ≡ Some path) × (slice_index_or old other false ≡ true)
 IsNotMarked paths path old piece (Missing number) = ⊥
 IsNotMarked paths path old piece Memory = ⊥
 
 -- the paths of the first so many pieces are marked, and they differ
 pub record AreMarked (paths : List (List ℕ)) (pieces : List Document) (count : ℕ) (marks : List Bool) : Type 0 where
   pub size : length marks ≡ length paths
-  pub marked : (number : ℕ) (path : List ℕ) → slice_get paths number ≡ Some path → (slice_index_or marks number false ≡ true) ↔ Contains (paths_of (take count pieces)) path
-  pub known : (piece : ℕ) (document : Document) → piece < count → slice_get pieces piece ≡ Some document → Contains paths document.relative_path
-  pub alone : (i j : ℕ) (a b : Document) → i < j → j < count → slice_get pieces i ≡ Some a → slice_get pieces j ≡ Some b → a.relative_path ≢ b.relative_path
+  pub marked : (number : ℕ) (path : List ℕ) → slice_get paths number ≡ Some path
+      → (slice_index_or marks number false ≡ true) ↔ Contains (paths_of (take count pieces)) path
+  pub known : (piece : ℕ) (document : Document) → piece < count → slice_get pieces piece ≡ Some document
+      → Contains paths document.relative_path
+  pub alone : (i j : ℕ) (a b : Document) → i < j → j < count → slice_get pieces i ≡ Some a → slice_get pieces j ≡ Some b
+      → a.relative_path ≢ b.relative_path

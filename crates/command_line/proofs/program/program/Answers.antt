@@ -6,7 +6,10 @@ use Rattle.command_line.proofs.RuleLemmas.{entered}
 use Rattle.command_line.proofs.program.program.Goals as goal
 
 abbrev plain : App
-plain = record { top = record (new_app (codes "protoscip")).top { has_version = true; subcommand_required = true }; subs = [] }
+plain = record {
+  top = record (new_app (codes "protoscip")).top { has_version = true; subcommand_required = true };
+  subs = [];
+}
 
 pub returns : goal.returns
 returns c =
@@ -15,7 +18,8 @@ returns c =
     entered _ _ _ adds c.in_ok-dump_program.ensures.local
     (entered _ _ _ c.in_ok-subcommand-3.ensures c.in_ok-query_program.ensures.local
     (entered _ _ _ c.in_ok-subcommand-2.ensures c.in_ok-shell_program.ensures.local
-    (entered _ _ _ c.in_ok-subcommand.ensures c.in_ok-index_program.ensures.local start c.in_ok-index_program.ensures.line)
+    (entered _ _ _ c.in_ok-subcommand.ensures c.in_ok-index_program.ensures.local start
+    c.in_ok-index_program.ensures.line)
     c.in_ok-shell_program.ensures.line)
     c.in_ok-query_program.ensures.line)
     c.in_ok-dump_program.ensures.line) c.subcommand-4.ensures

@@ -8,5 +8,6 @@ pub returns-in-Some-subcommand_matches : goal.returns-in-Some-subcommand_matches
 returns-in-Some-subcommand_matches c =
     let shell = c.in-Some-subcommand_matches.ensures in (
       matches_name _ ∙ shell.found.0 refl,
-      subst (λ (rows : List Row). Carries rows c.in_ok-options_of.field-0) (sym (matches_rows _ _ shell.rows)) c.in_ok-options_of.ensures,
+      subst (λ (rows : List Row). Carries rows c.in_ok-options_of.field-0)
+          (sym (matches_rows _ _ shell.rows)) c.in_ok-options_of.ensures,
     )

@@ -15,7 +15,11 @@ returns-in-Ok c =
     let rows = c.in-Ok.ensures.matches (ap is_simple is_line ∙ command_line_is_walked lists) in
     let program = rows.1 ∙ ap₂ subcommand_of is_line words in
     IfOk-weaker c.named.result _ _
-    (λ r names. (lists, c.new-lists.ensures, asks_program _ _ r (sym same ∙ none) (subst (λ (p : Option (Text × List Row)). Names p r) program names)))
+    (λ r names. (
+      lists,
+      c.new-lists.ensures,
+      asks_program _ _ r (sym same ∙ none) (subst (λ (p : Option (Text × List Row)). Names p r) program names),
+    ))
     c.named.ensures
 
 pub returns-in-Err : goal.returns-in-Err
@@ -25,5 +29,9 @@ returns-in-Err c =
     let some = c.in-Err.ensures.kinds (ap is_simple_and_free is_line ∙ command_line_is_simple lists) in
     let same = ap₂ fault_of is_line (ap (map string_bytes) c.as_slice.ensures.value) in
     IfOk-weaker c.answer.result _ _
-    (λ r p. (lists, c.new-lists.ensures, asks_answer _ _ c.in-Err.error r (subst (λ (ks : Kinds). HasKind ks c.in-Err.error) same some) p))
+    (λ r p. (
+      lists,
+      c.new-lists.ensures,
+      asks_answer _ _ c.in-Err.error r (subst (λ (ks : Kinds). HasKind ks c.in-Err.error) same some) p,
+    ))
     c.answer.ensures

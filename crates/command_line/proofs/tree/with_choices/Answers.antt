@@ -9,7 +9,8 @@ returns-clause-rules c =
     let doc_local = c.taking_words.ensures.local ∙ c.option-2.ensures.local in
     let doc_rule = c.taking_words.ensures.rule ∙ ap (taking_words _) c.option-2.ensures.rule in
     let positions_local = c.or_default.ensures.local ∙ c.taking_words-2.ensures.local ∙ c.option-3.ensures.local in
-    let positions_rule = c.or_default.ensures.rule ∙ ap (or_default _) (c.taking_words-2.ensures.rule ∙ ap (taking_words _) c.option-3.ensures.rule) in
+    let positions_rule = c.or_default.ensures.rule
+    ∙ ap (or_default _) (c.taking_words-2.ensures.rule ∙ ap (taking_words _) c.option-3.ensures.rule) in
     IfOk-weaker c.arg-5.result _ _ (λ d adds.
     added _ _ _ adds c.custom_options.ensures.local
     (added _ _ _ c.in_ok-arg-4.ensures positions_local

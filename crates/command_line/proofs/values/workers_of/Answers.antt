@@ -9,6 +9,7 @@ use Rattle.command_line.proofs.values.workers_of.Goals as goal
 
 pub returns-clause-number : goal.returns-clause-number
 returns-clause-number c = c.fitting.ensures.number
-    ∙ fitting_is _ (λ bs r. ParsesUnsigned 64 10 bs r × ExplainsUnsignedError 10 bs r × HasUnsignedDigitsIfOk bs r) (λ u x g. g.0) _ c.get_one.result
+    ∙ fitting_is _ (λ bs r. ParsesUnsigned 64 10 bs r × ExplainsUnsignedError 10 bs r × HasUnsignedDigitsIfOk bs r)
+    (λ u x g. g.0) _ c.get_one.result
     c.get_one.ensures.none c.get_one.ensures.value
     ∙ ap (λ (o : Option (List ℕ)). option_map_or workers_in o 4) (one_text-rows (found_of c.args.given.now) _)

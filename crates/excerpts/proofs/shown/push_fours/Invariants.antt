@@ -6,4 +6,5 @@ use Rattle.excerpts.proofs.shown.push_fours.Given as goal
 
 -- the signs of the bytes so far
 abbrev pub invariant-loop-byte : goal.invariant-loop-byte
-invariant-loop-byte l = string_bytes l.out ≡ string_bytes l.fn.out ++ flat_map (λ (byte : ℕ). four l.sign) (take l._byte-index l.bytes)
+invariant-loop-byte l = string_bytes l.out
+    ≡ string_bytes l.fn.out ++ flat_map (λ (byte : ℕ). four l.sign) (take l._byte-index l.bytes)

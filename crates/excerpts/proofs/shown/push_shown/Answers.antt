@@ -6,5 +6,6 @@ use Rattle.excerpts.proofs.shown.push_shown.Goals as goal
 
 pub loop-left-preserved : goal.loop-left-preserved
 loop-left-preserved c =
-    step shown (string_bytes c.loop-left.out) (string_bytes c.push_character.new.out) _ c.loop-left.left (characters c.loop-left.rest.now) c.in-Some.character.now (characters c.in-Some.others.now)
+    step shown (string_bytes c.loop-left.out) (string_bytes c.push_character.new.out) _ c.loop-left.left
+    (characters c.loop-left.rest.now) c.in-Some.character.now (characters c.in-Some.others.now)
     c.loop-left-test.true c.in-Some.ensures.parts c.in_ok-push_character-in-Some.ensures c.loop-left.invariant

@@ -29,9 +29,14 @@ loop-worker-preserved c =
     let more = c.in_ok-push.ensures.items in
     let new = c.in_ok-lane.ensures in
     let ends = c.in_ok-lane.field-0 in record {
-      count = (let a = ap length more in let b = length_push c.loop-worker.lanes.items ends in let d = c.loop-worker.invariant.count in omega arith);
-      fresh = All-same (FreshLane c.args.inputs) _ _ more (All-push (FreshLane c.args.inputs) c.loop-worker.lanes.items ends c.loop-worker.invariant.fresh
-          (fresh_owner c.args.inputs c.args.workers c.loop-worker.worker ends.0 new.owner, fresh_thief c.args.inputs c.args.workers c.loop-worker.worker ends.1 new.thief new.tries, new.deque));
+      count = (let a = ap length more in let b = length_push c.loop-worker.lanes.items ends in
+          let d = c.loop-worker.invariant.count in omega arith);
+      fresh = All-same (FreshLane c.args.inputs) _ _ more
+          (All-push (FreshLane c.args.inputs) c.loop-worker.lanes.items ends c.loop-worker.invariant.fresh (
+            fresh_owner c.args.inputs c.args.workers c.loop-worker.worker ends.0 new.owner,
+            fresh_thief c.args.inputs c.args.workers c.loop-worker.worker ends.1 new.thief new.tries,
+            new.deque,
+          ));
       weighed = λ h. (
           let a = ap (sum_by (given_weight h)) more in
           let b = sum_by_push (given_weight h) c.loop-worker.lanes.items ends in
@@ -47,4 +52,7 @@ returns-clause-whole c = λ h.
     let some : 0 < c.args.workers = omega arith in
     let all : c.loop-worker.worker ≡ c.args.workers = omega arith in
     let a = c.loop-worker.invariant.weighed h in
-    let b : lanes_weight h c.args.inputs c.args.workers c.loop-worker.worker ≡ sum_by h (range_with_len 0 c.args.inputs) = ap (lanes_weight h c.args.inputs c.args.workers) all ∙ lanes_cover h c.args.inputs c.args.workers some in omega arith
+    let b : lanes_weight h c.args.inputs c.args.workers c.loop-worker.worker
+    ≡ sum_by h (range_with_len 0 c.args.inputs) =
+    ap (lanes_weight h c.args.inputs c.args.workers) all ∙ lanes_cover h c.args.inputs c.args.workers some in
+    omega arith

@@ -9,5 +9,6 @@ abbrev pub invariant-loop-worker : goal.invariant-loop-worker
 invariant-loop-worker l = record {
   count : length l.lanes.items + 1 ≡ l.worker;
   fresh : All (FreshLane l.inputs) l.lanes.items;
-  weighed : (h : ℕ → ℕ) → sum_by h (lane_numbers l.inputs l.workers 0) + sum_by (λ ends. sum_by h (owner_view ends.0).given) l.lanes.items ≡ lanes_weight h l.inputs l.workers l.worker;
+  weighed : (h : ℕ → ℕ) → sum_by h (lane_numbers l.inputs l.workers 0)
+      + sum_by (λ ends. sum_by h (owner_view ends.0).given) l.lanes.items ≡ lanes_weight h l.inputs l.workers l.worker;
 }

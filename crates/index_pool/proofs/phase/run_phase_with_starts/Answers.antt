@@ -10,15 +10,18 @@ pub returns-in-Ok-clause-answers : goal.returns-in-Ok-clause-answers
 returns-in-Ok-clause-answers g c =
     let gives = g.J.Job.gives c.args.task.now.job.now in
     let among = IsAmong c.in-Ok.results.items in
-    IfOk-weaker c.in_order.result (λ outs. AnswersEach among c.args.inputs outs.items) (λ outs. AnswersEach gives c.args.inputs outs.items)
-    (λ outs. answers_weaker among gives c.args.inputs c.args.inputs refl (given_among gives c.in-Ok.results.items c.in-Ok.ensures.ran.0) outs.items) c.in_order.ensures.answers
+    IfOk-weaker c.in_order.result (λ outs. AnswersEach among c.args.inputs outs.items)
+    (λ outs. AnswersEach gives c.args.inputs outs.items)
+    (λ outs. answers_weaker among gives c.args.inputs c.args.inputs refl
+    (given_among gives c.in-Ok.results.items c.in-Ok.ensures.ran.0) outs.items) c.in_order.ensures.answers
 
 pub returns-in-Ok-clause-refused : goal.returns-in-Ok-clause-refused
 returns-in-Ok-clause-refused g c =
     let gives = g.J.Job.gives c.args.task.now.job.now in
     let among = IsAmong c.in-Ok.results.items in
     IfErr-weaker c.in_order.result (MayRefuse among c.args.inputs 1) (MayRefuse gives c.args.inputs c.args.workers)
-    (refusal_weaker among gives c.args.inputs c.args.inputs c.args.workers refl (given_among gives c.in-Ok.results.items c.in-Ok.ensures.ran.0)) c.in_order.ensures.refused
+    (refusal_weaker among gives c.args.inputs c.args.inputs c.args.workers refl
+    (given_among gives c.in-Ok.results.items c.in-Ok.ensures.ran.0)) c.in_order.ensures.refused
 
 pub returns-in-Ok-clause-started : goal.returns-in-Ok-clause-started
 returns-in-Ok-clause-started g c = each_ran c.in_order.result _ c.in-Ok.ensures.started

@@ -11,10 +11,13 @@ pub returns-in-Err : goal.returns-in-Err
 returns-in-Err g c =
     let done : Result (Unit {0}) Fault = Err c.in-Err.fault in
     let line = line_of (dump_tree []) c.in-Err.fault in
-    let Dumped : CustomOptions → Type 0 = λ custom. IsDumped g.I.Feed.remaining g.W.Sink.contents g.W.Sink.failures custom c.args.input.now c.args.out.now c.dump.new.out done in (
+    let Dumped : CustomOptions → Type 0 =
+    λ custom. IsDumped g.I.Feed.remaining g.W.Sink.contents g.W.Sink.failures custom c.args.input.now c.args.out.now
+    c.dump.new.out done in (
       done,
       subst Dumped c.custom_options_of.ensures c.in-Err.ensures.dumped,
       c.in-Err.ensures.reader,
       c.in-Err.ensures.briefly,
-      told g.M.Sink.contents g.M.Sink.failures c.args.messages.now c.report.new.messages c.report.result _ _ string_bytes c.dump_line.result line c.status.ensures c.dump_line.ensures c.report.ensures,
+      told g.M.Sink.contents g.M.Sink.failures c.args.messages.now c.report.new.messages c.report.result _ _
+          string_bytes c.dump_line.result line c.status.ensures c.dump_line.ensures c.report.ensures,
     )

@@ -7,4 +7,5 @@ pub returns-in-Err : goal.returns-in-Err
 returns-in-Err g c =
     let line = line_of c.args.tree.now c.in-Err.fault in
     rw c.in-Err.is
-    (told g.M.Sink.contents g.M.Sink.failures c.args.messages.now c.report.new.messages c.report.result _ _ string_bytes c.fault_line.result line c.status.ensures c.fault_line.ensures c.report.ensures)
+    (told g.M.Sink.contents g.M.Sink.failures c.args.messages.now c.report.new.messages c.report.result _ _ string_bytes
+    c.fault_line.result line c.status.ensures c.fault_line.ensures c.report.ensures)

@@ -21,7 +21,8 @@ returns-in-Err g c =
     let fault = c.in-Err.fault in
     let line = start_line fault in
     not_started fault c.in-Err.ensures.stops refl
-    (told g.M.Sink.contents g.M.Sink.failures c.args.messages.now c.report.new.messages c.report.result _ _ string_bytes c.line.result line c.status.ensures c.line.ensures c.report.ensures)
+    (told g.M.Sink.contents g.M.Sink.failures c.args.messages.now c.report.new.messages c.report.result _ _ string_bytes
+    c.line.result line c.status.ensures c.line.ensures c.report.ensures)
 
 pub returns : goal.returns
 returns g c =
@@ -30,9 +31,13 @@ returns g c =
     let choices : BuiltParts (List ℕ) → Chosen = λ built. built.choices in
     let done = part_of choices kept in
     let Indexed : (Seen → Choice → Type 0) → Settings → ℕ → Result Chosen Fault → Type 0 = λ allows settings workers d.
-    Indexes g.W.Sink.contents g.W.Sink.failures allows settings run.tree workers c.args.out.now c.index_and_keep-done.new.out d in
-    let By : Option (List ℕ) → Option DocChoice → Settings → ℕ → Type 0 = λ only doc settings workers. Indexed (IsChosenBy only doc) settings workers done in
-    let indexed = holds_of_part choices (Indexed _ run.settings run.workers) kept c.index_and_keep-done.ensures.indexed in
+    Indexes g.W.Sink.contents g.W.Sink.failures allows settings run.tree workers c.args.out.now
+    c.index_and_keep-done.new.out d in
+    let By : Option (List ℕ) → Option DocChoice → Settings → ℕ → Type 0 =
+    λ only doc settings workers. Indexed (IsChosenBy only doc) settings workers done in
+    let indexed = holds_of_part choices (Indexed _ run.settings run.workers) kept c.index_and_keep-done.ensures.indexed
+    in
     over_tree run.tree done c.in-Ok.ensures.named c.in-Ok.ensures.tree
     (moved4 By c.in-Ok.ensures.only c.in-Ok.ensures.doc c.in-Ok.ensures.settings c.in-Ok.ensures.workers indexed)
-    (ends_alike choices g.M.Sink.contents g.M.Sink.failures run.tree kept c.args.messages.now c.end-status.new.messages c.end-status.result c.end-status.ensures)
+    (ends_alike choices g.M.Sink.contents g.M.Sink.failures run.tree kept c.args.messages.now c.end-status.new.messages
+    c.end-status.result c.end-status.ensures)

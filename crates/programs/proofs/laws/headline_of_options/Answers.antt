@@ -9,5 +9,6 @@ returns g c =
     let laws = c.laws_of_names.ensures in
     record {
       choices = headline (allowed_by options) laws;
-      files = headline_of_files (g.F.ReadFiles.lists c.args.files.now) (g.F.ReadFiles.gives c.args.files.now) options laws;
+      files = headline_of_files (g.F.ReadFiles.lists c.args.files.now)
+          (g.F.ReadFiles.gives c.args.files.now) options laws;
     }

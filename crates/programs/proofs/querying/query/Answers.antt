@@ -7,18 +7,26 @@ use Rattle.programs.proofs.querying.query.Goals as goal
 pub returns-in_err-index : goal.returns-in_err-index
 returns-in_err-index g c =
     let p = err_from_is_err_and c.from_residual.result c.from_residual.ensures.1 in
-    rw (p.1, p.2) (unread (g.F.ReadFiles.gives c.args.files.now c.args.path.now) (reader g.R.Feed.remaining g.R.Feed.failures g.R.Feed.reads g.R.Feed.ends c.args.commands.now c.args.commands.now)
-    (writer g.W.Sink.contents g.W.Sink.failures c.args.answers.now c.args.answers.now) c.in_err-index.field-0.0 c.in_err-index.ensures (record { unread = refl; unwritten = refl }))
+    rw (p.1, p.2) (unread (g.F.ReadFiles.gives c.args.files.now c.args.path.now)
+    (reader g.R.Feed.remaining g.R.Feed.failures g.R.Feed.reads g.R.Feed.ends c.args.commands.now
+    c.args.commands.now)
+    (writer g.W.Sink.contents g.W.Sink.failures c.args.answers.now c.args.answers.now) c.in_err-index.field-0.0
+    c.in_err-index.ensures (record { unread = refl; unwritten = refl }))
 
 pub returns-in_err-answer_commands : goal.returns-in_err-answer_commands
 returns-in_err-answer_commands g c =
-    let p = err_from_is_err_and c.from_residual-in_err-answer_commands.result c.from_residual-in_err-answer_commands.ensures.1 in
+    let p = err_from_is_err_and c.from_residual-in_err-answer_commands.result
+    c.from_residual-in_err-answer_commands.ensures.1 in
     rw (p.1, p.2) (told (g.F.ReadFiles.gives c.args.files.now c.args.path.now)
-    (reader g.R.Feed.remaining g.R.Feed.failures g.R.Feed.reads g.R.Feed.ends c.args.commands.now c.answer_commands.new.commands)
-    (writer g.W.Sink.contents g.W.Sink.failures c.args.answers.now c.answer_commands.new.answers) c.in_ok-index.index c.in_ok-index.ensures (Err c.in_err-answer_commands.field-0.0) c.in_err-answer_commands.ensures)
+    (reader g.R.Feed.remaining g.R.Feed.failures g.R.Feed.reads g.R.Feed.ends c.args.commands.now
+    c.answer_commands.new.commands)
+    (writer g.W.Sink.contents g.W.Sink.failures c.args.answers.now c.answer_commands.new.answers) c.in_ok-index.index
+    c.in_ok-index.ensures (Err c.in_err-answer_commands.field-0.0) c.in_err-answer_commands.ensures)
 
 pub returns : goal.returns
 returns g c =
     told (g.F.ReadFiles.gives c.args.files.now c.args.path.now)
-    (reader g.R.Feed.remaining g.R.Feed.failures g.R.Feed.reads g.R.Feed.ends c.args.commands.now c.answer_commands.new.commands)
-    (writer g.W.Sink.contents g.W.Sink.failures c.args.answers.now c.answer_commands.new.answers) c.in_ok-index.index c.in_ok-index.ensures (Ok tt) c.in_ok-answer_commands.ensures
+    (reader g.R.Feed.remaining g.R.Feed.failures g.R.Feed.reads g.R.Feed.ends c.args.commands.now
+    c.answer_commands.new.commands)
+    (writer g.W.Sink.contents g.W.Sink.failures c.args.answers.now c.answer_commands.new.answers) c.in_ok-index.index
+    c.in_ok-index.ensures (Ok tt) c.in_ok-answer_commands.ensures

@@ -9,5 +9,6 @@ returns-in-Err g c =
     let line = line_of c.args.path.now c.in-Err.fault in (
       Err c.in-Err.fault,
       c.in-Err.ensures,
-      told g.M.Sink.contents g.M.Sink.failures c.args.messages.now c.report.new.messages c.report.result _ _ string_bytes c.line.result line c.status.ensures c.line.ensures c.report.ensures,
+      told g.M.Sink.contents g.M.Sink.failures c.args.messages.now c.report.new.messages c.report.result _ _
+          string_bytes c.line.result line c.status.ensures c.line.ensures c.report.ensures,
     )

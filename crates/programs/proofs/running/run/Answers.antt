@@ -15,18 +15,29 @@ pub returns-in-Index-clause-indexed : goal.returns-in-Index-clause-indexed
 returns-in-Index-clause-indexed g c =
     let Here : Request → Type 0 = λ request. IfSome (index_options request) (λ options.
     Indexed (g.F.ReadFiles.lists c.args.host.now.files.now) (g.F.ReadFiles.gives c.args.host.now.files.now) options
-    (writer g.O.Sink.contents g.O.Sink.failures c.args.file.now c.index.new.out) (writer g.M.Sink.contents g.M.Sink.failures c.args.messages.now c.index.new.messages) c.index.result
+    (writer g.O.Sink.contents g.O.Sink.failures c.args.file.now c.index.new.out)
+    (writer g.M.Sink.contents g.M.Sink.failures c.args.messages.now c.index.new.messages) c.index.result
     × (c.args.input.now ≡ c.args.input.now) × (c.args.out.now ≡ c.args.out.now)) in
-    subst (λ (asked : Result Request AllocError). IfOk asked Here) (sym c.in-Ok.is) (subst Here (sym c.in-Index.is) (c.index.ensures, refl, refl))
+    subst (λ (asked : Result Request AllocError). IfOk asked Here) (sym c.in-Ok.is)
+    (subst Here (sym c.in-Index.is) (c.index.ensures, refl, refl))
 
 pub returns-in-Shell-clause-served : goal.returns-in-Shell-clause-served
 returns-in-Shell-clause-served g c =
     let Here : Request → Type 0 = λ request. IfSome (shell_options request) (λ options.
     Served (g.F.ReadFiles.lists c.args.host.now.files.now) (g.F.ReadFiles.gives c.args.host.now.files.now) options
     (reader g.I.Feed.remaining g.I.Feed.failures g.I.Feed.reads g.I.Feed.ends c.args.input.now c.shell.new.commands)
-    (writer g.W.Sink.contents g.W.Sink.failures c.args.out.now c.shell.new.answers) (writer g.M.Sink.contents g.M.Sink.failures c.args.messages.now c.shell.new.messages) c.shell.result
+    (writer g.W.Sink.contents g.W.Sink.failures c.args.out.now c.shell.new.answers)
+    (writer g.M.Sink.contents g.M.Sink.failures c.args.messages.now c.shell.new.messages) c.shell.result
     × (c.args.file.now ≡ c.args.file.now)) in
-    subst (λ (asked : Result Request AllocError). IfOk asked Here) (sym c.in-Ok.is) (subst Here (sym c.in-Shell.is) (c.shell.ensures, refl))
+    subst (λ (asked : Result Request AllocError). IfOk asked Here) (sym c.in-Ok.is)
+    (subst Here (sym c.in-Shell.is) (c.shell.ensures, refl))
 
 pub returns-in-Err-clause-unknown : goal.returns-in-Err-clause-unknown
-returns-in-Err-clause-unknown g c = rw c.in-Err.is (told g.M.Sink.contents g.M.Sink.failures c.args.messages.now c.report.new.messages c.report.result _ _ string_bytes c.plain_line-line.result memory_line refl c.plain_line-line.ensures c.report.ensures, refl, refl, refl)
+returns-in-Err-clause-unknown g c =
+    rw c.in-Err.is (
+      told g.M.Sink.contents g.M.Sink.failures c.args.messages.now c.report.new.messages c.report.result _
+          _ string_bytes c.plain_line-line.result memory_line refl c.plain_line-line.ensures c.report.ensures,
+      refl,
+      refl,
+      refl,
+    )

@@ -15,13 +15,17 @@ returns-in-Err g c =
     let fault = c.in-Err.fault in
     let line = start_line fault in
     not_started fault c.in-Err.ensures.stops (record { unread = refl; unwritten = refl })
-    (told g.M.Sink.contents g.M.Sink.failures c.args.messages.now c.report.new.messages c.report.result _ _ string_bytes c.line.result line c.status.ensures c.line.ensures c.report.ensures)
+    (told g.M.Sink.contents g.M.Sink.failures c.args.messages.now c.report.new.messages c.report.result _ _ string_bytes
+    c.line.result line c.status.ensures c.line.ensures c.report.ensures)
 
 pub returns : goal.returns
 returns g c =
     let run = c.in-Ok.start in
     let By : Option (List ℕ) → Option DocChoice → Settings → ℕ → Type 0 = λ only doc settings workers.
-    Serves g.I.Feed.remaining g.I.Feed.failures g.I.Feed.reads g.I.Feed.ends g.W.Sink.contents g.W.Sink.failures (IsChosenBy only doc) settings run.tree workers
-    c.args.commands.now c.session-done.new.commands c.args.answers.now c.session-done.new.answers c.session-done.result in
+    Serves g.I.Feed.remaining g.I.Feed.failures g.I.Feed.reads g.I.Feed.ends g.W.Sink.contents g.W.Sink.failures
+    (IsChosenBy only doc) settings run.tree workers
+    c.args.commands.now c.session-done.new.commands c.args.answers.now c.session-done.new.answers c.session-done.result
+    in
     over_tree run.tree c.session-done.result c.in-Ok.ensures.named c.in-Ok.ensures.tree
-    (moved4 By c.in-Ok.ensures.only c.in-Ok.ensures.doc c.in-Ok.ensures.settings c.in-Ok.ensures.workers c.session-done.ensures.served) c.end.ensures
+    (moved4 By c.in-Ok.ensures.only c.in-Ok.ensures.doc c.in-Ok.ensures.settings c.in-Ok.ensures.workers
+    c.session-done.ensures.served) c.end.ensures

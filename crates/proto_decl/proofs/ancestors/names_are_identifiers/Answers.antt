@@ -10,16 +10,20 @@ pub returns-clause-named : goal.returns-clause-named
 returns-clause-named c = λ facts origin.
     facts_named facts.number origin.lexed origin.file facts origin.is_lexed origin.of_file
     (c.spans_of_tokens.ensures.items origin.custom origin.lexed.text origin.lexed.tokens origin.file origin.derives)
-    (c.spans_of_tokens.ensures.package_name origin.custom origin.lexed.text origin.lexed.tokens origin.file origin.derives)
+    (c.spans_of_tokens.ensures.package_name origin.custom origin.lexed.text origin.lexed.tokens origin.file
+    origin.derives)
 
 pub returns-clause-held : goal.returns-clause-held
 returns-clause-held c = λ facts origin.
     c.declarations_stand_in_declarations.ensures facts.number origin.lexed origin.file facts origin.of_file
     (facts_named facts.number origin.lexed origin.file facts origin.is_lexed origin.of_file
     (c.spans_of_tokens.ensures.items origin.custom origin.lexed.text origin.lexed.tokens origin.file origin.derives)
-    (c.spans_of_tokens.ensures.package_name origin.custom origin.lexed.text origin.lexed.tokens origin.file origin.derives))
+    (c.spans_of_tokens.ensures.package_name origin.custom origin.lexed.text origin.lexed.tokens origin.file
+    origin.derives))
 
 pub returns-clause-paths : goal.returns-clause-paths
 returns-clause-paths c = λ facts origin.
-    All-weaker (IsNamedAt origin.lexed.text) (λ (d : Declaration). d.path ≢ []) (path_some origin.lexed.text) facts.declarations
-    (c.names_are_spelled.ensures origin.custom facts.number origin.lexed origin.file facts origin.is_lexed origin.derives origin.of_file)
+    All-weaker (IsNamedAt origin.lexed.text) (λ (d : Declaration). d.path ≢ [])
+    (path_some origin.lexed.text) facts.declarations
+    (c.names_are_spelled.ensures origin.custom facts.number origin.lexed origin.file facts origin.is_lexed
+    origin.derives origin.of_file)

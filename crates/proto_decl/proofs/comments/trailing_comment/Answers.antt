@@ -4,10 +4,16 @@ use Rattle.proto_decl.proofs.comments.trailing_comment.Goals as goal
 
 pub returns-then-not-follows-clause-found : goal.returns-then-not-follows-clause-found
 returns-then-not-follows-clause-found c =
-    refuted c.args.lexed.now c.args.closing c.comments_begun-begun.result _ c.comments-comments.result.now c.comments-comments.ensures.value
-    c.comments-comments.ensures.in_order (omega (arith, ap length c.comments-comments.ensures.value)) c.comments_begun-begun.ensures.parted c.follows.result c.follows.ensures c.if-not-follows.true
+    refuted c.args.lexed.now c.args.closing c.comments_begun-begun.result _ c.comments-comments.result.now
+    c.comments-comments.ensures.value
+    c.comments-comments.ensures.in_order
+    (omega (arith, ap length c.comments-comments.ensures.value)) c.comments_begun-begun.ensures.parted
+    c.follows.result c.follows.ensures c.if-not-follows.true
 
 pub returns-clause-found : goal.returns-clause-found
 returns-clause-found c =
-    confirmed c.args.lexed.now c.args.closing c.comments_begun-begun.result _ c.comments-comments.result.now c.comments-comments.ensures.value
-    c.comments-comments.ensures.in_order (omega (arith, ap length c.comments-comments.ensures.value)) c.comments_begun-begun.ensures.parted c.follows.result c.follows.ensures c.if-not-follows.false
+    confirmed c.args.lexed.now c.args.closing c.comments_begun-begun.result _ c.comments-comments.result.now
+    c.comments-comments.ensures.value
+    c.comments-comments.ensures.in_order
+    (omega (arith, ap length c.comments-comments.ensures.value)) c.comments_begun-begun.ensures.parted
+    c.follows.result c.follows.ensures c.if-not-follows.false

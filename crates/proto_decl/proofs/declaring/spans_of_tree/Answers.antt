@@ -6,22 +6,36 @@ use Rattle.proto_decl.proofs.SpanLemmas.{OfToken, items_hold, imports_hold, pack
 use Rattle.proto_decl.proofs.declaring.spans_of_tree.Goals as goal
 use Rattle.proto_decl.proofs.declaring.spans_of_tree.Goals.{After-spans_of_tokens}
 
-of_tokens : (c : After-spans_of_tokens) → All (λ (t : Token). OfToken (IsPart c.args.lexed.now.text) (IsLiteral c.args.lexed.now.text) t.kind t.span) c.args.lexed.now.tokens
+of_tokens : (c : After-spans_of_tokens)
+    → All (λ (t : Token). OfToken (IsPart c.args.lexed.now.text) (IsLiteral c.args.lexed.now.text) t.kind t.span)
+    c.args.lexed.now.tokens
 of_tokens c =
     let is = c.are_lexed.ensures in
-    λ k d h. (is.token_parts k d h, λ literal. record { part = is.token_parts k d h; spelled = rw literal at (is.spelled k d h) })
+    λ k d h. (
+      is.token_parts k d h,
+      λ literal. record { part = is.token_parts k d h; spelled = rw literal at (is.spelled k d h) },
+    )
 
 pub returns-clause-package_name : goal.returns-clause-package_name
 returns-clause-package_name c =
-    package_holds (IsPart c.args.lexed.now.text) (IsLiteral c.args.lexed.now.text) c.args.lexed.now.text c.args.lexed.now.tokens c.args.file.now (of_tokens (goal.at.returns-clause-package_name c).After-spans_of_tokens)
-    (c.spans_of_tokens.ensures.package_name c.requires.0 c.args.lexed.now.text c.args.lexed.now.tokens c.args.file.now c.requires.1)
+    package_holds (IsPart c.args.lexed.now.text)
+    (IsLiteral c.args.lexed.now.text) c.args.lexed.now.text c.args.lexed.now.tokens c.args.file.now
+    (of_tokens (goal.at.returns-clause-package_name c).After-spans_of_tokens)
+    (c.spans_of_tokens.ensures.package_name c.requires.0 c.args.lexed.now.text c.args.lexed.now.tokens c.args.file.now
+    c.requires.1)
 
 pub returns-clause-imports : goal.returns-clause-imports
 returns-clause-imports c =
-    imports_hold (IsPart c.args.lexed.now.text) (IsLiteral c.args.lexed.now.text) c.args.lexed.now.text c.args.lexed.now.tokens c.args.file.now (of_tokens (goal.at.returns-clause-imports c).After-spans_of_tokens)
-    (c.spans_of_tokens.ensures.imports c.requires.0 c.args.lexed.now.text c.args.lexed.now.tokens c.args.file.now c.requires.1)
+    imports_hold (IsPart c.args.lexed.now.text)
+    (IsLiteral c.args.lexed.now.text) c.args.lexed.now.text c.args.lexed.now.tokens c.args.file.now
+    (of_tokens (goal.at.returns-clause-imports c).After-spans_of_tokens)
+    (c.spans_of_tokens.ensures.imports c.requires.0 c.args.lexed.now.text c.args.lexed.now.tokens c.args.file.now
+    c.requires.1)
 
 pub returns-clause-items : goal.returns-clause-items
 returns-clause-items c =
-    items_hold (IsPart c.args.lexed.now.text) (IsLiteral c.args.lexed.now.text) c.args.lexed.now.text c.args.lexed.now.tokens c.args.file.now (of_tokens (goal.at.returns-clause-items c).After-spans_of_tokens)
-    (c.spans_of_tokens.ensures.items c.requires.0 c.args.lexed.now.text c.args.lexed.now.tokens c.args.file.now c.requires.1)
+    items_hold (IsPart c.args.lexed.now.text)
+    (IsLiteral c.args.lexed.now.text) c.args.lexed.now.text c.args.lexed.now.tokens c.args.file.now
+    (of_tokens (goal.at.returns-clause-items c).After-spans_of_tokens)
+    (c.spans_of_tokens.ensures.items c.requires.0 c.args.lexed.now.text c.args.lexed.now.tokens c.args.file.now
+    c.requires.1)

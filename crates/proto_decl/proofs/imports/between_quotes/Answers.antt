@@ -9,10 +9,14 @@ spelled : (c : After-spelling_at-spelling) → Spells StringLiteral c.spelling_a
 spelled c = subst (λ (s : List ℕ). Spells StringLiteral s) (sym c.spelling_at-spelling.ensures) c.requires.spelled
 
 pub range-requires-clause-start_le_end : goal.range-requires-clause-start_le_end
-range-requires-clause-start_le_end c = (cut_last (spelled (goal.at.range-requires-clause-start_le_end c).After-spelling_at-spelling)).0
+range-requires-clause-start_le_end c =
+    (cut_last (spelled (goal.at.range-requires-clause-start_le_end c).After-spelling_at-spelling)).0
 
 pub range-requires-clause-start_boundary : goal.range-requires-clause-start_boundary
-range-requires-clause-start_boundary c = λ some. cut_first (spelled (goal.at.range-requires-clause-start_boundary c).After-spelling_at-spelling) c.spelling_at-spelling.utf8
+range-requires-clause-start_boundary c =
+    λ some. cut_first (spelled (goal.at.range-requires-clause-start_boundary c).After-spelling_at-spelling)
+    c.spelling_at-spelling.utf8
 
 pub range-requires-clause-end_boundary : goal.range-requires-clause-end_boundary
-range-requires-clause-end_boundary c = (cut_last (spelled (goal.at.range-requires-clause-end_boundary c).After-spelling_at-spelling)).1
+range-requires-clause-end_boundary c =
+    (cut_last (spelled (goal.at.range-requires-clause-end_boundary c).After-spelling_at-spelling)).1

@@ -12,7 +12,8 @@ returns c = λ facts origin.
     (c.spans_of_tokens.ensures.items origin.custom text lexed.tokens file origin.derives) file.package_name refl
     (c.spans_of_tokens.ensures.package_place origin.custom text lexed.tokens file origin.derives) in
     record {
-      uses = uses_apart facts.number lexed file facts origin.of_file marks (c.spans_in_order.ensures text lexed.tokens marks.marks marks.among origin.is_lexed.tokens_in_order);
+      uses = uses_apart facts.number lexed file facts origin.of_file marks
+          (c.spans_in_order.ensures text lexed.tokens marks.marks marks.among origin.is_lexed.tokens_in_order);
       imports = imports_apart facts.number lexed file facts origin.of_file marks origin.is_lexed.tokens_in_order
           (c.spans_of_tokens.ensures.imports origin.custom text lexed.tokens file origin.derives)
           (c.names_have_components.ensures origin.custom text lexed.tokens file origin.derives).imports;

@@ -10,7 +10,12 @@ returns-clause-parted c =
     let comments = c.args.lexed.now.comments in
     let bound = c.args.offset in
     let key = λ (t : Comment). t.span.start in
-    let parted = IsPartitionedBy-ltb key comments bound (λ i j d le h. starts_rise (λ (t : Comment). t.span) 0 i j d comments c.comments.ensures.in_order le h) in
-    let listed = subst (λ (xs : List Comment). IsPartitionedBy (λ t. ltb (key t) bound) xs) (sym c.comments.ensures.value) parted in
-    let point = IsPartitionPoint-from_clause (λ (t : Comment). ltb (key t) bound) c.comments.result.now c.partition_point.result c.partition_point.ensures.partitioned listed (λ a r q k. search rules) in
-    parted_less key bound c.partition_point.result comments (rw c.comments.ensures.value at c.partition_point.ensures.bound) (rw c.comments.ensures.value at point)
+    let parted = IsPartitionedBy-ltb key comments bound
+    (λ i j d le h. starts_rise (λ (t : Comment). t.span) 0 i j d comments c.comments.ensures.in_order le h) in
+    let listed = subst (λ (xs : List Comment). IsPartitionedBy (λ t. ltb (key t) bound) xs)
+    (sym c.comments.ensures.value) parted in
+    let point = IsPartitionPoint-from_clause
+    (λ (t : Comment). ltb (key t) bound) c.comments.result.now c.partition_point.result
+    c.partition_point.ensures.partitioned listed (λ a r q k. search rules) in
+    parted_less key bound c.partition_point.result comments
+    (rw c.comments.ensures.value at c.partition_point.ensures.bound) (rw c.comments.ensures.value at point)

@@ -7,14 +7,16 @@ use Rattle.proto_lex.specs.Lexed.{IsPart}
 use Rattle.proto_decl.specs.Outlines.{in_body, in_message, in_leaf}
 use Rattle.proto_decl.proofs.OutlineLemmas.{left_at, nested-smaller, spans-message, spans-leaf, found-step}
 use Rattle.proto_decl.proofs.outlines.+outline_message.Goals as goal
-use Rattle.proto_decl.proofs.outlines.+outline_message.Goals.{in-Message+in_ok-outline_message-in-Message, in-Leaf+in_ok-outline_leaf-in-Leaf}
+use Rattle.proto_decl.proofs.outlines.+outline_message.Goals.{in-Message+in_ok-outline_message-in-Message}
+use Rattle.proto_decl.proofs.outlines.+outline_message.Goals.{in-Leaf+in_ok-outline_leaf-in-Leaf}
 
 pub outline_message-requires : goal.outline_message-requires
 outline_message-requires t c =
     let items = c.deref-item-items.result.now in
     let rest = drop (c.loop-item.item-index + 1) items in
     let left : drop c.loop-item.item-index items ≡ Message c.in-Message.nested ∷ rest =
-    left_at items c.loop-item.item-index c.item-item.result c.loop-item-test.true c.item-item.is ∙ ap (λ x. x ∷ rest) c.in-Message.is in
+    left_at items c.loop-item.item-index c.item-item.result c.loop-item-test.true c.item-item.is
+    ∙ ap (λ x. x ∷ rest) c.in-Message.is in
     let parts = spans-message (IsPart c.args.text.now) _ rest c.in-Message.nested left c.loop-item.invariant.parts in
     let body : c.args.message.now.body ≡ body_of items =
     ap (λ (m : MessageTree). m.body) (sym c.message.view_is) ∙ ap body_of (sym c.deref-item-items.ensures.value) in
@@ -26,7 +28,8 @@ outline_leaf-requires t c =
     let items = c.deref-item-items.result.now in
     let rest = drop (c.loop-item.item-index + 1) items in
     let left : drop c.loop-item.item-index items ≡ Leaf c.in-Leaf.leaf ∷ rest =
-    left_at items c.loop-item.item-index c.item-item.result c.loop-item-test.true c.item-item.is ∙ ap (λ x. x ∷ rest) c.in-Leaf.is in
+    left_at items c.loop-item.item-index c.item-item.result c.loop-item-test.true c.item-item.is
+    ∙ ap (λ x. x ∷ rest) c.in-Leaf.is in
     (spans-leaf (IsPart c.args.text.now) _ rest c.in-Leaf.leaf left c.loop-item.invariant.parts).0
 
 pub loop-item-preserved : goal.loop-item-preserved
@@ -38,16 +41,22 @@ loop-item-preserved t c =
     let surrounding = c.in_ok-inner.inner in
     elim c.match-item.branch [
       | in-Message+in_ok-outline_message-in-Message w ↦
-          let left : drop c.loop-item.item-index items ≡ Message w.in-Message.nested ∷ rest = here ∙ ap (λ x. x ∷ rest) w.in-Message.is in
+          let left : drop c.loop-item.item-index items ≡ Message w.in-Message.nested ∷ rest =
+          here ∙ ap (λ x. x ∷ rest) w.in-Message.is in
           record {
-            found = found-step (λ (xs : List MessageItem). in_body text surrounding (body_of xs)) _ rest (Message w.in-Message.nested) (in_message text surrounding w.in-Message.nested) c.loop-item.outlines.items _ _ left refl
-                (ap (λ v. v.items) w.outlines-is ∙ w.in_ok-outline_message-in-Message.ensures) c.loop-item.invariant.found;
+            found = found-step (λ (xs : List MessageItem). in_body text surrounding (body_of xs)) _ rest
+                (Message w.in-Message.nested)
+                (in_message text surrounding w.in-Message.nested) c.loop-item.outlines.items _ _ left refl
+                (ap (λ v. v.items) w.outlines-is ∙ w.in_ok-outline_message-in-Message.ensures)
+                c.loop-item.invariant.found;
             parts = (spans-message (IsPart text) _ rest w.in-Message.nested left c.loop-item.invariant.parts).1;
           }
       | in-Leaf+in_ok-outline_leaf-in-Leaf w ↦
-          let left : drop c.loop-item.item-index items ≡ Leaf w.in-Leaf.leaf ∷ rest = here ∙ ap (λ x. x ∷ rest) w.in-Leaf.is in
+          let left : drop c.loop-item.item-index items ≡ Leaf w.in-Leaf.leaf ∷ rest =
+          here ∙ ap (λ x. x ∷ rest) w.in-Leaf.is in
           record {
-            found = found-step (λ (xs : List MessageItem). in_body text surrounding (body_of xs)) _ rest (Leaf w.in-Leaf.leaf) (in_leaf text surrounding w.in-Leaf.leaf) c.loop-item.outlines.items _ _ left refl
+            found = found-step (λ (xs : List MessageItem). in_body text surrounding (body_of xs)) _ rest
+                (Leaf w.in-Leaf.leaf) (in_leaf text surrounding w.in-Leaf.leaf) c.loop-item.outlines.items _ _ left refl
                 (ap (λ v. v.items) w.outlines-is ∙ w.in_ok-outline_leaf-in-Leaf.ensures) c.loop-item.invariant.found;
             parts = (spans-leaf (IsPart text) _ rest w.in-Leaf.leaf left c.loop-item.invariant.parts).1;
           }

@@ -6,4 +6,6 @@ use Rattle.proto_decl.proofs.outlines.outline_fields.Given as goal
 
 -- the fields so far
 abbrev pub invariant-loop-field : goal.invariant-loop-field
-invariant-loop-field l = l.outlines.items ≡ l.fn.outlines.items ++ map (λ (field : FieldTree). outline_at l.text l.surrounding Field field.heading) (take l.field-index l.fields)
+invariant-loop-field l =
+    l.outlines.items ≡ l.fn.outlines.items
+    ++ map (λ (field : FieldTree). outline_at l.text l.surrounding Field field.heading) (take l.field-index l.fields)

@@ -6,4 +6,7 @@ use Rattle.proto_decl.proofs.outlines.outline_methods.Given as goal
 
 -- the methods so far
 abbrev pub invariant-loop-method : goal.invariant-loop-method
-invariant-loop-method l = l.outlines.items ≡ l.fn.outlines.items ++ map (λ (method : MethodTree). outline_at l.text l.surrounding Method method.heading) (take l.method-index l.methods)
+invariant-loop-method l =
+    l.outlines.items ≡ l.fn.outlines.items
+    ++ map (λ (method : MethodTree). outline_at l.text l.surrounding Method method.heading)
+    (take l.method-index l.methods)

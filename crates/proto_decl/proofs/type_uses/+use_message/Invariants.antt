@@ -9,7 +9,8 @@ use Rattle.proto_decl.proofs.type_uses.+use_message.Given as goal
 -- the uses so far, and those of the items left, are all; the spans of these are parts of the text
 abbrev pub invariant-loop-item : goal.invariant-loop-item
 invariant-loop-item l = record {
-  found : l.uses.items ++ uses_in_body l.text l.inner (body_of (drop l.item-index l.item-items)) ≡ l.fn.uses.items ++ uses_in_message l.text l.scope l.message;
+  found : l.uses.items ++ uses_in_body l.text l.inner (body_of (drop l.item-index l.item-items))
+      ≡ l.fn.uses.items ++ uses_in_message l.text l.scope l.message;
   parts : OfBody (IsPart l.text) (body_of (drop l.item-index l.item-items));
 }
 

@@ -8,8 +8,14 @@ use Rattle.proto_lex.proofs.CodeUnitLemmas.{units_of_text, few_of_text}
 use Rattle.proto_lex.proofs.laws.columns_count_utf16.Goals as goal
 
 pub returns-clause-count : goal.returns-clause-count
-returns-clause-count c text offset utf8 between = units_of_text (after_last is_line_end (take offset text)) (IsUtf8-line_before text offset utf8 between)
+returns-clause-count c text offset utf8 between =
+    units_of_text (after_last is_line_end (take offset text)) (IsUtf8-line_before text offset utf8 between)
 
 pub returns-clause-fit : goal.returns-clause-fit
 returns-clause-fit c text offset utf8 between =
-    omega (arith, few_of_text (after_last is_line_end (take offset text)) (IsUtf8-line_before text offset utf8 between), length-after_last-le is_line_end (take offset text), length-take offset text)
+    omega (
+      arith,
+      few_of_text (after_last is_line_end (take offset text)) (IsUtf8-line_before text offset utf8 between),
+      length-after_last-le is_line_end (take offset text),
+      length-take offset text,
+    )

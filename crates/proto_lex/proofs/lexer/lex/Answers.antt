@@ -22,10 +22,12 @@ returns-in_err-found-clause-fault c =
     rw (p.1, p.2, ← same) (given_fault _ _ c.in_err-found.ensures)
 
 pub new-requires : goal.new-requires
-new-requires c = is_lexed c.as_str.ensures.is_text.utf8 (lexes_found _ _ (rw (c.as_bytes.ensures.value, c.as_str.ensures.same) at c.in_ok-found.ensures))
+new-requires c = is_lexed c.as_str.ensures.is_text.utf8
+    (lexes_found _ _ (rw (c.as_bytes.ensures.value, c.as_str.ensures.same) at c.in_ok-found.ensures))
 
 pub returns-clause-only : goal.returns-clause-only
 returns-clause-only c = λ tokens comments d.
     let read = ap pieces_of (c.as_bytes.ensures.value ∙ c.as_str.ensures.same) ∙ lexes_exact d in
     let same = same_ok _ _ _ c.in_ok-found.ensures read in
-    rw c.new.ensures (ap (λ (l : Pieces). let r : Lexed = record { text = c.args.text.now; tokens = l.tokens; comments = l.comments } in r) same)
+    rw c.new.ensures (ap (λ (l : Pieces). let r : Lexed =
+    record { text = c.args.text.now; tokens = l.tokens; comments = l.comments } in r) same)

@@ -2,7 +2,9 @@ use Rattle.proto_link.proofs.OneTargetLemmas.{one_entity, one_target}
 use Rattle.proto_link.proofs.laws.one_target_a_use.Goals as goal
 
 pub returns-clause-entities : goal.returns-clause-entities
-returns-clause-entities c = λ files origins. one_entity files origins c.facts_in_order.ensures.names c.facts_in_order.ensures.package_name
+returns-clause-entities c =
+    λ files origins. one_entity files origins c.facts_in_order.ensures.names c.facts_in_order.ensures.package_name
 
 pub returns-clause-targets : goal.returns-clause-targets
-returns-clause-targets c = λ files origins. one_target files origins c.facts_in_order.ensures.names c.facts_in_order.ensures.package_name
+returns-clause-targets c =
+    λ files origins. one_target files origins c.facts_in_order.ensures.names c.facts_in_order.ensures.package_name

@@ -11,16 +11,20 @@ returns-then-knows c =
     let files = c.args.namespace.now in
     let file = c.args.file in
     let role = admits c.args.role in
-    let so_far = subst (λ (n : Option (Bor (List ℕ))). StandsFor files file role c.args.word.now n c.args.scope.now) c.in-Some.is c.loop-next.invariant in
+    let so_far = subst (λ (n : Option (Bor (List ℕ))). StandsFor files file role c.args.word.now n c.args.scope.now)
+    c.in-Some.is c.loop-next.invariant in
     let named = c.as_str.ensures.value ∙ c.in_ok-put_under.ensures in
-    (so_far c.in-Some.inner.now).0 (at_once files file role c.args.word.now c.in-Some.inner.now (subst (KnowsAs files file role) named (c.knows.ensures.0 c.if-knows.true)))
+    (so_far c.in-Some.inner.now).0
+    (at_once files file role c.args.word.now c.in-Some.inner.now
+    (subst (KnowsAs files file role) named (c.knows.ensures.0 c.if-knows.true)))
 
 pub loop-next-preserved : goal.loop-next-preserved
 loop-next-preserved c =
     let files = c.args.namespace.now in
     let file = c.args.file in
     let role = admits c.args.role in
-    let so_far = subst (λ (n : Option (Bor (List ℕ))). StandsFor files file role c.args.word.now n c.args.scope.now) c.in-Some.is c.loop-next.invariant in
+    let so_far = subst (λ (n : Option (Bor (List ℕ))). StandsFor files file role c.args.word.now n c.args.scope.now)
+    c.in-Some.is c.loop-next.invariant in
     let named = c.as_str.ensures.value ∙ c.in_ok-put_under.ensures in
     stands_next files file role c.args.word.now c.args.scope.now c.in-Some.inner.now c.scope_around-next.result
     (λ known. false≢true (sym c.if-knows.false ∙ c.knows.ensures.1 (subst (KnowsAs files file role) (sym named) known)))

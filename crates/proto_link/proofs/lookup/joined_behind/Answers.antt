@@ -13,6 +13,9 @@ loop-component-preserved c =
     let new = string_bytes c.push_str-in-loop-component.new.self in
     let within : index < length others = omega arith in
     let dot : string_bytes c.push_str.new.self ≡ old ++ 46 ∷ [] = c.in_ok-push_str.ensures.bytes in
-    let pushed : new ≡ string_bytes c.push_str.new.self ++ c.as_str-in-loop-component.result.now = c.in_ok-push_str-2.ensures.bytes in
-    let named : new ≡ (old ++ 46 ∷ []) ++ x.name = pushed ∙ (ap (λ t. t ++ c.as_str-in-loop-component.result.now) dot ∙ ap (λ t. (old ++ 46 ∷ []) ++ t) c.as_str-in-loop-component.ensures) in
+    let pushed : new ≡ string_bytes c.push_str.new.self ++ c.as_str-in-loop-component.result.now =
+    c.in_ok-push_str-2.ensures.bytes in
+    let named : new ≡ (old ++ 46 ∷ []) ++ x.name =
+    pushed ∙ (ap (λ t. t ++ c.as_str-in-loop-component.result.now) dot
+    ∙ ap (λ t. (old ++ 46 ∷ []) ++ t) c.as_str-in-loop-component.ensures) in
     joined_more first x others index old new within c.component-item.is c.loop-component.invariant named

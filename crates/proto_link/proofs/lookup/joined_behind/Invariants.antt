@@ -5,4 +5,5 @@ use Rattle.proto_decl.specs.declared.type_use.Component.{Component}
 use Rattle.proto_link.proofs.lookup.joined_behind.Given as goal
 
 abbrev pub invariant-loop-component : goal.invariant-loop-component
-invariant-loop-component l = string_bytes l.text ≡ dotted (map (λ (c : Component). c.name) (l.first ∷ take l.component-index l.others))
+invariant-loop-component l =
+    string_bytes l.text ≡ dotted (map (λ (c : Component). c.name) (l.first ∷ take l.component-index l.others))

@@ -6,7 +6,9 @@ use Rattle.proto_parse.specs.Reading.Files.{statement_at}
 use Rattle.proto_parse.proofs.files.statements.Given as goal
 
 abbrev pub invariant-statements : goal.invariant-statements
-invariant-statements l = until_at is_end (statement_at l.custom) l.file l.parser ≡ until_at is_end (statement_at l.custom) empty_file l.initial.parser
+invariant-statements l =
+    until_at is_end (statement_at l.custom) l.file l.parser
+    ≡ until_at is_end (statement_at l.custom) empty_file l.initial.parser
 
 abbrev pub decreases-statements : goal.decreases-statements
 decreases-statements l = length l.parser

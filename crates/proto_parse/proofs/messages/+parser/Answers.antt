@@ -10,15 +10,18 @@ use Rattle.proto_parse.proofs.messages.+parser.Goals as goal
 pub items-items-smaller : goal.items-items-smaller
 items-items-smaller t c =
     message_items_fall c.args.custom c.args.levels c.items.items.items c.items.parser (_, c.item.new.parser)
-    (adding-step (message_item_at c.args.custom (message_at c.args.custom c.args.levels)) c.items.items.items c.in_ok-item.item c.items.parser c.item.new.parser c.in_ok-item.ensures)
+    (adding-step (message_item_at c.args.custom (message_at c.args.custom c.args.levels)) c.items.items.items
+    c.in_ok-item.item c.items.parser c.item.new.parser c.in_ok-item.ensures)
 
 pub items-items-preserved : goal.items-items-preserved
 items-items-preserved t c =
     let further : closes c.items.parser ≡ false = cc in
     rw c.in_ok-keep_item.ensures
-    (goes_on closes (adding (message_item_at c.args.custom (message_at c.args.custom c.args.levels))) (message_items_fall c.args.custom c.args.levels)
+    (goes_on closes (adding (message_item_at c.args.custom (message_at c.args.custom c.args.levels)))
+    (message_items_fall c.args.custom c.args.levels)
     c.items.items.items _ c.items.parser c.item.new.parser _ c.items.invariant further
-    (adding-step (message_item_at c.args.custom (message_at c.args.custom c.args.levels)) c.items.items.items c.in_ok-item.item c.items.parser c.item.new.parser c.in_ok-item.ensures))
+    (adding-step (message_item_at c.args.custom (message_at c.args.custom c.args.levels)) c.items.items.items
+    c.in_ok-item.item c.items.parser c.item.new.parser c.in_ok-item.ensures))
 
 pub items-returns-in_err-item : goal.items-returns-in_err-item
 items-returns-in_err-item t c =
@@ -26,13 +29,16 @@ items-returns-in_err-item t c =
     let p = err_from_is_err_and c.from_residual.result c.from_residual.ensures.1 in
     rw (p.1, p.2)
     (Fails-of _ _ (message_item_at c.args.custom (message_at c.args.custom c.args.levels) c.items.parser) _
-    (λ none. stops closes (adding (message_item_at c.args.custom (message_at c.args.custom c.args.levels))) (message_items_fall c.args.custom c.args.levels)
+    (λ none. stops closes (adding (message_item_at c.args.custom (message_at c.args.custom c.args.levels)))
+    (message_items_fall c.args.custom c.args.levels)
     c.items.items.items c.items.parser _ c.items.invariant further
-    (adding-none (message_item_at c.args.custom (message_at c.args.custom c.args.levels)) c.items.items.items c.items.parser none))
+    (adding-none (message_item_at c.args.custom (message_at c.args.custom c.args.levels)) c.items.items.items
+    c.items.parser none))
     c.in_err-item.ensures)
 
 pub items-returns : goal.items-returns
 items-returns t c =
     let past : closes c.items.parser ≡ true = cc in
-    is_done closes (adding (message_item_at c.args.custom (message_at c.args.custom c.args.levels))) (message_items_fall c.args.custom c.args.levels)
+    is_done closes (adding (message_item_at c.args.custom (message_at c.args.custom c.args.levels)))
+    (message_items_fall c.args.custom c.args.levels)
     c.items.items.items c.items.parser _ c.items.invariant past

@@ -13,7 +13,8 @@ items-smaller c = extend_items_fall tt c.items.parser (tt, c.extend_item.new.par
 pub items-preserved : goal.items-preserved
 items-preserved c =
     let further : closes c.items.parser ≡ false = cc in
-    goes_on closes (passing extend_item_at) extend_items_fall tt tt c.items.parser c.extend_item.new.parser _ c.items.invariant further c.in_ok-extend_item.ensures
+    goes_on closes (passing extend_item_at) extend_items_fall tt tt c.items.parser c.extend_item.new.parser _
+    c.items.invariant further c.in_ok-extend_item.ensures
 
 pub returns-in_err-extend_item : goal.returns-in_err-extend_item
 unfolding extend_items_at
@@ -21,7 +22,9 @@ returns-in_err-extend_item c =
     let further : closes c.items.parser ≡ false = cc in
     let p = err_from_is_err_and c.from_residual.result c.from_residual.ensures.1 in
     rw (p.1, p.2)
-    (Fails-of _ _ (passing extend_item_at tt c.items.parser) _ (stops closes (passing extend_item_at) extend_items_fall tt c.items.parser _ c.items.invariant further) c.in_err-extend_item.ensures)
+    (Fails-of _ _ (passing extend_item_at tt c.items.parser) _
+    (stops closes (passing extend_item_at) extend_items_fall tt c.items.parser _ c.items.invariant further)
+    c.in_err-extend_item.ensures)
 
 pub returns : goal.returns
 unfolding extend_items_at

@@ -5,7 +5,8 @@ use Rattle.proto_parse.specs.Reading.Messages.{oneof_item_at}
 use Rattle.proto_parse.proofs.messages.oneof_items.Given as goal
 
 abbrev pub invariant-items : goal.invariant-items
-invariant-items l = until_at closes (adding (oneof_item_at l.custom)) l.fields l.parser ≡ until_at closes (adding (oneof_item_at l.custom)) [] l.initial.parser
+invariant-items l = until_at closes (adding (oneof_item_at l.custom)) l.fields l.parser
+    ≡ until_at closes (adding (oneof_item_at l.custom)) [] l.initial.parser
 
 abbrev pub decreases-items : goal.decreases-items
 decreases-items l = length l.parser

@@ -4,4 +4,6 @@ use Rattle.proto_visibility.specs.Tables.ImportTables.{number_in, absent_at}
 use Rattle.proto_visibility.proofs.absent.add_along.Given as goal
 
 abbrev pub invariant-loop-import : goal.invariant-loop-import
-invariant-loop-import l = l.places.items ≡ l.fn.places.items ++ flat_map (absent_at (number_in l.numbers) l.included l.number) (take l.import-index l.imports)
+invariant-loop-import l =
+    l.places.items ≡ l.fn.places.items
+    ++ flat_map (absent_at (number_in l.numbers) l.included l.number) (take l.import-index l.imports)

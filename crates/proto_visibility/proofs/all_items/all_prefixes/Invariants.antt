@@ -3,4 +3,8 @@ use Rattle.proto_visibility.proofs.AllItemsLemmas.{ArePrefixesUpTo}
 use Rattle.proto_visibility.proofs.all_items.all_prefixes.Given as goal
 
 abbrev pub invariant-loop-file : goal.invariant-loop-file
-invariant-loop-file l = record { count : length l.prefixes.items ≡ l.file-index; room : length l.files ≤ vec_capacity l.prefixes; each : ArePrefixesUpTo l.files l.prefixes.items }
+invariant-loop-file l = record {
+  count : length l.prefixes.items ≡ l.file-index;
+  room : length l.files ≤ vec_capacity l.prefixes;
+  each : ArePrefixesUpTo l.files l.prefixes.items;
+}

@@ -16,11 +16,14 @@ returns-then-is_some c =
     let old = c.loop-number.numbers in
     let first = c.in_ok-first.first in
     let within : number < length files = omega arith in
-    let stands : slice_get files number ≡ Some file = slice_get_read files (length files) number file refl within c.index-files-number.is in
+    let stands : slice_get files number ≡ Some file =
+    slice_get_read files (length files) number file refl within c.index-files-number.is in
     let path = ap (λ (f : File). f.path) c.file.view_is in
     let found : first ≡ number_in old file.path = c.in_ok-first.ensures.found ∙ ap (number_in old) path in
-    let some : is_some first ≡ true = sym c.is_some.ensures ∙ c.if-is_some.true in
-    (λ wrong. absurd (false≢true wrong), λ own. absurd (not_own files old number file first stands found some c.loop-number.invariant.numbered own))
+    let some : is_some first ≡ true = sym c.is_some.ensures ∙ c.if-is_some.true in (
+      λ wrong. absurd (false≢true wrong),
+      λ own. absurd (not_own files old number file first stands found some c.loop-number.invariant.numbered own),
+    )
 
 pub loop-number-preserved : goal.loop-number-preserved
 loop-number-preserved c =
@@ -31,15 +34,22 @@ loop-number-preserved c =
     let new = c.first_named.new.names in
     let first = c.in_ok-first.first in
     let within : number < length files = omega arith in
-    let stands : slice_get files number ≡ Some file = slice_get_read files (length files) number file refl within c.index-files-number.is in
+    let stands : slice_get files number ≡ Some file =
+    slice_get_read files (length files) number file refl within c.index-files-number.is in
     let path = ap (λ (f : File). f.path) c.file.view_is in
     let found : first ≡ number_in old file.path = c.in_ok-first.ensures.found ∙ ap (number_in old) path in
     let none : is_some first ≡ false = sym c.is_some.ensures ∙ c.if-is_some.false in
-    let own : OwnUpTo files (number + 1) = own_more files old number file stands (no_number first (number_in old file.path) found none) c.loop-number.invariant.numbered c.loop-number.invariant.own in
+    let own : OwnUpTo files (number + 1) =
+    own_more files old number file stands
+    (no_number first (number_in old file.path) found none) c.loop-number.invariant.numbered
+    c.loop-number.invariant.own in
     record {
-      numbered = numbered_more files old new number file (λ k x h at same. own k number x file h (omega arith) at stands same) stands
+      numbered = numbered_more files old new number file
+          (λ k x h at same. own k number x file h (omega arith) at stands same) stands
           (λ q. subst (λ p. number_in new q ≡ cond (bytes_eq p q) (Some number) (number_in old q)) path
-          (c.in_ok-first.ensures.kept q ∙ cond-false (is_some first) (number_in old q) (cond (bytes_eq c.file.inside.path.now q) (Some number) (number_in old q)) none))
+          (c.in_ok-first.ensures.kept q
+          ∙ cond-false (is_some first) (number_in old q)
+          (cond (bytes_eq c.file.inside.path.now q) (Some number) (number_in old q)) none))
           c.loop-number.invariant.numbered;
       own = own;
     }

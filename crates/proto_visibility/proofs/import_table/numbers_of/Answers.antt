@@ -16,11 +16,14 @@ loop-number-preserved c =
     let old = c.loop-number.numbers in
     let new = c.insert.new.self in
     let within : number < length files = omega arith in
-    let stands : slice_get files number ≡ Some file = slice_get_read files (length files) number file refl within c.index-files-number.is in
+    let stands : slice_get files number ≡ Some file =
+    slice_get_read files (length files) number file refl within c.index-files-number.is in
     let path = ap (λ (f : File). f.path) c.file.view_is in
     numbered_more files old new number file (λ k x h at same. c.requires k number x file at stands same) stands
-    (λ q. subst (λ p. number_in new q ≡ cond (bytes_eq p q) (Some number) (number_in old q)) path (hash_map_updates_str c.file.inside.path.now old new (Some number) c.in_ok-insert.ensures.updates q))
+    (λ q. subst (λ p. number_in new q ≡ cond (bytes_eq p q) (Some number) (number_in old q)) path
+    (hash_map_updates_str c.file.inside.path.now old new (Some number) c.in_ok-insert.ensures.updates q))
     c.loop-number.invariant
 
 pub returns : goal.returns
-returns c = numbered_all c.args.files.now c.loop-number.numbers c.loop-number.number (omega arith) c.loop-number.invariant
+returns c = numbered_all c.args.files.now c.loop-number.numbers c.loop-number.number
+    (omega arith) c.loop-number.invariant

@@ -14,15 +14,22 @@ loop-file-preserved c =
     let table = c.loop-file.table.items in
     let steps = c.in_ok-steps_of_file.field-0 in
     let within : number < length files = omega arith in
-    let stands : slice_get files number ≡ Some file = slice_get_read files (length files) number file refl within c.file-item.is in
+    let stands : slice_get files number ≡ Some file =
+    slice_get_read files (length files) number file refl within c.file-item.is in
     let items : c.push_reserved.new.self.items ≡ table ++ steps ∷ [] = c.push_reserved.ensures.items in
-    let here = steps_by_kind (number_in c.args.numbers.now) file steps c.in_ok-steps_of_file.ensures.public c.in_ok-steps_of_file.ensures.plain in
+    let here = steps_by_kind
+    (number_in c.args.numbers.now) file steps c.in_ok-steps_of_file.ensures.public
+    c.in_ok-steps_of_file.ensures.plain in
     record {
       count = ap length items ∙ (length_push table steps ∙ ap (λ n. n + 1) c.loop-file.invariant.count);
       room = subst (λ n. length files ≤ n) (sym c.push_reserved.ensures.capacity) c.loop-file.invariant.room;
-      each = subst (λ t. AreStepsUpTo (number_in c.args.numbers.now) files t (number + 1)) (sym items) (steps_more (number_in c.args.numbers.now) files table number file steps c.loop-file.invariant.count stands here c.loop-file.invariant.each);
+      each = subst (λ t. AreStepsUpTo (number_in c.args.numbers.now) files t (number + 1)) (sym items)
+          (steps_more (number_in c.args.numbers.now) files table number file steps c.loop-file.invariant.count stands
+          here c.loop-file.invariant.each);
     }
 
 pub returns : goal.returns
 returns c =
-    is_table c.args.files.now c.loop-file.table.items (number_in c.args.numbers.now) c.requires (omega (arith, c.loop-file.invariant.count)) (λ k file steps h. c.loop-file.invariant.each k file steps (omega arith))
+    is_table c.args.files.now c.loop-file.table.items (number_in c.args.numbers.now) c.requires
+    (omega (arith, c.loop-file.invariant.count))
+    (λ k file steps h. c.loop-file.invariant.each k file steps (omega arith))

@@ -16,14 +16,28 @@ loop-index-preserved c =
     let old = c.args.items.now.items in
     let now = c.loop-index.items.items in
     let within : index < length components = omega arith in
-    let stands : slice_get components index ≡ Some component = slice_get_read components (length components) index component refl within c.index-components-index.is in
-    let prefix_stands : slice_get prefixes index ≡ Some prefix = slice_get_read prefixes (length components) index prefix (sym c.requires.one_each) within c.index-prefixes-index.is in
+    let stands : slice_get components index ≡ Some component =
+    slice_get_read components (length components) index component refl within c.index-components-index.is in
+    let prefix_stands : slice_get prefixes index ≡ Some prefix =
+    slice_get_read prefixes (length components) index prefix
+    (sym c.requires.one_each) within c.index-prefixes-index.is in
     let name = c.as_str.ensures ∙ c.requires.each index prefix prefix_stands in
-    let item : Item = record { place = record { file = c.args.number; span = component.span }; full_name = c.as_str.result.now; is_declaration = false } in
-    let is : item ≡ packaged_item c.args.number components index component = ap (λ n. record { place = record { file = c.args.number; span = component.span }; full_name = n; is_declaration = false }) name in
+    let item : Item = record {
+      place = record { file = c.args.number; span = component.span };
+      full_name = c.as_str.result.now;
+      is_declaration = false;
+    } in
+    let is : item ≡ packaged_item c.args.number components index component =
+    ap (λ n. record {
+      place = record { file = c.args.number; span = component.span };
+      full_name = n;
+      is_declaration = false;
+    }) name in
     let items : c.push.new.self.items ≡ now ++ item ∷ [] = c.in_ok-push.ensures.items in
     subst (λ xs. AreWithFirst c.args.number components old xs (index + 1)) (sym items)
-    (with_more c.args.number components old now index component item within c.index-components-index.is stands is c.loop-index.invariant)
+    (with_more c.args.number components old now index component item within c.index-components-index.is stands is
+    c.loop-index.invariant)
 
 pub returns : goal.returns
-returns c = with_all c.args.number c.args.components.now c.args.items.now.items c.loop-index.items.items c.loop-index.index (omega arith) c.loop-index.invariant
+returns c = with_all c.args.number c.args.components.now c.args.items.now.items c.loop-index.items.items
+    c.loop-index.index (omega arith) c.loop-index.invariant

@@ -8,7 +8,9 @@ loop-number-preserved c =
     let numbers = c.args.numbers.now in
     let others = c.args.others.now in
     let index = c.loop-number.number-index in
-    none_shared_more numbers others index (λ there. false≢true (sym c.if-stands_among.false ∙ c.stands_among.ensures.1 there)) c.loop-number.invariant
+    none_shared_more numbers others index
+    (λ there. false≢true (sym c.if-stands_among.false ∙ c.stands_among.ensures.1 there)) c.loop-number.invariant
 
 pub returns : goal.returns
-returns c = none_shared c.args.numbers.now c.args.others.now c.loop-number.number-index (omega arith) c.loop-number.invariant
+returns c = none_shared c.args.numbers.now c.args.others.now c.loop-number.number-index
+    (omega arith) c.loop-number.invariant

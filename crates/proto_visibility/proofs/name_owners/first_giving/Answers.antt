@@ -8,20 +8,29 @@ use Rattle.proto_visibility.proofs.ListedLemmas.{rising_order, by_package, by_no
 use Rattle.proto_visibility.proofs.name_owners.first_giving.Goals as goal
 
 pub shared-requires-clause-others : goal.shared-requires-clause-others
-shared-requires-clause-others c = subst IsNonDecreasing (sym c.as_slice.ensures.value) (rising_order c.args.row.now c.as_slice.ensures.rising)
+shared-requires-clause-others c =
+    subst IsNonDecreasing (sym c.as_slice.ensures.value) (rising_order c.args.row.now c.as_slice.ensures.rising)
 
 pub returns-then-admits_packages : goal.returns-then-admits_packages
 returns-then-admits_packages c =
     let role = admits c.args.role in
     let row = c.args.row.now in
-    let none = subst (λ (ds : List DeclaredAt). (number : ℕ) → Contains row number → IsDeclaring ds role number → ⊥) c.declaring.ensures c.in_default.ensures in
-    let both = subst (λ (ns : List ℕ). MatchOption c.shared.result ((number : ℕ) → Contains ns number → Contains row number → ⊥) (λ number. Contains ns number × Contains row number)) c.packaging.ensures
-    (subst (λ (others : List ℕ). MatchOption c.shared.result ((number : ℕ) → Contains c.packaging.result.now number → Contains others number → ⊥) (λ number. Contains c.packaging.result.now number × Contains others number)) c.as_slice.ensures.value c.shared.ensures) in
-    by_package c.args.names.now role c.args.name.now row none (sym c.admits_packages.ensures ∙ c.if-admits_packages.true) c.shared.result both
+    let none = subst (λ (ds : List DeclaredAt). (number : ℕ) → Contains row number → IsDeclaring ds role number → ⊥)
+    c.declaring.ensures c.in_default.ensures in
+    let both = subst (λ (ns : List ℕ). MatchOption c.shared.result
+    ((number : ℕ) → Contains ns number → Contains row number → ⊥)
+    (λ number. Contains ns number × Contains row number)) c.packaging.ensures
+    (subst (λ (others : List ℕ). MatchOption c.shared.result
+    ((number : ℕ) → Contains c.packaging.result.now number → Contains others number → ⊥)
+    (λ number. Contains c.packaging.result.now number × Contains others number)) c.as_slice.ensures.value
+    c.shared.ensures) in
+    by_package c.args.names.now role c.args.name.now row none
+    (sym c.admits_packages.ensures ∙ c.if-admits_packages.true) c.shared.result both
 
 pub returns : goal.returns
 returns c =
     let role = admits c.args.role in
     let row = c.args.row.now in
-    let none = subst (λ (ds : List DeclaredAt). (number : ℕ) → Contains row number → IsDeclaring ds role number → ⊥) c.declaring.ensures c.in_default.ensures in
+    let none = subst (λ (ds : List DeclaredAt). (number : ℕ) → Contains row number → IsDeclaring ds role number → ⊥)
+    c.declaring.ensures c.in_default.ensures in
     by_none c.args.names.now role c.args.name.now row none (sym c.admits_packages.ensures ∙ c.if-admits_packages.false)

@@ -15,4 +15,6 @@ returns-in-Some c =
     let known = sym (ap (λ (f : File). f.facts) c.file.view_is) ∙ ap (option_map (λ facts. facts.now)) c.in-Some.is in
     on_ok c.add_declarations.result c.add_declarations.ensures
     (λ its. declared_in_file c.args.number c.args.file.now c.in-Some.facts.now old new known
-    (subst (λ (ds : List Declaration). (name : List ℕ) (one : DeclaredAt) → Contains (new name) one ↔ (Contains (old name) one ⊎ ((index : ℕ) × IsDeclaredOf c.args.number ds index name one))) c.declarations.ensures its))
+    (subst (λ (ds : List Declaration). (name : List ℕ) (one : DeclaredAt) → Contains (new name) one
+    ↔ (Contains (old name) one ⊎ ((index : ℕ) × IsDeclaredOf c.args.number ds index name one)))
+    c.declarations.ensures its))

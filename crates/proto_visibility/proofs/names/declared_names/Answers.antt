@@ -13,11 +13,15 @@ loop-number-preserved c =
     let now = listed_at c.loop-number.names in
     let new = listed_at c.add_file.new.names in
     let within : number < length files = omega arith in
-    let stands : slice_get files number ≡ Some file = slice_get_read files (length files) number file refl within c.index-files-number.is in
-    up_to_more (λ name. []) (IsDeclaredBy files) now new number (declared_by files number file now new stands c.in_ok-add_file.ensures) c.loop-number.invariant
+    let stands : slice_get files number ≡ Some file =
+    slice_get_read files (length files) number file refl within c.index-files-number.is in
+    up_to_more (λ name. []) (IsDeclaredBy files) now new number
+    (declared_by files number file now new stands c.in_ok-add_file.ensures) c.loop-number.invariant
 
 pub returns : goal.returns
 returns c =
     let files = c.args.files.now in
     let now = listed_at c.loop-number.names in
-    from_nothing now (IsDeclaredBy files) (up_to_all (λ name. []) (IsDeclaredBy files) now c.loop-number.number (length files) (omega arith) (declared_by_within files) c.loop-number.invariant)
+    from_nothing now (IsDeclaredBy files)
+    (up_to_all (λ name. []) (IsDeclaredBy files) now c.loop-number.number (length files) (omega arith)
+    (declared_by_within files) c.loop-number.invariant)

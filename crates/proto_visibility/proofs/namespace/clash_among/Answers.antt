@@ -7,5 +7,7 @@ use Rattle.proto_visibility.proofs.namespace.clash_among.Goals as goal
 
 pub returns : goal.returns
 returns c =
-    clash_of_items {I = Contains c.in_ok-items.items.items} {J = IsItem c.args.files.now} c.in_ok-items.ensures.items c.in_ok-clash.clash
-    (subst (λ (xs : List Item). MatchOption c.in_ok-clash.clash (NoClashBy (Contains xs)) (λ places. ClashBy (Contains xs) places.0 places.1)) c.as_slice.ensures.value c.in_ok-clash.ensures)
+    clash_of_items {I = Contains c.in_ok-items.items.items} {J = IsItem c.args.files.now} c.in_ok-items.ensures.items
+    c.in_ok-clash.clash
+    (subst (λ (xs : List Item). MatchOption c.in_ok-clash.clash (NoClashBy (Contains xs))
+    (λ places. ClashBy (Contains xs) places.0 places.1)) c.as_slice.ensures.value c.in_ok-clash.ensures)

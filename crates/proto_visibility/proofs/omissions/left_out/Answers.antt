@@ -14,4 +14,5 @@ returns c =
     let start = c.in_ok-omissions.omissions.items in
     let omissions = c.omit_clashes.new.omissions.items in
     omissions_of c.args.files.now items start omissions c.in_ok-items.ensures.items c.in_ok-omissions.ensures
-    (subst (λ (xs : List Item). AreClashesOmitted xs start omissions) c.as_slice-3.ensures.value c.in_ok-omit_clashes.ensures)
+    (subst (λ (xs : List Item). AreClashesOmitted xs start omissions) c.as_slice-3.ensures.value
+    c.in_ok-omit_clashes.ensures)

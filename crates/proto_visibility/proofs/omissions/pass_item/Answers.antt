@@ -18,10 +18,13 @@ returns-then-not-is_kept c = λ start so_far.
     let item = c.index-items-index.result in
     let index = c.args.index in
     let omissions = c.args.omissions.now.items in
-    let at : slice_get items index ≡ Some item = slice_get_read items (length items) index item refl c.requires.within c.index-items-index.is in
+    let at : slice_get items index ≡ Some item =
+    slice_get_read items (length items) index item refl c.requires.within c.index-items-index.is in
     let file = ap (λ (i : Item). i.place.file) c.item.view_is in
     pass_closed items c.requires.placed start index omissions c.args.names.now item at so_far
-    (λ kept. false≢true (sym c.if-not-is_kept.true ∙ c.is_kept.ensures.1 (same_kept omissions c.as_slice.result.now item.place.file c.item.inside.place.file (sym c.as_slice.ensures.value) (sym file) kept)))
+    (λ kept. false≢true (sym c.if-not-is_kept.true
+    ∙ c.is_kept.ensures.1 (same_kept omissions c.as_slice.result.now item.place.file c.item.inside.place.file
+    (sym c.as_slice.ensures.value) (sym file) kept)))
 
 pub omit_if_clash-requires : goal.omit_if_clash-requires
 omit_if_clash-requires c =
@@ -29,7 +32,8 @@ omit_if_clash-requires c =
     let omissions = c.args.omissions.now.items in
     let file = ap (λ (i : Item). i.place.file) c.item.view_is in
     slice_get_within omissions item.place.file None
-    (same_kept c.as_slice.result.now omissions c.item.inside.place.file item.place.file c.as_slice.ensures.value file (c.is_kept.ensures.0 c.if-not-is_kept.false))
+    (same_kept c.as_slice.result.now omissions c.item.inside.place.file item.place.file c.as_slice.ensures.value file
+    (c.is_kept.ensures.0 c.if-not-is_kept.false))
 
 pub returns-in-Some : goal.returns-in-Some
 returns-in-Some c = λ start so_far.
@@ -39,11 +43,15 @@ returns-in-Some c = λ start so_far.
     let omissions = c.args.omissions.now.items in
     let names = c.args.names.now in
     let first = c.in-Some.first in
-    let at : slice_get items index ≡ Some item = slice_get_read items (length items) index item refl c.requires.within c.index-items-index.is in
+    let at : slice_get items index ≡ Some item =
+    slice_get_read items (length items) index item refl c.requires.within c.index-items-index.is in
     let file = ap (λ (i : Item). i.place.file) c.item.view_is in
-    let open_item = same_kept c.as_slice.result.now omissions c.item.inside.place.file item.place.file c.as_slice.ensures.value file (c.is_kept.ensures.0 c.if-not-is_kept.false) in
-    let known : number_in names item.full_name ≡ Some first = ap (number_in names) (sym (ap (λ (i : Item). i.full_name) c.item.view_is)) ∙ c.in-Some.ensures.0 in
-    let open_first = subst (λ (os : Omissions). IsOpenAt items os first) c.as_slice-2.ensures.value c.in-Some.ensures.1 in
+    let open_item = same_kept c.as_slice.result.now omissions c.item.inside.place.file item.place.file
+    c.as_slice.ensures.value file (c.is_kept.ensures.0 c.if-not-is_kept.false) in
+    let known : number_in names item.full_name ≡ Some first =
+    ap (number_in names) (sym (ap (λ (i : Item). i.full_name) c.item.view_is)) ∙ c.in-Some.ensures.0 in
+    let open_first = subst (λ (os : Omissions). IsOpenAt items os first) c.as_slice-2.ensures.value c.in-Some.ensures.1
+    in
     pass_met items c.requires.placed start index omissions names item at so_far first known open_first open_item
     c.omit_if_clash.new.omissions.items (clash_with items (Some first) item) refl c.omit_if_clash.ensures
 
@@ -55,11 +63,16 @@ returns-in_ok-insert-in-None c = λ start so_far.
     let omissions = c.args.omissions.now.items in
     let names = c.args.names.now in
     let new = c.insert.new.self in
-    let at : slice_get items index ≡ Some item = slice_get_read items (length items) index item refl c.requires.within c.index-items-index.is in
+    let at : slice_get items index ≡ Some item =
+    slice_get_read items (length items) index item refl c.requires.within c.index-items-index.is in
     let file = ap (λ (i : Item). i.place.file) c.item.view_is in
     let name = ap (λ (i : Item). i.full_name) c.item.view_is in
-    let open_item = same_kept c.as_slice.result.now omissions c.item.inside.place.file item.place.file c.as_slice.ensures.value file (c.is_kept.ensures.0 c.if-not-is_kept.false) in
-    let after = λ (other : List ℕ). subst (λ n. number_in new other ≡ cond (bytes_eq n other) (Some index) (number_in names other)) name
-    (hash_map_updates_str c.item.inside.full_name.now names new (Some index) c.in_ok-insert-in-None.ensures.updates other) in
+    let open_item = same_kept c.as_slice.result.now omissions c.item.inside.place.file item.place.file
+    c.as_slice.ensures.value file (c.is_kept.ensures.0 c.if-not-is_kept.false) in
+    let after = λ (other : List ℕ). subst
+    (λ n. number_in new other ≡ cond (bytes_eq n other) (Some index) (number_in names other)) name
+    (hash_map_updates_str c.item.inside.full_name.now names new
+    (Some index) c.in_ok-insert-in-None.ensures.updates other) in
     pass_new items c.requires.placed start index omissions names item at so_far new open_item
-    (λ k e its. c.in-None.ensures k (ap (number_in names) name ∙ e) (subst (λ (os : Omissions). IsOpenAt items os k) (sym c.as_slice-2.ensures.value) its)) after
+    (λ k e its. c.in-None.ensures k (ap (number_in names) name ∙ e)
+    (subst (λ (os : Omissions). IsOpenAt items os k) (sym c.as_slice-2.ensures.value) its)) after

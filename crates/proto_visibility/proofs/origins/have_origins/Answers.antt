@@ -8,7 +8,9 @@ loop-file-preserved c =
     let files = c.args.files.now in
     let index = c.loop-file.file-index in
     let file = c.file-item.result in
-    origins_more files index file (slice_get_read files (length files) index file refl c.loop-file-test.true c.file-item.is) c.has_origin.ensures c.loop-file.invariant
+    origins_more files index file
+    (slice_get_read files (length files) index file refl c.loop-file-test.true c.file-item.is) c.has_origin.ensures
+    c.loop-file.invariant
 
 pub returns : goal.returns
 returns c = origins_all c.args.files.now c.loop-file.file-index c.loop-file-test.false c.loop-file.invariant

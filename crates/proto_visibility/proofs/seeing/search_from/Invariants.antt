@@ -3,7 +3,8 @@ use Rattle.proto_visibility.proofs.SeeingLemmas.{Reaches}
 use Rattle.proto_visibility.proofs.seeing.search_from.Given as goal
 
 abbrev pub invariant-loop-next : goal.invariant-loop-next
-invariant-loop-next l = record { reached : Reaches l.table l.file l.done l.search.numbers; files : l.search.files ≡ length l.table }
+invariant-loop-next l = record
+    { reached : Reaches l.table l.file l.done l.search.numbers; files : l.search.files ≡ length l.table }
 
 abbrev pub decreases-loop-next : goal.decreases-loop-next
 decreases-loop-next l = length l.table - l.done

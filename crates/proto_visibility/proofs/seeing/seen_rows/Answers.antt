@@ -10,10 +10,16 @@ loop-file-preserved c =
     let row = c.in_ok-to_row.field-0 in
     let rows = c.loop-file.rows.items in
     let items : c.push_reserved.new.self.items ≡ rows ++ row ∷ [] = c.push_reserved.ensures.items in
-    let row_of : IsRowOf table c.loop-file.file row = λ other. (λ there. (c.in_ok-search_from.ensures.seen other).0 ((c.in_ok-to_row.ensures other).0 there), λ sees. (c.in_ok-to_row.ensures other).1 ((c.in_ok-search_from.ensures.seen other).1 sees)) in
+    let row_of : IsRowOf table c.loop-file.file row =
+    λ other. (
+      λ there. (c.in_ok-search_from.ensures.seen other).0 ((c.in_ok-to_row.ensures other).0 there),
+      λ sees. (c.in_ok-to_row.ensures other).1 ((c.in_ok-search_from.ensures.seen other).1 sees),
+    ) in
     record {
       count = ap length items ∙ (length_push rows row ∙ ap (λ n. n + 1) c.loop-file.invariant.count);
       files = c.in_ok-search_from.ensures.files ∙ c.loop-file.invariant.files;
       room = subst (λ n. length table ≤ n) (sym c.push_reserved.ensures.capacity) c.loop-file.invariant.room;
-      each = subst (λ xs. (file : ℕ) (one : List ℕ) → slice_get xs file ≡ Some one → IsRowOf table file one) (sym items) (rows_more table rows row (subst (λ n. IsRowOf table n row) (sym c.loop-file.invariant.count) row_of) c.loop-file.invariant.each);
+      each = subst (λ xs. (file : ℕ) (one : List ℕ) → slice_get xs file ≡ Some one → IsRowOf table file one) (sym items)
+          (rows_more table rows row
+          (subst (λ n. IsRowOf table n row) (sym c.loop-file.invariant.count) row_of) c.loop-file.invariant.each);
     }

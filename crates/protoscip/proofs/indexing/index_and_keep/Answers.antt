@@ -9,37 +9,52 @@ use Rattle.protoscip.proofs.indexing.index_and_keep.Goals as goal
 pub returns-in_err-built-clause-indexed : goal.returns-in_err-built-clause-indexed
 returns-in_err-built-clause-indexed g c =
     let p = err_from_is_err_and c.from_residual.result c.from_residual.ensures.1 in
-    rw (p.1, p.2) (unbuilt _ g.W.Sink.contents g.W.Sink.failures (g.C.Chooses.allows c.args.chooser.now) c.args.settings.now c.args.tree.now c.args.run.now.workers c.args.out.now c.args.out.now c.in_err-built.field-0.0 c.in_err-built.ensures.refused)
+    rw (p.1, p.2) (unbuilt _ g.W.Sink.contents g.W.Sink.failures
+    (g.C.Chooses.allows c.args.chooser.now) c.args.settings.now c.args.tree.now c.args.run.now.workers
+    c.args.out.now c.args.out.now c.in_err-built.field-0.0 c.in_err-built.ensures.refused)
 
 pub returns-in_err-built-clause-files : goal.returns-in_err-built-clause-files
 returns-in_err-built-clause-files g c =
     let p = err_from_is_err_and c.from_residual.result c.from_residual.ensures.1 in
-    rw (p.1, p.2) (files_of_build (g.C.Chooses.allows c.args.chooser.now) c.args.settings.now.custom_options c.args.tree.now c.args.run.now.workers c.in_err-built.field-0.0 c.in_err-built.ensures.refused)
+    rw (p.1, p.2) (files_of_build
+    (g.C.Chooses.allows c.args.chooser.now) c.args.settings.now.custom_options c.args.tree.now
+    c.args.run.now.workers c.in_err-built.field-0.0 c.in_err-built.ensures.refused)
 
 -- where its index isn't written, or cut off
 
 pub returns-in_err-write_spelled-clause-indexed : goal.returns-in_err-write_spelled-clause-indexed
 returns-in_err-write_spelled-clause-indexed g c =
-    let p = err_from_is_err_and c.from_residual-in_err-write_spelled.result c.from_residual-in_err-write_spelled.ensures.1 in
+    let p = err_from_is_err_and c.from_residual-in_err-write_spelled.result
+    c.from_residual-in_err-write_spelled.ensures.1 in
     let of = c.in_ok-built.ensures.built in
-    rw (p.1, p.2) (unwritten _ g.W.Sink.contents g.W.Sink.failures (g.C.Chooses.allows c.args.chooser.now) c.args.settings.now c.args.tree.now c.args.run.now.workers c.args.out.now c.write_spelled.new.out
-    (record { index = of.index; choices = c.in_ok-built.built.choices }) of.built c.in_err-write_spelled.field-0.0 (c.in_err-write_spelled.ensures of.index of.are))
+    rw (p.1, p.2) (unwritten _ g.W.Sink.contents g.W.Sink.failures
+    (g.C.Chooses.allows c.args.chooser.now) c.args.settings.now c.args.tree.now c.args.run.now.workers
+    c.args.out.now c.write_spelled.new.out
+    (record { index = of.index; choices = c.in_ok-built.built.choices }) of.built c.in_err-write_spelled.field-0.0
+    (c.in_err-write_spelled.ensures of.index of.are))
 
 pub returns-in_err-write_spelled-clause-files : goal.returns-in_err-write_spelled-clause-files
 returns-in_err-write_spelled-clause-files g c =
-    let p = err_from_is_err_and c.from_residual-in_err-write_spelled.result c.from_residual-in_err-write_spelled.ensures.1 in
+    let p = err_from_is_err_and c.from_residual-in_err-write_spelled.result
+    c.from_residual-in_err-write_spelled.ensures.1 in
     let of = c.in_ok-built.ensures.built in
-    rw (p.1, p.2) (no_files _ g.W.Sink.contents g.W.Sink.failures c.args.tree.now c.args.out.now c.write_spelled.new.out of.index c.in_err-write_spelled.field-0.0 (c.in_err-write_spelled.ensures of.index of.are))
+    rw (p.1, p.2) (no_files _ g.W.Sink.contents g.W.Sink.failures c.args.tree.now c.args.out.now c.write_spelled.new.out
+    of.index c.in_err-write_spelled.field-0.0 (c.in_err-write_spelled.ensures of.index of.are))
 
 -- where it is
 
 pub returns-clause-indexed : goal.returns-clause-indexed
 returns-clause-indexed g c =
     let of = c.in_ok-built.ensures.built in
-    written _ g.W.Sink.contents g.W.Sink.failures (g.C.Chooses.allows c.args.chooser.now) c.args.settings.now c.args.tree.now c.args.run.now.workers c.args.out.now c.write_spelled.new.out
-    (record { index = of.index; choices = c.in_ok-built.built.choices }) of.built c.in_ok-write_spelled.field-0 (c.in_ok-write_spelled.ensures of.index of.are)
+    written _ g.W.Sink.contents g.W.Sink.failures
+    (g.C.Chooses.allows c.args.chooser.now) c.args.settings.now c.args.tree.now c.args.run.now.workers
+    c.args.out.now c.write_spelled.new.out
+    (record { index = of.index; choices = c.in_ok-built.built.choices }) of.built c.in_ok-write_spelled.field-0
+    (c.in_ok-write_spelled.ensures of.index of.are)
 
 pub returns-clause-navigable : goal.returns-clause-navigable
 returns-clause-navigable g c =
-    writes (g.C.Chooses.allows c.args.chooser.now) c.args.settings.now c.args.tree.now c.headline_of_tree.ensures g.W.Sink.contents g.W.Sink.failures c.args.run.now.workers c.in_ok-built.built.choices c.args.out.now c.write_spelled.new.out
+    writes (g.C.Chooses.allows c.args.chooser.now) c.args.settings.now c.args.tree.now c.headline_of_tree.ensures
+    g.W.Sink.contents g.W.Sink.failures c.args.run.now.workers c.in_ok-built.built.choices c.args.out.now
+    c.write_spelled.new.out
     (returns-clause-indexed g c)

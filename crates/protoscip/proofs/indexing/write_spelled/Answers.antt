@@ -13,20 +13,26 @@ returns-in_err-write_pieces g c index are =
     let p = err_from_is_err_and c.from_residual.result c.from_residual.ensures.1 in
     let done = c.in_err-write_pieces.ensures in
     let fault = c.in_err-write_pieces.field-0.0 in
-    let pieces = ap (λ (documents : List (List ℕ)). joined_pieces parts.metadata documents parts.external_symbols) c.as_slice.ensures ∙ pieces_are index parts are c.spelling_is_of_pieces.ensures in
+    let pieces = ap (λ (documents : List (List ℕ)). joined_pieces parts.metadata documents parts.external_symbols)
+    c.as_slice.ensures ∙ pieces_are index parts are c.spelling_is_of_pieces.ensures in
     let Large : List ℕ → Type 0 = λ due. (stopped fault ≡ stopped writing.TooLarge) ↔ (max_index_len < length due) in
-    let Left : List ℕ → Type 0 = λ due. Leaves g.W.Sink.contents g.W.Sink.failures c.args.out.now c.write_pieces.new.sink due fault in
+    let Left : List ℕ → Type 0 =
+    λ due. Leaves g.W.Sink.contents g.W.Sink.failures c.args.out.now c.write_pieces.new.sink due fault in
     rw (p.1, p.2)
-    (not_written c.spelling_decodes_to_its_index.ensures c.bytes_decode_to_one_index.ensures index (known_whole index parts are done.known done.known_externals) _ g.W.Sink.contents g.W.Sink.failures
+    (not_written c.spelling_decodes_to_its_index.ensures c.bytes_decode_to_one_index.ensures index
+    (known_whole index parts are done.known done.known_externals) _ g.W.Sink.contents g.W.Sink.failures
     c.args.out.now c.write_pieces.new.sink fault (subst Large pieces done.too_large) (subst Left pieces done.refused))
 
 pub returns : goal.returns
 returns g c index are =
     let parts = c.args.parts.now in
     let done = c.in_ok-write_pieces.ensures in
-    let pieces = ap (λ (documents : List (List ℕ)). joined_pieces parts.metadata documents parts.external_symbols) c.as_slice.ensures ∙ pieces_are index parts are c.spelling_is_of_pieces.ensures in
-    let Sent : List ℕ → Type 0 = λ due. IsWritten g.W.Sink.contents g.W.Sink.failures c.args.out.now c.write_pieces.new.sink due in
+    let pieces = ap (λ (documents : List (List ℕ)). joined_pieces parts.metadata documents parts.external_symbols)
+    c.as_slice.ensures ∙ pieces_are index parts are c.spelling_is_of_pieces.ensures in
+    let Sent : List ℕ → Type 0 =
+    λ due. IsWritten g.W.Sink.contents g.W.Sink.failures c.args.out.now c.write_pieces.new.sink due in
     let large = rw pieces at done.too_large in (
-      spelled_unless c.spelling_decodes_to_its_index.ensures c.bytes_decode_to_one_index.ensures index (known_whole index parts are done.known done.known_externals) _ large (λ same. cc),
+      spelled_unless c.spelling_decodes_to_its_index.ensures c.bytes_decode_to_one_index.ensures index
+          (known_whole index parts are done.known done.known_externals) _ large (λ same. cc),
       subst Sent pieces done.ok,
     )

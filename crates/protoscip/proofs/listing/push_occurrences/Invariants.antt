@@ -6,4 +6,5 @@ use Rattle.protoscip.proofs.listing.push_occurrences.Given as goal
 
 -- the lines of the occurrences so far
 abbrev pub invariant-loop-occurrence : goal.invariant-loop-occurrence
-invariant-loop-occurrence l = string_bytes l.text ≡ string_bytes l.fn.text ++ flat_map occurrence_line (take l.occurrence-index l.occurrences)
+invariant-loop-occurrence l =
+    string_bytes l.text ≡ string_bytes l.fn.text ++ flat_map occurrence_line (take l.occurrence-index l.occurrences)

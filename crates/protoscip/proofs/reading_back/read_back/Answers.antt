@@ -6,7 +6,8 @@ use Rattle.protoscip.proofs.reading_back.read_back.Goals as goal
 pub returns-in-Ok : goal.returns-in-Ok
 returns-in-Ok c =
     let spelling = c.in_ok-bytes.ensures in
-    let is = spelled_unless c.spelling_decodes_to_its_index.ensures c.bytes_decode_to_one_index.ensures c.args.index spelling.known _ spelling.too_large (λ same. cc) in
+    let is = spelled_unless c.spelling_decodes_to_its_index.ensures c.bytes_decode_to_one_index.ensures c.args.index
+    spelling.known _ spelling.too_large (λ same. cc) in
     let bytes = c.deref.ensures.value ∙ spelling.bytes in
     let decodes = subst (λ (b : List ℕ). Decodes b c.args.index) (sym bytes) is.decodes in
     (is, c.in-Ok.ensures.only c.args.index decodes)

@@ -4,13 +4,17 @@ use Rattle.protoscip.proofs.sessions.converse.Goals as goal
 
 pub returns-in_err-answer_commands : goal.returns-in_err-answer_commands
 returns-in_err-answer_commands g c =
-    let p = err_from_is_err_and c.from_residual-in_err-answer_commands.result c.from_residual-in_err-answer_commands.ensures.1 in
+    let p = err_from_is_err_and c.from_residual-in_err-answer_commands.result
+    c.from_residual-in_err-answer_commands.ensures.1 in
     let read = c.in_ok-read.ensures in
-    rw (p.1, p.2) (stopped g.F.Feed.remaining g.F.Feed.failures g.F.Feed.reads g.F.Feed.ends g.W.Sink.contents g.W.Sink.failures
-    c.args.commands.now c.answer_commands.new.commands c.args.answers.now c.answer_commands.new.answers c.args.index c.in_ok-read.read read.0 read.1 c.in_err-answer_commands.field-0.0 c.in_err-answer_commands.ensures)
+    rw (p.1, p.2) (stopped g.F.Feed.remaining g.F.Feed.failures g.F.Feed.reads g.F.Feed.ends g.W.Sink.contents
+    g.W.Sink.failures
+    c.args.commands.now c.answer_commands.new.commands c.args.answers.now c.answer_commands.new.answers c.args.index
+    c.in_ok-read.read read.0 read.1 c.in_err-answer_commands.field-0.0 c.in_err-answer_commands.ensures)
 
 pub returns : goal.returns
 returns g c =
     let read = c.in_ok-read.ensures in
     conversed g.F.Feed.remaining g.F.Feed.failures g.F.Feed.reads g.F.Feed.ends g.W.Sink.contents g.W.Sink.failures
-    c.args.commands.now c.answer_commands.new.commands c.args.answers.now c.answer_commands.new.answers c.args.index c.in_ok-read.read read.0 read.1 _ c.in_ok-answer_commands.ensures
+    c.args.commands.now c.answer_commands.new.commands c.args.answers.now c.answer_commands.new.answers c.args.index
+    c.in_ok-read.read read.0 read.1 _ c.in_ok-answer_commands.ensures

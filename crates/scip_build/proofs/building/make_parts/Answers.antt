@@ -6,7 +6,11 @@ pub returns : goal.returns
 returns g c =
     let kept = c.in_ok-documents.ensures in
     record {
-      index = record { metadata = Some (metadata_of c.args.sources.now.settings.now.project_root); documents = kept.documents; external_symbols = c.in_ok-external_symbols.external_symbols };
+      index = record {
+        metadata = Some (metadata_of c.args.sources.now.settings.now.project_root);
+        documents = kept.documents;
+        external_symbols = c.in_ok-external_symbols.external_symbols;
+      };
       made = record {
         resolved = kept.made.resolved;
         is = record {
@@ -17,5 +21,9 @@ returns g c =
           externals = c.in_ok-external_symbols.ensures;
         };
       };
-      are = record { metadata = ap Some c.in_ok-metadata.ensures; documents = rw c.from_vec.ensures kept.kept; external_symbols = refl };
+      are = record {
+        metadata = ap Some c.in_ok-metadata.ensures;
+        documents = rw c.from_vec.ensures kept.kept;
+        external_symbols = refl;
+      };
     }

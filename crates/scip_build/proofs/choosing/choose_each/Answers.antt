@@ -13,5 +13,6 @@ loop-declaration-preserved g c =
     let For : Seen → Type 0 = λ seen. allows seen c.choose.result in
     let comes : may_come c.declaration-item.result c.choose.result = subst For c.view.ensures c.choose.ensures in
     rw c.in_ok-push.ensures.items
-    (one_more may_come c.args.declarations.now c.loop-declaration.choices.items c.loop-declaration.declaration-index c.declaration-item.result c.choose.result
+    (one_more may_come c.args.declarations.now c.loop-declaration.choices.items c.loop-declaration.declaration-index
+    c.declaration-item.result c.choose.result
     c.loop-declaration-test.true c.declaration-item.is c.loop-declaration.invariant comes)

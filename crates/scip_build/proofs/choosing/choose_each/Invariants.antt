@@ -4,4 +4,5 @@ use Rattle.scip_build.specs.Readings.{AreChosen}
 use Rattle.scip_build.proofs.choosing.choose_each.Given as goal
 
 abbrev pub invariant-loop-declaration : goal.invariant-loop-declaration
-invariant-loop-declaration g l = AreChosen (g.C.Chooses.allows l.chooser) (take l.declaration-index l.declarations) l.choices.items
+invariant-loop-declaration g l =
+    AreChosen (g.C.Chooses.allows l.chooser) (take l.declaration-index l.declarations) l.choices.items

@@ -2,4 +2,5 @@ use Rattle.scip_build.proofs.LawLemmas.{one_list_of_facts}
 use Rattle.scip_build.proofs.laws.one_list_of_facts_a_file.Goals as goal
 
 pub returns : goal.returns
-returns c = one_list_of_facts c.one_lexing.ensures.tokens c.one_lexing.ensures.comments c.one_tree.ensures c.one_list_of_facts.ensures
+returns c = one_list_of_facts c.one_lexing.ensures.tokens c.one_lexing.ensures.comments c.one_tree.ensures
+    c.one_list_of_facts.ensures

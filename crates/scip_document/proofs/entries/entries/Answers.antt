@@ -17,7 +17,8 @@ pub unwrap-facts-requires : goal.unwrap-facts-requires
 unwrap-facts-requires c =
     let files = c.args.maker.now.linker.now in
     let facts = source-facts files c.args.maker.now.source c.symbols_stand_apart.ensures.clear.read c.requires.source in
-    some_facts (λ facts. HasFacts files c.args.maker.now.source facts.now) files c.args.maker.now.source facts.0 c.facts_of.result facts.1 c.facts_of.ensures
+    some_facts (λ facts. HasFacts files c.args.maker.now.source facts.now) files c.args.maker.now.source facts.0
+    c.facts_of.result facts.1 c.facts_of.ensures
 
 pub listed_entries-requires-clause-path : goal.listed_entries-requires-clause-path
 listed_entries-requires-clause-path c =
@@ -27,21 +28,32 @@ listed_entries-requires-clause-path c =
 pub listed_entries-requires-clause-choices : goal.listed_entries-requires-clause-choices
 listed_entries-requires-clause-choices c = λ index within.
     let facts = c.unwrap-facts.result.now in
-    let known = MatchOption-at_some ((other : Facts) → HasFacts c.args.maker.now.linker.now c.args.maker.now.source other → ⊥) (λ facts. HasFacts c.args.maker.now.linker.now c.args.maker.now.source facts.now) c.unwrap-facts.result c.unwrap-facts.ensures c.facts_of.ensures in
+    let known = MatchOption-at_some
+    ((other : Facts) → HasFacts c.args.maker.now.linker.now c.args.maker.now.source other → ⊥)
+    (λ facts. HasFacts c.args.maker.now.linker.now c.args.maker.now.source facts.now) c.unwrap-facts.result
+    c.unwrap-facts.ensures c.facts_of.ensures in
     let declared = at-index facts.declarations index within in
-    c.requires.choices c.args.maker.now.source index facts declared.0 (record { has_facts = known; numbered = declared.1 })
+    c.requires.choices c.args.maker.now.source index facts declared.0
+    (record { has_facts = known; numbered = declared.1 })
 
 pub returns : goal.returns
 returns c =
     let files = c.args.maker.now.linker.now in
     let source = c.args.maker.now.source in
     let facts = c.unwrap-facts.result.now in
-    let known = MatchOption-at_some ((other : Facts) → HasFacts files source other → ⊥) (λ facts. HasFacts files source facts.now) c.unwrap-facts.result c.unwrap-facts.ensures c.facts_of.ensures in
+    let known = MatchOption-at_some ((other : Facts) → HasFacts files source other → ⊥)
+    (λ facts. HasFacts files source facts.now) c.unwrap-facts.result c.unwrap-facts.ensures c.facts_of.ensures in
     let path = c.path_of-path.ensures in
     rw c.from_vec.ensures
-    (source-list files c.symbols_stand_apart.ensures.origins c.symbols_stand_apart.ensures.clear.clear c.symbols_stand_apart.ensures.declarations c.symbols_stand_apart.ensures.spelled
-    c.symbols_stand_apart.ensures.symbols c.symbols_stand_apart.ensures.unclashed c.args.maker.now.package.now c.symbols_stand_apart.ensures.package source path.0 facts path.1
-    (record { counts = source-counts files source c.requires.source; known = known }) (c.requires.paths source path.0 path.1) c.args.maker.now.choices.now c.in_ok-entries.entries.items _
-    (c.in_ok-entries.ensures ∙ ap (λ (p : List ℕ). source_entries c.args.maker.now.package.now p facts (choices_for c.args.maker.now.choices.now source)) (sym path.2))
+    (source-list files c.symbols_stand_apart.ensures.origins c.symbols_stand_apart.ensures.clear.clear
+    c.symbols_stand_apart.ensures.declarations c.symbols_stand_apart.ensures.spelled
+    c.symbols_stand_apart.ensures.symbols c.symbols_stand_apart.ensures.unclashed c.args.maker.now.package.now
+    c.symbols_stand_apart.ensures.package source path.0 facts path.1
+    (record { counts = source-counts files source c.requires.source; known = known })
+    (c.requires.paths source path.0 path.1) c.args.maker.now.choices.now c.in_ok-entries.entries.items _
+    (c.in_ok-entries.ensures
+    ∙ ap (λ (p : List ℕ). source_entries c.args.maker.now.package.now p facts
+    (choices_for c.args.maker.now.choices.now source)) (sym path.2))
     c.in_ok-sort_by.ensures.permutation
-    (c.in_ok-sort_by.ensures.sorted (λ x y. is_lt (info_cmp x y)) infos_rank (answers_always _ (λ a r. is_lt r ≡ is_lt (info_cmp a.0.now a.1.0.now)) _ (λ f a r g called. search rules))))
+    (c.in_ok-sort_by.ensures.sorted (λ x y. is_lt (info_cmp x y)) infos_rank
+    (answers_always _ (λ a r. is_lt r ≡ is_lt (info_cmp a.0.now a.1.0.now)) _ (λ f a r g called. search rules))))

@@ -5,4 +5,5 @@ use Rattle.scip_document.proofs.entries.joined_behind.Given as goal
 
 -- the components so far
 abbrev pub invariant-loop-component : goal.invariant-loop-component
-invariant-loop-component l = string_bytes l.name ≡ dotted (component_names (l.fn.first ∷ take l.component-index l.others))
+invariant-loop-component l =
+    string_bytes l.name ≡ dotted (component_names (l.fn.first ∷ take l.component-index l.others))

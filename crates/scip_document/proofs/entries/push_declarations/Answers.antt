@@ -19,10 +19,16 @@ loop-index-preserved c =
     let declaration = c.declaration-item.result in
     let items = c.declarations-declaration-items.result.now in
     let stands : slice_get facts.declarations index ≡ Some declaration =
-    subst (λ (ds : List Declaration). slice_get ds index ≡ Some declaration) c.declarations-declaration-items.ensures (slice_get_read items (length items) index declaration refl c.loop-index-test.true c.declaration-item.is) in
-    let chosen : slice_get choices index ≡ Some choice = ap (λ (l : List Choice). slice_get l index) (get_or_from_slice_get c.args.maker.now.choices.now c.args.maker.now.source c.of-choice.ensures.of_file [] c.of-choice.ensures.file_is) ∙ c.of-choice.ensures.declaration_is in
+    subst (λ (ds : List Declaration). slice_get ds index ≡ Some declaration) c.declarations-declaration-items.ensures
+    (slice_get_read items (length items) index declaration refl c.loop-index-test.true c.declaration-item.is) in
+    let chosen : slice_get choices index ≡ Some choice =
+    ap (λ (l : List Choice). slice_get l index)
+    (get_or_from_slice_get c.args.maker.now.choices.now c.args.maker.now.source c.of-choice.ensures.of_file []
+    c.of-choice.ensures.file_is) ∙ c.of-choice.ensures.declaration_is in
     let so_far = kept_entries id facts (take index facts.declarations) choices in
     c.in_ok-push_if_kept.ensures
-    ∙ (ap (λ (entries : List SymbolInformation). entries ++ entry_if_kept id facts declaration choice) c.loop-index.invariant
+    ∙ (ap (λ (entries : List SymbolInformation). entries ++ entry_if_kept id facts declaration choice)
+    c.loop-index.invariant
     ∙ (append_assoc old so_far (entry_if_kept id facts declaration choice)
-    ∙ ap (λ (entries : List SymbolInformation). old ++ entries) (sym (kept-more id facts facts.declarations choices index declaration choice stands chosen))))
+    ∙ ap (λ (entries : List SymbolInformation). old ++ entries)
+    (sym (kept-more id facts facts.declarations choices index declaration choice stands chosen))))

@@ -16,4 +16,5 @@ loop-index-preserved c =
     ∙ (ap (λ (entries : List SymbolInformation). entries ++ c.in_ok-entry.entry ∷ []) c.loop-index.invariant
     ∙ (append_assoc old so_far (c.in_ok-entry.entry ∷ [])
     ∙ (ap (λ (entry : SymbolInformation). old ++ (so_far ++ entry ∷ [])) c.in_ok-entry.ensures
-    ∙ ap (λ (entries : List SymbolInformation). old ++ entries) (sym (map-range_with_len_more (λ i. package_entry id facts (i + 1)) 0 index index (omega arith))))))
+    ∙ ap (λ (entries : List SymbolInformation). old ++ entries)
+    (sym (map-range_with_len_more (λ i. package_entry id facts (i + 1)) 0 index index (omega arith))))))

@@ -2,11 +2,13 @@ use Rattle.std.proofs.Common.{length}
 use Rattle.std.proofs.lemmas.Result.{IfOk-weaker}
 use Rattle.scip_document.specs.Tables.ExternalLists.{IsEntryAt, IsEntryOf}
 use Rattle.scip_document.proofs.NamedLemmas.{some_facts, given_facts}
-use Rattle.scip_document.proofs.ExternalEntryLemmas.{external-there, external-within, external-index, external-chosen, kept-entry}
+use Rattle.scip_document.proofs.ExternalEntryLemmas.{external-there, external-within, external-index, external-chosen}
+use Rattle.scip_document.proofs.ExternalEntryLemmas.{kept-entry}
 use Rattle.scip_document.proofs.external_symbols.entry_of.Goals as goal
 
 pub facts_of-requires : goal.facts_of-requires
-facts_of-requires c = external-within c.args.linker.now c.args.choices.now (length c.args.linker.now) c.args.pair c.requires.named
+facts_of-requires c = external-within c.args.linker.now c.args.choices.now
+    (length c.args.linker.now) c.args.pair c.requires.named
 
 pub unwrap-facts-requires : goal.unwrap-facts-requires
 unwrap-facts-requires c =
@@ -22,7 +24,8 @@ external_entry-requires-clause-within c =
 
 pub external_entry-requires-clause-chosen : goal.external_entry-requires-clause-chosen
 external_entry-requires-clause-chosen c =
-    external-chosen c.args.linker.now c.args.choices.now (length c.args.linker.now) c.args.pair c.requires.choices c.requires.named
+    external-chosen c.args.linker.now c.args.choices.now
+    (length c.args.linker.now) c.args.pair c.requires.choices c.requires.named
 
 pub returns : goal.returns
 returns c =
@@ -30,6 +33,9 @@ returns c =
     let chosen = c.args.choices.now in
     let id = c.args.id.now in
     let facts = c.unwrap-facts.result.now in
-    let known = given_facts files c.args.pair.0 c.facts_of.result c.unwrap-facts.result c.unwrap-facts.ensures c.facts_of.ensures in
-    IfOk-weaker c.external_entry.result (IsEntryAt chosen id facts c.args.pair.0 c.args.pair.1) (IsEntryOf files chosen id c.args.pair)
-    (λ entry made. kept-entry files chosen id (length files) c.args.pair facts entry c.requires.named known made) c.external_entry.ensures
+    let known = given_facts files c.args.pair.0 c.facts_of.result c.unwrap-facts.result c.unwrap-facts.ensures
+    c.facts_of.ensures in
+    IfOk-weaker c.external_entry.result (IsEntryAt chosen id facts c.args.pair.0 c.args.pair.1)
+    (IsEntryOf files chosen id c.args.pair)
+    (λ entry made. kept-entry files chosen id (length files) c.args.pair facts entry c.requires.named known made)
+    c.external_entry.ensures

@@ -5,5 +5,7 @@ use Rattle.scip_document.proofs.external_symbols.push_part.Goals as goal
 
 pub returns-in-Declared : goal.returns-in-Declared
 returns-in-Declared c =
-    subst (λ (part : Entity). OnOk c.push_declared.result (Adds (IsOfPart c.args.linker.now c.args.choices.now part) c.args.named.now.items c.push_declared.new.named.items))
+    subst (λ (part : Entity). OnOk c.push_declared.result
+    (Adds (IsOfPart c.args.linker.now c.args.choices.now part) c.args.named.now.items
+    c.push_declared.new.named.items))
     (sym c.in-Declared.is) c.push_declared.ensures

@@ -5,7 +5,8 @@ use Rattle.scip_document.proofs.MergeLemmas.{IsMerging}
 use Rattle.scip_document.proofs.merging.merged.Given as goal
 
 abbrev pub invariant-loop-next : goal.invariant-loop-next
-invariant-loop-next l = AreUntied occurrence_cmp l.fn.first.items l.fn.second.items → IsMerging occurrence_cmp l.fn.first.items l.fn.second.items l.both.items l.first_left.items l.second_left.items
+invariant-loop-next l = AreUntied occurrence_cmp l.fn.first.items l.fn.second.items
+    → IsMerging occurrence_cmp l.fn.first.items l.fn.second.items l.both.items l.first_left.items l.second_left.items
 
 abbrev pub decreases-loop-next : goal.decreases-loop-next
 decreases-loop-next l = length l.first_left.items + length l.second_left.items

@@ -7,7 +7,8 @@ pub returns-clause-found : goal.returns-clause-found
 returns-clause-found c =
     let files = c.args.linker.now in
     let path = c.args.imported.now.path in
-    found_is files path c.has_path.result (subst (λ (p : List ℕ). IsTrue c.has_path.result ↔ HasPath files p) c.as_str.ensures c.has_path.ensures)
+    found_is files path c.has_path.result
+    (subst (λ (p : List ℕ). IsTrue c.has_path.result ↔ HasPath files p) c.as_str.ensures c.has_path.ensures)
 
 pub returns-clause-good : goal.returns-clause-good
 returns-clause-good c = λ there.

@@ -4,4 +4,7 @@ use Rattle.scip_document.proofs.occurrences.import_occurrences.Given as goal
 
 abbrev pub invariant-loop-imported : goal.invariant-loop-imported
 invariant-loop-imported l =
-    l.list.items ++ each_from (at_import l.maker.package.now l.maker.encoding l.maker.text.now l.maker.linker.now) l.imported-index (drop l.imported-index l.imports) ≡ each_from (at_import l.maker.package.now l.maker.encoding l.maker.text.now l.maker.linker.now) 0 l.imports
+    l.list.items ++ each_from
+    (at_import l.maker.package.now l.maker.encoding l.maker.text.now l.maker.linker.now) l.imported-index
+    (drop l.imported-index l.imports)
+    ≡ each_from (at_import l.maker.package.now l.maker.encoding l.maker.text.now l.maker.linker.now) 0 l.imports

@@ -15,9 +15,12 @@ returns-in_err-mark-clause-refused c =
     let piece = c.loop-piece.piece in
     let marks = c.loop-piece.marks.items in
     let p = err_from_is_err_and c.from_residual.result c.from_residual.ensures.1 in
-    let stands : slice_get pieces piece ≡ Some document = slice_get_read pieces (length pieces) piece document refl c.loop-piece-test.true c.index-pieces-piece.is in
-    rw (p.1, p.2) (refused paths c.requires.rising pieces piece marks document c.in_err-mark.field-0.0 c.loop-piece.invariant stands
-    (subst (λ (path : List ℕ). IsNotMarked paths path marks piece c.in_err-mark.field-0.0) c.as_str.ensures c.in_err-mark.ensures.refused))
+    let stands : slice_get pieces piece ≡ Some document =
+    slice_get_read pieces (length pieces) piece document refl c.loop-piece-test.true c.index-pieces-piece.is in
+    rw (p.1, p.2) (refused paths c.requires.rising pieces piece marks document c.in_err-mark.field-0.0
+    c.loop-piece.invariant stands
+    (subst (λ (path : List ℕ). IsNotMarked paths path marks piece c.in_err-mark.field-0.0) c.as_str.ensures
+    c.in_err-mark.ensures.refused))
 
 pub loop-piece-preserved : goal.loop-piece-preserved
 loop-piece-preserved c =
@@ -26,6 +29,8 @@ loop-piece-preserved c =
     let document = c.index-pieces-piece.result in
     let piece = c.loop-piece.piece in
     let marks = c.loop-piece.marks.items in
-    let stands : slice_get pieces piece ≡ Some document = slice_get_read pieces (length pieces) piece document refl c.loop-piece-test.true c.index-pieces-piece.is in
+    let stands : slice_get pieces piece ≡ Some document =
+    slice_get_read pieces (length pieces) piece document refl c.loop-piece-test.true c.index-pieces-piece.is in
     marked-more paths c.requires.rising pieces piece marks c.mark.new.marks.items document c.loop-piece.invariant stands
-    (subst (λ (path : List ℕ). IsMarked paths path marks c.mark.new.marks.items) c.as_str.ensures c.in_ok-mark.ensures.marked)
+    (subst (λ (path : List ℕ). IsMarked paths path marks c.mark.new.marks.items) c.as_str.ensures
+    c.in_ok-mark.ensures.marked)

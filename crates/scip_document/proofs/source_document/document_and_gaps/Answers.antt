@@ -13,20 +13,24 @@ use Rattle.scip_document.proofs.source_document.document_and_gaps.Goals as goal
 
 pub unwrap-facts-requires : goal.unwrap-facts-requires
 unwrap-facts-requires c =
-    let facts = source-facts c.args.maker.now.linker.now c.args.maker.now.source c.linked.ensures.clear.read c.requires.source in
+    let facts = source-facts c.args.maker.now.linker.now c.args.maker.now.source c.linked.ensures.clear.read
+    c.requires.source in
     some_facts c.args.maker.now.linker.now c.args.maker.now.source facts.0 c.facts_of.result facts.1 c.facts_of.ensures
 
 pub occurrences-requires-clause-text : goal.occurrences-requires-clause-text
 occurrences-requires-clause-text c =
     let facts = c.unwrap-facts.result.now in
-    c.requires.text facts (given_facts c.args.maker.now.linker.now c.args.maker.now.source c.facts_of.result c.unwrap-facts.result c.unwrap-facts.ensures c.facts_of.ensures)
+    c.requires.text facts (given_facts c.args.maker.now.linker.now c.args.maker.now.source c.facts_of.result
+    c.unwrap-facts.result c.unwrap-facts.ensures c.facts_of.ensures)
 
 pub unresolved_uses-requires : goal.unresolved_uses-requires
 unresolved_uses-requires c =
     let files = c.args.maker.now.linker.now in
     let source = c.args.maker.now.source in
-    let all = subst (λ (uses : List Use). AllZip (IsFound files source) uses c.in_ok-found.found.items) (sym c.uses.ensures) c.in_ok-found.ensures.found in
-    ap (λ (found : List (Option Target)). length found) c.as_slice.ensures.value ∙ zip_length (IsFound files source) c.uses.result.now c.in_ok-found.found.items all
+    let all = subst (λ (uses : List Use). AllZip (IsFound files source) uses c.in_ok-found.found.items)
+    (sym c.uses.ensures) c.in_ok-found.ensures.found in
+    ap (λ (found : List (Option Target)). length found) c.as_slice.ensures.value
+    ∙ zip_length (IsFound files source) c.uses.result.now c.in_ok-found.found.items all
 
 pub returns-clause-gaps : goal.returns-clause-gaps
 returns-clause-gaps c =
@@ -34,7 +38,10 @@ returns-clause-gaps c =
     let source = c.args.maker.now.source in
     let facts = c.unwrap-facts.result.now in
     let found = c.in_ok-found.found.items in
-    let known = given_facts files source c.facts_of.result c.unwrap-facts.result c.unwrap-facts.ensures c.facts_of.ensures in
+    let known = given_facts files source c.facts_of.result c.unwrap-facts.result c.unwrap-facts.ensures
+    c.facts_of.ensures in
     let list = c.in_ok-unresolved.ensures
-    ∙ (ap (λ (its : List (Option Target)). each_from (gap_at its) 0 c.uses.result.now) c.as_slice.ensures.value ∙ ap (λ (uses : List Use). each_from (gap_at found) 0 uses) c.uses.ensures) in
-    rw c.from_vec-2.ensures (subst (λ (spans : List Span). AreGaps files source spans) (sym list) (gaps_of files source facts found known c.in_ok-found.ensures.found))
+    ∙ (ap (λ (its : List (Option Target)). each_from (gap_at its) 0 c.uses.result.now) c.as_slice.ensures.value
+    ∙ ap (λ (uses : List Use). each_from (gap_at found) 0 uses) c.uses.ensures) in
+    rw c.from_vec-2.ensures (subst (λ (spans : List Span). AreGaps files source spans) (sym list)
+    (gaps_of files source facts found known c.in_ok-found.ensures.found))

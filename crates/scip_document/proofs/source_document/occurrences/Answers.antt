@@ -22,45 +22,58 @@ use Rattle.scip_document.specs.Gaps.{IsFound}
 use Rattle.scip_document.proofs.source_document.occurrences.Goals as goal
 
 pub own_occurrences-requires : goal.own_occurrences-requires
-own_occurrences-requires c = let path = c.path_of.ensures in subst IsGoodPath path.2 (c.requires.paths c.args.maker.now.source path.0 path.1)
+own_occurrences-requires c = let path = c.path_of.ensures in
+    subst IsGoodPath path.2 (c.requires.paths c.args.maker.now.source path.0 path.1)
 
 pub import_occurrences-requires-clause-parts : goal.import_occurrences-requires-clause-parts
 import_occurrences-requires-clause-parts c =
     let text = c.args.maker.now.text.now in
     let facts = c.args.facts.now in
-    subst (λ (imports : List Imported). All (λ (imported : Imported). IsPart text imported.span) imports) (sym c.imports.ensures)
-    (all_of_map (IsPart text) (λ (imported : Imported). imported.span) facts.imports (stand_there text facts c.requires.text c.facts_occur_in_order.ensures.placed).imports)
+    subst (λ (imports : List Imported). All (λ (imported : Imported). IsPart text imported.span) imports)
+    (sym c.imports.ensures)
+    (all_of_map (IsPart text) (λ (imported : Imported). imported.span) facts.imports
+    (stand_there text facts c.requires.text c.facts_occur_in_order.ensures.placed).imports)
 
 pub package_occurrences-requires : goal.package_occurrences-requires
 package_occurrences-requires c =
     let text = c.args.maker.now.text.now in
     let facts = c.args.facts.now in
-    all_of_map (IsPart text) (λ (component : Component). component.span) facts.package_name (stand_there text facts c.requires.text c.facts_occur_in_order.ensures.placed).package_name
+    all_of_map (IsPart text) (λ (component : Component). component.span) facts.package_name
+    (stand_there text facts c.requires.text c.facts_occur_in_order.ensures.placed).package_name
 
 pub declaration_occurrences-requires-clause-parts : goal.declaration_occurrences-requires-clause-parts
 declaration_occurrences-requires-clause-parts c =
     let text = c.args.maker.now.text.now in
     let facts = c.args.facts.now in
-    all_of_map (IsPart text) (λ (declaration : Declaration). declaration.name) facts.declarations (stand_there text facts c.requires.text c.facts_occur_in_order.ensures.placed).names
+    all_of_map (IsPart text) (λ (declaration : Declaration). declaration.name) facts.declarations
+    (stand_there text facts c.requires.text c.facts_occur_in_order.ensures.placed).names
 
 pub declaration_occurrences-requires-clause-chosen : goal.declaration_occurrences-requires-clause-chosen
-declaration_occurrences-requires-clause-chosen c = choices_there c.args.maker.now.linker.now c.args.maker.now.choices.now c.args.maker.now.source c.args.facts.now c.requires.choices c.requires.known
+declaration_occurrences-requires-clause-chosen c =
+    choices_there c.args.maker.now.linker.now c.args.maker.now.choices.now c.args.maker.now.source c.args.facts.now
+    c.requires.choices c.requires.known
 
 pub use_occurrences-requires-clause-stand : goal.use_occurrences-requires-clause-stand
 use_occurrences-requires-clause-stand c =
     let text = c.args.maker.now.text.now in
     let facts = c.args.facts.now in
-    subst (λ (uses : List Use). All (λ (used : Use). All (λ (component : Component). IsPart text component.span) used.components) uses) (sym c.uses.ensures)
-    (uses_stand_there text facts.uses (stand_there text facts c.requires.text c.facts_occur_in_order.ensures.placed).uses)
+    subst (λ (uses : List Use). All
+    (λ (used : Use). All (λ (component : Component). IsPart text component.span) used.components) uses)
+    (sym c.uses.ensures)
+    (uses_stand_there text facts.uses
+    (stand_there text facts c.requires.text c.facts_occur_in_order.ensures.placed).uses)
 
 pub use_occurrences-requires-clause-one_each : goal.use_occurrences-requires-clause-one_each
 use_occurrences-requires-clause-one_each c =
     zip_length (IsFound c.args.maker.now.linker.now c.args.maker.now.source) c.uses.result.now c.args.found.now
-    (subst (λ (uses : List Use). AllZip (IsFound c.args.maker.now.linker.now c.args.maker.now.source) uses c.args.found.now) (sym c.uses.ensures) c.requires.found)
+    (subst (λ (uses : List Use). AllZip
+    (IsFound c.args.maker.now.linker.now c.args.maker.now.source) uses c.args.found.now)
+    (sym c.uses.ensures) c.requires.found)
 
 pub use_occurrences-requires-clause-nameable : goal.use_occurrences-requires-clause-nameable
 use_occurrences-requires-clause-nameable c =
-    found_nameable c.args.maker.now.linker.now c.args.maker.now.source c.facts_occur_in_order.ensures.origins c.facts_occur_in_order.ensures.spelled c.args.facts.now.uses c.args.found.now c.requires.found
+    found_nameable c.args.maker.now.linker.now c.args.maker.now.source c.facts_occur_in_order.ensures.origins
+    c.facts_occur_in_order.ensures.spelled c.args.facts.now.uses c.args.found.now c.requires.found
 
 pub returns : goal.returns
 returns c =
@@ -75,16 +88,26 @@ returns c =
     let path = c.path_of.ensures in
     let origin = c.requires.text.origin in
     let own = c.in_ok-own.ensures ∙ ap (λ (p : List ℕ). own_occurrence id p ∷ []) (sym path.2) in
-    let imports = c.in_ok-imports.ensures ∙ ap (λ (xs : List Imported). each_from (at_import id encoding text files) 0 xs) c.imports.ensures in
-    let untied : (x y : Occurrence) → Occurs files chosen id encoding source text x → Occurs files chosen id encoding source text y → occurrence_cmp x y ≡ Equal → x ≡ y =
+    let imports = c.in_ok-imports.ensures
+    ∙ ap (λ (xs : List Imported). each_from (at_import id encoding text files) 0 xs) c.imports.ensures in
+    let untied : (x y : Occurrence) → Occurs files chosen id encoding source text x
+    → Occurs files chosen id encoding source text y → occurrence_cmp x y ≡ Equal → x ≡ y =
     λ x y first second e. c.facts_occur_in_order.ensures.untied files chosen id encoding source text
-    (λ other known. subst (AreOfText text) (same_facts files source facts other c.requires.known known) c.requires.text) x y first second (tied x y e).0 (tied x y e).1 in
-    let uses = c.in_ok-uses.ensures ∙ ap (λ (xs : List Use). each_from (at_use id encoding text files chosen found) 0 xs) c.uses.ensures in
-    merged_lists id encoding text c.facts_occur_in_order.ensures.characters files chosen source path.0 path.1 facts c.requires.known
-    (stand_there text facts c.requires.text c.facts_occur_in_order.ensures.placed) (c.facts_occur_in_order.ensures.order.names facts origin) (c.facts_occur_in_order.ensures.order.uses facts origin)
-    (c.facts_occur_in_order.ensures.order.imports facts origin) (c.facts_occur_in_order.ensures.order.package_name facts origin) found c.requires.found
-    (c.facts_occur_in_order.ensures.targets files c.facts_occur_in_order.ensures.origins c.facts_occur_in_order.ensures.clear.clear source c.requires.source) untied
-    c.in_ok-with_imports.with_imports.items c.in_ok-with_packages.with_packages.items c.in_ok-with_names.with_names.items c.in_ok-list.list.items
+    (λ other known. subst (AreOfText text) (same_facts files source facts other c.requires.known known) c.requires.text)
+    x y first second (tied x y e).0 (tied x y e).1 in
+    let uses = c.in_ok-uses.ensures
+    ∙ ap (λ (xs : List Use). each_from (at_use id encoding text files chosen found) 0 xs) c.uses.ensures in
+    merged_lists id encoding text c.facts_occur_in_order.ensures.characters files chosen source path.0 path.1 facts
+    c.requires.known
+    (stand_there text facts c.requires.text c.facts_occur_in_order.ensures.placed)
+    (c.facts_occur_in_order.ensures.order.names facts origin)
+    (c.facts_occur_in_order.ensures.order.uses facts origin)
+    (c.facts_occur_in_order.ensures.order.imports facts origin)
+    (c.facts_occur_in_order.ensures.order.package_name facts origin) found c.requires.found
+    (c.facts_occur_in_order.ensures.targets files c.facts_occur_in_order.ensures.origins
+    c.facts_occur_in_order.ensures.clear.clear source c.requires.source) untied
+    c.in_ok-with_imports.with_imports.items c.in_ok-with_packages.with_packages.items
+    c.in_ok-with_names.with_names.items c.in_ok-list.list.items
     (merged_of own imports c.in_ok-with_imports.ensures)
     (merged_of refl c.in_ok-packages.ensures c.in_ok-with_packages.ensures)
     (merged_of refl c.in_ok-names.ensures c.in_ok-with_names.ensures)

@@ -14,8 +14,12 @@ loop-index-preserved c =
     let type_use = c.index-uses-index.result in
     let its = c.index-found-index.result in
     let old = c.loop-index.spans.items in
-    let there : slice_get uses index ≡ Some type_use = slice_get_read uses (length uses) index type_use refl c.loop-index-test.true c.index-uses-index.is in
+    let there : slice_get uses index ≡ Some type_use =
+    slice_get_read uses (length uses) index type_use refl c.loop-index-test.true c.index-uses-index.is in
     let within : index < length found = subst (λ (n : ℕ). index < n) (sym c.requires) c.loop-index-test.true in
-    let known : slice_get found index ≡ Some its = slice_get_read found (length found) index its refl within c.index-found-index.is in
-    let added = c.in_ok-add_gap.ensures ∙ ap (λ (o : Option (Option Target)). old ++ unless_found (found_at o) type_use.span) (sym known) in
-    each_added (gap_at found) uses index type_use old c.add_gap.new.spans.items (each_from (gap_at found) 0 uses) there added c.loop-index.invariant
+    let known : slice_get found index ≡ Some its =
+    slice_get_read found (length found) index its refl within c.index-found-index.is in
+    let added = c.in_ok-add_gap.ensures
+    ∙ ap (λ (o : Option (Option Target)). old ++ unless_found (found_at o) type_use.span) (sym known) in
+    each_added (gap_at found) uses index type_use old c.add_gap.new.spans.items
+    (each_from (gap_at found) 0 uses) there added c.loop-index.invariant

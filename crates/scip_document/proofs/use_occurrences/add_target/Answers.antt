@@ -18,9 +18,13 @@ loop-index-preserved c =
     let index = c.loop-index.index in
     let component = c.component-item.result in
     let old = c.loop-index.list.items in
-    let there : slice_get xs index ≡ Some component = slice_get_read xs (length xs) index component refl c.loop-index-test.true c.component-item.is in
+    let there : slice_get xs index ≡ Some component =
+    slice_get_read xs (length xs) index component refl c.loop-index-test.true c.component-item.is in
     let added = c.in_ok-add_part.ensures
-    ∙ (ap (λ (name : List ℕ). old ++ at_part id encoding text files chosen name component.span c.part_of-part.result) c.as_str-name.ensures
-    ∙ ap (λ (part : Option Entity). old ++ at_part id encoding text files chosen target.name component.span part) c.part_of-part.ensures) in
+    ∙ (ap (λ (name : List ℕ). old ++ at_part id encoding text files chosen name component.span c.part_of-part.result)
+    c.as_str-name.ensures
+    ∙ ap (λ (part : Option Entity). old ++ at_part id encoding text files chosen target.name component.span part)
+    c.part_of-part.ensures) in
     each_added (at_component id encoding text files chosen target) xs index component old c.add_part.new.list.items
-    (c.args.list.now.items ++ each_from (at_component id encoding text files chosen target) 0 xs) there added c.loop-index.invariant
+    (c.args.list.now.items ++ each_from (at_component id encoding text files chosen target) 0 xs) there added
+    c.loop-index.invariant

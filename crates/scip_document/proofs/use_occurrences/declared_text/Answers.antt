@@ -4,20 +4,29 @@ use Rattle.scip_document.proofs.NamedLemmas.{some_facts, given_facts, is_within,
 use Rattle.scip_document.proofs.use_occurrences.declared_text.Goals as goal
 
 pub unwrap-facts-requires : goal.unwrap-facts-requires
-unwrap-facts-requires c = some_facts c.args.maker.now.linker.now c.args.file c.requires.0 c.facts_of.result c.requires.2.has_facts c.facts_of.ensures
+unwrap-facts-requires c =
+    some_facts c.args.maker.now.linker.now c.args.file c.requires.0 c.facts_of.result c.requires.2.has_facts
+    c.facts_of.ensures
 
 pub declaration_of-declaration-requires : goal.declaration_of-declaration-requires
 declaration_of-declaration-requires c =
-    let has = given_facts c.args.maker.now.linker.now c.args.file c.facts_of.result c.unwrap-facts.result c.unwrap-facts.ensures c.facts_of.ensures in
-    is_within c.args.maker.now.linker.now c.args.file c.args.index c.unwrap-facts.result.now c.requires.0 c.requires.1 has c.requires.2
+    let has = given_facts c.args.maker.now.linker.now c.args.file c.facts_of.result c.unwrap-facts.result
+    c.unwrap-facts.ensures c.facts_of.ensures in
+    is_within c.args.maker.now.linker.now c.args.file c.args.index c.unwrap-facts.result.now c.requires.0 c.requires.1
+    has c.requires.2
 
 pub declaration_text-requires : goal.declaration_text-requires
-declaration_text-requires c = is_listed c.unwrap-facts.result.now.declarations c.args.index c.declaration_of-declaration.result.now c.declaration_of-declaration.ensures
+declaration_text-requires c =
+    is_listed c.unwrap-facts.result.now.declarations c.args.index c.declaration_of-declaration.result.now
+    c.declaration_of-declaration.ensures
 
 pub returns : goal.returns
 returns c =
     let facts = c.unwrap-facts.result.now in
     let declared = c.declaration_of-declaration.result.now in
-    let has = given_facts c.args.maker.now.linker.now c.args.file c.facts_of.result c.unwrap-facts.result c.unwrap-facts.ensures c.facts_of.ensures in
-    if_named (text_of c.args.maker.now.package.now) (declared_by c.args.maker.now.linker.now c.args.file c.args.index) (declaration_at facts declared) c.declaration_text.result
-    (declared_is c.args.maker.now.linker.now c.args.file c.args.index facts declared has c.declaration_of-declaration.ensures) c.declaration_text.ensures
+    let has = given_facts c.args.maker.now.linker.now c.args.file c.facts_of.result c.unwrap-facts.result
+    c.unwrap-facts.ensures c.facts_of.ensures in
+    if_named (text_of c.args.maker.now.package.now) (declared_by c.args.maker.now.linker.now c.args.file c.args.index)
+    (declaration_at facts declared) c.declaration_text.result
+    (declared_is c.args.maker.now.linker.now c.args.file c.args.index facts declared has
+    c.declaration_of-declaration.ensures) c.declaration_text.ensures

@@ -19,10 +19,14 @@ loop-index-preserved c =
     let type_use = c.index-uses-index.result in
     let its = c.index-found-index.result in
     let old = c.loop-index.list.items in
-    let there : slice_get uses index ≡ Some type_use = slice_get_read uses (length uses) index type_use refl c.loop-index-test.true c.index-uses-index.is in
+    let there : slice_get uses index ≡ Some type_use =
+    slice_get_read uses (length uses) index type_use refl c.loop-index-test.true c.index-uses-index.is in
     let within : index < length found = subst (λ (n : ℕ). index < n) (sym c.requires.one_each) c.loop-index-test.true in
-    let known : slice_get found index ≡ Some its = slice_get_read found (length found) index its refl within c.index-found-index.is in
-    let added = c.in_ok-add_found.ensures ∙ ap (λ (o : Option (Option Target)). old ++ at_target id encoding text files chosen (found_at o) type_use) (sym known) in
+    let known : slice_get found index ≡ Some its =
+    slice_get_read found (length found) index its refl within c.index-found-index.is in
+    let added = c.in_ok-add_found.ensures
+    ∙ ap (λ (o : Option (Option Target)). old ++ at_target id encoding text files chosen (found_at o) type_use)
+    (sym known) in
     each_added (at_use id encoding text files chosen found) uses index type_use old c.add_found.new.list.items
     (each_from (at_use id encoding text files chosen found) 0 uses) there added c.loop-index.invariant
 
@@ -32,5 +36,6 @@ add_found-requires-clause-nameable c = λ target is.
     let index = c.loop-index.index in
     let its = c.index-found-index.result in
     let within : index < length found = subst (λ (n : ℕ). index < n) (sym c.requires.one_each) c.loop-index-test.true in
-    let known : slice_get found index ≡ Some its = slice_get_read found (length found) index its refl within c.index-found-index.is in
+    let known : slice_get found index ≡ Some its =
+    slice_get_read found (length found) index its refl within c.index-found-index.is in
     c.requires.nameable index target (known ∙ ap Some is)

@@ -6,7 +6,8 @@ use Rattle.scip_document_tests.proofs.reading.facts_of.Goals as goal
 
 pub returns : goal.returns
 returns c =
-    IfOk-weaker c.declare.result (AreFactsOf c.args.number c.in-Ok.lexed c.in-Ok-parse.tree) (IsReadAs c.args.number c.args.text.now)
+    IfOk-weaker c.declare.result (AreFactsOf c.args.number c.in-Ok.lexed c.in-Ok-parse.tree)
+    (IsReadAs c.args.number c.args.text.now)
     (λ facts of_tree. record {
       lexed = c.in-Ok.lexed;
       parsed = c.in-Ok-parse.tree;

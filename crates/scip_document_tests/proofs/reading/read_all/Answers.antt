@@ -7,4 +7,5 @@ use Rattle.scip_document_tests.proofs.reading.read_all.Goals as goal
 pub loop-source-preserved : goal.loop-source-preserved
 loop-source-preserved c =
     subst (λ (readings : List ReadFile). All IsFine readings) (sym c.in_ok-push.ensures.items)
-    (All-push IsFine c.loop-source.readings.items c.in_ok-reading.reading c.loop-source.invariant c.in_ok-reading.ensures)
+    (All-push IsFine c.loop-source.readings.items c.in_ok-reading.reading c.loop-source.invariant
+    c.in_ok-reading.ensures)

@@ -9,5 +9,6 @@ use Rattle.scip_pages.proofs.paths.has_dot.Goals as goal
 pub returns : goal.returns
 returns c =
     any_from_yields_List (λ (name : List ℕ). bytes_eq name (codes ".")) _ _ _ c.any.ensures.ran
-    (YieldsList-from_str_split 47 c.args.path.now (lit< tt) c.split.ensures.text c.split.ensures.has_more c.split.ensures.pattern)
+    (YieldsList-from_str_split 47 c.args.path.now
+    (lit< tt) c.split.ensures.text c.split.ensures.has_more c.split.ensures.pattern)
     (λ x b q k. search (rules, tests))

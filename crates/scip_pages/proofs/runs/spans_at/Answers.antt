@@ -10,4 +10,5 @@ pub returns : goal.returns
 returns c =
     fill_by_all (span_at c.args.spans.now) c.loop-span.found.items c.args.len None c.loop-span.invariant.sized
     (λ p inside. c.loop-span.invariant.narrowest p inside
-    ∙ ap (λ (spans : List Span). span_at spans p) (take_all c.loop-span.span-index c.args.spans.now c.loop-span-test.false))
+    ∙ ap (λ (spans : List Span). span_at spans p)
+    (take_all c.loop-span.span-index c.args.spans.now c.loop-span-test.false))

@@ -7,4 +7,5 @@ use Rattle.scip_query.proofs.answer.push_lines.Given as goal
 
 -- the lines so far
 abbrev pub invariant-loop-line : goal.invariant-loop-line
-invariant-loop-line l = string_bytes l.text ≡ string_bytes l.fn.text ++ flat_map (λ (line : Bor (List ℕ)). quoted_line line.now) (take l.line-index l.lines)
+invariant-loop-line l = string_bytes l.text
+    ≡ string_bytes l.fn.text ++ flat_map (λ (line : Bor (List ℕ)). quoted_line line.now) (take l.line-index l.lines)

@@ -8,4 +8,6 @@ use Rattle.scip_query.proofs.answer.push_sites.Given as goal
 
 -- the lines of the places so far
 abbrev pub invariant-loop-place : goal.invariant-loop-place
-invariant-loop-place l = string_bytes l.text ≡ string_bytes l.fn.text ++ flat_map (λ (place : Place). line_or_none (site_listed l.documents place)) (take l.place-index l.places)
+invariant-loop-place l =
+    string_bytes l.text ≡ string_bytes l.fn.text
+    ++ flat_map (λ (place : Place). line_or_none (site_listed l.documents place)) (take l.place-index l.places)

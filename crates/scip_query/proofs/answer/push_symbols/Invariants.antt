@@ -8,4 +8,6 @@ use Rattle.scip_query.proofs.answer.push_symbols.Given as goal
 
 -- the symbols so far
 abbrev pub invariant-loop-entry : goal.invariant-loop-entry
-invariant-loop-entry l = string_bytes l.text ≡ string_bytes l.fn.text ++ flat_map (λ (entry : Bor SymbolInformation). symbol_line entry.now) (take l.entry-index l.entries)
+invariant-loop-entry l =
+    string_bytes l.text ≡ string_bytes l.fn.text
+    ++ flat_map (λ (entry : Bor SymbolInformation). symbol_line entry.now) (take l.entry-index l.entries)

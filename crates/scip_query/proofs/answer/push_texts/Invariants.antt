@@ -7,4 +7,6 @@ use Rattle.scip_query.proofs.answer.push_texts.Given as goal
 
 -- the texts so far
 abbrev pub invariant-loop-lines : goal.invariant-loop-lines
-invariant-loop-lines l = string_bytes l.text ≡ string_bytes l.fn.text ++ flat_map (λ (t : Bor (List ℕ)). quoted t.now) (take l.lines-index l.texts)
+invariant-loop-lines l =
+    string_bytes l.text ≡ string_bytes l.fn.text
+    ++ flat_map (λ (t : Bor (List ℕ)). quoted t.now) (take l.lines-index l.texts)

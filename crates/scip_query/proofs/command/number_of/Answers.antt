@@ -10,7 +10,8 @@ value_of-requires c =
 
 pub returns-then-is_written : goal.returns-then-is_written
 returns-then-is_written c =
-    c.at_most.ensures ∙ ap at_most c.value_of.ensures ∙ sym (number_written c.args.word.now (sym c.is_written.ensures ∙ c.if-is_written.true))
+    c.at_most.ensures ∙ ap at_most c.value_of.ensures
+    ∙ sym (number_written c.args.word.now (sym c.is_written.ensures ∙ c.if-is_written.true))
 
 pub returns-else-is_written : goal.returns-else-is_written
 returns-else-is_written c = sym (number_unwritten c.args.word.now (sym c.is_written.ensures ∙ c.if-is_written.false))

@@ -5,4 +5,5 @@ use Rattle.scip_query.proofs.lookups.entries_of.Given as goal
 
 -- the entries so far
 abbrev pub invariant-loop-entry : goal.invariant-loop-entry
-invariant-loop-entry l = map (λ (entry : Bor SymbolInformation). entry.now) l.entries.items ≡ take l.entry-index l.symbols
+invariant-loop-entry l =
+    map (λ (entry : Bor SymbolInformation). entry.now) l.entries.items ≡ take l.entry-index l.symbols

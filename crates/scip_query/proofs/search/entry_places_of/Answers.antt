@@ -14,6 +14,8 @@ returns c =
     let key = entry_symbol_listed index in
     let asked = c.args.symbol.now in
     let table = c.args.entries_by_symbol.now in
-    c.run_of.ensures (λ (place : EntryPlace). slice_cmp nat_cmp (key place) asked) (always_returns_same _ _ _ (λ a r f' k. search rules))
+    c.run_of.ensures (λ (place : EntryPlace). slice_cmp nat_cmp (key place) asked)
+    (always_returns_same _ _ _ (λ a r f' k. search rules))
     (sorted_rises nat_list_cmp_total key table c.requires.sorted asked)
-    ∙ kept_order nat_list_cmp_total key (entry_places_from 0 index.external_symbols index.documents) table c.requires.permutation c.requires.stable asked
+    ∙ kept_order nat_list_cmp_total key
+    (entry_places_from 0 index.external_symbols index.documents) table c.requires.permutation c.requires.stable asked

@@ -14,4 +14,5 @@ returns c =
     let table = c.args.by_path.now in
     c.run_of.ensures (λ (n : ℕ). slice_cmp nat_cmp (key n) asked) (always_returns_same _ _ _ (λ a r f' k. search rules))
     (sorted_rises nat_list_cmp_total key table c.requires.sorted asked)
-    ∙ kept_order nat_list_cmp_total key (numbers (length c.args.documents.now)) table c.requires.permutation c.requires.stable asked
+    ∙ kept_order nat_list_cmp_total key
+    (numbers (length c.args.documents.now)) table c.requires.permutation c.requires.stable asked

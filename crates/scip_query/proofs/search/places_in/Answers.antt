@@ -7,5 +7,6 @@ use Rattle.scip_query.proofs.search.places_in.Goals as goal
 
 pub returns : goal.returns
 returns c =
-    c.run_of.ensures (λ (place : Place). nat_cmp place.document c.args.document) (always_returns_same _ _ _ (λ a r f' k. search rules))
+    c.run_of.ensures (λ (place : Place). nat_cmp place.document c.args.document)
+    (always_returns_same _ _ _ (λ a r f' k. search rules))
     (nondecreasing_rises (λ (place : Place). place.document) c.args.places.now c.requires c.args.document)

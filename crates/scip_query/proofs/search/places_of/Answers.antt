@@ -13,6 +13,8 @@ returns c =
     let key = symbol_listed c.args.documents.now in
     let asked = c.args.symbol.now in
     let table = c.args.by_symbol.now in
-    c.run_of.ensures (λ (place : Place). slice_cmp nat_cmp (key place) asked) (always_returns_same _ _ _ (λ a r f' k. search rules))
+    c.run_of.ensures (λ (place : Place). slice_cmp nat_cmp (key place) asked)
+    (always_returns_same _ _ _ (λ a r f' k. search rules))
     (sorted_rises nat_list_cmp_total key table c.requires.sorted asked)
-    ∙ kept_order nat_list_cmp_total key (places_from 0 c.args.documents.now) table c.requires.permutation c.requires.stable asked
+    ∙ kept_order nat_list_cmp_total key
+    (places_from 0 c.args.documents.now) table c.requires.permutation c.requires.stable asked

@@ -9,8 +9,11 @@ pub returns : goal.returns
 returns c =
     let documents = c.args.documents.now in
     let lt = λ (a b : ℕ). is_lt (path_cmp documents a b) in
-    rw c.from_vec.ensures (subst (λ all. IsTable (path_cmp documents) all c.sort_by.new.self.items) c.in_ok-table.ensures record {
+    rw c.from_vec.ensures (subst
+    (λ all. IsTable (path_cmp documents) all c.sort_by.new.self.items) c.in_ok-table.ensures record {
       permutation = c.in_ok-sort_by.ensures.permutation;
-      sorted = c.in_ok-sort_by.ensures.sorted lt (paths_rank documents) (always_returns_same _ (λ a r. is_lt r ≡ lt a.0.now a.1.0.now) _ (λ a r f' k. search rules));
-      stable = c.in_ok-sort_by.ensures.stable lt (paths_rank documents) (always_returns_same _ (λ a r. is_lt r ≡ lt a.0.now a.1.0.now) _ (λ a r f' k. search rules));
+      sorted = c.in_ok-sort_by.ensures.sorted lt (paths_rank documents)
+          (always_returns_same _ (λ a r. is_lt r ≡ lt a.0.now a.1.0.now) _ (λ a r f' k. search rules));
+      stable = c.in_ok-sort_by.ensures.stable lt (paths_rank documents)
+          (always_returns_same _ (λ a r. is_lt r ≡ lt a.0.now a.1.0.now) _ (λ a r f' k. search rules));
     })

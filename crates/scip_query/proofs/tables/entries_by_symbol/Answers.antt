@@ -10,8 +10,11 @@ pub returns : goal.returns
 returns c =
     let index = c.args.index.now in
     let lt = λ (a b : EntryPlace). is_lt (entry_symbol_cmp index a b) in
-    rw c.from_vec.ensures (subst (λ places. IsTable (entry_symbol_cmp index) places c.sort_by.new.self.items) c.in_ok-places.ensures record {
+    rw c.from_vec.ensures (subst
+    (λ places. IsTable (entry_symbol_cmp index) places c.sort_by.new.self.items) c.in_ok-places.ensures record {
       permutation = c.in_ok-sort_by.ensures.permutation;
-      sorted = c.in_ok-sort_by.ensures.sorted lt (entry_symbols_rank index) (always_returns_same _ (λ a r. is_lt r ≡ lt a.0.now a.1.0.now) _ (λ a r f' k. search rules));
-      stable = c.in_ok-sort_by.ensures.stable lt (entry_symbols_rank index) (always_returns_same _ (λ a r. is_lt r ≡ lt a.0.now a.1.0.now) _ (λ a r f' k. search rules));
+      sorted = c.in_ok-sort_by.ensures.sorted lt (entry_symbols_rank index)
+          (always_returns_same _ (λ a r. is_lt r ≡ lt a.0.now a.1.0.now) _ (λ a r f' k. search rules));
+      stable = c.in_ok-sort_by.ensures.stable lt (entry_symbols_rank index)
+          (always_returns_same _ (λ a r. is_lt r ≡ lt a.0.now a.1.0.now) _ (λ a r f' k. search rules));
     })

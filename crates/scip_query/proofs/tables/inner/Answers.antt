@@ -12,4 +12,7 @@ loop-document-preserved c =
     let document = c.document-item.result in
     let more : take (at + 1) documents ≡ take at documents ++ document ∷ [] =
     take_more documents at document inside ∙ ap (λ d. take at documents ++ d ∷ []) (sym c.document-item.is) in
-    rw (more, c.in_ok-push.ensures.items) (zipped_more IsInnermostFirst (take at documents) c.loop-document.tables.items document c.in_ok-inner_of.field-0 c.loop-document.invariant c.in_ok-inner_of.ensures)
+    rw (more, c.in_ok-push.ensures.items)
+    (zipped_more IsInnermostFirst
+    (take at documents) c.loop-document.tables.items document c.in_ok-inner_of.field-0 c.loop-document.invariant
+    c.in_ok-inner_of.ensures)

@@ -9,8 +9,11 @@ pub returns : goal.returns
 returns c =
     let occurrences = c.args.document.now.occurrences in
     let lt = λ (a b : ℕ). is_lt (inner_cmp occurrences a b) in
-    rw c.from_vec.ensures (subst (λ all. IsTable (inner_cmp occurrences) all c.sort_by.new.self.items) (c.in_ok-table.ensures ∙ ap (λ l. numbers (length l)) c.as_slice-occurrences.ensures) record {
+    rw c.from_vec.ensures (subst (λ all. IsTable (inner_cmp occurrences) all c.sort_by.new.self.items)
+    (c.in_ok-table.ensures ∙ ap (λ l. numbers (length l)) c.as_slice-occurrences.ensures) record {
       permutation = c.in_ok-sort_by.ensures.permutation;
-      sorted = c.in_ok-sort_by.ensures.sorted lt (inner_ranks occurrences) (always_returns_same _ (λ a r. is_lt r ≡ lt a.0.now a.1.0.now) _ (λ a r f' k. search rules));
-      stable = c.in_ok-sort_by.ensures.stable lt (inner_ranks occurrences) (always_returns_same _ (λ a r. is_lt r ≡ lt a.0.now a.1.0.now) _ (λ a r f' k. search rules));
+      sorted = c.in_ok-sort_by.ensures.sorted lt (inner_ranks occurrences)
+          (always_returns_same _ (λ a r. is_lt r ≡ lt a.0.now a.1.0.now) _ (λ a r f' k. search rules));
+      stable = c.in_ok-sort_by.ensures.stable lt (inner_ranks occurrences)
+          (always_returns_same _ (λ a r. is_lt r ≡ lt a.0.now a.1.0.now) _ (λ a r f' k. search rules));
     })

@@ -4,4 +4,6 @@ use Rattle.scip_query.proofs.tables.push_places.Given as goal
 
 -- the places of the occurrences so far
 abbrev pub invariant-loop-occurrence : goal.invariant-loop-occurrence
-invariant-loop-occurrence l = l.places.items ≡ l.fn.places.items ++ map (λ (k : ℕ). record { document = l.number; occurrence = k }) (numbers l.occurrence)
+invariant-loop-occurrence l =
+    l.places.items ≡ l.fn.places.items
+    ++ map (λ (k : ℕ). record { document = l.number; occurrence = k }) (numbers l.occurrence)

@@ -6,5 +6,7 @@ use Rattle.scip_symbol.proofs.entity.package_symbol.Goals as goal
 
 pub symbol_with-requires : goal.symbol_with-requires
 symbol_with-requires c =
-    let e = entity-has (OfPackage (component_names c.args.components.now)) _ c.requires (c.in_ok-push_namespaces.ensures ∙ ap (λ l. l ++ map namespace_of (component_names c.args.components.now)) c.new-descriptors.ensures.items) in
+    let e = entity-has (OfPackage (component_names c.args.components.now)) _ c.requires
+    (c.in_ok-push_namespaces.ensures
+    ∙ ap (λ l. l ++ map namespace_of (component_names c.args.components.now)) c.new-descriptors.ensures.items) in
     record { some = e.0; good = e.1 }

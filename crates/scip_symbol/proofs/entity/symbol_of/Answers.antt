@@ -6,6 +6,8 @@ use Rattle.scip_symbol.proofs.entity.symbol_of.Goals as goal
 
 pub symbol_with-requires : goal.symbol_with-requires
 symbol_with-requires c =
-    let first = c.in_ok-push_namespaces.ensures ∙ ap (λ l. l ++ map namespace_of (component_names c.args.components.now)) c.new-descriptors.ensures.items in
-    let e = entity-has (OfDeclaration (component_names c.args.components.now) c.args.way.now) _ c.requires (c.in_ok-push_steps.ensures ∙ ap (λ l. l ++ map step_descriptor c.args.way.now) first) in
+    let first = c.in_ok-push_namespaces.ensures
+    ∙ ap (λ l. l ++ map namespace_of (component_names c.args.components.now)) c.new-descriptors.ensures.items in
+    let e = entity-has (OfDeclaration (component_names c.args.components.now) c.args.way.now) _ c.requires
+    (c.in_ok-push_steps.ensures ∙ ap (λ l. l ++ map step_descriptor c.args.way.now) first) in
     record { some = e.0; good = e.1 }

@@ -10,21 +10,27 @@ use Rattle.scip_symbol.proofs.SpellingLemmas.{spelled-is}
 use Rattle.scip_symbol.proofs.reader.read.Goals as goal
 
 pub from_parts-requires : goal.from_parts-requires
-from_parts-requires c = spelled-is c.args.text.now c.in-Ok.parts (symbol-found c.args.text.now c.in-Ok.parts c.in-Ok.ensures)
+from_parts-requires c = spelled-is c.args.text.now c.in-Ok.parts
+    (symbol-found c.args.text.now c.in-Ok.parts c.in-Ok.ensures)
 
 pub returns-in-Ok-clause-found : goal.returns-in-Ok-clause-found
 returns-in-Ok-clause-found c =
-    subst (λ s. SpellsSymbol c.args.text.now s) (sym c.from_parts.ensures) (symbol-found c.args.text.now c.in-Ok.parts c.in-Ok.ensures)
+    subst (λ s. SpellsSymbol c.args.text.now s) (sym c.from_parts.ensures)
+    (symbol-found c.args.text.now c.in-Ok.parts c.in-Ok.ensures)
 
 pub returns-in-Ok-clause-only : goal.returns-in-Ok-clause-only
 returns-in-Ok-clause-only c =
-    λ symbol spells. c.from_parts.ensures ∙ same_ok (symbol_at c.args.text.now) c.in-Ok.ensures (symbol-exact c.args.text.now symbol spells)
+    λ symbol spells. c.from_parts.ensures
+    ∙ same_ok (symbol_at c.args.text.now) c.in-Ok.ensures (symbol-exact c.args.text.now symbol spells)
 
 pub returns-in-Err-BadSymbol-clause-only : goal.returns-in-Err-BadSymbol-clause-only
 returns-in-Err-BadSymbol-clause-only c = λ symbol spells. unspelled c.args.text.now c.in-Err-BadSymbol.left symbol
-    (subst (λ stop. Stops stop (symbol_at c.args.text.now)) c.in-Err-BadSymbol.field-0-is c.in-Err-BadSymbol.ensures) spells
+    (subst (λ stop. Stops stop (symbol_at c.args.text.now)) c.in-Err-BadSymbol.field-0-is c.in-Err-BadSymbol.ensures)
+    spells
 
 pub returns-in-Err-BadSymbol-clause-fault : goal.returns-in-Err-BadSymbol-clause-fault
 returns-in-Err-BadSymbol-clause-fault c =
-    let stopped = subst (λ stop. Stops stop (symbol_at c.args.text.now)) c.in-Err-BadSymbol.field-0-is c.in-Err-BadSymbol.ensures in
-    subst (IsLongestFront c.args.text.now) (sym c.saturating_sub.ensures) (longest-front c.args.text.now c.in-Err-BadSymbol.left stopped)
+    let stopped = subst (λ stop. Stops stop (symbol_at c.args.text.now)) c.in-Err-BadSymbol.field-0-is
+    c.in-Err-BadSymbol.ensures in
+    subst (IsLongestFront c.args.text.now) (sym c.saturating_sub.ensures)
+    (longest-front c.args.text.now c.in-Err-BadSymbol.left stopped)

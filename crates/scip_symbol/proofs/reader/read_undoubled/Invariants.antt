@@ -7,7 +7,8 @@ use Rattle.scip_symbol.proofs.reader.read_undoubled.Given as goal
 
 -- what is read, and what is left, is the whole
 abbrev pub invariant-marks : goal.invariant-marks
-invariant-marks l = (ontos (string_bytes l.word) (undoubled_at l.mark false l.rest) ≡ undoubled_at l.mark false l.text) × IsUtf8 l.rest
+invariant-marks l = (ontos (string_bytes l.word) (undoubled_at l.mark false l.rest) ≡ undoubled_at l.mark false l.text)
+    × IsUtf8 l.rest
 
 abbrev pub decreases-marks : goal.decreases-marks
 decreases-marks l = length l.rest

@@ -5,4 +5,6 @@ use Rattle.scip_wire.proofs.write.spell_documents.Goals as goal
 
 pub returns-clause-records : goal.returns-clause-records
 returns-clause-records c =
-    c.documents.invariant ∙ ap (map document_record) (take_all c.documents.document-index c.as_slice-documents.result.now c.documents-test.false ∙ c.as_slice-documents.ensures)
+    c.documents.invariant ∙ ap (map document_record)
+    (take_all c.documents.document-index c.as_slice-documents.result.now c.documents-test.false
+    ∙ c.as_slice-documents.ensures)

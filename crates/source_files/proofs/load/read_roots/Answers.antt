@@ -17,8 +17,11 @@ returns-in_err-here-clause-err g c =
     let roots = c.args.roots.now in
     let number = c.loop-root.root-index in
     let fault = c.in_err-here.field-0.0 in
-    rw (p.1, p.2) (stop_below lists gives (map string_bytes (take number roots)) (string_bytes c.root-item.result) (map string_bytes (drop (number + 1) roots)) (map string_bytes roots)
-    c.loop-root.sources.items fault (parted_at string_bytes roots number c.root-item.result c.loop-root-test.true c.root-item.is) c.loop-root.invariant
+    rw (p.1, p.2) (stop_below lists gives (map string_bytes (take number roots)) (string_bytes c.root-item.result)
+    (map string_bytes (drop (number + 1) roots)) (map string_bytes roots)
+    c.loop-root.sources.items fault
+    (parted_at string_bytes roots number c.root-item.result c.loop-root-test.true c.root-item.is)
+    c.loop-root.invariant
     (subst (λ root. MayStop lists gives root fault) c.as_str.ensures.value c.in_err-here.ensures.err))
 
 pub loop-root-preserved : goal.loop-root-preserved

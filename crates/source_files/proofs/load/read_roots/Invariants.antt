@@ -3,4 +3,6 @@ use Rattle.source_files.specs.Roots.{AreBelowEach}
 use Rattle.source_files.proofs.load.read_roots.Given as goal
 
 abbrev pub invariant-loop-root : goal.invariant-loop-root
-invariant-loop-root g l = AreBelowEach (g.F.ReadFiles.lists l.files) (g.F.ReadFiles.gives l.files) (map string_bytes (take l.root-index l.roots)) l.sources.items
+invariant-loop-root g l =
+    AreBelowEach (g.F.ReadFiles.lists l.files) (g.F.ReadFiles.gives l.files)
+    (map string_bytes (take l.root-index l.roots)) l.sources.items

@@ -21,9 +21,11 @@ returns-in-None-2-clause-err g c =
     let root = c.args.root.now in
     let path = string_bytes c.in-Some-path.path in
     let (_, _, _, listed, held) = c.loop-path.invariant in
-    let none = read_none (MayKeep (gives (path_below root c.as_str.result.now))) _ c.in_ok-bytes.field-0 c.in-None-2.is c.in_ok-bytes.ensures in
+    let none = read_none (MayKeep (gives (path_below root c.as_str.result.now))) _ c.in_ok-bytes.field-0 c.in-None-2.is
+    c.in_ok-bytes.ensures in
     of_source c.loop-path.sources.items path (map string_bytes (into_iter_items c.next.new.self))
-    (subst (λ l. lists root (Some (paths_of c.loop-path.sources.items ++ l))) (ap (map string_bytes) c.in-Some-path.ensures.steps.0) listed) held
+    (subst (λ l. lists root (Some (paths_of c.loop-path.sources.items ++ l)))
+    (ap (map string_bytes) c.in-Some-path.ensures.steps.0) listed) held
     (subst (λ p. gives (path_below root p) None) c.as_str.ensures.value none)
 
 pub loop-path-preserved : goal.loop-path-preserved
@@ -38,11 +40,14 @@ loop-path-preserved g c =
     let steps = c.in-Some-path.ensures.steps in
     let items = ap length steps.0 in
     let count = steps.1 in
-    let kept = read_some (MayKeep (gives (path_below root c.as_str.result.now))) _ c.in_ok-bytes.field-0 c.in-Some-2.bytes c.in-Some-2.is c.in_ok-bytes.ensures in (
+    let kept = read_some (MayKeep (gives (path_below root c.as_str.result.now))) _ c.in_ok-bytes.field-0
+    c.in-Some-2.bytes c.in-Some-2.is c.in_ok-bytes.ensures in (
       tt,
       tt,
       omega arith,
-      listed_more lists gives root sources c.add.new.sources.items source (map string_bytes (into_iter_items c.next.new.self)) (map string_bytes (into_iter_items c.loop-path.path-iterator))
+      listed_more lists gives root sources c.add.new.sources.items source
+          (map string_bytes (into_iter_items c.next.new.self))
+          (map string_bytes (into_iter_items c.loop-path.path-iterator))
           c.in_ok-add.ensures (ap (map string_bytes) steps.0) listed,
       held_more lists gives root sources c.add.new.sources.items source c.in_ok-add.ensures held
           (subst (λ p. MayKeep (gives (path_below root p)) (Some bytes)) c.as_str.ensures.value kept),

@@ -7,6 +7,8 @@ use Rattle.source_tree.proofs.by_path.sort_by_path.Goals as goal
 pub returns-clause-ok : goal.returns-clause-ok
 returns-clause-ok c = record {
   complete = c.in_ok-sort_by.ensures.permutation;
-  ascends = c.in_ok-sort_by.ensures.sorted before paths_rank (always_returns_same _ (λ a r. is_lt r ≡ before a.0.now a.1.0.now) _ (λ a r f' k. search rules));
-  stable = c.in_ok-sort_by.ensures.stable before paths_rank (always_returns_same _ (λ a r. is_lt r ≡ before a.0.now a.1.0.now) _ (λ a r f' k. search rules));
+  ascends = c.in_ok-sort_by.ensures.sorted before paths_rank
+      (always_returns_same _ (λ a r. is_lt r ≡ before a.0.now a.1.0.now) _ (λ a r f' k. search rules));
+  stable = c.in_ok-sort_by.ensures.stable before paths_rank
+      (always_returns_same _ (λ a r. is_lt r ≡ before a.0.now a.1.0.now) _ (λ a r f' k. search rules));
 }

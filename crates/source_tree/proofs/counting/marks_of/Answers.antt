@@ -24,9 +24,11 @@ loop-file-preserved c =
             ∙ ap (λ key. cond (bytes_eq key path) true (has_path taken path)) c.path.ensures
             ∙ ap (λ b. cond (bytes_eq file.path path) true b) (old.0 path)
             ∙ sym (taken_step paths files count file path within c.file-item.is),
-        subst (λ l. l ++ marks_of (paths ++ paths_of (take (count + 1) files)) (drop (count + 1) files) ≡ marks_of paths files) (sym items)
+        subst (λ l. l ++ marks_of (paths ++ paths_of (take (count + 1) files)) (drop (count + 1) files)
+            ≡ marks_of paths files) (sym items)
             (marks_more paths marks files count file mark within c.file-item.is
-            (c.in_ok-insert.ensures.added ∙ ap (λ p. not (has_path taken p)) c.path.ensures ∙ ap not (old.0 file.path)) old.1),
+            (c.in_ok-insert.ensures.added ∙ ap (λ p. not (has_path taken p)) c.path.ensures ∙ ap not (old.0 file.path))
+            old.1),
       );
     }
 
@@ -34,4 +36,5 @@ pub returns : goal.returns
 returns c = λ paths given.
     let files = c.args.included.now in
     let count = c.loop-file.file-index in
-    marks_end c.loop-file.marks.items (paths ++ paths_of (take count files)) files count (marks_of paths files) (omega arith) (c.loop-file.invariant.marked paths given).1
+    marks_end c.loop-file.marks.items (paths ++ paths_of (take count files)) files count (marks_of paths files)
+    (omega arith) (c.loop-file.invariant.marked paths given).1

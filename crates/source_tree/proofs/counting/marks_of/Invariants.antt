@@ -9,5 +9,6 @@ invariant-loop-file l = record {
   room : length l.included ≤ vec_capacity l.marks;
   marked : (paths : List (List ℕ)) → ((path : List ℕ) → has_path l.fn.taken path ≡ is_taken paths path)
       → ((path : List ℕ) → has_path l.taken path ≡ is_taken (paths ++ paths_of (take l.file-index l.included)) path)
-      × (l.marks.items ++ marks_of (paths ++ paths_of (take l.file-index l.included)) (drop l.file-index l.included) ≡ marks_of paths l.included);
+      × (l.marks.items ++ marks_of (paths ++ paths_of (take l.file-index l.included)) (drop l.file-index l.included)
+      ≡ marks_of paths l.included);
 }

@@ -17,4 +17,6 @@ loop-source-preserved c = λ path.
     ∙ sym (taken_step [] files count file path (omega arith) c.source-item.is)
 
 pub returns : goal.returns
-returns c = λ path. c.loop-source.invariant path ∙ ap (λ files. is_taken (paths_of files) path) (take_all c.loop-source.source-index c.args.sources.now (omega arith))
+returns c = λ path. c.loop-source.invariant path
+    ∙ ap (λ files. is_taken (paths_of files) path)
+    (take_all c.loop-source.source-index c.args.sources.now (omega arith))

@@ -4,4 +4,5 @@ use Rattle.source_tree.specs.Marks.{is_taken, has_path}
 use Rattle.source_tree.proofs.counting.taken_paths.Given as goal
 
 abbrev pub invariant-loop-source : goal.invariant-loop-source
-invariant-loop-source l = (path : List ℕ) → has_path l.taken path ≡ is_taken (paths_of (take l.source-index l.sources)) path
+invariant-loop-source l = (path : List ℕ)
+    → has_path l.taken path ≡ is_taken (paths_of (take l.source-index l.sources)) path

@@ -11,5 +11,6 @@ use Rattle.source_tree.proofs.path.has_good_components.Goals as goal
 pub returns : goal.returns
 returns c = all_from [] c.all.result IsComponent (slice_split (λ byte. nat_eq byte slash) c.args.path.now)
     (cases_from_all _ _ _ IsComponent (λ x. IsComponent x → ⊥) c.all.ensures.ran
-    (YieldsList-from_str_split 47 c.args.path.now (omega arith) c.split.ensures.text c.split.ensures.has_more c.split.ensures.pattern)
+    (YieldsList-from_str_split 47 c.args.path.now
+    (omega arith) c.split.ensures.text c.split.ensures.has_more c.split.ensures.pattern)
     (λ x q k. search (rules, tests)) (λ x q k. search (rules, tests)))

@@ -11,5 +11,7 @@ returns-then-part-space c =
 
 pub returns-else-part-space : goal.returns-else-part-space
 returns-else-part-space c =
-    let cut : length c.args.bytes.now.items + (max_kept_length - length c.args.bytes.now.items) ≡ max_kept_length = omega (arith, c.requires) in
-    rw (kept_bytes-cut c.args.bytes.now.items c.args.part.now (max_kept_length - length c.args.bytes.now.items) cut) (grind (arith, common_steps))
+    let cut : length c.args.bytes.now.items + (max_kept_length - length c.args.bytes.now.items) ≡ max_kept_length =
+    omega (arith, c.requires) in
+    rw (kept_bytes-cut c.args.bytes.now.items c.args.part.now (max_kept_length - length c.args.bytes.now.items) cut)
+    (grind (arith, common_steps))

@@ -1,4 +1,5 @@
-use Rattle.std.proofs.Common.{◌≡◌, ℕ, ◌<◌, ◌≤◌, ◌++◌, List, [], length, take, refl, ap, sym, ◌∙◌, arith, append_assoc, subst}
+use Rattle.std.proofs.Common.{◌≡◌, ℕ, ◌<◌, ◌≤◌, ◌++◌, List, [], length, take, refl, ap, sym, ◌∙◌, arith, append_assoc}
+use Rattle.std.proofs.Common.{subst}
 use Rattle.std.proofs.lemmas.List.{append-nil}
 use Rattle.streams.specs.Streams.{one_more}
 use Rattle.streams.specs.declared.failed.Failed.{Failed}
@@ -23,14 +24,17 @@ returns-then-count-eq0-clause-bytes g c = λ all e.
     let before = c.reads.invariant.bytes all e in
     let after = consumed _ _ before.1 _ before.2 c.in-Ok.ensures.bytes.0 in
     let none : take c.in-Ok.count c.read.new.room ≡ [] = ap (λ n. take n c.read.new.room) c.if-count-eq0.true in
-    let end : after.0 ≡ [] = nothing-left _ after.0 after.1 (c.in-Ok.ensures.bytes.1 c.if-count-eq0.true (omega arith)) in
-    let all_given : all ≡ before.0 = before.3 ∙ ap (λ l. before.0 ++ l) (after.2 ∙ (ap (λ l. l ++ after.0) none ∙ end)) ∙ append-nil before.0 in
+    let end : after.0 ≡ [] =
+    nothing-left _ after.0 after.1 (c.in-Ok.ensures.bytes.1 c.if-count-eq0.true (omega arith)) in
+    let all_given : all ≡ before.0 =
+    before.3 ∙ ap (λ l. before.0 ++ l) (after.2 ∙ (ap (λ l. l ++ after.0) none ∙ end)) ∙ append-nil before.0 in
     before.4 ∙ ap kept_bytes (sym all_given)
 
 pub reads-preserved : goal.reads-preserved
 reads-preserved g c =
     let some : 0 < length c.read.new.room = omega arith in
-    let read : g.R.Feed.reads c.read.new.self ≡ one_more (g.R.Feed.reads c.reads.source) = c.in-Ok.ensures.reads ∙ reads-full _ _ some in
+    let read : g.R.Feed.reads c.read.new.self ≡ one_more (g.R.Feed.reads c.reads.source) =
+    c.in-Ok.ensures.reads ∙ reads-full _ _ some in
     record {
       bytes = λ all e.
           let before = c.reads.invariant.bytes all e in

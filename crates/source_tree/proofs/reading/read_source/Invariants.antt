@@ -9,7 +9,8 @@ invariant-reads g l =
     let feed = g.R.Feed in
     record {
       bytes : (all : List ℕ) → feed.remaining l.fn.source ≡ Some all →
-          (given : List ℕ) × (left : List ℕ) × (feed.remaining l.source ≡ Some left) × (all ≡ given ++ left) × (l.bytes.items ≡ kept_bytes given);
+          (given : List ℕ) × (left : List ℕ) × (feed.remaining l.source ≡ Some left) × (all ≡ given ++ left)
+          × (l.bytes.items ≡ kept_bytes given);
       few : length l.bytes.items ≤ max_kept_length;
       failures : feed.failures l.source ≡ feed.failures l.fn.source;
       no_reads : l._read ≡ 0 → feed.reads l.source ≡ feed.reads l.fn.source;

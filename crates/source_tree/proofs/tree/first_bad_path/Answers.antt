@@ -5,4 +5,6 @@ pub returns-in-Some : goal.returns-in-Some
 returns-in-Some c = bad_in_front c.args.sources.now c.args.included.now c.in-Some.number c.in-Some.ensures
 
 pub returns-in-Some-first_bad : goal.returns-in-Some-first_bad
-returns-in-Some-first_bad c = bad_behind c.args.sources.now c.args.included.now c.in-Some-first_bad.number c.in-None.ensures c.in-Some-first_bad.ensures
+returns-in-Some-first_bad c =
+    bad_behind c.args.sources.now c.args.included.now c.in-Some-first_bad.number c.in-None.ensures
+    c.in-Some-first_bad.ensures

@@ -11,8 +11,13 @@ pub loop-kind-preserved : goal.loop-kind-preserved
 loop-kind-preserved c =
     let seven = c.loop-kind.invariant.0 in (
       length-set c.loop-kind.held c.number_of.result _ ∙ seven,
-      rw (c.number_of.ensures.number, add-one c.loop-kind.kind-index, take-suc c.args.kinds.now c.loop-kind.kind-index Message c.loop-kind-test.true)
-          (one_more_kind c.loop-kind.held (take c.loop-kind.kind-index c.args.kinds.now) _ (omega (arith, seven, c.number_of.ensures.number, c.number_of.ensures.within)) c.loop-kind.invariant.1),
+      rw (
+        c.number_of.ensures.number,
+        add-one c.loop-kind.kind-index,
+        take-suc c.args.kinds.now c.loop-kind.kind-index Message c.loop-kind-test.true,
+      )
+          (one_more_kind c.loop-kind.held (take c.loop-kind.kind-index c.args.kinds.now) _
+          (omega (arith, seven, c.number_of.ensures.number, c.number_of.ensures.within)) c.loop-kind.invariant.1),
     )
 
 pub returns : goal.returns

@@ -12,6 +12,10 @@ returns-clause-settles g c =
       owner = refl;
       thief = refl;
       fed = c.if-starved.false;
-      answers = λ a b. c.in_ok-close.ensures.answers (given_append ours theirs both c.in_ok-append.ensures.items (g.J.Job.gives c.args.task.now.job.now) a b);
-      weighed = λ h. settle_weighs h ours theirs both c.close.new.results.items (sum_by h (owner_view c.args.done.post.owner).popped + sum_by h (thief_view c.args.rest.post.thief).stolen) (sum_by h (owner_view c.args.done.post.owner).given) c.in_ok-append.ensures.items (c.in_ok-close.ensures.weighed h);
+      answers = λ a b. c.in_ok-close.ensures.answers
+          (given_append ours theirs both c.in_ok-append.ensures.items (g.J.Job.gives c.args.task.now.job.now) a b);
+      weighed = λ h. settle_weighs h ours theirs both c.close.new.results.items
+          (sum_by h (owner_view c.args.done.post.owner).popped + sum_by h (thief_view c.args.rest.post.thief).stolen)
+          (sum_by h (owner_view c.args.done.post.owner).given) c.in_ok-append.ensures.items
+          (c.in_ok-close.ensures.weighed h);
     }

@@ -11,19 +11,27 @@ pub pops-preserved : goal.pops-preserved
 pops-preserved g c =
     let one = c.in-Some.ensures.some in
     let before = c.pops.results.items in
-    let ran : Ran (Result g.row.J-Out.Denot g.row.J-Fault.Denot) = record { number = c.in-Some.number; answer = c.run_one-answer.result } in
+    let ran : Ran (Result g.row.J-Out.Denot g.row.J-Fault.Denot) =
+    record { number = c.in-Some.number; answer = c.run_one-answer.result } in
     let items = c.push_reserved.ensures.items ∙ ap (λ l. l ++ ran ∷ []) c.in_ok-reserve.ensures.items in record {
-      owner = popped_one c.args.owner.now c.pops.owner c.pop.new.self c.in-Some.number c.pops.invariant.owner c.in-Some.ensures.same one;
-      answers = λ given. given_one before c.push_reserved.new.self.items ran items (g.J.Job.gives c.args.task.now.job.now) (c.pops.invariant.answers given) c.run_one-answer.ensures;
-      weighed = λ h. weighs_one before c.push_reserved.new.self.items ran items h (owner_view c.pops.owner).popped (owner_view c.pop.new.self).popped
-          (sum_by h (owner_view c.args.owner.now).popped) (weight h c.args.results.now.items) (ap (λ (v : LaneView). v.popped) one) (c.pops.invariant.weighed h);
+      owner = popped_one c.args.owner.now c.pops.owner c.pop.new.self c.in-Some.number c.pops.invariant.owner
+          c.in-Some.ensures.same one;
+      answers = λ given. given_one before c.push_reserved.new.self.items ran items
+          (g.J.Job.gives c.args.task.now.job.now) (c.pops.invariant.answers given) c.run_one-answer.ensures;
+      weighed = λ h. weighs_one before c.push_reserved.new.self.items ran items h (owner_view c.pops.owner).popped
+          (owner_view c.pop.new.self).popped
+          (sum_by h (owner_view c.args.owner.now).popped) (weight h c.args.results.now.items)
+          (ap (λ (v : LaneView). v.popped) one) (c.pops.invariant.weighed h);
     }
 
 pub pops-smaller : goal.pops-smaller
-pops-smaller g c = fewer_left c.pops.owner c.pop.new.self c.in-Some.number c.in-Some.ensures.some c.in-Some.ensures.one_given.1
+pops-smaller g c = fewer_left c.pops.owner c.pop.new.self c.in-Some.number c.in-Some.ensures.some
+    c.in-Some.ensures.one_given.1
 
 pub returns-in_default-clause-whole : goal.returns-in_default-clause-whole
-returns-in_default-clause-whole g c = left_whole c.args.owner.now c.pops.owner c.pop.new.self c.pops.invariant.owner c.in_default.ensures.none c.in_default.ensures.whole
+returns-in_default-clause-whole g c =
+    left_whole c.args.owner.now c.pops.owner c.pop.new.self c.pops.invariant.owner c.in_default.ensures.none
+    c.in_default.ensures.whole
 
 pub returns-in_default-clause-weighed : goal.returns-in_default-clause-weighed
 returns-in_default-clause-weighed g c = λ h.

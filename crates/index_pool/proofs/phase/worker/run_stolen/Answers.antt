@@ -12,18 +12,27 @@ pub steals-preserved-in-Got : goal.steals-preserved-in-Got
 steals-preserved-in-Got g c =
     let one = c.in-Got.ensures.got in
     let before = c.steals.results.items in
-    let ran : Ran (Result g.row.J-Out.Denot g.row.J-Fault.Denot) = record { number = c.in-Got.number; answer = c.run_one-answer.result } in
+    let ran : Ran (Result g.row.J-Out.Denot g.row.J-Fault.Denot) =
+    record { number = c.in-Got.number; answer = c.run_one-answer.result } in
     let items = c.push_reserved.ensures.items ∙ ap (λ l. l ++ ran ∷ []) c.in_ok-reserve.ensures.items in record {
-      thief = stole_one c.args.thief.now c.steals.thief c.steal.new.self c.in-Got.number c.steals.invariant.thief c.in-Got.ensures.same one;
-      answers = λ given. given_one before c.push_reserved.new.self.items ran items (g.J.Job.gives c.args.task.now.job.now) (c.steals.invariant.answers given) c.run_one-answer.ensures;
-      weighed = λ h. weighs_one before c.push_reserved.new.self.items ran items h (thief_view c.steals.thief).stolen (thief_view c.steal.new.self).stolen
-          (sum_by h (thief_view c.args.thief.now).stolen) (weight h c.args.results.now.items) (ap (λ (v : LaneView). v.stolen) one) (c.steals.invariant.weighed h);
+      thief = stole_one c.args.thief.now c.steals.thief c.steal.new.self c.in-Got.number c.steals.invariant.thief
+          c.in-Got.ensures.same one;
+      answers = λ given. given_one before c.push_reserved.new.self.items ran items
+          (g.J.Job.gives c.args.task.now.job.now) (c.steals.invariant.answers given) c.run_one-answer.ensures;
+      weighed = λ h. weighs_one before c.push_reserved.new.self.items ran items h (thief_view c.steals.thief).stolen
+          (thief_view c.steal.new.self).stolen
+          (sum_by h (thief_view c.args.thief.now).stolen) (weight h c.args.results.now.items)
+          (ap (λ (v : LaneView). v.stolen) one) (c.steals.invariant.weighed h);
     }
 
 pub steals-preserved : goal.steals-preserved
 steals-preserved g c = record {
-  thief = stole_none c.args.thief.now c.steals.thief c.steal.new.self c.steals.invariant.thief c.in-Retry.ensures.same c.in-Retry.ensures.none;
-  answers = λ given. All-same (λ (r : Ran (Result g.row.J-Out.Denot g.row.J-Fault.Denot)). g.J.Job.gives c.args.task.now.job.now r.number r.answer) c.reserve.new.self.items c.steals.results.items c.in_ok-reserve.ensures.items (c.steals.invariant.answers given);
+  thief = stole_none c.args.thief.now c.steals.thief c.steal.new.self c.steals.invariant.thief c.in-Retry.ensures.same
+      c.in-Retry.ensures.none;
+  answers = λ given. All-same
+      (λ (r : Ran (Result g.row.J-Out.Denot g.row.J-Fault.Denot)). g.J.Job.gives c.args.task.now.job.now r.number
+      r.answer) c.reserve.new.self.items c.steals.results.items c.in_ok-reserve.ensures.items
+      (c.steals.invariant.answers given);
   weighed = λ h. (
       let a = ap (weight h) c.in_ok-reserve.ensures.items in
       let b = ap (λ (v : LaneView). sum_by h v.stolen) c.in-Retry.ensures.none in

@@ -14,16 +14,20 @@ pub returns : goal.returns
 returns g c =
     let both = c.run_both.ensures in record {
       owner = (elim c.if-starved.branch [
-        | then-starved w ↦ subst (PoppedMore c.args.post.owner) (sym w.owner-is) (popped_on c.args.post.owner c.run_both.new.owner w.drain.new.owner both.owner w.drain.ensures.popped)
+        | then-starved w ↦ subst (PoppedMore c.args.post.owner) (sym w.owner-is)
+            (popped_on c.args.post.owner c.run_both.new.owner w.drain.new.owner both.owner w.drain.ensures.popped)
         | else-starved w ↦ subst (PoppedMore c.args.post.owner) (sym w.owner-is) both.owner
       ]);
       thief = both.thief;
       emptied = (elim c.if-starved.branch [
         | then-starved w ↦ ap found_empty w.owner-is ∙ w.drain.ensures.emptied
-        | else-starved w ↦ ap found_empty w.owner-is ∙ at_ok c.run_both.result both.emptied (sym c.is_err-starved.ensures.value ∙ w.if-starved.false)
+        | else-starved w ↦ ap found_empty w.owner-is
+            ∙ at_ok c.run_both.result both.emptied (sym c.is_err-starved.ensures.value ∙ w.if-starved.false)
       ]);
       tried = λ fed. at_ok c.run_both.result both.tried (sym c.is_err-starved.ensures.value ∙ fed);
-      answers = both.answers (All-same (λ (r : Ran (Result g.row.J-Out.Denot g.row.J-Fault.Denot)). g.J.Job.gives c.args.task.now.job.now r.number r.answer) _ _ c.new-results.ensures.items (All-nil _));
+      answers = both.answers (All-same
+          (λ (r : Ran (Result g.row.J-Out.Denot g.row.J-Fault.Denot)). g.J.Job.gives c.args.task.now.job.now r.number
+          r.answer) _ _ c.new-results.ensures.items (All-nil _));
       weighed = λ fed h. (elim c.if-starved.branch [
         | then-starved w ↦ absurd (true≢false (sym w.if-starved.true ∙ fed))
         | else-starved w ↦ (

@@ -2,7 +2,8 @@ use Rattle.std.proofs.Common.{◌≡◌, ◌<◌, sym, ◌∙◌, arith}
 use Rattle.std.proofs.lemmas.Result.{err_from_is_err_and}
 use Rattle.proto_grammar.specs.Reading.Options.{deeper_at}
 use Rattle.proto_grammar.proofs.UntilLemmas.{Fails-of}
-use Rattle.proto_grammar.proofs.ClosedLemmas.{closed_goes_on, closed_stops, closed_is_done, deeper_bounded, deeper_shorter}
+use Rattle.proto_grammar.proofs.ClosedLemmas.{closed_goes_on, closed_stops, closed_is_done, deeper_bounded}
+use Rattle.proto_grammar.proofs.ClosedLemmas.{deeper_shorter}
 use Rattle.proto_grammar.proofs.parser.Parser.closed.Goals as goal
 
 pub tokens-smaller : goal.tokens-smaller
@@ -12,7 +13,8 @@ pub tokens-preserved : goal.tokens-preserved
 tokens-preserved c =
     let inside : 0 < c.tokens.depth = omega arith in
     record {
-      same = sym (closed_goes_on c.tokens.depth c.tokens.self _ _ inside c.in_ok-depth.ensures) ∙ c.tokens.invariant.same;
+      same = sym (closed_goes_on c.tokens.depth c.tokens.self _ _ inside c.in_ok-depth.ensures)
+          ∙ c.tokens.invariant.same;
       bounded = deeper_bounded c.tokens.depth c.tokens.self _ _ _ c.in_ok-depth.ensures c.tokens.invariant.bounded;
     }
 

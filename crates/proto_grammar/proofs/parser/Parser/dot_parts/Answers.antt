@@ -15,7 +15,9 @@ pub parts-preserved : goal.parts-preserved
 parts-preserved c =
     let is : first_is (of_kind Dot) c.parts.self ≡ true = cc in
     let further : not_next Dot c.parts.self ≡ false = rw is refl in
-    goes_on (not_next Dot) (passing (dot_part_at c.args.custom)) (dot_parts_fall c.args.custom) tt tt c.parts.self c.dot_part.new.self _ c.parts.invariant further c.in_ok-dot_part.ensures
+    goes_on (not_next Dot) (passing (dot_part_at c.args.custom))
+    (dot_parts_fall c.args.custom) tt tt c.parts.self c.dot_part.new.self _ c.parts.invariant further
+    c.in_ok-dot_part.ensures
 
 pub returns-in_err-dot_part : goal.returns-in_err-dot_part
 unfolding dot_parts_at
@@ -24,11 +26,14 @@ returns-in_err-dot_part c =
     let further : not_next Dot c.parts.self ≡ false = rw is refl in
     let p = err_from_is_err_and c.from_residual.result c.from_residual.ensures.1 in
     rw (p.1, p.2)
-    (Fails-of _ _ (passing (dot_part_at c.args.custom) tt c.parts.self) _ (stops (not_next Dot) (passing (dot_part_at c.args.custom)) (dot_parts_fall c.args.custom) tt c.parts.self _ c.parts.invariant further) c.in_err-dot_part.ensures)
+    (Fails-of _ _ (passing (dot_part_at c.args.custom) tt c.parts.self) _
+    (stops (not_next Dot) (passing (dot_part_at c.args.custom))
+    (dot_parts_fall c.args.custom) tt c.parts.self _ c.parts.invariant further) c.in_err-dot_part.ensures)
 
 pub returns : goal.returns
 unfolding dot_parts_at
 returns c =
     let is : first_is (of_kind Dot) c.parts.self ≡ false = cc in
     let past : not_next Dot c.parts.self ≡ true = rw is refl in
-    is_done (not_next Dot) (passing (dot_part_at c.args.custom)) (dot_parts_fall c.args.custom) tt c.parts.self _ c.parts.invariant past
+    is_done (not_next Dot) (passing (dot_part_at c.args.custom))
+    (dot_parts_fall c.args.custom) tt c.parts.self _ c.parts.invariant past

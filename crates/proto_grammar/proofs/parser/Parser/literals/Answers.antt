@@ -15,7 +15,9 @@ pub literals-preserved : goal.literals-preserved
 literals-preserved c =
     let is : first_is (of_kind StringLiteral) c.literals.self ≡ true = cc in
     let further : not_next StringLiteral c.literals.self ≡ false = rw is refl in
-    goes_on (not_next StringLiteral) (passing literal_at) literals_fall tt tt c.literals.self c.literal.new.self _ c.literals.invariant further c.in_ok-literal.ensures
+    goes_on (not_next StringLiteral)
+    (passing literal_at) literals_fall tt tt c.literals.self c.literal.new.self _ c.literals.invariant further
+    c.in_ok-literal.ensures
 
 pub returns-in_err-literal : goal.returns-in_err-literal
 unfolding literals_at
@@ -24,7 +26,9 @@ returns-in_err-literal c =
     let further : not_next StringLiteral c.literals.self ≡ false = rw is refl in
     let p = err_from_is_err_and c.from_residual.result c.from_residual.ensures.1 in
     rw (p.1, p.2)
-    (Fails-of _ _ (passing literal_at tt c.literals.self) _ (stops (not_next StringLiteral) (passing literal_at) literals_fall tt c.literals.self _ c.literals.invariant further) c.in_err-literal.ensures)
+    (Fails-of _ _ (passing literal_at tt c.literals.self) _
+    (stops (not_next StringLiteral)
+    (passing literal_at) literals_fall tt c.literals.self _ c.literals.invariant further) c.in_err-literal.ensures)
 
 pub returns : goal.returns
 unfolding literals_at

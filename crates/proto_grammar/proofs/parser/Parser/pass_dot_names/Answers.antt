@@ -15,7 +15,8 @@ pub names-preserved : goal.names-preserved
 names-preserved c =
     let is : first_is (of_kind Dot) c.names.self ≡ true = cc in
     let further : not_next Dot c.names.self ≡ false = rw is refl in
-    goes_on (not_next Dot) (passing pass_dot_name_at) pass_dot_names_fall tt tt c.names.self c.pass_dot_name.new.self _ c.names.invariant further c.in_ok-pass_dot_name.ensures
+    goes_on (not_next Dot) (passing pass_dot_name_at) pass_dot_names_fall tt tt c.names.self c.pass_dot_name.new.self _
+    c.names.invariant further c.in_ok-pass_dot_name.ensures
 
 pub returns-in_err-pass_dot_name : goal.returns-in_err-pass_dot_name
 unfolding pass_dot_names_at
@@ -24,7 +25,9 @@ returns-in_err-pass_dot_name c =
     let further : not_next Dot c.names.self ≡ false = rw is refl in
     let p = err_from_is_err_and c.from_residual.result c.from_residual.ensures.1 in
     rw (p.1, p.2)
-    (Fails-of _ _ (passing pass_dot_name_at tt c.names.self) _ (stops (not_next Dot) (passing pass_dot_name_at) pass_dot_names_fall tt c.names.self _ c.names.invariant further) c.in_err-pass_dot_name.ensures)
+    (Fails-of _ _ (passing pass_dot_name_at tt c.names.self) _
+    (stops (not_next Dot) (passing pass_dot_name_at) pass_dot_names_fall tt c.names.self _ c.names.invariant
+    further) c.in_err-pass_dot_name.ensures)
 
 pub returns : goal.returns
 unfolding pass_dot_names_at

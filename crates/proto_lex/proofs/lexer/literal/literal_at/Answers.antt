@@ -11,7 +11,8 @@ returns-then-first-quote-clause-value c =
 pub returns-in_err-more-clause-value : goal.returns-in_err-more-clause-value
 returns-in_err-more-clause-value c =
     let p = err_from_is_err_and c.from_residual.result c.from_residual.ensures.1 in
-    let fault = literal_fault _ _ _ _ _ c.in-len1-up.len_at_least c.if-first-quote.false (sym c.character_at.ensures.value ∙ c.in_err-more.was) in
+    let fault = literal_fault _ _ _ _ _ c.in-len1-up.len_at_least c.if-first-quote.false
+    (sym c.character_at.ensures.value ∙ c.in_err-more.was) in
     p.1 ∙ (ap Err p.2 ∙ (sym fault ∙ c.loop-rest.invariant.read))
 
 pub loop-rest-smaller : goal.loop-rest-smaller
@@ -25,7 +26,13 @@ loop-rest-preserved c =
     let step = literal_step _ _ _ _ _ c.in-len1-up.len_at_least c.if-first-quote.false read in
     record {
       read = rw c.tail-rest.ensures (sym step ∙ c.loop-rest.invariant.read);
-      counted = rw c.tail-rest.ensures (omega (arith, length-drop c.in_ok-more.more c.loop-rest.rest.now, c.in_ok-more.ensures.within, length-after c.loop-rest.rest.now c.in-len1-up.len_at_least));
+      counted = rw c.tail-rest.ensures
+          (omega (
+            arith,
+            length-drop c.in_ok-more.more c.loop-rest.rest.now,
+            c.in_ok-more.ensures.within,
+            length-after c.loop-rest.rest.now c.in-len1-up.len_at_least,
+          ));
     }
 
 pub returns-clause-value : goal.returns-clause-value

@@ -6,16 +6,26 @@ use Rattle.proto_lex.proofs.text.Text.position.Goals as goal
 
 pub overflow_cast-result : goal.overflow_cast-result
 overflow_cast-result c =
-    let h : IsLineAt c.args.self.now c.args.offset c.line_at-line.result = record { within = c.line_at-line.ensures.within; parted = c.line_at-line.ensures.parted } in
-    omega (arith, line-fits c.args.self.now c.args.offset c.line_at-line.result h, c.self.invariant.0.short, ap length c.self.view_is, c.requires.0)
+    let h : IsLineAt c.args.self.now c.args.offset c.line_at-line.result =
+    record { within = c.line_at-line.ensures.within; parted = c.line_at-line.ensures.parted } in
+    omega (
+      arith,
+      line-fits c.args.self.now c.args.offset c.line_at-line.result h,
+      c.self.invariant.0.short,
+      ap length c.self.view_is,
+      c.requires.0,
+    )
 
 pub returns : goal.returns
 returns c =
     let text = c.args.self.now in
     let line = c.line_at-line.result in
-    let h : IsLineAt text c.args.offset line = record { within = c.line_at-line.ensures.within; parted = c.line_at-line.ensures.parted } in
-    let kept : c.self.inside.line_starts.items ≡ line_starts text = c.self.invariant.1 ∙ ap line_starts c.self.view_is in
+    let h : IsLineAt text c.args.offset line =
+    record { within = c.line_at-line.ensures.within; parted = c.line_at-line.ensures.parted } in
+    let kept : c.self.inside.line_starts.items ≡ line_starts text =
+    c.self.invariant.1 ∙ ap line_starts c.self.view_is in
     let start : c.index.result.now ≡ get_or (line_starts text) line 0 =
-    c.index.ensures ∙ (ap (λ xs. get_or xs line c.index.result.now) kept ∙ get_or_default (line_starts text) line c.index.result.now 0 h.within) in
+    c.index.ensures ∙ (ap (λ xs. get_or xs line c.index.result.now) kept
+    ∙ get_or_default (line_starts text) line c.index.result.now 0 h.within) in
     let column = rw (start, c.as_bytes.ensures.value, c.self.view_is) at c.columns.ensures in
     position_of-is c.args.encoding text c.args.offset line c.columns.result h c.requires.0 column

@@ -5,4 +5,5 @@ use Rattle.proto_link.proofs.linker.Linker.facts_of.Goals as goal
 
 pub returns : goal.returns
 returns c =
-    subst (λ (fs : List File). MatchOption c.facts_of.result ((facts : Facts) → HasFacts fs c.args.number facts → ⊥) (λ facts. HasFacts fs c.args.number facts.now)) c.self.view_is c.facts_of.ensures
+    subst (λ (fs : List File). MatchOption c.facts_of.result ((facts : Facts) → HasFacts fs c.args.number facts → ⊥)
+    (λ facts. HasFacts fs c.args.number facts.now)) c.self.view_is c.facts_of.ensures

@@ -4,7 +4,11 @@ use Rattle.proto_visibility.proofs.FileRowLemmas.{rising_from_sort, same_numbers
 use Rattle.proto_visibility.proofs.file_row.FileRow.of.Goals as goal
 
 pub invariant_of-result : goal.invariant_of-result
-invariant_of-result c = rising_from_sort c.in_ok-numbers.numbers.items c.sort.new.self.items (subst (IsDistinct eqb) (sym c.in_ok-numbers.ensures.items) c.requires) c.sort.ensures.permutation c.in_ok-sort.ensures.sorted
+invariant_of-result c = rising_from_sort c.in_ok-numbers.numbers.items c.sort.new.self.items
+    (subst (IsDistinct eqb) (sym c.in_ok-numbers.ensures.items) c.requires) c.sort.ensures.permutation
+    c.in_ok-sort.ensures.sorted
 
 pub returns : goal.returns
-returns c = subst (λ xs. (number : ℕ) → Contains c.sort.new.self.items number ↔ Contains xs number) c.in_ok-numbers.ensures.items (same_numbers c.in_ok-numbers.numbers.items c.sort.new.self.items c.sort.ensures.permutation)
+returns c = subst (λ xs. (number : ℕ) → Contains c.sort.new.self.items number ↔ Contains xs number)
+    c.in_ok-numbers.ensures.items
+    (same_numbers c.in_ok-numbers.numbers.items c.sort.new.self.items c.sort.ensures.permutation)

@@ -15,9 +15,14 @@ returns c =
     let row = c.index.result.now in
     let role = admits c.args.role in
     let same : files ≡ c.args.self.now = c.self.view_is in
-    let within : c.args.file < length files = subst (λ (fs : List File). c.args.file < length fs) (sym same) c.requires in
-    let stands = slice_get_read c.self.inside.rows.items (length files) c.args.file row (sym c.self.invariant.rows_are.one_each) within c.index.ensures in
-    let sees : (number : ℕ) → Contains row number ↔ Sees files c.args.file number = c.self.invariant.rows_are.each c.args.file row stands in
-    let found = found_in_files files c.self.inside.names c.self.invariant.names_are c.args.role c.args.name.now row c.first_giving.result c.first_giving.ensures in
-    subst (λ (fs : List File). MatchOption c.first_giving.result (KnowsAs fs c.args.file role c.args.name.now → ⊥) (SeesGiving fs c.args.file role c.args.name.now)) same
+    let within : c.args.file < length files =
+    subst (λ (fs : List File). c.args.file < length fs) (sym same) c.requires in
+    let stands = slice_get_read c.self.inside.rows.items (length files) c.args.file row
+    (sym c.self.invariant.rows_are.one_each) within c.index.ensures in
+    let sees : (number : ℕ) → Contains row number ↔ Sees files c.args.file number =
+    c.self.invariant.rows_are.each c.args.file row stands in
+    let found = found_in_files files c.self.inside.names c.self.invariant.names_are c.args.role c.args.name.now row
+    c.first_giving.result c.first_giving.ensures in
+    subst (λ (fs : List File). MatchOption c.first_giving.result (KnowsAs fs c.args.file role c.args.name.now → ⊥)
+    (SeesGiving fs c.args.file role c.args.name.now)) same
     (knows_by files c.args.file role c.args.name.now row sees c.first_giving.result found)

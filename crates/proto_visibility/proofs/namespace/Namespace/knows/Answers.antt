@@ -6,5 +6,7 @@ use Rattle.proto_visibility.proofs.namespace.Namespace.knows.Goals as goal
 
 pub returns : goal.returns
 returns c =
-    subst (λ r. IsTrue r ↔ KnowsAs c.args.self.now c.args.file (admits c.args.role) c.args.name.now) (sym c.is_some.ensures)
-    (knows_iff c.args.self.now c.args.file (admits c.args.role) c.args.name.now c.first_giving.result c.first_giving.ensures)
+    subst (λ r. IsTrue r ↔ KnowsAs c.args.self.now c.args.file (admits c.args.role) c.args.name.now)
+    (sym c.is_some.ensures)
+    (knows_iff c.args.self.now c.args.file
+    (admits c.args.role) c.args.name.now c.first_giving.result c.first_giving.ensures)

@@ -10,7 +10,8 @@ invariant-reads g l =
     record {
       read : List ℕ;
       stands : Stands g.W.Sink.contents g.W.Sink.failures l.self l.fn.answers read l.conversation l.answers;
-      behind : (all : List ℕ) → feed.remaining l.fn.commands ≡ Some all → (rest : List ℕ) × (feed.remaining l.commands ≡ Some rest) × (all ≡ read ++ rest);
+      behind : (all : List ℕ) → feed.remaining l.fn.commands ≡ Some all
+          → (rest : List ℕ) × (feed.remaining l.commands ≡ Some rest) × (all ≡ read ++ rest);
       failures : feed.failures l.commands ≡ feed.failures l.fn.commands;
       no_reads : l._read ≡ 0 → feed.reads l.commands ≡ feed.reads l.fn.commands;
       reads : 0 < l._read → feed.reads l.commands ≡ more_by l._read (feed.reads l.fn.commands);

@@ -9,19 +9,23 @@ use Rattle.scip_query.proofs.queries.Queries.entry_of.Goals as goal
 
 pub entry_places_in-requires : goal.entry_places_in-requires
 entry_places_in-requires c =
-    rw c.entry_places_with-places.ensures (passing_rise c.args.self.now (has_symbol c.args.self.now c.args.subject.now.symbol.now))
+    rw c.entry_places_with-places.ensures
+    (passing_rise c.args.self.now (has_symbol c.args.self.now c.args.subject.now.symbol.now))
 
 pub returns-then-is_local : goal.returns-then-is_local
 returns-then-is_local c =
     let index = c.args.self.now in
     let subject = subject_view c.args.subject.now in
     c.first_entry.ensures
-    ∙ ap (λ (l : List EntryPlace). option_and_then (entry_listed index) (slice_get l 0)) (c.entry_places_in.ensures ∙ ap (filter (is_in subject.asked.number)) c.entry_places_with-places.ensures)
+    ∙ ap (λ (l : List EntryPlace). option_and_then (entry_listed index) (slice_get l 0))
+    (c.entry_places_in.ensures ∙ ap (filter (is_in subject.asked.number)) c.entry_places_with-places.ensures)
     ∙ found_locally index subject (sym c.is_local.ensures ∙ c.if-is_local.true) c.requires
 
 pub returns-else-is_local : goal.returns-else-is_local
 returns-else-is_local c =
     let index = c.args.self.now in
     let subject = subject_view c.args.subject.now in
-    c.first_entry-else-is_local.ensures ∙ ap (λ (l : List EntryPlace). option_and_then (entry_listed index) (slice_get l 0)) c.entry_places_with-places.ensures
+    c.first_entry-else-is_local.ensures
+    ∙ ap (λ (l : List EntryPlace). option_and_then (entry_listed index) (slice_get l 0))
+    c.entry_places_with-places.ensures
     ∙ found_globally index subject (sym c.is_local.ensures ∙ c.if-is_local.false)

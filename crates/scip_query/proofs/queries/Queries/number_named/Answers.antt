@@ -12,5 +12,7 @@ pub returns : goal.returns
 returns c =
     let path = c.args.path.now in
     ap (option_and_then (numbered_listed c.args.self.now.documents))
-    (c.number_named.ensures ∙ ap (λ (l : List Document). find (λ n. is_eq (slice_cmp nat_cmp (path_listed l n) path)) (numbers (length l))) c.documents.ensures)
+    (c.number_named.ensures ∙ ap
+    (λ (l : List Document). find (λ n. is_eq (slice_cmp nat_cmp (path_listed l n) path)) (numbers (length l)))
+    c.documents.ensures)
     ∙ named_by_number c.args.self.now path

@@ -11,5 +11,7 @@ occurrence_in-requires c =
     let tables = c.self.inside.tables.inner in
     let zipped : AllZip IsInnermostFirst c.args.self.now.documents tables =
     subst (λ (index : Index). AllZip IsInnermostFirst index.documents tables) c.self.view_is c.self.invariant.inner in
-    subst (IsInnermostFirst c.args.document.now) (sym (c.inner_listed-table.ensures ∙ ap (λ (l : List (List ℕ)). unwrap_or (slice_get l c.args.number) []) c.as_slice.ensures))
+    subst (IsInnermostFirst c.args.document.now)
+    (sym (c.inner_listed-table.ensures
+    ∙ ap (λ (l : List (List ℕ)). unwrap_or (slice_get l c.args.number) []) c.as_slice.ensures))
     (table_at c.args.self.now.documents tables c.args.number c.args.document.now zipped c.requires)

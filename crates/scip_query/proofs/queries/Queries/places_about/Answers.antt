@@ -12,21 +12,29 @@ use Rattle.scip_query.proofs.queries.Queries.places_about.Goals as goal
 pub places_in-requires : goal.places_in-requires
 places_in-requires c =
     rw c.places_with-places.ensures
-    (passing_rise c.args.self.now.documents (λ (place : Place). is_eq (slice_cmp nat_cmp (symbol_listed c.args.self.now.documents place) c.args.subject.now.symbol.now)))
+    (passing_rise c.args.self.now.documents
+    (λ (place : Place). is_eq
+    (slice_cmp nat_cmp (symbol_listed c.args.self.now.documents place) c.args.subject.now.symbol.now)))
 
 pub returns-then-is_local : goal.returns-then-is_local
 returns-then-is_local c =
     let index = c.args.self.now in
     let subject = subject_view c.args.subject.now in
-    let with_symbol = filter (λ (place : Place). is_eq (slice_cmp nat_cmp (symbol_listed index.documents place) subject.symbol)) (places_from 0 index.documents) in
+    let with_symbol = filter
+    (λ (place : Place). is_eq (slice_cmp nat_cmp (symbol_listed index.documents place) subject.symbol))
+    (places_from 0 index.documents) in
     let in_document = λ (place : Place). is_eq (nat_cmp place.document subject.asked.number) in
     c.places_in.ensures ∙ ap (filter in_document) c.places_with-places.ensures
-    ∙ places_are index.documents (filter in_document with_symbol) (references_of index subject) (local_places index subject (sym c.is_local.ensures ∙ c.if-is_local.true))
+    ∙ places_are index.documents (filter in_document with_symbol) (references_of index subject)
+    (local_places index subject (sym c.is_local.ensures ∙ c.if-is_local.true))
 
 pub returns-else-is_local : goal.returns-else-is_local
 returns-else-is_local c =
     let index = c.args.self.now in
     let subject = subject_view c.args.subject.now in
-    let with_symbol = filter (λ (place : Place). is_eq (slice_cmp nat_cmp (symbol_listed index.documents place) subject.symbol)) (places_from 0 index.documents) in
+    let with_symbol = filter
+    (λ (place : Place). is_eq (slice_cmp nat_cmp (symbol_listed index.documents place) subject.symbol))
+    (places_from 0 index.documents) in
     c.places_with-places.ensures
-    ∙ places_are index.documents with_symbol (references_of index subject) (global_places index subject (sym c.is_local.ensures ∙ c.if-is_local.false))
+    ∙ places_are index.documents with_symbol (references_of index subject)
+    (global_places index subject (sym c.is_local.ensures ∙ c.if-is_local.false))

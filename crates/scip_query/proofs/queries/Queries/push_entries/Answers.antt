@@ -13,9 +13,11 @@ pub returns-in-Ok : goal.returns-in-Ok
 returns-in-Ok c =
     let due = symbols_of c.args.self.now c.args.path.now in
     let old = string_bytes c.args.text.now in
-    let lines = λ (found : List (Bor (SymbolInformation))). flat_map (λ (x : Bor (SymbolInformation)). symbol_line x.now) found ++ count_line (length found) in
+    let lines = λ (found : List (Bor (SymbolInformation))). flat_map
+    (λ (x : Bor (SymbolInformation)). symbol_line x.now) found ++ count_line (length found) in
     on_ok_weaker c.push_symbols.result
-    (λ e. e ∙ append_assoc old (flat_map (λ (x : Bor (SymbolInformation)). symbol_line x.now) c.as_slice.result.now) (count_line (length c.as_slice.result.now)) ∙ ap (λ l. old ++ l)
+    (λ e. e ∙ append_assoc old (flat_map (λ (x : Bor (SymbolInformation)). symbol_line x.now) c.as_slice.result.now)
+    (count_line (length c.as_slice.result.now)) ∙ ap (λ l. old ++ l)
     (ap lines c.as_slice.ensures.value
     ∙ listing_found symbol_line (λ (x : Bor (SymbolInformation)). x.now) c.in-Ok.entries.items due c.in-Ok.ensures))
     c.push_symbols.ensures

@@ -14,9 +14,12 @@ pub returns-in-Ok : goal.returns-in-Ok
 returns-in-Ok c =
     let index = c.args.self.now in
     let old = string_bytes c.args.text.now in
-    let lines = λ (documents : List Document) (places : List Place). flat_map (λ place. line_or_none (site_listed documents place)) places ++ count_line (length places) in
+    let lines = λ (documents : List Document) (places : List Place). flat_map
+    (λ place. line_or_none (site_listed documents place)) places ++ count_line (length places) in
     on_ok_weaker c.push_sites.result
-    (λ e. e ∙ append_assoc old (flat_map (λ place. line_or_none (site_listed c.documents.result.now place)) c.as_slice.result.now) (count_line (length c.as_slice.result.now)) ∙ ap (λ l. old ++ l)
+    (λ e. e ∙ append_assoc old
+    (flat_map (λ place. line_or_none (site_listed c.documents.result.now place)) c.as_slice.result.now)
+    (count_line (length c.as_slice.result.now)) ∙ ap (λ l. old ++ l)
     (ap (λ (documents : List Document). lines documents c.as_slice.result.now) c.documents.ensures
     ∙ ap (lines index.documents) c.as_slice.ensures.value
     ∙ references_listed index c.args.path.now c.args.position c.in-Ok.places.items c.in-Ok.ensures))

@@ -9,17 +9,22 @@ use Rattle.scip_wire.proofs.read.range.add_packed.Goals as goal
 pub returns-in_err-value : goal.returns-in_err-value
 returns-in_err-value c =
     let p = err_from_is_err_and c.from_residual.result c.from_residual.ensures.1 in
-    rw (p.1, p.2) (unread (varint_at max_varint_len) packed_step c.varints.rest.now c.varints.numbers c.is_empty.result c.is_empty.ensures c.varints-test.true _ _ c.varints.invariant c.in_err-value.ensures.reads)
+    rw (p.1, p.2) (unread (varint_at max_varint_len) packed_step c.varints.rest.now c.varints.numbers c.is_empty.result
+    c.is_empty.ensures c.varints-test.true _ _ c.varints.invariant c.in_err-value.ensures.reads)
 
 pub varints-smaller : goal.varints-smaller
-varints-smaller c = varint_shortens c.varints.rest.now (c.in_ok-value.value, c.in_ok-value.after.now) c.in_ok-value.ensures.reads
+varints-smaller c = varint_shortens c.varints.rest.now
+    (c.in_ok-value.value, c.in_ok-value.after.now) c.in_ok-value.ensures.reads
 
 pub varints-preserved : goal.varints-preserved
 unfolding packed_step
 varints-preserved c =
-    let added : packed_step c.varints.numbers c.in_ok-value.value ≡ Some c.add.new.list = rw (c.in_ok-add.ensures, c.low_bits.ensures) refl in
-    goes_on (varint_at max_varint_len) packed_step c.varints.rest.now c.varints.numbers c.is_empty.result c.is_empty.ensures varint_shortens c.varints-test.true
+    let added : packed_step c.varints.numbers c.in_ok-value.value ≡ Some c.add.new.list =
+    rw (c.in_ok-add.ensures, c.low_bits.ensures) refl in
+    goes_on (varint_at max_varint_len) packed_step c.varints.rest.now c.varints.numbers c.is_empty.result
+    c.is_empty.ensures varint_shortens c.varints-test.true
     c.in_ok-value.value c.in_ok-value.after.now c.add.new.list c.in_ok-value.ensures.reads added ∙ c.varints.invariant
 
 pub returns : goal.returns
-returns c = is_done (varint_at max_varint_len) packed_step c.varints.rest.now c.varints.numbers c.is_empty.result c.is_empty.ensures c.varints-test.false _ c.varints.invariant
+returns c = is_done (varint_at max_varint_len) packed_step c.varints.rest.now c.varints.numbers c.is_empty.result
+    c.is_empty.ensures c.varints-test.false _ c.varints.invariant

@@ -5,7 +5,8 @@ use Rattle.scip_wire.proofs.read.range.add_packed.Given as goal
 
 -- what is left gives the same as all
 abbrev pub invariant-varints : goal.invariant-varints
-invariant-varints l = fold_at (varint_at max_varint_len) packed_step l.rest l.numbers ≡ fold_at (varint_at max_varint_len) packed_step l.bytes l.fn.numbers
+invariant-varints l = fold_at (varint_at max_varint_len) packed_step l.rest l.numbers
+    ≡ fold_at (varint_at max_varint_len) packed_step l.bytes l.fn.numbers
 
 abbrev pub decreases-varints : goal.decreases-varints
 decreases-varints l = length l.rest

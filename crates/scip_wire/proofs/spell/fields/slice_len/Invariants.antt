@@ -6,6 +6,7 @@ use Rattle.scip_wire.proofs.spell.fields.slice_len.Given as goal
 abbrev pub invariant-texts : goal.invariant-texts
 invariant-texts l = record {
   fits : l.len < 2 ^ 64;
-  sum : saturated (l.len + fields_len (repeated_text_fields l.number (drop l.text-index l.texts))) ≡ saturated (fields_len (repeated_text_fields l.number l.texts));
+  sum : saturated (l.len + fields_len (repeated_text_fields l.number (drop l.text-index l.texts)))
+      ≡ saturated (fields_len (repeated_text_fields l.number l.texts));
   fit : All IsUtf8 (take l.text-index l.texts);
 }

@@ -11,4 +11,5 @@ invariant-loop-file l =
     (length l.counted.items + length (into_iter_items (zip_first l.file-iterator)) ≤ vec_capacity l.counted) ×
     (into_iter_len (zip_first l.file-iterator) ≡ length (into_iter_items (zip_first l.file-iterator))) ×
     (into_iter_len (zip_second l.file-iterator) ≡ length (into_iter_items (zip_second l.file-iterator))) ×
-    (l.counted.items ++ marked (into_iter_items (zip_second l.file-iterator)) (into_iter_items (zip_first l.file-iterator)) ≡ marked l.fn.self.marks.items l.fn.included.items)
+    (l.counted.items ++ marked (into_iter_items (zip_second l.file-iterator))
+    (into_iter_items (zip_first l.file-iterator)) ≡ marked l.fn.self.marks.items l.fn.included.items)

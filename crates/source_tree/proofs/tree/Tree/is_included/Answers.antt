@@ -14,6 +14,8 @@ returns c =
     let size = ap length c.self.view_is in
     let whole = length-files sources included in
     let within : c.args.number < length sources + length included = omega arith in
-    subst (λ n. option_map (λ (file : TreeFile). file.is_included) (slice_get c.args.self.now c.args.number) ≡ Some (leb n c.args.number)) count
-    (subst (λ files. option_map (λ (file : TreeFile). file.is_included) (slice_get files c.args.number) ≡ Some (leb (length sources) c.args.number)) c.self.view_is
+    subst (λ n. option_map (λ (file : TreeFile). file.is_included) (slice_get c.args.self.now c.args.number)
+    ≡ Some (leb n c.args.number)) count
+    (subst (λ files. option_map (λ (file : TreeFile). file.is_included) (slice_get files c.args.number)
+    ≡ Some (leb (length sources) c.args.number)) c.self.view_is
     (is_included_at sources included c.args.number within))

@@ -8,4 +8,5 @@ returns c =
     let sources = c.self.inside.sources.items in
     let included = c.self.inside.included.items in
     let count : length sources ≡ c.len.result = omega arith in
-    subst (IsSourceCount c.args.self.now) count (subst (λ files. IsSourceCount files (length sources)) c.self.view_is (count_of sources included))
+    subst (IsSourceCount c.args.self.now) count
+    (subst (λ files. IsSourceCount files (length sources)) c.self.view_is (count_of sources included))

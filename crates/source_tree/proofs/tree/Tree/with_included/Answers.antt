@@ -9,29 +9,39 @@ use Rattle.source_tree.proofs.tree.Tree.with_included.Goals as goal
 
 pub counted-included-requires-clause-marks : goal.counted-included-requires-clause-marks
 counted-included-requires-clause-marks c =
-    ap length c.in-Ok.ensures.marks ∙ length-marks (paths_of c.deref-5.result.now) c.deref-6.result.now ∙ ap length c.deref-6.ensures.value
+    ap length c.in-Ok.ensures.marks ∙ length-marks (paths_of c.deref-5.result.now) c.deref-6.result.now
+    ∙ ap length c.deref-6.ensures.value
 
-is_made : (c : goal.After-sort_distinct_by_path) → IsMade c.args.sources.items c.args.included.items c.sort_by_path.new.files.items c.sort_distinct_by_path.new.files.items
+is_made : (c : goal.After-sort_distinct_by_path)
+    → IsMade c.args.sources.items c.args.included.items c.sort_by_path.new.files.items
+    c.sort_distinct_by_path.new.files.items
 is_made c =
     let sources = c.args.sources.items in
     let included = c.args.included.items in
     let listed = c.sort_by_path.new.files.items in
     let all = ap length c.deref.ensures.value in
     let others = ap length c.deref-2.ensures.value in
-    let least = few_from c.deref.result.now c.deref-2.result.now (λ many. false≢true (c.if-are_too_many.ensures.1 many)) in
+    let least = few_from c.deref.result.now c.deref-2.result.now (λ many. false≢true (c.if-are_too_many.ensures.1 many))
+    in
     let few : length sources + length included ≤ max_files = omega arith in
-    made_from sources included listed c.sort_distinct_by_path.new.files.items c.counted-included.result.items c.in-Ok.counting.marks.items
+    made_from sources included listed c.sort_distinct_by_path.new.files.items c.counted-included.result.items
+    c.in-Ok.counting.marks.items
     few
-    (subst (λ l. HaveGoodPaths (l ++ included)) c.deref-3.ensures.value (subst (λ l. HaveGoodPaths (c.deref-3.result.now ++ l)) c.deref-4.ensures.value c.in_default.ensures))
-    (c.in-Ok.ensures.marks ∙ ap (λ l. marks_of (paths_of l) c.deref-6.result.now) c.deref-5.ensures.value ∙ ap (marks_of (paths_of sources)) c.deref-6.ensures.value)
-    (if_not_err c.sort_by_path.result (IsByPath sources listed) c.sort_by_path.ensures.ok (sym c.if-is_err.ensures.value))
+    (subst (λ l. HaveGoodPaths (l ++ included)) c.deref-3.ensures.value
+    (subst (λ l. HaveGoodPaths (c.deref-3.result.now ++ l)) c.deref-4.ensures.value c.in_default.ensures))
+    (c.in-Ok.ensures.marks ∙ ap (λ l. marks_of (paths_of l) c.deref-6.result.now) c.deref-5.ensures.value
+    ∙ ap (marks_of (paths_of sources)) c.deref-6.ensures.value)
+    (if_not_err c.sort_by_path.result (IsByPath sources listed) c.sort_by_path.ensures.ok
+    (sym c.if-is_err.ensures.value))
     (subst (λ l. (number : ℕ) → RepeatsAPath l number → ⊥) c.deref-7.ensures.value c.in_default-first_repeat.ensures)
     c.counted-included.ensures
     c.sort_distinct_by_path.ensures.complete
     c.sort_distinct_by_path.ensures.ascends
 
 pub invariant_of-result : goal.invariant_of-result
-invariant_of-result c = made_tree c.args.sources.items c.args.included.items c.sort_by_path.new.files.items c.sort_distinct_by_path.new.files.items (is_made c)
+invariant_of-result c = made_tree c.args.sources.items c.args.included.items c.sort_by_path.new.files.items
+    c.sort_distinct_by_path.new.files.items (is_made c)
 
 pub returns-clause-tree : goal.returns-clause-tree
-returns-clause-tree c = made_tree_of c.args.sources.items c.args.included.items c.sort_by_path.new.files.items c.sort_distinct_by_path.new.files.items (is_made c)
+returns-clause-tree c = made_tree_of c.args.sources.items c.args.included.items c.sort_by_path.new.files.items
+    c.sort_distinct_by_path.new.files.items (is_made c)

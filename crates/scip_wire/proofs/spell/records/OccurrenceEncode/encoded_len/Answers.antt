@@ -9,5 +9,7 @@ returns-clause-value c =
     let o = c.args.self.now in
     let same : to_z w32 (of_z w32 o.symbol_roles) ≡ o.symbol_roles = search rules in
     let range = bytes_field 1 (flat_map varint (range_numbers o.range)) ∷ [] in
-    let two = added range (text_fields 2 o.symbol) _ _ _ c.range_len-range.ensures.value c.text_len-symbol.ensures.value c.saturating_add.ensures in
-    added (range ++ text_fields 2 o.symbol) _ _ _ _ two (int_len-same 3 _ _ _ same c.int_len-roles.ensures) c.saturating_add-2.ensures
+    let two = added range (text_fields 2 o.symbol) _ _ _ c.range_len-range.ensures.value c.text_len-symbol.ensures.value
+    c.saturating_add.ensures in
+    added (range ++ text_fields 2 o.symbol) _ _ _ _ two
+    (int_len-same 3 _ _ _ same c.int_len-roles.ensures) c.saturating_add-2.ensures

@@ -3,12 +3,12 @@
 ghost use Rattle.programs.specs.Indexing.{Indexed};
 ghost use Rattle.programs.specs.Streams.{writer};
 
+use crate::asking_ahead::AskingAhead;
 use crate::ending::end;
 use crate::host::Host;
 use crate::messages::report;
 use crate::starting::start;
 use command_line::IndexOptions;
-use index_pool::NoGate;
 use protoscip::index_and_keep;
 use scip_build::Run;
 use source_files::ReadFiles;
@@ -36,11 +36,12 @@ pub(crate) fn index<R: Threads + Wait, F: ReadFiles, W: Sink, M: Sink>(
         Ok(start) => start,
         Err(fault) => return report(fault.line(host.alloc), fault.status(), messages),
     };
+    let gate = AskingAhead::new(host.alloc);
     let work = Run {
         rt: host.rt,
         alloc: host.alloc,
         workers: run.workers,
-        gate: &NoGate,
+        gate: &gate,
     };
     let done = index_and_keep(&work, &run.tree, &run.choices, &run.settings, out);
     let status = end(host.alloc, &run.tree, &done, messages);

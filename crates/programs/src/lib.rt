@@ -21,6 +21,7 @@ mod start_fault;
 mod starting;
 
 // `index`: the index of a tree goes to a file.
+mod asking_ahead;
 mod indexing;
 
 // `shell`: the index of a tree answers commands.

@@ -1,0 +1,40 @@
+//! Memory that workers ask for ahead.
+
+use index_pool::Gate;
+use std::alloc::{AllocError, Global};
+
+/// So many bytes are asked for at once.
+const ROOM: usize = 4_194_304;
+
+/// Before every so many of a worker's files. It is prime: the files of one worker leave one remainder
+/// when they are divided by the number of workers.
+const FILES: usize = 31;
+
+/// A gate at which a worker asks for much memory now and then, and gives it back at once.
+///
+/// The C library has memory apart for each thread, and makes it larger by no more than what is asked
+/// for: mostly by a page, with a call of the system for which all threads wait. After a great request it
+/// is large enough for the small ones of the next files. Nothing depends on the answer.
+#[derive(Drop)]
+pub(crate) struct AskingAhead {
+    alloc: Global,
+}
+
+impl AskingAhead {
+    /// Asks here.
+    pub(crate) fn new(alloc: Global) -> AskingAhead {
+        AskingAhead { alloc }
+    }
+}
+
+impl Gate for AskingAhead {
+    /// Asks, if it is the turn of this file.
+    fn before(&self, number: usize) {
+        if number % FILES == 0 {
+            let _room: Result<Vec<u8>, AllocError> = Vec::with_capacity(self.alloc, ROOM);
+        }
+    }
+
+    /// Does nothing.
+    fn after(&self, _number: usize) {}
+}

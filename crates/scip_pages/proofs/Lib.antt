@@ -6,3 +6,6 @@ pub mod RunLemmas
 pub mod CodeLemmas
 pub mod PathLemmas
 pub mod SpanLemmas
+pub mod SnapshotLemmas
+pub mod SnapshotSource
+pub mod UrlLemmas

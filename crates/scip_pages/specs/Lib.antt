@@ -9,3 +9,9 @@ pub mod CodeLaws
 pub mod Paths
 pub mod PathLaws
 pub mod RunLaws
+pub mod Listed
+pub mod Snapshot
+pub mod SnapshotOutcomes
+pub mod SnapshotLaws
+pub mod Urls
+pub mod UrlLaws

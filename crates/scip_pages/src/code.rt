@@ -72,7 +72,7 @@ fn link_of(links: &[Link], occurrence: Option<usize>) -> Option<&Link>
 }
 
 /// The first bytes of a line, and those behind them.
-fn cut(line: &[u8], len: usize) -> (&[u8], &[u8])
+pub(crate) fn cut(line: &[u8], len: usize) -> (&[u8], &[u8])
     ensures front { result.0.now ≡ take len line.now }
     ensures behind { result.1.now ≡ drop len line.now }
 {

@@ -31,7 +31,7 @@ pub fn unit_of(position_encoding: i32) -> Option<ColumnUnit>
 }
 
 /// Whether a byte of a text in UTF-8 is the first of a character.
-fn is_first_byte(byte: u8) -> bool
+pub(crate) fn is_first_byte(byte: u8) -> bool
     ensures { result ≡ spec.is_first_byte byte }
 {
     byte < 128 || 192 <= byte

@@ -4,6 +4,8 @@ ghost use Rattle.scip_pages.specs.EscapeLaws.{ShowsTheText, ShowsTheRest, HasNoM
 ghost use Rattle.scip_pages.specs.ColumnLaws.{AtOneOffset, IsAtItsOffset, CountsUtf8, CountsUtf16, CountsUtf32};
 ghost use Rattle.scip_pages.specs.RunLaws.{NoneCovers, NoneIsNarrower};
 ghost use Rattle.scip_pages.specs.PathLaws.{StaysBelow, HasItsOwnPlace};
+ghost use Rattle.scip_pages.specs.UrlLaws.{IsDecoded, LeadsToThePage};
+ghost use Rattle.scip_pages.specs.SnapshotLaws.{HasTheSource};
 ghost use Rattle.scip_pages.specs.CodeLaws.{CodeShowsTheLines, CodeShowsTheSource, PiecesHaveTheText};
 
 /// What an escaped text shows is the text, and what stands behind it shows as it would by itself.
@@ -51,4 +53,16 @@ pub fn paths_stay_below()
 pub fn the_narrowest_marks()
     ensures none { NoneCovers }
     ensures narrowest { NoneIsNarrower }
+{}
+
+/// A snapshot has its source: taking away the lines that begin with the sign of a comment, and the
+/// two blanks before each other line, gives the source, byte for byte.
+pub fn snapshots_have_their_source()
+    ensures { HasTheSource }
+{}
+
+/// What a URL's path is read as is the path, and from the folder of a page it leads to the other page.
+pub fn urls_lead_to_their_pages()
+    ensures decoded { IsDecoded }
+    ensures leads { LeadsToThePage }
 {}

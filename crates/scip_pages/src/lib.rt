@@ -6,15 +6,23 @@ mod code;
 mod columns;
 mod escapes;
 mod laws;
+mod lines;
 mod paths;
 mod runs;
+mod snapshot_fault;
+mod snapshots;
+mod urls;
 
 pub use code::{Link, push_line};
 pub use columns::{ColumnUnit, offset_of, unit_of};
 pub use escapes::{escape, push_escaped};
 pub use laws::{
     code_shows_the_source, columns_have_one_offset, escapes_become_no_marks, escapes_show_the_text,
-    paths_stay_below, the_narrowest_marks, units_are_those_of_their_encoding,
+    paths_stay_below, snapshots_have_their_source, the_narrowest_marks,
+    units_are_those_of_their_encoding, urls_lead_to_their_pages,
 };
 pub use paths::{PathFault, path_fault};
 pub use runs::{Run, Span, line_runs, span_on};
+pub use snapshot_fault::SnapshotFault;
+pub use snapshots::snapshot;
+pub use urls::push_url;

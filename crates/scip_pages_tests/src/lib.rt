@@ -9,3 +9,7 @@ mod lines;
 mod paths;
 #[cfg(test)]
 mod see;
+#[cfg(test)]
+mod snapshots;
+#[cfg(test)]
+mod urls;

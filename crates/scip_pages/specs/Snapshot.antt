@@ -1,0 +1,149 @@
+-- The snapshot of a document: its source, and below each line the occurrences that begin on it, in the form of SCIP's
+-- own snapshots (`scip snapshot` of the repository of SCIP).
+use Rattle.std.specs.Prelude.{ℕ, ◌+◌, ◌==◌, Bool, true, false, nat_lt, nat_le, not, ◌&&◌, ◌||◌, cond, List, [], ◌∷◌}
+use Rattle.std.specs.Prelude.{◌++◌, length, map, filter, take, drop, codes, pos, Option, None, Some, Result, Ok, Err}
+use Rattle.std.specs.List.{flat_map, slice_get, slice_split, position, enumerate_from}
+use Rattle.std.specs.Option.{option_and_then, unwrap_or}
+use Rattle.std.specs.Int.{w32, int_bit_and}
+use Rattle.std.specs.Ordering.{int_eq}
+use Rattle.scip_model.specs.Range.{RangeNumbers}
+use Rattle.scip_model.specs.declared.records.Index.{Index}
+use Rattle.scip_model.specs.declared.records.Document.{Document}
+use Rattle.scip_model.specs.declared.records.Occurrence.{Occurrence}
+use Rattle.scip_query.specs.References.{is_definition}
+use Rattle.scip_query.specs.BySymbol.{documentation_in}
+use Rattle.scip_pages.specs.declared.columns.ColumnUnit.{ColumnUnit}
+use Rattle.scip_pages.specs.declared.snapshot_fault.SnapshotFault.{SnapshotFault}
+use Rattle.scip_pages.specs.declared.snapshot_fault.SnapshotFault.TheVariants.{NoDocument, NoUnit, Misfit}
+use Rattle.scip_pages.specs.Columns.{is_first_byte, offset_of, unit_of}
+
+-- the lines of a text: what is between its line feeds, and before and behind them
+abbrev pub lines_of : List ℕ → List (List ℕ)
+lines_of text = slice_split (λ b. b == 10) text
+
+-- ---- ranges that fit a source
+
+-- the offset of a column of the line with a number, if the source has that line and the line that column
+abbrev pub offset_at : ColumnUnit → List (List ℕ) → ℕ → ℕ → Option ℕ
+offset_at unit lines line column = option_and_then (λ (l : List ℕ). offset_of unit l column) (slice_get lines line)
+
+-- from one place up to another, which isn't before it
+abbrev pub is_ordered : RangeNumbers → Option ℕ → Option ℕ → Bool
+is_ordered range (Some from) (Some to) =
+    nat_lt range.start_line range.end_line || ((range.start_line == range.end_line) && nat_le from to)
+is_ordered range (Some from) None = false
+is_ordered range None to = false
+
+-- a range fits a source if both its places are in it, and its end isn't before its start
+abbrev pub fits : ColumnUnit → List (List ℕ) → Occurrence → Bool
+fits unit lines o =
+    is_ordered o.range (offset_at unit lines o.range.start_line o.range.start_column)
+    (offset_at unit lines o.range.end_line o.range.end_column)
+
+-- the number of the first occurrence whose range doesn't fit
+abbrev pub misfit : ColumnUnit → List (List ℕ) → List Occurrence → Option ℕ
+misfit unit lines occurrences = position (λ o. not (fits unit lines o)) occurrences
+
+-- ---- what is below a line
+
+-- Below a tab is a tab, so that what follows is below what it is about; below each other character a sign.
+abbrev pub below_byte : ℕ → ℕ → List ℕ
+below_byte sign byte = cond (byte == 9) (9 ∷ []) (cond (is_first_byte byte) (sign ∷ []) [])
+
+abbrev pub below : ℕ → List ℕ → List ℕ
+below sign bytes = flat_map (below_byte sign) bytes
+
+-- the end of a line's bytes that a range covers, where it begins on that line
+abbrev pub end_in : ColumnUnit → List ℕ → RangeNumbers → ℕ
+end_in unit line range =
+    cond (range.start_line == range.end_line) (unwrap_or (offset_of unit line range.end_column) 0) (length line)
+
+-- what is before it
+abbrev pub before_in : ColumnUnit → List ℕ → RangeNumbers → List ℕ
+before_in unit line range =
+    take (unwrap_or (offset_of unit line range.start_column) 0) (take (end_in unit line range) line)
+
+-- and what is in it
+abbrev pub inside_in : ColumnUnit → List ℕ → RangeNumbers → List ℕ
+inside_in unit line range =
+    drop (unwrap_or (offset_of unit line range.start_column) 0) (take (end_in unit line range) line)
+
+-- an occurrence is a definition, an import or a reference (`scip.proto`, SymbolRole: bits 1 and 2)
+abbrev pub is_import : Occurrence → Bool
+is_import o = not (int_eq (int_bit_and w32 o.symbol_roles (pos 2)) (pos 0))
+
+abbrev pub role_of : Occurrence → List ℕ
+role_of o = cond (is_definition o) (codes "definition") (cond (is_import o) (codes "import") (codes "reference"))
+
+-- a text on one line: its line feeds become blanks
+abbrev pub flat_byte : ℕ → ℕ
+flat_byte byte = cond (byte == 10) 32 byte
+
+-- A line that isn't the source's begins with the sign of a comment.
+abbrev pub comment : List ℕ → List ℕ
+comment text = codes "//" ++ text ++ codes "\n"
+
+-- carets below what the range covers, the role and the symbol
+abbrev pub caret_line : List ℕ → List ℕ → Occurrence → List ℕ
+caret_line before inside o =
+    comment (below 32 before ++ below 94 inside ++ codes " " ++ role_of o ++ codes " " ++ map flat_byte o.symbol)
+
+-- a text of documentation, each of its lines behind `> `
+abbrev pub note_line : List ℕ → List ℕ → List ℕ
+note_line before line = comment (below 32 before ++ codes "> " ++ line)
+
+abbrev pub note_head : List ℕ → List ℕ
+note_head before = comment (below 32 before ++ codes "documentation")
+
+abbrev pub note : List ℕ → List ℕ → List ℕ
+note before text = note_head before ++ flat_map (note_line before) (lines_of text)
+
+-- an occurrence, and the documentation behind it where it is a definition
+abbrev pub mark : List ℕ → List ℕ → List (List ℕ) → Occurrence → List ℕ
+mark before inside texts o = caret_line before inside o ++ cond (is_definition o) (flat_map (note before) texts) []
+
+abbrev pub mark_in : ColumnUnit → List ℕ → (List ℕ → List (List ℕ)) → Occurrence → List ℕ
+mark_in unit line documentation o =
+    mark (before_in unit line o.range) (inside_in unit line o.range) (documentation o.symbol) o
+
+-- ---- the text of a snapshot
+
+abbrev pub starts_on : ℕ → Occurrence → Bool
+starts_on number o = o.range.start_line == number
+
+-- A line of the source is behind two blanks, as wide as the sign of a comment.
+abbrev pub source_line : List ℕ → List ℕ
+source_line line = codes "  " ++ line ++ codes "\n"
+
+-- Below each line are the occurrences that begin on it.
+abbrev pub line_text : ColumnUnit → (List ℕ → List (List ℕ)) → List Occurrence → List ℕ → List ℕ
+line_text unit documentation occurrences line =
+    source_line line ++ flat_map (mark_in unit line documentation) occurrences
+
+abbrev pub text_of : ColumnUnit → (List ℕ → List (List ℕ)) → (ℕ → List Occurrence) → List (List ℕ) → List ℕ
+text_of unit documentation on lines =
+    flat_map (λ (l : ℕ × List ℕ). line_text unit documentation (on l.0) l.1) (enumerate_from 0 lines)
+
+-- the occurrences that begin on the line with a number, in the index's order
+abbrev pub beginning : List Occurrence → ℕ → List Occurrence
+beginning occurrences number = filter (starts_on number) occurrences
+
+-- the text, or the first occurrence that doesn't fit
+abbrev pub text_or_misfit : List ℕ → Option ℕ → Result (List ℕ) SnapshotFault
+text_or_misfit text None = Ok text
+text_or_misfit text (Some number) = Err (Misfit number)
+
+abbrev pub in_unit : Option ColumnUnit → (List ℕ → List (List ℕ)) → List Occurrence → List (List ℕ)
+    → Result (List ℕ) SnapshotFault
+in_unit None documentation occurrences lines = Err NoUnit
+in_unit (Some unit) documentation occurrences lines =
+    text_or_misfit (text_of unit documentation (beginning occurrences) lines) (misfit unit lines occurrences)
+
+abbrev pub in_document : Option Document → (List ℕ → List (List ℕ)) → List (List ℕ) → Result (List ℕ) SnapshotFault
+in_document None documentation lines = Err NoDocument
+in_document (Some d) documentation lines = in_unit (unit_of d.position_encoding) documentation d.occurrences lines
+
+-- The snapshot of the document with a number, with its source; or why it has none.
+abbrev pub snapshot_of : Index → ℕ → List ℕ → Result (List ℕ) SnapshotFault
+snapshot_of index number source =
+    in_document (slice_get index.documents number) (documentation_in index number) (lines_of source)

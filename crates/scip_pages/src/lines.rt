@@ -1,0 +1,103 @@
+//! Lines of a source, ranges that fit it, and the occurrences that begin on each line.
+
+ghost use Rattle.std.specs.Prelude.{◌≡◌, ◌<◌, ◌++◌, [], ◌∷◌, ◌==◌, ℕ, List, length, map, filter, cond, IfOk, OnOk};
+ghost use Rattle.std.specs.Borrow.{Bor};
+ghost use Rattle.std.specs.List.{All};
+ghost use Rattle.scip_pages.specs.Snapshot as spec;
+ghost use Rattle.scip_pages.specs.Listed.{listed_on};
+
+use crate::columns::{ColumnUnit, offset_of};
+use scip_model::{Occurrence, Range};
+use std::alloc::{AllocError, Global};
+
+/// The lines of a text: what is between its `\n`, and before and behind them.
+pub(crate) fn lines_of(alloc: Global, text: &str) -> Result<Vec<&str>, AllocError>
+    ensures { IfOk result (λ lines. map (λ (line : Bor (List ℕ)). line.now) lines.items ≡ spec.lines_of text.now) }
+{
+    text.split('\n').collect(alloc)
+}
+
+/// The offset of a column of the line with a number.
+fn offset_at(unit: ColumnUnit, lines: &[&str], line: u32, column: u32) -> Option<usize>
+    ensures { result ≡ spec.offset_at unit (map (λ (l : Bor (List ℕ)). l.now) lines.now) line column }
+{
+    match lines.get(line as usize) {
+        Some(text) => offset_of(unit, text.as_bytes(), column),
+        None => None,
+    }
+}
+
+/// Whether a range has both its places, and begins no later than it ends.
+fn is_ordered(range: Range, from: Option<usize>, to: Option<usize>) -> bool
+    ensures { result ≡ spec.is_ordered range from to }
+{
+    match (from, to) {
+        (Some(from), Some(to)) => {
+            range.start_line() < range.end_line()
+                || (range.start_line() == range.end_line() && from <= to)
+        }
+        _ => false,
+    }
+}
+
+/// Whether the range of an occurrence is one of a source.
+fn fits(unit: ColumnUnit, lines: &[&str], occurrence: &Occurrence) -> bool
+    ensures { result ≡ spec.fits unit (map (λ (l : Bor (List ℕ)). l.now) lines.now) occurrence.now }
+{
+    let range = occurrence.range;
+    let from = offset_at(unit, lines, range.start_line(), range.start_column());
+    let to = offset_at(unit, lines, range.end_line(), range.end_column());
+    is_ordered(range, from, to)
+}
+
+/// The number of the first occurrence whose range isn't one of a source.
+pub(crate) fn misfit(unit: ColumnUnit, lines: &[&str], occurrences: &[Occurrence]) -> Option<usize>
+    ensures { result ≡ spec.misfit unit (map (λ (l : Bor (List ℕ)). l.now) lines.now) occurrences.now }
+{
+    for (number, occurrence) in occurrences.iter().enumerate() {
+        if !fits(unit, lines, occurrence) {
+            return Some(number);
+        }
+    }
+    None
+}
+
+/// Empty lists, so many.
+fn empty_lists<'a>(alloc: Global, count: usize) -> Result<Vec<Vec<&'a Occurrence>>, AllocError>
+    ensures count { IfOk result (λ table. length table.items ≡ count) }
+    ensures empty { IfOk result (λ table. All (λ listed. listed.items ≡ []) table.items) }
+{
+    let mut table = Vec::with_capacity(alloc, count)?;
+    for _ in 0..count {
+        table.push(Vec::new(alloc))?;
+    }
+    Ok(table)
+}
+
+/// Appends an occurrence to the list of the line on which it begins.
+fn add<'a>(table: &mut [Vec<&'a Occurrence>], occurrence: &'a Occurrence) -> Result<(), AllocError>
+    ensures count { length table.new ≡ length table.old }
+    ensures listed { OnOk result ((number : ℕ) → number < length table.old → listed_on table.new number ≡ listed_on table.old number ++ cond (spec.starts_on number occurrence.now) (occurrence.now ∷ []) []) }
+{
+    let line = occurrence.range.start_line() as usize;
+    if line < table.len() {
+        table[line].push(occurrence)?;
+    }
+    Ok(())
+}
+
+/// For each of so many lines the occurrences that begin on it.
+pub(crate) fn by_line<'a>(
+    alloc: Global,
+    count: usize,
+    occurrences: &'a [Occurrence],
+) -> Result<Vec<Vec<&'a Occurrence>>, AllocError>
+    ensures count { IfOk result (λ table. length table.items ≡ count) }
+    ensures listed { IfOk result (λ table. (number : ℕ) → number < count → listed_on table.items number ≡ filter (spec.starts_on number) occurrences.now) }
+{
+    let mut table = empty_lists(alloc, count)?;
+    for occurrence in occurrences {
+        add(&mut table, occurrence)?;
+    }
+    Ok(table)
+}

@@ -1,0 +1,355 @@
+//! Snapshots of documents.
+
+ghost use Rattle.std.specs.Prelude.{◌≡◌, ◌++◌, ℕ, List, map, Some, OnOk, IfOk, option_copied};
+ghost use Rattle.std.specs.Borrow.{Bor};
+ghost use Rattle.std.specs.List.{flat_map, slice_get};
+ghost use Rattle.scip_model.specs.declared.records.Occurrence.{Occurrence};
+ghost use Rattle.scip_query.specs.References.{is_definition};
+ghost use Rattle.scip_query.specs.BySymbol.{documentation_in};
+ghost use Rattle.scip_pages.specs.Columns.{unit_of};
+ghost use Rattle.scip_pages.specs.Snapshot as spec;
+ghost use Rattle.scip_pages.specs.Listed.{listed_on, listed_or_none};
+ghost use Rattle.scip_pages.specs.SnapshotOutcomes.{Gives};
+
+use crate::code::cut;
+use crate::columns::{ColumnUnit, is_first_byte, offset_of, unit_of};
+use crate::lines::{by_line, lines_of, misfit};
+use crate::snapshot_fault::SnapshotFault;
+use scip_model::{Document, Occurrence, Range};
+use scip_query::Queries;
+use std::alloc::{AllocError, Global};
+
+/// The role of a definition (`scip.proto`, `SymbolRole`).
+const DEFINITION: i32 = 1;
+
+/// The role of an import.
+const IMPORT: i32 = 2;
+
+/// Appends what is below a byte of a line.
+fn push_below_byte(text: &mut Vec<u8>, sign: u8, byte: u8) -> Result<(), AllocError>
+    ensures { OnOk result (text.new.items ≡ text.old.items ++ spec.below_byte sign byte) }
+{
+    if byte == b'\t' {
+        text.extend_from_slice(b"\t")
+    } else if is_first_byte(byte) {
+        text.extend_from_slice(&[sign])
+    } else {
+        Ok(())
+    }
+}
+
+/// Appends a sign below each character, and a tab below a tab.
+fn push_below(text: &mut Vec<u8>, sign: u8, bytes: &[u8]) -> Result<(), AllocError>
+    ensures { OnOk result (text.new.items ≡ text.old.items ++ spec.below sign bytes.now) }
+{
+    for byte in bytes {
+        push_below_byte(text, sign, *byte)?;
+    }
+    Ok(())
+}
+
+/// Appends a text, with blanks for its line feeds.
+fn push_flat(text: &mut Vec<u8>, bytes: &[u8]) -> Result<(), AllocError>
+    ensures { OnOk result (text.new.items ≡ text.old.items ++ map spec.flat_byte bytes.now) }
+{
+    for byte in bytes {
+        let shown = if *byte == b'\n' { b' ' } else { *byte };
+        text.extend_from_slice(&[shown])?;
+    }
+    Ok(())
+}
+
+/// Whether an occurrence is a definition.
+fn is_definition(occurrence: &Occurrence) -> bool
+    ensures { result ≡ is_definition occurrence.now }
+{
+    occurrence.symbol_roles & DEFINITION != 0
+}
+
+/// What an occurrence is to its symbol.
+fn role_of(occurrence: &Occurrence) -> &'static str
+    ensures { result.now ≡ spec.role_of occurrence.now }
+{
+    if is_definition(occurrence) {
+        "definition"
+    } else if occurrence.symbol_roles & IMPORT != 0 {
+        "import"
+    } else {
+        "reference"
+    }
+}
+
+/// Appends carets, the role and the symbol of an occurrence.
+fn push_carets(
+    text: &mut Vec<u8>,
+    before: &[u8],
+    inside: &[u8],
+    occurrence: &Occurrence,
+) -> Result<(), AllocError>
+    ensures { OnOk result (text.new.items ≡ text.old.items ++ spec.caret_line before.now inside.now occurrence.now) }
+{
+    text.extend_from_slice(b"//")?;
+    push_below(text, b' ', before)?;
+    push_below(text, b'^', inside)?;
+    text.extend_from_slice(b" ")?;
+    text.extend_from_slice(role_of(occurrence).as_bytes())?;
+    text.extend_from_slice(b" ")?;
+    push_flat(text, occurrence.symbol.as_str().as_bytes())?;
+    text.extend_from_slice(b"\n")
+}
+
+/// Appends a line of documentation.
+fn push_note_line(text: &mut Vec<u8>, before: &[u8], line: &str) -> Result<(), AllocError>
+    ensures { OnOk result (text.new.items ≡ text.old.items ++ spec.note_line before.now line.now) }
+{
+    text.extend_from_slice(b"//")?;
+    push_below(text, b' ', before)?;
+    text.extend_from_slice(b"> ")?;
+    text.extend_from_slice(line.as_bytes())?;
+    text.extend_from_slice(b"\n")
+}
+
+/// Appends lines of documentation.
+fn push_note_lines(text: &mut Vec<u8>, before: &[u8], lines: &[&str]) -> Result<(), AllocError>
+    ensures { OnOk result (text.new.items ≡ text.old.items ++ flat_map (spec.note_line before.now) (map (λ (line : Bor (List ℕ)). line.now) lines.now)) }
+{
+    for line in lines {
+        push_note_line(text, before, *line)?;
+    }
+    Ok(())
+}
+
+/// Appends what is before a text of documentation.
+fn push_note_head(text: &mut Vec<u8>, before: &[u8]) -> Result<(), AllocError>
+    ensures { OnOk result (text.new.items ≡ text.old.items ++ spec.note_head before.now) }
+{
+    text.extend_from_slice(b"//")?;
+    push_below(text, b' ', before)?;
+    text.extend_from_slice(b"documentation")?;
+    text.extend_from_slice(b"\n")?;
+    Ok(())
+}
+
+/// Appends a text of documentation.
+fn push_note(
+    alloc: Global,
+    text: &mut Vec<u8>,
+    before: &[u8],
+    documentation: &str,
+) -> Result<(), AllocError>
+    ensures { OnOk result (text.new.items ≡ text.old.items ++ spec.note before.now documentation.now) }
+{
+    push_note_head(text, before)?;
+    let lines = lines_of(alloc, documentation)?;
+    push_note_lines(text, before, lines.as_slice())
+}
+
+/// Appends texts of documentation.
+fn push_notes(
+    alloc: Global,
+    text: &mut Vec<u8>,
+    before: &[u8],
+    texts: &[&str],
+) -> Result<(), AllocError>
+    ensures { OnOk result (text.new.items ≡ text.old.items ++ flat_map (spec.note before.now) (map (λ (t : Bor (List ℕ)). t.now) texts.now)) }
+{
+    for documentation in texts {
+        push_note(alloc, text, before, *documentation)?;
+    }
+    Ok(())
+}
+
+/// What of a line is before a range that begins on it, and what is in the range.
+fn parts_of(unit: ColumnUnit, line: &[u8], range: Range) -> (&[u8], &[u8])
+    ensures before { result.0.now ≡ spec.before_in unit line.now range }
+    ensures inside { result.1.now ≡ spec.inside_in unit line.now range }
+{
+    let start = offset_of(unit, line, range.start_column()).unwrap_or(0);
+    let end = if range.start_line() == range.end_line() {
+        offset_of(unit, line, range.end_column()).unwrap_or(0)
+    } else {
+        line.len()
+    };
+    cut(cut(line, end).0, start)
+}
+
+/// A document of an index, as its snapshot is written.
+#[derive(Clone, Copy)]
+struct Shown<'a> {
+    queries: &'a Queries,
+    number: usize,
+    unit: ColumnUnit,
+}
+
+/// Appends an occurrence below the line on which it begins.
+fn push_mark(
+    alloc: Global,
+    text: &mut Vec<u8>,
+    shown: &Shown<'_>,
+    line: &[u8],
+    occurrence: &Occurrence,
+) -> Result<(), AllocError>
+    ensures { OnOk result (text.new.items ≡ text.old.items ++ spec.mark_in shown.now.unit line.now (documentation_in shown.now.queries.now shown.now.number) occurrence.now) }
+{
+    let (before, inside) = parts_of(shown.unit, line, occurrence.range);
+    push_carets(text, before, inside, occurrence)?;
+    if !is_definition(occurrence) {
+        return Ok(());
+    }
+    let symbol = occurrence.symbol.as_str();
+    let texts = shown.queries.documentation_in(alloc, shown.number, symbol)?;
+    push_notes(alloc, text, before, texts.as_slice())
+}
+
+/// Appends occurrences below a line.
+fn push_marks(
+    alloc: Global,
+    text: &mut Vec<u8>,
+    shown: &Shown<'_>,
+    line: &[u8],
+    occurrences: &[&Occurrence],
+) -> Result<(), AllocError>
+    ensures { OnOk result (text.new.items ≡ text.old.items ++ flat_map (spec.mark_in shown.now.unit line.now (documentation_in shown.now.queries.now shown.now.number)) (map (λ (o : Bor Occurrence). o.now) occurrences.now)) }
+{
+    for occurrence in occurrences {
+        push_mark(alloc, text, shown, line, *occurrence)?;
+    }
+    Ok(())
+}
+
+/// Appends a line, and below it the occurrences that are listed.
+fn push_line(
+    alloc: Global,
+    text: &mut Vec<u8>,
+    shown: &Shown<'_>,
+    line: &[u8],
+    listed: Option<&Vec<&Occurrence>>,
+) -> Result<(), AllocError>
+    ensures { OnOk result (text.new.items ≡ text.old.items ++ spec.line_text shown.now.unit (documentation_in shown.now.queries.now shown.now.number) (listed_or_none (option_copied listed.entry)) line.now) }
+{
+    text.extend_from_slice(b"  ")?;
+    text.extend_from_slice(line)?;
+    text.extend_from_slice(b"\n")?;
+    match listed {
+        Some(occurrences) => push_marks(alloc, text, shown, line, occurrences.as_slice()),
+        None => Ok(()),
+    }
+}
+
+/// What a table lists for the line with a number.
+fn listed<'a, 'b>(
+    table: &'b [Vec<&'a Occurrence>],
+    number: usize,
+) -> Option<&'b Vec<&'a Occurrence>>
+    ensures { option_copied result ≡ slice_get table.now number }
+{
+    table.get(number)
+}
+
+/// Appends lines, each with what is below it.
+fn push_lines(
+    alloc: Global,
+    text: &mut Vec<u8>,
+    shown: &Shown<'_>,
+    lines: &[&str],
+    table: &[Vec<&Occurrence>],
+) -> Result<(), AllocError>
+    ensures { OnOk result (text.new.items ≡ text.old.items ++ spec.text_of shown.now.unit (documentation_in shown.now.queries.now shown.now.number) (listed_on table.now) (map (λ (l : Bor (List ℕ)). l.now) lines.now)) }
+{
+    for (number, line) in lines.iter().enumerate() {
+        push_line(alloc, text, shown, line.as_bytes(), listed(table, number))?;
+    }
+    Ok(())
+}
+
+/// The text of a snapshot whose ranges fit.
+fn text_of(
+    alloc: Global,
+    shown: &Shown<'_>,
+    occurrences: &[Occurrence],
+    lines: &[&str],
+) -> Result<Vec<u8>, AllocError>
+    ensures { IfOk result (λ text. text.items ≡ spec.text_of shown.now.unit (documentation_in shown.now.queries.now shown.now.number) (spec.beginning occurrences.now) (map (λ (l : Bor (List ℕ)). l.now) lines.now)) }
+{
+    let table = by_line(alloc, lines.len(), occurrences)?;
+    let mut text = Vec::new(alloc);
+    push_lines(alloc, &mut text, shown, lines, table.as_slice())?;
+    Ok(text)
+}
+
+/// The snapshot of a document with the lines of its source.
+fn snapshot_of_lines(
+    alloc: Global,
+    shown: &Shown<'_>,
+    occurrences: &[Occurrence],
+    lines: &[&str],
+) -> Result<Vec<u8>, SnapshotFault>
+    ensures { Gives (λ text. text.items) result (spec.in_unit (Some shown.now.unit) (documentation_in shown.now.queries.now shown.now.number) occurrences.now (map (λ (l : Bor (List ℕ)). l.now) lines.now)) }
+{
+    match misfit(shown.unit, lines, occurrences) {
+        Some(number) => Err(SnapshotFault::Misfit(number)),
+        None => Ok(text_of(alloc, shown, occurrences, lines)?),
+    }
+}
+
+/// The snapshot of a document whose unit is known.
+fn snapshot_in(
+    alloc: Global,
+    shown: &Shown<'_>,
+    occurrences: &[Occurrence],
+    source: &str,
+) -> Result<Vec<u8>, SnapshotFault>
+    ensures { Gives (λ text. text.items) result (spec.in_unit (Some shown.now.unit) (documentation_in shown.now.queries.now shown.now.number) occurrences.now (spec.lines_of source.now)) }
+{
+    let lines = lines_of(alloc, source)?;
+    snapshot_of_lines(alloc, shown, occurrences, lines.as_slice())
+}
+
+/// What a document's columns count.
+fn unit_in(document: &Document) -> Option<ColumnUnit>
+    ensures { result ≡ unit_of document.now.position_encoding }
+{
+    unit_of(document.position_encoding)
+}
+
+/// The snapshot of a document.
+fn snapshot_for(
+    alloc: Global,
+    queries: &Queries,
+    number: usize,
+    document: &Document,
+    source: &str,
+) -> Result<Vec<u8>, SnapshotFault>
+    ensures { Gives (λ text. text.items) result (spec.in_document (Some document.now) (documentation_in queries.now number) (spec.lines_of source.now)) }
+{
+    match unit_in(document) {
+        Some(unit) => {
+            let shown = Shown {
+                queries,
+                number,
+                unit,
+            };
+            snapshot_in(alloc, &shown, document.occurrences.as_slice(), source)
+        }
+        None => Err(SnapshotFault::NoUnit),
+    }
+}
+
+/// The snapshot of the document with a number, whose source this is: each line of the source behind
+/// two blanks, and below it for each occurrence that begins there a line with the sign of a comment
+/// `//`, carets below what it covers (of a range over several lines to the end of the first), its
+/// role, `definition`, `import` or `reference`, and its symbol. Behind a definition is its
+/// documentation. A sign is below each character, and a tab below each tab.
+pub fn snapshot(
+    alloc: Global,
+    queries: &Queries,
+    number: usize,
+    source: &str,
+) -> Result<Vec<u8>, SnapshotFault>
+    ensures { Gives (λ text. text.items) result (spec.snapshot_of queries.now number source.now) }
+{
+    match queries.documents().get(number) {
+        Some(document) => snapshot_for(alloc, queries, number, document, source),
+        None => Err(SnapshotFault::NoDocument),
+    }
+}

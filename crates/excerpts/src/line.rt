@@ -1,11 +1,21 @@
 //! The line of a place.
 
-ghost use Rattle.std.specs.Prelude.{◌≡◌, ◌+◌, ◌≤◌, ◌++◌, OnOk, length, take, drop, not};
+ghost use Rattle.std.specs.Prelude.{◌≡◌, ◌+◌, ◌≤◌, ◌++◌, [], ◌∷◌, MatchOption, OnOk, false, length, take, drop, not};
 ghost use Rattle.std.specs.List.{after_last, before_first, count_by, prefix_len, suffix_len};
 ghost use Rattle.std.specs.String.{string_bytes};
-ghost use Rattle.proto_lex.specs.Bytes.{is_word};
+ghost use Rattle.proto_lex.specs.Bytes.{is_quote, is_word};
 ghost use Rattle.proto_lex.specs.Position.{is_line_end};
-ghost use Rattle.excerpts.specs.Places.{place_text, token_len, without_return};
+ghost use Rattle.excerpts.specs.Characters.{characters};
+ghost use Rattle.excerpts.specs.Places.{
+  closes,
+  closing_len,
+  escapes,
+  first_len,
+  place_text,
+  sign_len,
+  token_len,
+  without_return,
+};
 
 use crate::characters::{count_characters, first_character};
 use std::alloc::AllocError;
@@ -93,23 +103,98 @@ pub(crate) fn first_line(text: &[u8]) -> &[u8]
 
 /// How many letters, digits and `_` the bytes begin with.
 fn word_len(bytes: &[u8]) -> usize
-    ensures { result ≡ prefix_len is_word bytes.now }
+    ensures value { result ≡ prefix_len is_word bytes.now }
+    ensures within { result ≤ length bytes.now }
 {
     bytes.iter().take_while(|byte| is_word(**byte)).count()
 }
 
-/// How many bytes the token has with which they begin: letters, digits and `_`, or else one character.
-pub fn token_len(bytes: &[u8]) -> usize
-    ensures { result ≡ token_len bytes.now }
+/// Whether the byte opens a string literal.
+fn is_quote(byte: u8) -> bool
+    ensures { result ≡ is_quote byte }
 {
-    let len = word_len(bytes);
-    if len > 0 {
-        return len;
+    matches!(byte, b'"' | b'\'')
+}
+
+/// Whether the byte of a string literal escapes the one behind it.
+fn escapes(escaped: bool, byte: u8) -> bool
+    ensures { result ≡ escapes escaped byte }
+{
+    !escaped && byte == b'\\'
+}
+
+/// Whether the byte closes a string literal.
+fn closes(quote: u8, escaped: bool, byte: u8) -> bool
+    ensures { result ≡ closes quote escaped byte }
+{
+    !escaped && byte == quote
+}
+
+/// The first byte, and those behind it.
+fn first_byte(bytes: &[u8]) -> Option<(u8, &[u8])>
+    ensures { MatchOption result (bytes.now ≡ []) (λ parts. bytes.now ≡ parts.0 ∷ parts.1.now) }
+{
+    match bytes {
+        [] => None,
+        [first, others @ ..] => Some((*first, others)),
     }
+}
+
+/// How many bytes a string literal has behind its opening quote: up to its closing one, or all.
+fn closing_len(quote: u8, others: &[u8]) -> usize
+    ensures len { result ≡ closing_len quote false others.now }
+    ensures within { result ≤ length others.now }
+{
+    let mut rest = others;
+    let mut count = 0;
+    let mut escaped = false;
+    'bytes: while let Some((byte, behind)) = first_byte(rest) {
+        count += 1;
+        if closes(quote, escaped, byte) {
+            return count;
+        }
+        escaped = escapes(escaped, byte);
+        rest = behind;
+    }
+    count
+}
+
+/// How many bytes the first character has.
+fn first_len(bytes: &[u8]) -> usize
+    ensures len { result ≡ first_len (characters bytes.now) }
+    ensures within { result ≤ length bytes.now }
+{
     match first_character(bytes) {
         Some((character, _)) => character.len(),
         None => 0,
     }
+}
+
+/// How many bytes the string literal has with which they begin, or else their first character.
+fn sign_len(bytes: &[u8]) -> usize
+    ensures len { result ≡ sign_len bytes.now }
+    ensures within { result ≤ length bytes.now }
+{
+    match first_byte(bytes) {
+        Some((byte, others)) => {
+            if is_quote(byte) {
+                1 + closing_len(byte, others)
+            } else {
+                first_len(bytes)
+            }
+        }
+        None => 0,
+    }
+}
+
+/// How many bytes the token has with which they begin: letters, digits and `_`, or a string literal, or else
+/// one character.
+pub fn token_len(bytes: &[u8]) -> usize
+    ensures len { result ≡ token_len bytes.now }
+    ensures within { result ≤ length bytes.now }
+{
+    let len = word_len(bytes);
+    if len > 0 { len } else { sign_len(bytes) }
 }
 
 /// Appends the place of an offset: `PATH:LINE:COLUMN: `.

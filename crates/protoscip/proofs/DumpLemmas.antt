@@ -36,7 +36,7 @@ use Rattle.protoscip.specs.Writing.{IsReadBack}
 use Rattle.protoscip.specs.Output.{Writes}
 use Rattle.protoscip.specs.DumpText.{dump_text}
 use Rattle.protoscip.specs.Dump.{source_path, dump_tree, dump_settings, default_choices, IsListing, IsRefusal, Dumps}
-use Rattle.protoscip.specs.Dump.{LeavesWriter, IsDumped}
+use Rattle.protoscip.specs.Dump.{LeavesWriter, IsDumped, IsTreeOfFault, IsTreeOfSource}
 use Rattle.protoscip.specs.declared.fault.Fault.{Fault}
 use Rattle.protoscip.specs.declared.fault.Fault.TheVariants as fault
 use Rattle.protoscip.proofs.FileLemmas.{files_of_build}
@@ -209,7 +209,7 @@ module _ (custom : CustomOptions) (bytes : List ℕ) where
   refused_writer W contents failures out due (fault.Answer count) is = refl
 
   -- and of no other file
-  pub dump_files : (e : Fault) → IsRefusal custom bytes e → HasFilesOf (dump_tree []) e
+  pub dump_files : (e : Fault) → IsRefusal custom bytes e → HasFilesOf (dump_tree bytes) e
   dump_files fault.Spawn is = tt
   dump_files fault.Memory is = tt
   dump_files (fault.Lex number e) is =
@@ -255,3 +255,38 @@ module _ {R W : Type 0} (remaining : R → Option (List ℕ)) (contents : W → 
 
   pub starved_dumped : IsDumped remaining contents failures custom reader out out (Err fault.Memory)
   starved_dumped = record { due = []; writer = refl; some = ([], tt); told = λ bytes known. tt }
+
+-- the tree of a source has the same files, whatever it holds
+pub any_dump_files : (e : Fault) (bytes others : List ℕ) → HasFilesOf (dump_tree bytes) e
+    → HasFilesOf (dump_tree others) e
+any_dump_files fault.Spawn bytes others has = has
+any_dump_files fault.Memory bytes others has = has
+any_dump_files (fault.Lex number e) bytes others has = has
+any_dump_files (fault.Syntax number e) bytes others has = has
+any_dump_files (fault.Duplicate first second) bytes others has = has
+any_dump_files (fault.MissingImport place) bytes others has = has
+any_dump_files (fault.Unresolved place) bytes others has = has
+any_dump_files fault.TooLarge bytes others has = has
+any_dump_files (fault.Write count) bytes others has = has
+any_dump_files fault.Read bytes others has = has
+any_dump_files (fault.Answer count) bytes others has = has
+
+-- a source that was read has the tree in which any fault has its places
+module _ {R : Type 0} (remaining : R → Option (List ℕ)) (reader : R) (tree : List TreeFile) where
+  pub tree_of_fault : (e : Fault) → IsTreeOfSource remaining reader tree → IsTreeOfFault remaining reader tree e
+  tree_of_fault fault.Spawn is = is
+  tree_of_fault fault.Memory is = tt
+  tree_of_fault (fault.Lex number e) is = is
+  tree_of_fault (fault.Syntax number e) is = is
+  tree_of_fault (fault.Duplicate first second) is = is
+  tree_of_fault (fault.MissingImport place) is = is
+  tree_of_fault (fault.Unresolved place) is = is
+  tree_of_fault fault.TooLarge is = is
+  tree_of_fault (fault.Write count) is = is
+  tree_of_fault fault.Read is = tt
+  tree_of_fault (fault.Answer count) is = is
+
+  pub tree_of_done : (done : Result (Unit {0}) Fault) → IsTreeOfSource remaining reader tree
+      → IfErr done (IsTreeOfFault remaining reader tree)
+  tree_of_done (Ok done) is = tt
+  tree_of_done (Err e) is = tree_of_fault e is

@@ -6,6 +6,8 @@ mod FileLemmas
 -- the listing of one source
 mod DumpTreeLemmas
 mod DumpLemmas
+-- explanations of faults
+mod ExplainingLemmas
 -- answers to commands
 mod SessionLemmas
 -- the laws

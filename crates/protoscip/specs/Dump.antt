@@ -7,6 +7,7 @@ use Rattle.proto_decl.specs.Seen.{Seen}
 use Rattle.index_hooks.specs.declared.choice.Choice.{Choice}
 use Rattle.index_hooks.specs.MayChoose.{IsDefaultChoice}
 use Rattle.source_tree.specs.Files.{TreeFile}
+use Rattle.source_tree.specs.Reading.{kept_bytes}
 use Rattle.scip_document.specs.Chosen.{Chosen}
 use Rattle.streams.specs.WholeReads.{IsReadFault, IsReadThrough}
 use Rattle.streams.specs.WholeWrites.{IsWritten, IsCutOff}
@@ -80,3 +81,17 @@ pub record IsDumped {R W : Type 0} (remaining : R → Option (List ℕ)) (conten
   pub writer : LeavesWriter contents failures before after due done
   pub some : (bytes : List ℕ) × Dumps custom bytes due done
   pub told : (bytes : List ℕ) → remaining reader ≡ Some bytes → Dumps custom bytes due done
+
+-- The tree is that of what was kept of a source: of the bytes which the reader tells that it has left; where it tells
+-- none, of some bytes.
+pub record IsTreeOfSource {R : Type 0} (remaining : R → Option (List ℕ)) (reader : R) (tree : List TreeFile) : Type 0
+  where
+    pub kept : List ℕ
+    pub tree_is : tree ≡ dump_tree kept
+    pub told : (bytes : List ℕ) → remaining reader ≡ Some bytes → kept ≡ kept_bytes bytes
+
+-- the tree in which a dump's fault has its places; any tree where the source wasn't read, or memory ran out
+abbrev pub IsTreeOfFault : {R : Type 0} → (remaining : R → Option (List ℕ)) → R → List TreeFile → Fault → Type 0
+IsTreeOfFault remaining reader tree Read = Unit {0}
+IsTreeOfFault remaining reader tree Memory = Unit {0}
+IsTreeOfFault remaining reader tree fault = IsTreeOfSource remaining reader tree

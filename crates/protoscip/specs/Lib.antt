@@ -5,6 +5,8 @@ pub mod Faults
 pub mod Lines
 pub mod FaultLines
 pub mod Statuses
+-- what is added to that line where it is to be explained
+pub mod Explanations
 -- the index of a tree and its bytes
 pub mod Indexes
 pub mod Writing

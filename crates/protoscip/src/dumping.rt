@@ -1,9 +1,17 @@
 //! From a source's bytes to the listing of its occurrences.
 
-ghost use Rattle.std.specs.Prelude.{◌≡◌, [], IfOk, IfErr, MatchResult};
+ghost use Rattle.std.specs.Prelude.{◌≡◌, ℕ, List, [], IfOk, IfErr, MatchResult, OnOk};
 ghost use Rattle.std.specs.String.{string_bytes};
 ghost use Rattle.streams.specs.WholeReads.{IsReadBriefly};
-ghost use Rattle.protoscip.specs.Dump.{dump_tree, dump_settings, IsListing, IsRefusal, IsDumped, LeavesReader};
+ghost use Rattle.protoscip.specs.Dump.{
+  dump_tree,
+  dump_settings,
+  IsDumped,
+  IsListing,
+  IsRefusal,
+  IsTreeOfFault,
+  LeavesReader,
+};
 ghost use Rattle.protoscip.specs.FaultLines.{HasFilesOf};
 
 use crate::fault::Fault;
@@ -79,30 +87,56 @@ fn one_worker() -> Workers
     Workers::new(1).unwrap()
 }
 
-/// The listing of a source.
+/// The listing of a source, by the tree of its dump.
 fn listing_of<R: Threads + Wait>(
     rt: &R,
     alloc: Global,
     custom: CustomOptions,
-    bytes: Vec<u8>,
+    tree: &Tree,
 ) -> Result<String, Fault>
-    ensures { MatchResult result (λ listing. IsListing custom bytes.items (string_bytes listing)) (IsRefusal custom bytes.items) }
+    ensures { (bytes : List ℕ) → tree.now ≡ dump_tree bytes → MatchResult result
+        (λ listing. IsListing custom bytes (string_bytes listing)) (IsRefusal custom bytes) }
 {
-    let tree = dump_tree(alloc, bytes)?;
     let settings = dump_settings(alloc, custom)?;
     let worker = one_worker();
-    let built = build(
-        rt,
-        alloc,
-        &tree,
-        &DefaultChoices,
-        worker,
-        &settings,
-        &NoGate,
-    )?;
+    let built = build(rt, alloc, tree, &DefaultChoices, worker, &settings, &NoGate)?;
     let index = read_back(alloc, built.index)?;
     let listing = dump_text(alloc, &index)?;
     Ok(listing)
+}
+
+/// Makes a tree that of these bytes.
+fn keep_source(alloc: Global, bytes: Vec<u8>, tree: &mut Tree) -> Result<(), AllocError>
+    ensures { OnOk result (tree.new ≡ dump_tree bytes.items) }
+{
+    *tree = dump_tree(alloc, bytes)?;
+    Ok(())
+}
+
+/// Dumps a source, as `dump` does, and hands out its tree in place of another: that in which a fault has its
+/// places.
+pub fn dump_and_keep<R: Threads + Wait, F: Feed, W: Sink>(
+    rt: &R,
+    alloc: Global,
+    custom: CustomOptions,
+    source: &mut F,
+    tree: &mut Tree,
+    out: &mut W,
+) -> Result<(), Fault>
+    ensures dumped { IsDumped F.remaining W.contents W.failures custom source.old out.old out.new result }
+    ensures tree { IfErr result (IsTreeOfFault F.remaining source.old tree.new) }
+    ensures files { IfErr result (HasFilesOf tree.new) }
+    ensures alone { IfErr result (HasFilesOf (dump_tree [])) }
+    ensures reader { LeavesReader F.failures F.reads F.ends source.old source.new result }
+    ensures briefly { IsReadBriefly F.reads source.old source.new }
+{
+    let bytes = match read_source(alloc, source)? {
+        Some(bytes) => bytes,
+        None => return Err(Fault::Read),
+    };
+    keep_source(alloc, bytes, tree)?;
+    let listing = listing_of(rt, alloc, custom, tree)?;
+    write_text(out, listing.as_str())
 }
 
 /// Reads a source to its end, and writes a line for each occurrence of its index: it is a tree of
@@ -124,10 +158,6 @@ pub fn dump<R: Threads + Wait, F: Feed, W: Sink>(
     ensures reader { LeavesReader F.failures F.reads F.ends source.old source.new result }
     ensures briefly { IsReadBriefly F.reads source.old source.new }
 {
-    let bytes = match read_source(alloc, source)? {
-        Some(bytes) => bytes,
-        None => return Err(Fault::Read),
-    };
-    let listing = listing_of(rt, alloc, custom, bytes)?;
-    write_text(out, listing.as_str())
+    let mut tree = dump_tree(alloc, Vec::new(alloc))?;
+    dump_and_keep(rt, alloc, custom, source, &mut tree, out)
 }

@@ -40,7 +40,7 @@ pub fn fault_line(alloc: Global, tree: &Tree, fault: &Fault) -> Result<String, A
 }
 
 /// The path of a file.
-fn path_of(tree: &Tree, file: usize) -> &str
+pub(crate) fn path_of(tree: &Tree, file: usize) -> &str
     requires { HasFile tree.now file }
     ensures { result.now ≡ path_of tree.now file }
 {

@@ -18,13 +18,16 @@ mod reading_back;
 mod sessions;
 
 // Why a run stops.
+mod explaining;
 mod fault;
 mod fault_lines;
 mod lines;
+mod sentences;
 mod statuses;
 
 pub use answering::answer_commands;
-pub use dumping::{SOURCE_PATH, dump, dump_tree};
+pub use dumping::{SOURCE_PATH, dump, dump_and_keep, dump_tree};
+pub use explaining::fault_text;
 pub use fault::Fault;
 pub use fault_lines::fault_line;
 pub use indexing::{index_and_keep, index_tree};

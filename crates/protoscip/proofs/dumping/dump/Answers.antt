@@ -1,72 +1,9 @@
-use Rattle.std.proofs.Common.{◌∙◌, ap, subst, Ok, List, ℕ, []}
 use Rattle.std.proofs.lemmas.Result.{err_from_is_err_and}
-use Rattle.std.specs.String.{string_bytes}
-use Rattle.protoscip.specs.Dump.{IsRefusal, IsListing}
-use Rattle.protoscip.specs.Output.{Writes}
-use Rattle.protoscip.proofs.DumpLemmas.{refusal_of_all, listing_of_all, refused_dumps, refused_writer, dump_files}
-use Rattle.protoscip.proofs.DumpLemmas.{starved_dumped, unread_dumped, said_of_read, written_dumps, written_writer}
+use Rattle.protoscip.proofs.DumpLemmas.{starved_dumped}
 use Rattle.protoscip.proofs.dumping.dump.Goals as goal
 
--- where the source isn't read
-
-pub returns-in_err-bytes-clause-dumped : goal.returns-in_err-bytes-clause-dumped
-returns-in_err-bytes-clause-dumped g c =
+pub returns-in_err-tree-clause-dumped : goal.returns-in_err-tree-clause-dumped
+returns-in_err-tree-clause-dumped g c =
     let p = err_from_is_err_and c.from_residual.result c.from_residual.ensures.1 in
     rw (p.1, p.2) (starved_dumped g.F.Feed.remaining g.W.Sink.contents g.W.Sink.failures c.args.custom c.args.source.now
     c.args.out.now)
-
-pub returns-in-None-clause-dumped : goal.returns-in-None-clause-dumped
-returns-in-None-clause-dumped g c =
-    unread_dumped g.F.Feed.remaining g.W.Sink.contents g.W.Sink.failures c.args.custom c.args.source.now c.args.out.now
-
-pub returns-in-None-clause-reader : goal.returns-in-None-clause-reader
-returns-in-None-clause-reader g c = c.in_ok-bytes.ensures.read (ap Ok c.in-None.is)
-
--- where the source is refused
-
-pub returns-in_err-listing-clause-dumped : goal.returns-in_err-listing-clause-dumped
-returns-in_err-listing-clause-dumped g c =
-    let p = err_from_is_err_and c.from_residual-in_err-listing.result c.from_residual-in_err-listing.ensures.1 in
-    let e = c.in_err-listing.field-0.0 in
-    let bytes = c.in-Some.bytes.items in
-    let kept = said_of_read _ c.in_ok-bytes.field-0 c.in-Some.bytes c.in-Some.is c.in_ok-bytes.ensures.bytes in
-    rw (p.1, p.2) (record {
-      due = [];
-      writer = refused_writer c.args.custom bytes _ g.W.Sink.contents g.W.Sink.failures c.args.out.now [] e
-          c.in_err-listing.ensures;
-      some = (bytes, refused_dumps c.args.custom bytes [] e c.in_err-listing.ensures);
-      told = λ all known.
-          let refused = refusal_of_all c.args.custom all e
-          (subst (λ (b : List ℕ). IsRefusal c.args.custom b e) (kept all known) c.in_err-listing.ensures) in
-          refused_dumps c.args.custom all [] e refused;
-    })
-
-pub returns-in_err-listing-clause-files : goal.returns-in_err-listing-clause-files
-returns-in_err-listing-clause-files g c =
-    let p = err_from_is_err_and c.from_residual-in_err-listing.result c.from_residual-in_err-listing.ensures.1 in
-    rw (p.1, p.2) (dump_files c.args.custom c.in-Some.bytes.items c.in_err-listing.field-0.0 c.in_err-listing.ensures)
-
--- where the listing is written, or cut off
-
-pub returns-clause-dumped : goal.returns-clause-dumped
-returns-clause-dumped g c =
-    let due = string_bytes c.in_ok-listing.listing in
-    let wrote = subst (λ (t : List ℕ). Writes g.W.Sink.contents g.W.Sink.failures c.args.out.now c.write_text.new.out t
-    c.write_text.result) c.as_str.ensures.value c.write_text.ensures in
-    let bytes = c.in-Some.bytes.items in
-    let kept = said_of_read _ c.in_ok-bytes.field-0 c.in-Some.bytes c.in-Some.is c.in_ok-bytes.ensures.bytes in
-    record {
-      due = due;
-      writer = written_writer _ g.W.Sink.contents g.W.Sink.failures c.args.out.now c.write_text.new.out due
-          c.write_text.result wrote;
-      some = (
-        bytes,
-        written_dumps _ g.W.Sink.contents g.W.Sink.failures c.args.out.now c.write_text.new.out due
-            c.args.custom bytes c.write_text.result c.in_ok-listing.ensures wrote,
-      );
-      told = λ all known.
-          let is = listing_of_all c.args.custom all due
-          (subst (λ (b : List ℕ). IsListing c.args.custom b due) (kept all known) c.in_ok-listing.ensures) in
-          written_dumps _ g.W.Sink.contents g.W.Sink.failures c.args.out.now c.write_text.new.out due c.args.custom all
-          c.write_text.result is wrote;
-    }

@@ -1,0 +1,111 @@
+-- What is added to the line of a fault where it is to be explained: the place, a sentence, and the source's line.
+-- (The texts are this project's own.)
+use Rattle.std.specs.Prelude.{ℕ, ◌-◌, Bool, List, [], ◌++◌, Option, None, Some, take, drop, length, nat_eq, codes}
+use Rattle.std.specs.Prelude.{if◌then◌else◌}
+use Rattle.std.specs.List.{slice_get}
+use Rattle.std.specs.Option.{option_map, unwrap_or}
+use Rattle.excerpts.specs.Excerpts.{excerpt, quoted}
+use Rattle.excerpts.specs.Places.{place_text, token_len}
+use Rattle.proto_lex.specs.FaultNames.{lex_offset}
+use Rattle.proto_lex.specs.declared.fault.LexFault.{LexFault}
+use Rattle.proto_lex.specs.declared.fault.LexFault.TheVariants as lexing
+use Rattle.proto_parse.specs.FaultNames.{syntax_offset}
+use Rattle.proto_parse.specs.fault.SyntaxFault.{SyntaxFault}
+use Rattle.proto_parse.specs.fault.SyntaxFault.TheVariants as parsing
+use Rattle.proto_visibility.specs.declared.place.FilePlace.{FilePlace}
+use Rattle.source_tree.specs.Files.{TreeFile}
+use Rattle.protoscip.specs.FaultLines.{line_of, path_of}
+use Rattle.protoscip.specs.declared.fault.Fault.{Fault}
+use Rattle.protoscip.specs.declared.fault.Fault.TheVariants.{Spawn, Memory, Lex, Syntax, Duplicate, MissingImport}
+use Rattle.protoscip.specs.declared.fault.Fault.TheVariants.{Unresolved, TooLarge, Write, Read, Answer}
+
+-- ---- sentences
+
+abbrev pub lex_sentence : LexFault → List ℕ
+lex_sentence lexing.TooLong = codes "a source has at most 67108864 bytes"
+lex_sentence (lexing.NotUtf8 at) = codes "the bytes from here on aren't UTF-8"
+lex_sentence (lexing.BadByte at) = codes "this character can't be here"
+lex_sentence (lexing.OpenString at) = codes "this string has no end on its line"
+lex_sentence (lexing.OpenComment at) = codes "this comment has no `*/`"
+lex_sentence (lexing.BadEscape at) = codes "this backslash begins no escape"
+lex_sentence (lexing.BadNumber at) = codes "these letters and digits are no number"
+lex_sentence lexing.Memory = []
+
+abbrev pub syntax_sentence : SyntaxFault → List ℕ
+syntax_sentence (parsing.NotProto3 at) = codes "a source begins with `syntax = \"proto3\";`"
+syntax_sentence (parsing.CustomOption at) = codes "`--custom-options skip` reads past options with parentheses"
+syntax_sentence (parsing.Aggregate at) = codes "`--custom-options skip` reads past values in braces"
+syntax_sentence (parsing.Extend at) = codes "`--custom-options skip` reads past `extend`"
+syntax_sentence (parsing.TwoPackages at) = codes "a source has one package statement at most"
+syntax_sentence (parsing.ImportEscape at) = codes "an import's path is written without `\\`"
+syntax_sentence (parsing.TooDeep at) = codes "messages nest at most 64 deep"
+syntax_sentence (parsing.Grammar at) = codes "the grammar wants something else here"
+syntax_sentence parsing.Memory = []
+
+abbrev pub sentence_of : Fault → List ℕ
+sentence_of Spawn = codes "no thread could be started; `--workers 1` needs none"
+sentence_of Memory = []
+sentence_of (Lex number fault) = lex_sentence fault
+sentence_of (Syntax number fault) = syntax_sentence fault
+sentence_of (Duplicate first second) = codes "this full name is given already"
+sentence_of (MissingImport place) = codes "no source has this path, below ROOT or a folder that is included"
+sentence_of (Unresolved place) = codes "no type that this source sees has this name"
+sentence_of TooLarge = codes "an index has at most 2147483647 bytes"
+sentence_of (Write count) = codes "the output can't be made, or its disk is full, or nobody reads it"
+sentence_of Read = codes "standard input couldn't be read to its end"
+sentence_of (Answer count) = codes "the answers can't be written: the disk is full, or nobody reads them"
+
+-- of the first of two places with one full name
+abbrev pub first_sentence : List ℕ
+first_sentence = codes "it is given here"
+
+-- ---- places
+
+-- what the file with this number holds; nothing where there is none
+abbrev pub bytes_of : List TreeFile → ℕ → List ℕ
+bytes_of tree number = unwrap_or (option_map (λ (file : TreeFile). file.bytes) (slice_get tree number)) []
+
+-- a place of a file, a sentence about it, and its line, so many bytes of it marked
+abbrev pub explained : (path text : List ℕ) → (at len : ℕ) → (sentence : List ℕ) → List ℕ
+explained path text at len sentence = codes "\n" ++ place_text path text at ++ sentence ++ excerpt text at len
+
+-- with the token marked that begins there
+abbrev pub at_token : (path text : List ℕ) → Option ℕ → (sentence : List ℕ) → List ℕ
+at_token path text None sentence = []
+at_token path text (Some at) sentence = explained path text at (token_len (drop at text)) sentence
+
+-- the token that the parser met, by the bytes from it on
+abbrev pub met : List ℕ → List ℕ
+met bytes = if nat_eq (length bytes) 0 then codes "the text ends here: "
+    else codes "met " ++ quoted (take (token_len bytes) bytes) ++ codes ": "
+
+abbrev pub at_met : (path text : List ℕ) → Option ℕ → (sentence : List ℕ) → List ℕ
+at_met path text None sentence = []
+at_met path text (Some at) sentence = explained path text at (token_len (drop at text)) (met (drop at text) ++ sentence)
+
+abbrev pub at_place : List TreeFile → FilePlace → (sentence : List ℕ) → List ℕ
+at_place tree place sentence =
+    explained (path_of tree place.file) (bytes_of tree place.file) place.span.start
+    (place.span.end - place.span.start) sentence
+
+-- the second of two places with one full name, and then the first
+abbrev pub at_both : List TreeFile → (first second : FilePlace) → (sentence : List ℕ) → List ℕ
+at_both tree first second sentence = at_place tree second sentence ++ at_place tree first first_sentence
+
+-- ---- explanations
+
+-- It begins with a line end. Nothing is said of want of memory.
+abbrev pub explanation_of : List TreeFile → Fault → List ℕ
+explanation_of tree Memory = []
+explanation_of tree (Lex number fault) =
+    at_token (path_of tree number) (bytes_of tree number) (lex_offset fault) (lex_sentence fault)
+explanation_of tree (Syntax number fault) =
+    at_met (path_of tree number) (bytes_of tree number) (syntax_offset fault) (syntax_sentence fault)
+explanation_of tree (Duplicate first second) = at_both tree first second (sentence_of (Duplicate first second))
+explanation_of tree (MissingImport place) = at_place tree place (sentence_of (MissingImport place))
+explanation_of tree (Unresolved place) = at_place tree place (sentence_of (Unresolved place))
+explanation_of tree fault = codes "\n" ++ sentence_of fault
+
+-- the line of a fault, and its explanation where that is asked for
+abbrev pub told : (explain : Bool) → List TreeFile → Fault → List ℕ
+told explain tree fault = line_of tree fault ++ (if explain then explanation_of tree fault else [])

@@ -1,0 +1,66 @@
+//! A sentence about each fault.
+
+ghost use Rattle.std.specs.Prelude.{◌≡◌};
+ghost use Rattle.protoscip.specs.Explanations.{lex_sentence, sentence_of, syntax_sentence};
+
+use crate::fault::Fault;
+use proto_lex::LexFault;
+use proto_parse::SyntaxFault;
+
+/// Of a fault of a text or of its lexing; empty of want of memory.
+fn lex_sentence(fault: &LexFault) -> &'static str
+    ensures { result.now ≡ lex_sentence fault.now }
+{
+    match fault {
+        LexFault::TooLong => "a source has at most 67108864 bytes",
+        LexFault::NotUtf8(_) => "the bytes from here on aren't UTF-8",
+        LexFault::BadByte(_) => "this character can't be here",
+        LexFault::OpenString(_) => "this string has no end on its line",
+        LexFault::OpenComment(_) => "this comment has no `*/`",
+        LexFault::BadEscape(_) => "this backslash begins no escape",
+        LexFault::BadNumber(_) => "these letters and digits are no number",
+        LexFault::Memory => "",
+    }
+}
+
+/// Of a fault of the parser; empty of want of memory.
+fn syntax_sentence(fault: &SyntaxFault) -> &'static str
+    ensures { result.now ≡ syntax_sentence fault.now }
+{
+    match fault {
+        SyntaxFault::NotProto3(_) => "a source begins with `syntax = \"proto3\";`",
+        SyntaxFault::CustomOption(_) => {
+            "`--custom-options skip` reads past options with parentheses"
+        }
+        SyntaxFault::Aggregate(_) => "`--custom-options skip` reads past values in braces",
+        SyntaxFault::Extend(_) => "`--custom-options skip` reads past `extend`",
+        SyntaxFault::TwoPackages(_) => "a source has one package statement at most",
+        SyntaxFault::ImportEscape(_) => "an import's path is written without `\\`",
+        SyntaxFault::TooDeep(_) => "messages nest at most 64 deep",
+        SyntaxFault::Grammar(_) => "the grammar wants something else here",
+        SyntaxFault::Memory => "",
+    }
+}
+
+/// Of a run's fault; empty of want of memory. Of two places with one full name it is that of the second.
+pub(crate) fn sentence_of(fault: &Fault) -> &'static str
+    ensures { result.now ≡ sentence_of fault.now }
+{
+    match fault {
+        Fault::Spawn => "no thread could be started; `--workers 1` needs none",
+        Fault::Memory => "",
+        Fault::Lex(_, fault) => lex_sentence(fault),
+        Fault::Syntax(_, fault) => syntax_sentence(fault),
+        Fault::Duplicate(..) => "this full name is given already",
+        Fault::MissingImport(_) => {
+            "no source has this path, below ROOT or a folder that is included"
+        }
+        Fault::Unresolved(_) => "no type that this source sees has this name",
+        Fault::TooLarge => "an index has at most 2147483647 bytes",
+        Fault::Write(_) => { "the output can't be made, or its disk is full, or nobody reads it" }
+        Fault::Read => "standard input couldn't be read to its end",
+        Fault::Answer(_) => {
+            "the answers can't be written: the disk is full, or nobody reads them"
+        }
+    }
+}

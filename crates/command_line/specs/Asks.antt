@@ -4,7 +4,7 @@ use Rattle.std.specs.Prelude.{◌≡◌, ◌≢◌, List, [], ◌∷◌, Option,
 use Rattle.std.specs.Option.{option_map}
 use Rattle.clap.specs.Words.{Kinds, IsAmong, Row, Text, fault_of, subcommand_of}
 use Rattle.clap.specs.declared.error.kind.ErrorKind.{ErrorKind}
-use Rattle.command_line.specs.Values.{Carries, custom_options_of, rows_in, text_of}
+use Rattle.command_line.specs.Values.{Carries, custom_options_of, explains_in, rows_in, text_of}
 use Rattle.command_line.specs.Program.{command_line}
 use Rattle.command_line.specs.Requests.{Prints}
 use Rattle.command_line.specs.Words.{AreListed}
@@ -23,12 +23,14 @@ Names program (request.Index options out) = (name_of program ≡ Some (codes "in
     × (string_bytes out ≡ text_of (codes "OUT") (rows_in program))
 Names program (request.Shell options) = (name_of program ≡ Some (codes "shell"))
     × Carries (rows_in program) options
-Names program (request.Query index) = (name_of program ≡ Some (codes "query"))
+Names program (request.Query index explain) = (name_of program ≡ Some (codes "query"))
     × (string_bytes index ≡ text_of (codes "INDEX") (rows_in program))
-Names program (request.Dump custom_options) = (name_of program ≢ Some (codes "index"))
+    × (explain ≡ explains_in (rows_in program))
+Names program (request.Dump custom_options explain) = (name_of program ≢ Some (codes "index"))
     × (name_of program ≢ Some (codes "shell"))
     × (name_of program ≢ Some (codes "query"))
     × (custom_options ≡ custom_options_of (rows_in program))
+    × (explain ≡ explains_in (rows_in program))
 Names program (request.Print text) = ⊥
 Names program (request.Refuse text) = ⊥
 

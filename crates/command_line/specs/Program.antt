@@ -3,7 +3,7 @@
 use Rattle.std.specs.Prelude.{List, [], ◌∷◌, ◌++◌, Some, true, codes}
 use Rattle.std.specs.Borrow.{Bor}
 use Rattle.clap.specs.Words.{App, Rule, Shape, Text, new_app, new_rule, with_rule, with_subcommand}
-use Rattle.clap.specs.declared.builder.action.ArgAction.TheVariants.{Append}
+use Rattle.clap.specs.declared.builder.action.ArgAction.TheVariants.{Append, SetTrue}
 use Rattle.clap.specs.declared.builder.value_parser.ValueParser.TheVariants as values
 use Rattle.command_line.specs.declared.words.WordLists.{WordLists}
 
@@ -39,6 +39,10 @@ abbrev pub custom_options_rule : Bor (List (Bor Text)) → Rule
 custom_options_rule words =
     or_default (codes "refuse") (taking_words words (option_rule (codes "custom-options")))
 
+-- an option without a value, at most once
+abbrev pub explain_rule : Rule
+explain_rule = record (new_rule (codes "explain")) { long = Some (codes "explain"); action = Some SetTrue }
+
 -- the options on the run and on the package
 abbrev pub setting_rules : List Rule
 setting_rules = workers_rule
@@ -55,6 +59,7 @@ choice_rules lists = option_rule (codes "only")
     ∷ include_rule
     ∷ or_default (codes "utf8") (taking_words lists.positions (option_rule (codes "positions")))
     ∷ custom_options_rule lists.custom_options
+    ∷ explain_rule
     ∷ []
 
 -- the options of `index` and of `shell`
@@ -77,11 +82,11 @@ shell_line lists = (with_rules (new_app (codes "shell")) (required_rule (codes "
 
 -- `query` wants one argument, the path of an index
 abbrev pub query_line : Shape
-query_line = (with_rule (new_app (codes "query")) (required_rule (codes "INDEX"))).top
+query_line = (with_rules (new_app (codes "query")) (required_rule (codes "INDEX") ∷ explain_rule ∷ [])).top
 
 abbrev pub dump_line : WordLists → Shape
 dump_line lists =
-    (with_rule (new_app (codes "dump")) (custom_options_rule lists.custom_options)).top
+    (with_rules (new_app (codes "dump")) (custom_options_rule lists.custom_options ∷ explain_rule ∷ [])).top
 
 -- `protoscip` has a version and wants a program
 abbrev pub command_line : WordLists → App

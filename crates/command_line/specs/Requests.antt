@@ -1,5 +1,5 @@
 -- What a request is.
-use Rattle.std.specs.Prelude.{◌≡◌, ◌≢◌, ◌⊎◌, ⊤, Option, Some, None, string_bytes}
+use Rattle.std.specs.Prelude.{◌≡◌, ◌≢◌, ◌⊎◌, ⊤, Bool, false, Option, Some, None, string_bytes}
 use Rattle.clap.specs.Words.{Text}
 use Rattle.clap.specs.declared.error.kind.ErrorKind.{ErrorKind}
 use Rattle.clap.specs.declared.error.kind.ErrorKind.TheVariants as kind
@@ -31,12 +31,12 @@ IsRefused _ = ⊥
 
 -- what is done about custom options in the dump that is asked for
 abbrev pub dump_options : Request → Option CustomOptionsWord
-dump_options (request.Dump custom_options) = Some custom_options
+dump_options (request.Dump custom_options explain) = Some custom_options
 dump_options _ = None
 
 -- the path of the index about which commands are to be answered
 abbrev pub index_path : Request → Option Text
-index_path (request.Query index) = Some (string_bytes index)
+index_path (request.Query index explain) = Some (string_bytes index)
 index_path _ = None
 
 -- the options of the index that is to be written
@@ -53,3 +53,9 @@ out_path _ = None
 abbrev pub shell_options : Request → Option IndexOptions
 shell_options (request.Shell options) = Some options
 shell_options _ = None
+
+-- whether a fault of the dump or of the answers from a file is explained
+abbrev pub explains : Request → Bool
+explains (request.Dump custom_options explain) = explain
+explains (request.Query index explain) = explain
+explains _ = false

@@ -1,7 +1,8 @@
 -- What arguments and options are given, in the rows that the rules of `clap` give for the words.
-use Rattle.std.specs.Prelude.{◌≡◌, ◌≤◌, ℕ, List, [], Option, Some, None, codes, map, string_bytes, unwrap_or}
+use Rattle.std.specs.Prelude.{◌≡◌, ◌≤◌, ℕ, Bool, List, [], Option, Some, None, codes, map, string_bytes, unwrap_or}
 use Rattle.std.specs.Prelude.{if◌then◌else◌, nat_le, ◌&&◌}
 use Rattle.std.specs.Option.{option_map, option_map_or}
+use Rattle.std.specs.Str.{bytes_eq}
 use Rattle.std.specs.Str.Parse.{digits_value, without_leading_plus}
 use Rattle.clap.specs.Words.{Row, Text, all_of, first_of, one_of}
 use Rattle.clap.specs.ValueTests.{is_unsigned_in}
@@ -41,6 +42,10 @@ positions_of rows = positions_word (text_of (codes "positions") rows)
 abbrev pub custom_options_of : List Row → CustomOptionsWord
 custom_options_of rows = custom_options_word (text_of (codes "custom-options") rows)
 
+-- whether `--explain` is given: `clap` then gives the text `true`
+abbrev pub explains_in : List Row → Bool
+explains_in rows = bytes_eq (text_of (codes "explain") rows) (codes "true")
+
 -- the options are those that the rows give, each by its name
 pub record Carries (rows : List Row) (options : IndexOptions) : Type 0 where
   pub root : string_bytes options.root ≡ text_of (codes "ROOT") rows
@@ -55,3 +60,4 @@ pub record Carries (rows : List Row) (options : IndexOptions) : Type 0 where
   pub include : map string_bytes options.include.items ≡ unwrap_or (all_of (codes "include") rows) []
   pub positions : options.positions ≡ positions_of rows
   pub custom_options : options.custom_options ≡ custom_options_of rows
+  pub explain : options.explain ≡ explains_in rows

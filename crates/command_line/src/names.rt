@@ -36,3 +36,5 @@ pub(crate) const INCLUDE: &str = "include";
 pub(crate) const POSITIONS: &str = "positions";
 
 pub(crate) const CUSTOM_OPTIONS: &str = "custom-options";
+
+pub(crate) const EXPLAIN: &str = "explain";

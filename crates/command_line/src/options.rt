@@ -27,6 +27,8 @@ pub struct IndexOptions {
     pub positions: PositionsWord,
     /// What is done about custom options; they are refused where it isn't said.
     pub custom_options: CustomOptionsWord,
+    /// Whether a fault is explained.
+    pub explain: bool,
     ghost workers_fit: { (1 ≤ workers) × (workers ≤ 16) },
 }
 

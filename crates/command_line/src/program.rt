@@ -12,7 +12,7 @@ ghost use Rattle.command_line.specs.Program.{
 };
 
 use crate::names::{DUMP, INDEX, INDEX_FILE, OUT, QUERY, ROOT, SHELL};
-use crate::tree::{custom_options, required, with_tree_options};
+use crate::tree::{custom_options, explain, required, with_tree_options};
 use crate::words::WordLists;
 use clap::Command;
 use std::alloc::{AllocError, Global};
@@ -79,7 +79,8 @@ fn query_program<'a>(alloc: Global) -> Result<Command<'a>, AllocError>
     Command::new(alloc, QUERY)
         .about("Answers commands about an index, from standard input")
         .after_help(QUERY_EXAMPLE)
-        .arg(index)
+        .arg(index)?
+        .arg(explain(alloc))
 }
 
 /// The command line of `dump`.
@@ -90,7 +91,8 @@ fn dump_program<'a>(alloc: Global, lists: WordLists<'a>) -> Result<Command<'a>, 
     Command::new(alloc, DUMP)
         .about("Indexes one source from standard input and prints its occurrences")
         .after_help(DUMP_EXAMPLE)
-        .arg(custom_options(alloc, lists.custom_options))
+        .arg(custom_options(alloc, lists.custom_options))?
+        .arg(explain(alloc))
 }
 
 /// The command line's programs and options.

@@ -5,14 +5,14 @@ ghost use Rattle.std.specs.IoError.{error_kind};
 ghost use Rattle.std.specs.declared.io.ErrorKind.TheVariants.{OutOfMemory as Memory};
 ghost use Rattle.clap.specs.Words.{kind_of, subcommand_rows_of};
 ghost use Rattle.command_line.specs.Asks.{Asks, Names};
-ghost use Rattle.command_line.specs.Values.{custom_options_of, rows_in};
+ghost use Rattle.command_line.specs.Values.{custom_options_of, explains_in, rows_in};
 ghost use Rattle.command_line.specs.Requests.{IsRefused, Prints};
 
 use crate::names::{INDEX, INDEX_FILE, OUT, QUERY, SHELL};
 use crate::options::CustomOptionsWord;
 use crate::program::program;
 use crate::request::Request;
-use crate::values::{custom_options_of, options_of, text_of};
+use crate::values::{custom_options_of, explains_in, options_of, text_of};
 use crate::words::WordLists;
 use clap::error::ErrorKind;
 use clap::{ArgMatches, Error};
@@ -44,18 +44,22 @@ fn named(alloc: Global, matches: &ArgMatches<'_>) -> Result<Request, AllocError>
         return Ok(Request::Shell(options_of(alloc, given)?));
     }
     if let Some(given) = matches.subcommand_matches(QUERY) {
-        return Ok(Request::Query(text_of(alloc, given, INDEX_FILE)?));
+        let index = text_of(alloc, given, INDEX_FILE)?;
+        return Ok(Request::Query(index, explains_in(given)));
     }
-    Ok(Request::Dump(dump_options(matches)))
+    let (custom_options, explain) = dump_options(matches);
+    Ok(Request::Dump(custom_options, explain))
 }
 
-/// What `dump` is given, where it is the program that is named.
-fn dump_options(matches: &ArgMatches<'_>) -> CustomOptionsWord
-    ensures { result ≡ custom_options_of (rows_in (subcommand_rows_of matches.now)) }
+/// What `dump` is given, where it is the program that is named: what is done about custom options, and whether a fault
+/// is explained.
+fn dump_options(matches: &ArgMatches<'_>) -> (CustomOptionsWord, bool)
+    ensures custom_options { result.0 ≡ custom_options_of (rows_in (subcommand_rows_of matches.now)) }
+    ensures explain { result.1 ≡ explains_in (rows_in (subcommand_rows_of matches.now)) }
 {
     match matches.subcommand() {
-        Some((_, given)) => custom_options_of(given),
-        None => CustomOptionsWord::Refuse,
+        Some((_, given)) => (custom_options_of(given), explains_in(given)),
+        None => (CustomOptionsWord::Refuse, false),
     }
 }
 

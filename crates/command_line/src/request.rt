@@ -5,10 +5,11 @@ use crate::options::{CustomOptionsWord, IndexOptions};
 /// What a command line asks for.
 #[derive(Debug, Drop)]
 pub enum Request {
-    /// The program `dump`, with what is done about custom options.
-    Dump(CustomOptionsWord),
-    /// The program `query`, about the index that the file with this path holds.
-    Query(String),
+    /// The program `dump`, with what is done about custom options, and whether a fault is explained.
+    Dump(CustomOptionsWord, bool),
+    /// The program `query`, about the index that the file with this path holds, and whether a fault
+    /// is explained.
+    Query(String, bool),
     /// The program `index`, whose index goes to the file with this path.
     Index(IndexOptions, String),
     /// The program `shell`, about the index of the tree that the options tell.

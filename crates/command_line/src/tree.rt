@@ -6,6 +6,7 @@ ghost use Rattle.clap.specs.declared.builder.command.Command.TheViews.{out-Comma
 ghost use Rattle.command_line.specs.Program.{
   choice_rules,
   custom_options_rule,
+  explain_rule,
   include_rule,
   option_rule,
   or_default,
@@ -18,7 +19,8 @@ ghost use Rattle.command_line.specs.Program.{
 };
 
 use crate::names::{
-    CUSTOM_OPTIONS, DOC, INCLUDE, MANAGER, ONLY, PACKAGE, POSITIONS, PROJECT_ROOT, RELEASE, WORKERS,
+    CUSTOM_OPTIONS, DOC, EXPLAIN, INCLUDE, MANAGER, ONLY, PACKAGE, POSITIONS, PROJECT_ROOT,
+    RELEASE, WORKERS,
 };
 use crate::words::WordLists;
 use clap::{Arg, ArgAction, Command, value_parser};
@@ -94,6 +96,17 @@ pub(crate) fn custom_options<'a>(alloc: Global, words: &'a [&'a str]) -> Arg<'a>
         "Whether a source with custom options is refused, or they are read past",
     );
     or_default(taking_words(option, words), "refuse")
+}
+
+/// Whether a fault is explained.
+pub(crate) fn explain<'a>(alloc: Global) -> Arg<'a>
+    ensures rule { rule_of result ≡ explain_rule }
+    ensures local { result.global ≡ false }
+{
+    Arg::new(alloc, EXPLAIN)
+        .long(EXPLAIN)
+        .help("Adds the place of a fault as editors show it, its line, and a sentence")
+        .action(ArgAction::SetTrue)
 }
 
 /// Adds the options on the run and on the package.
@@ -172,7 +185,8 @@ fn with_choices<'a>(
             ),
             "utf8",
         ))?
-        .arg(custom_options(alloc, lists.custom_options))
+        .arg(custom_options(alloc, lists.custom_options))?
+        .arg(explain(alloc))
 }
 
 /// Adds the options that the programs about a tree share.

@@ -6,6 +6,7 @@ ghost use Rattle.command_line.specs.Values.{
   Carries,
   custom_options_of,
   doc_of,
+  explains_in,
   fitting,
   positions_of,
   text_of,
@@ -13,8 +14,8 @@ ghost use Rattle.command_line.specs.Values.{
 };
 
 use crate::names::{
-    CUSTOM_OPTIONS, DOC, INCLUDE, MANAGER, ONLY, PACKAGE, POSITIONS, PROJECT_ROOT, RELEASE, ROOT,
-    WORKERS,
+    CUSTOM_OPTIONS, DOC, EXPLAIN, INCLUDE, MANAGER, ONLY, PACKAGE, POSITIONS, PROJECT_ROOT,
+    RELEASE, ROOT, WORKERS,
 };
 use crate::options::{CustomOptionsWord, DocWord, IndexOptions, PositionsWord};
 use clap::ArgMatches;
@@ -125,6 +126,13 @@ pub(crate) fn custom_options_of(given: &ArgMatches<'_>) -> CustomOptionsWord
     CustomOptionsWord::of(given_text(given, CUSTOM_OPTIONS))
 }
 
+/// Whether `--explain` is given.
+pub(crate) fn explains_in(given: &ArgMatches<'_>) -> bool
+    ensures { result ≡ explains_in (rows_of (found_of given.now)) }
+{
+    given_text(given, EXPLAIN) == "true"
+}
+
 /// What a program about a tree is given.
 pub(crate) fn options_of(alloc: Global, given: &ArgMatches<'_>) -> Result<IndexOptions, AllocError>
     ensures { IfOk result (Carries (rows_of (found_of given.now))) }
@@ -141,5 +149,6 @@ pub(crate) fn options_of(alloc: Global, given: &ArgMatches<'_>) -> Result<IndexO
         include: texts_of(alloc, given, INCLUDE)?,
         positions: positions_of(given),
         custom_options: custom_options_of(given),
+        explain: explains_in(given),
     })
 }

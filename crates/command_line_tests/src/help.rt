@@ -22,6 +22,7 @@ Options:
       --include <DIR>          A folder with sources that may be imported and aren't indexed; may be given again
       --positions <WORD>       The unit of columns: bytes, or UTF-16 code units [default: utf8] [possible values: utf8, utf16]
       --custom-options <WORD>  Whether a source with custom options is refused, or they are read past [default: refuse] [possible values: refuse, skip]
+      --explain                Adds the place of a fault as editors show it, its line, and a sentence
   -h, --help                   Print help
 ";
 
@@ -97,13 +98,14 @@ Example session, in which the lines that begin with a word are typed, and Ctrl-D
         parts: [
             "Answers commands about an index, from standard input
 
-Usage: protoscip query <INDEX>
+Usage: protoscip query [OPTIONS] <INDEX>
 
 Arguments:
   <INDEX>  The file of a SCIP index
 
 Options:
-  -h, --help  Print help
+      --explain  Adds the place of a fault as editors show it, its line, and a sentence
+  -h, --help     Print help
 
 Example, the symbols of a document:
 
@@ -122,6 +124,7 @@ Usage: protoscip dump [OPTIONS]
 
 Options:
       --custom-options <WORD>  Whether a source with custom options is refused, or they are read past [default: refuse] [possible values: refuse, skip]
+      --explain                Adds the place of a fault as editors show it, its line, and a sentence
   -h, --help                   Print help
 
 Example:

@@ -9,31 +9,36 @@ struct Asked {
     request: &'static str,
 }
 
-// The third row reads: `dump --custom-options skip` asks for a dump that reads past custom options.
-static ASKED: [Asked; 6] = [
+// The fourth row reads: `dump --explain --custom-options skip` asks for a dump that reads past custom options, and
+// explains a fault.
+static ASKED: [Asked; 7] = [
     Asked {
         words: "query a.scip",
-        request: "Query(\"a.scip\")",
+        request: "Query(\"a.scip\", false)",
+    },
+    Asked {
+        words: "query --explain a.scip",
+        request: "Query(\"a.scip\", true)",
     },
     Asked {
         words: "dump",
-        request: "Dump(Refuse)",
+        request: "Dump(Refuse, false)",
     },
     Asked {
-        words: "dump --custom-options skip",
-        request: "Dump(Skip)",
+        words: "dump --explain --custom-options skip",
+        request: "Dump(Skip, true)",
     },
     Asked {
         words: "index api out",
-        request: "Index(IndexOptions { root: \"api\", workers: 4, project_root: \"file:///\", manager: \"\", package: \"\", release: \"\", only: None, doc: None, include: [], positions: Utf8, custom_options: Refuse }, \"out\")",
+        request: "Index(IndexOptions { root: \"api\", workers: 4, project_root: \"file:///\", manager: \"\", package: \"\", release: \"\", only: None, doc: None, include: [], positions: Utf8, custom_options: Refuse, explain: false }, \"out\")",
     },
     Asked {
-        words: "index --workers 2 --project-root u --manager m --package p --release r --only o --doc both --include j --include i --positions utf16 --custom-options skip api out",
-        request: "Index(IndexOptions { root: \"api\", workers: 2, project_root: \"u\", manager: \"m\", package: \"p\", release: \"r\", only: Some(\"o\"), doc: Some(Both), include: [\"j\", \"i\"], positions: Utf16, custom_options: Skip }, \"out\")",
+        words: "index --workers 2 --project-root u --manager m --package p --release r --only o --doc both --include j --include i --positions utf16 --custom-options skip --explain api out",
+        request: "Index(IndexOptions { root: \"api\", workers: 2, project_root: \"u\", manager: \"m\", package: \"p\", release: \"r\", only: Some(\"o\"), doc: Some(Both), include: [\"j\", \"i\"], positions: Utf16, custom_options: Skip, explain: true }, \"out\")",
     },
     Asked {
         words: "shell --workers 16 --project-root=u --manager=m --package=p --release=r --only=o --doc=trailing --include=i --positions=utf8 --custom-options=refuse -- -api",
-        request: "Shell(IndexOptions { root: \"-api\", workers: 16, project_root: \"u\", manager: \"m\", package: \"p\", release: \"r\", only: Some(\"o\"), doc: Some(Trailing), include: [\"i\"], positions: Utf8, custom_options: Refuse })",
+        request: "Shell(IndexOptions { root: \"-api\", workers: 16, project_root: \"u\", manager: \"m\", package: \"p\", release: \"r\", only: Some(\"o\"), doc: Some(Trailing), include: [\"i\"], positions: Utf8, custom_options: Refuse, explain: false })",
     },
 ];
 
@@ -49,6 +54,10 @@ fn what_is_asked_for(rt: HostRuntime) -> Result<(), Fail> {
 #[test]
 fn words_of_the_system(rt: HostRuntime) -> Result<(), Fail> {
     let text = asked(rt.alloc(), "query a.scip", By::System)?;
-    see(&rt, text.as_str() == "Query(\"a.scip\")", text.as_str());
+    see(
+        &rt,
+        text.as_str() == "Query(\"a.scip\", false)",
+        text.as_str(),
+    );
     Ok(())
 }

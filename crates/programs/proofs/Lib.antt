@@ -1,5 +1,6 @@
 mod MoveLemmas
 mod MessageLemmas
 mod TreeRunLemmas
+mod DumpEndLemmas
 mod QueryLemmas
 mod LawLemmas

@@ -1,5 +1,5 @@
 -- A run over a tree that hands out more than its choices.
-use Rattle.std.proofs.Common.{ℕ, List, Option, Result, Ok, Err}
+use Rattle.std.proofs.Common.{ℕ, Bool, List, Option, Result, Ok, Err}
 use Rattle.std.specs.Prelude.{MatchResult}
 use Rattle.std.specs.Result.{result_map_both}
 use Rattle.source_tree.specs.Files.{TreeFile}
@@ -17,8 +17,9 @@ holds_of_part f P (Ok a) holds = holds
 holds_of_part f P (Err e) holds = holds
 
 -- a run ends alike, whatever is handed out
-pub ends_alike : {M A B : Type 0} (f : A → B) (said : M → Option (List ℕ)) (unsaid : M → ℕ) (tree : List TreeFile)
-    (done : Result A Fault) (before after : M) (status : ℕ)
-    → Ends said unsaid tree done before after status → Ends said unsaid tree (part_of f done) before after status
-ends_alike f said unsaid tree (Ok a) before after status ends = ends
-ends_alike f said unsaid tree (Err e) before after status ends = ends
+pub ends_alike : {M A B : Type 0} (f : A → B) (said : M → Option (List ℕ)) (unsaid : M → ℕ) (explain : Bool)
+    (tree : List TreeFile) (done : Result A Fault) (before after : M) (status : ℕ)
+    → Ends said unsaid explain tree done before after status
+    → Ends said unsaid explain tree (part_of f done) before after status
+ends_alike f said unsaid explain tree (Ok a) before after status ends = ends
+ends_alike f said unsaid explain tree (Err e) before after status ends = ends

@@ -5,14 +5,17 @@ pub mod Messages
 pub mod Printing
 -- `query`
 pub mod QueryFaults
+pub mod QueryExplanations
 pub mod Queries
 pub mod Answering
 -- `index` and `shell`: what their options say, why there is no package or no tree, and what they do
 pub mod Choices
 pub mod Settings
 pub mod StartFaults
+pub mod StartExplanations
 pub mod Starting
 pub mod TreeRuns
+pub mod Dumping
 pub mod Indexing
 pub mod Serving
 -- the laws

@@ -1,37 +1,28 @@
 //! The program `dump`.
 
-ghost use Rattle.std.specs.Prelude.{◌≡◌, [], Result, IfOk, string_bytes};
+ghost use Rattle.std.specs.Prelude.{Result};
 ghost use Rattle.streams.specs.WholeReads.{IsReadBriefly};
 ghost use Rattle.protoscip.specs.declared.fault.Fault.{Fault};
-ghost use Rattle.protoscip.specs.Dump.{IsDumped, LeavesReader, dump_tree};
-ghost use Rattle.protoscip.specs.FaultLines.{HasFilesOf, line_of};
+ghost use Rattle.protoscip.specs.Dump.{IsDumped, LeavesReader};
+ghost use Rattle.programs.specs.Dumping.{EndsDump};
 ghost use Rattle.programs.specs.Settings.{custom_options_of};
-ghost use Rattle.programs.specs.TreeRuns.{Ends};
 
+use crate::host::Host;
 use crate::messages::report;
 use crate::settings::custom_options_of;
 use command_line::CustomOptionsWord;
-use protoscip::{Fault, dump, dump_tree, fault_line};
-use std::alloc::{AllocError, Global};
+use protoscip::{MEMORY_STATUS, dump_and_keep, dump_tree, fault_text};
+use std::alloc::AllocError;
 use std::sync::Wait;
 use std::thread::Threads;
 use streams::{Feed, Sink};
 
-/// The line of a dump's fault.
-fn dump_line(alloc: Global, fault: &Fault) -> Result<String, AllocError>
-    requires { HasFilesOf (dump_tree []) fault.now }
-    ensures { IfOk result (λ line. string_bytes line ≡ line_of (dump_tree []) fault.now) }
-{
-    let tree = dump_tree(alloc, Vec::new(alloc))?;
-    fault_line(alloc, &tree, fault)
-}
-
 /// Reads one source, prints the occurrences of its index, and gives the exit status. Why it stops, if
-/// it does, is said.
-pub(crate) fn dump_source<R: Threads + Wait, I: Feed, W: Sink, M: Sink>(
-    rt: &R,
-    alloc: Global,
+/// it does, is said, and explained where that is asked for.
+pub(crate) fn dump_source<R: Threads + Wait, F, I: Feed, W: Sink, M: Sink>(
+    host: &Host<'_, R, F>,
     word: CustomOptionsWord,
+    explain: bool,
     input: &mut I,
     out: &mut W,
     messages: &mut M,
@@ -40,10 +31,18 @@ pub(crate) fn dump_source<R: Threads + Wait, I: Feed, W: Sink, M: Sink>(
         × IsDumped I.remaining W.contents W.failures (custom_options_of word) input.old out.old out.new done
         × LeavesReader I.failures I.reads I.ends input.old input.new done
         × IsReadBriefly I.reads input.old input.new
-        × Ends M.contents M.failures (dump_tree []) done messages.old messages.new result }
+        × EndsDump I.remaining M.contents M.failures explain input.old done messages.old messages.new result }
 {
-    match dump(rt, alloc, custom_options_of(word), input, out) {
+    let custom = custom_options_of(word);
+    let mut tree = match dump_tree(host.alloc, Vec::new(host.alloc)) {
+        Ok(tree) => tree,
+        Err(AllocError) => return report(Err(AllocError), MEMORY_STATUS, messages),
+    };
+    match dump_and_keep(host.rt, host.alloc, custom, input, &mut tree, out) {
         Ok(()) => 0,
-        Err(fault) => report(dump_line(alloc, &fault), fault.status(), messages),
+        Err(fault) => {
+            let text = fault_text(host.alloc, &tree, &fault, explain);
+            report(text, fault.status(), messages)
+        }
     }
 }

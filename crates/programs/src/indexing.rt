@@ -7,6 +7,7 @@ use crate::asking_ahead::AskingAhead;
 use crate::ending::end;
 use crate::host::Host;
 use crate::messages::report;
+use crate::start_explanations::start_text;
 use crate::starting::start;
 use command_line::IndexOptions;
 use protoscip::index_and_keep;
@@ -34,7 +35,10 @@ pub(crate) fn index<R: Threads + Wait, F: ReadFiles, W: Sink, M: Sink>(
 {
     let run = match start(host.alloc, options, host.files) {
         Ok(start) => start,
-        Err(fault) => return report(fault.line(host.alloc), fault.status(), messages),
+        Err(fault) => {
+            let text = start_text(host.alloc, &fault, options.explain);
+            return report(text, fault.status(), messages);
+        }
     };
     let gate = AskingAhead::new(host.alloc);
     let work = Run {
@@ -44,7 +48,7 @@ pub(crate) fn index<R: Threads + Wait, F: ReadFiles, W: Sink, M: Sink>(
         gate: &gate,
     };
     let done = index_and_keep(&work, &run.tree, &run.choices, &run.settings, out);
-    let status = end(host.alloc, &run.tree, &done, messages);
+    let status = end(host.alloc, &run.tree, &done, options.explain, messages);
     // What was made goes with the process.
     forget(done);
     forget(run);

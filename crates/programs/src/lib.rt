@@ -9,6 +9,7 @@ mod running;
 mod dumping;
 
 // `query`: an index is read from a file, and answers commands.
+mod query_explanations;
 mod query_fault;
 mod querying;
 
@@ -17,6 +18,7 @@ mod choices;
 mod ending;
 mod package;
 mod settings;
+mod start_explanations;
 mod start_fault;
 mod starting;
 

@@ -1,9 +1,10 @@
 //! What the program does with its files and streams, and the exit status that it ends with.
 
-ghost use Rattle.std.specs.Prelude.{◌≡◌, [], Result, IfSome, IfOk, IfErr};
+ghost use Rattle.std.specs.Prelude.{◌≡◌, Result, IfSome, IfOk, IfErr};
 ghost use Rattle.std.specs.Io.KnownBytes.{Appends};
 ghost use Rattle.command_line.specs.Requests.{
   dump_options,
+  explains,
   index_options,
   index_path,
   out_path,
@@ -13,10 +14,11 @@ ghost use Rattle.command_line.specs.Requests.{
 };
 ghost use Rattle.streams.specs.WholeReads.{IsReadBriefly};
 ghost use Rattle.protoscip.specs.declared.fault.Fault.{Fault};
-ghost use Rattle.protoscip.specs.Dump.{IsDumped, LeavesReader, dump_tree};
+ghost use Rattle.protoscip.specs.Dump.{IsDumped, LeavesReader};
 ghost use Rattle.programs.specs.declared.query_fault.QueryFault.{QueryFault};
 ghost use Rattle.programs.specs.declared.statuses.TheConstants.{COMMAND_LINE_STATUS};
 ghost use Rattle.programs.specs.Answering.{Answers};
+ghost use Rattle.programs.specs.Dumping.{EndsDump};
 ghost use Rattle.programs.specs.Indexing.{Indexed};
 ghost use Rattle.programs.specs.Messages.{Heard, Tells, memory_line, memory_status};
 ghost use Rattle.programs.specs.Printing.{Prints};
@@ -24,13 +26,13 @@ ghost use Rattle.programs.specs.Queries.{Queried};
 ghost use Rattle.programs.specs.Serving.{Served};
 ghost use Rattle.programs.specs.Settings.{custom_options_of};
 ghost use Rattle.programs.specs.Streams.{reader, writer};
-ghost use Rattle.programs.specs.TreeRuns.{Ends};
 
 use crate::dumping::dump_source;
 use crate::host::Host;
 use crate::indexing::index;
 use crate::messages::report;
 use crate::output::print;
+use crate::query_explanations::query_text;
 use crate::querying::query;
 use crate::serving::shell;
 use crate::statuses::COMMAND_LINE_STATUS;
@@ -52,21 +54,26 @@ fn refuse<M: Sink>(text: &str, messages: &mut M) -> u8
     COMMAND_LINE_STATUS
 }
 
-/// Answers commands about the index that a file holds, and gives the exit status.
+/// Answers commands about the index that a file holds, and gives the exit status. Why it stops, if it
+/// does, is said, and explained where that is asked for.
 fn answer<R, F: ReadFiles, I: Feed, W: Sink, M: Sink>(
     host: &Host<'_, R, F>,
     path: &str,
+    explain: bool,
     input: &mut I,
     out: &mut W,
     messages: &mut M,
 ) -> u8
     ensures { (done : Result (Unit {0}) QueryFault)
         × Queried (F.gives host.now.files.now path.now) (reader I.remaining I.failures I.reads I.ends input.old input.new) (writer W.contents W.failures out.old out.new) done
-        × Answers M.contents M.failures path.now done messages.old messages.new result }
+        × Answers M.contents M.failures explain path.now done messages.old messages.new result }
 {
     match query(host.alloc, host.files, path, input, out) {
         Ok(()) => 0,
-        Err(fault) => report(fault.line(host.alloc, path), fault.status(), messages),
+        Err(fault) => {
+            let text = query_text(host.alloc, &fault, path, explain);
+            report(text, fault.status(), messages)
+        }
     }
 }
 
@@ -104,12 +111,12 @@ pub fn run<R: Threads + Wait, F: ReadFiles, I: Feed, W: Sink, O: Sink, M: Sink>(
         × IsDumped I.remaining W.contents W.failures (custom_options_of word) input.old out.old out.new done
         × LeavesReader I.failures I.reads I.ends input.old input.new done
         × IsReadBriefly I.reads input.old input.new
-        × Ends M.contents M.failures (dump_tree []) done messages.old messages.new result)
+        × EndsDump I.remaining M.contents M.failures (explains request) input.old done messages.old messages.new result)
         × (file.new ≡ file.old))) }
     // What `query` promises of its answers, and what becomes of that.
     ensures queried { IfOk asked.now (λ request. IfSome (index_path request) (λ path. ((done : Result (Unit {0}) QueryFault)
         × Queried (F.gives host.now.files.now path) (reader I.remaining I.failures I.reads I.ends input.old input.new) (writer W.contents W.failures out.old out.new) done
-        × Answers M.contents M.failures path done messages.old messages.new result)
+        × Answers M.contents M.failures (explains request) path done messages.old messages.new result)
         × (file.new ≡ file.old))) }
     // What `index` does.
     ensures indexed { IfOk asked.now (λ request. IfSome (index_options request) (λ options.
@@ -125,8 +132,12 @@ pub fn run<R: Threads + Wait, F: ReadFiles, I: Feed, W: Sink, O: Sink, M: Sink>(
 {
     match asked {
         Ok(request) => match request {
-            Request::Dump(word) => dump_source(host.rt, host.alloc, *word, input, out, messages),
-            Request::Query(path) => answer(host, path.as_str(), input, out, messages),
+            Request::Dump(word, explain) => {
+                dump_source(host, *word, *explain, input, out, messages)
+            }
+            Request::Query(path, explain) => {
+                answer(host, path.as_str(), *explain, input, out, messages)
+            }
             Request::Index(options, _) => index(host, options, file, messages),
             Request::Shell(options) => shell(host, options, input, out, messages),
             Request::Print(text) => print(host.alloc, text.as_str(), out, messages),

@@ -6,6 +6,7 @@ ghost use Rattle.programs.specs.Streams.{reader, writer};
 use crate::ending::end;
 use crate::host::Host;
 use crate::messages::report;
+use crate::start_explanations::start_text;
 use crate::starting::start;
 use command_line::IndexOptions;
 use index_pool::NoGate;
@@ -32,7 +33,10 @@ pub(crate) fn shell<R: Threads + Wait, F: ReadFiles, I: Feed, W: Sink, M: Sink>(
 {
     let run = match start(host.alloc, options, host.files) {
         Ok(start) => start,
-        Err(fault) => return report(fault.line(host.alloc), fault.status(), messages),
+        Err(fault) => {
+            let text = start_text(host.alloc, &fault, options.explain);
+            return report(text, fault.status(), messages);
+        }
     };
     let done = session(
         host.rt,
@@ -45,5 +49,5 @@ pub(crate) fn shell<R: Threads + Wait, F: ReadFiles, I: Feed, W: Sink, M: Sink>(
         commands,
         answers,
     );
-    end(host.alloc, &run.tree, &done, messages)
+    end(host.alloc, &run.tree, &done, options.explain, messages)
 }

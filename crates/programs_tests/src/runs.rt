@@ -37,7 +37,7 @@ const SILENT: Row = Row {
 };
 
 // The second row reads: of the version 5 bytes are taken, so a write fails, which is said, with status 3.
-static ROWS: [Row; 18] = [
+static ROWS: [Row; 21] = [
     Row {
         words: "--version",
         printed: "protoscip 1\n\0",
@@ -67,6 +67,13 @@ static ROWS: [Row; 18] = [
         input: " @",
         status: 1,
         said: "protoscip: input.proto@1: BadByte\n",
+        ..SILENT
+    },
+    Row {
+        words: "dump --explain",
+        input: " @",
+        status: 1,
+        said: "protoscip: input.proto@1: BadByte\ninput.proto:1:2: this character can't be here\n  1 |  @\n    |  ^\n",
         ..SILENT
     },
     Row {
@@ -136,6 +143,19 @@ static ROWS: [Row; 18] = [
         words: "index clash out",
         status: 1,
         said: "protoscip: b.proto@27: Duplicate of a.proto@46\n",
+        ..SILENT
+    },
+    Row {
+        words: "index holes out --explain --include nowhere",
+        status: 3,
+        said: "protoscip: b.proto: Unreadable\nit isn't there, or can't be read, or an entry's name isn't UTF-8\n",
+        ..SILENT
+    },
+    Row {
+        words: "query --explain cut.scip",
+        input: "sym a\n",
+        status: 5,
+        said: "protoscip: cut.scip@0: Truncated\nthis file is no SCIP index, or was cut off: the record here runs past the end\n",
         ..SILENT
     },
     Row {

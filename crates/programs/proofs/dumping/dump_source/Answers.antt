@@ -1,23 +1,46 @@
 use Rattle.std.specs.String.{string_bytes}
-use Rattle.std.proofs.Common.{[], Result, Err, subst}
+use Rattle.std.proofs.Common.{inr, refl, arith, [], Result, Err, subst}
 use Rattle.proto_parse.specs.tree.CustomOptions.{CustomOptions}
 use Rattle.protoscip.specs.declared.fault.Fault.{Fault}
+use Rattle.protoscip.specs.declared.fault.Fault.TheVariants.{Memory}
 use Rattle.protoscip.specs.Dump.{IsDumped, dump_tree}
-use Rattle.protoscip.specs.FaultLines.{line_of}
+use Rattle.protoscip.specs.Explanations.{told as told_of}
+use Rattle.programs.proofs.DumpEndLemmas.{of_fault}
 use Rattle.programs.proofs.MessageLemmas.{told}
 use Rattle.programs.proofs.dumping.dump_source.Goals as goal
 
+-- where memory doesn't suffice to begin
+
 pub returns-in-Err : goal.returns-in-Err
 returns-in-Err g c =
-    let done : Result (Unit {0}) Fault = Err c.in-Err.fault in
-    let line = line_of (dump_tree []) c.in-Err.fault in
+    let done : Result (Unit {0}) Fault = Err Memory in (
+      done,
+      record { due = []; writer = refl; some = ([], tt); told = λ bytes known. tt },
+      refl,
+      omega arith,
+      of_fault g.I.Feed.remaining g.M.Sink.contents g.M.Sink.failures c.args.explain c.args.input.now
+          c.args.messages.now c.report.new.messages c.report.result Memory (dump_tree []) tt (inr c.report.ensures),
+    )
+
+-- where the dump stops
+
+pub returns : goal.returns
+returns g c =
+    let fault = c.in-Err-dump_and_keep.fault in
+    let of = c.in-Err-dump_and_keep.ensures in
+    let done : Result (Unit {0}) Fault = Err fault in
+    let tree = c.dump_and_keep.new.tree in
     let Dumped : CustomOptions → Type 0 =
     λ custom. IsDumped g.I.Feed.remaining g.W.Sink.contents g.W.Sink.failures custom c.args.input.now c.args.out.now
-    c.dump.new.out done in (
+    c.dump_and_keep.new.out done in
+    let said = told g.M.Sink.contents g.M.Sink.failures c.args.messages.now c.report-in-Err-dump_and_keep.new.messages
+    c.report-in-Err-dump_and_keep.result _ _ string_bytes c.fault_text-text.result (told_of c.args.explain tree fault)
+    c.status.ensures c.fault_text-text.ensures c.report-in-Err-dump_and_keep.ensures in (
       done,
-      subst Dumped c.custom_options_of.ensures c.in-Err.ensures.dumped,
-      c.in-Err.ensures.reader,
-      c.in-Err.ensures.briefly,
-      told g.M.Sink.contents g.M.Sink.failures c.args.messages.now c.report.new.messages c.report.result _ _
-          string_bytes c.dump_line.result line c.status.ensures c.dump_line.ensures c.report.ensures,
+      subst Dumped c.custom_options_of-custom.ensures of.dumped,
+      of.reader,
+      of.briefly,
+      of_fault g.I.Feed.remaining g.M.Sink.contents g.M.Sink.failures c.args.explain c.args.input.now
+          c.args.messages.now c.report-in-Err-dump_and_keep.new.messages c.report-in-Err-dump_and_keep.result fault tree
+          of.tree said,
     )

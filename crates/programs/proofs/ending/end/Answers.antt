@@ -1,11 +1,11 @@
 use Rattle.std.specs.String.{string_bytes}
-use Rattle.protoscip.specs.FaultLines.{line_of}
+use Rattle.protoscip.specs.Explanations.{told as told_of}
 use Rattle.programs.proofs.MessageLemmas.{told}
 use Rattle.programs.proofs.ending.end.Goals as goal
 
 pub returns-in-Err : goal.returns-in-Err
 returns-in-Err g c =
-    let line = line_of c.args.tree.now c.in-Err.fault in
+    let line = told_of c.args.explain c.args.tree.now c.in-Err.fault in
     rw c.in-Err.is
     (told g.M.Sink.contents g.M.Sink.failures c.args.messages.now c.report.new.messages c.report.result _ _ string_bytes
-    c.fault_line.result line c.status.ensures c.fault_line.ensures c.report.ensures)
+    c.fault_text-text.result line c.status.ensures c.fault_text-text.ensures c.report.ensures)

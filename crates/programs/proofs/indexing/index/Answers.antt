@@ -7,7 +7,7 @@ use Rattle.scip_document.specs.Chosen.{Chosen}
 use Rattle.scip_build.specs.declared.parts.BuiltParts.{BuiltParts}
 use Rattle.scip_build.specs.declared.settings.Settings.{Settings}
 use Rattle.programs.specs.Choices.{IsChosenBy}
-use Rattle.programs.specs.StartFaults.{line_of as start_line}
+use Rattle.programs.specs.StartExplanations.{told as start_told}
 use Rattle.programs.specs.TreeRuns.{not_started, over_tree}
 use Rattle.programs.proofs.MessageLemmas.{told}
 use Rattle.programs.proofs.MoveLemmas.{moved4}
@@ -19,10 +19,10 @@ use Rattle.programs.proofs.indexing.index.Goals as goal
 pub returns-in-Err : goal.returns-in-Err
 returns-in-Err g c =
     let fault = c.in-Err.fault in
-    let line = start_line fault in
+    let line = start_told c.args.options.now.explain fault in
     not_started fault c.in-Err.ensures.stops refl
     (told g.M.Sink.contents g.M.Sink.failures c.args.messages.now c.report.new.messages c.report.result _ _ string_bytes
-    c.line.result line c.status.ensures c.line.ensures c.report.ensures)
+    c.start_text-text.result line c.status.ensures c.start_text-text.ensures c.report.ensures)
 
 pub returns : goal.returns
 returns g c =
@@ -39,5 +39,5 @@ returns g c =
     in
     over_tree run.tree done c.in-Ok.ensures.named c.in-Ok.ensures.tree
     (moved4 By c.in-Ok.ensures.only c.in-Ok.ensures.doc c.in-Ok.ensures.settings c.in-Ok.ensures.workers indexed)
-    (ends_alike choices g.M.Sink.contents g.M.Sink.failures run.tree kept c.args.messages.now c.end-status.new.messages
-    c.end-status.result c.end-status.ensures)
+    (ends_alike choices g.M.Sink.contents g.M.Sink.failures c.args.options.now.explain run.tree kept c.args.messages.now
+    c.end-status.new.messages c.end-status.result c.end-status.ensures)

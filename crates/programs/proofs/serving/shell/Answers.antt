@@ -3,7 +3,7 @@ use Rattle.std.proofs.Common.{refl, ℕ, List, Option}
 use Rattle.index_hooks.specs.declared.choice.DocChoice.{DocChoice}
 use Rattle.scip_build.specs.declared.settings.Settings.{Settings}
 use Rattle.programs.specs.Choices.{IsChosenBy}
-use Rattle.programs.specs.StartFaults.{line_of as start_line}
+use Rattle.programs.specs.StartExplanations.{told as start_told}
 use Rattle.programs.specs.TreeRuns.{not_started, over_tree}
 use Rattle.programs.proofs.MessageLemmas.{told}
 use Rattle.programs.proofs.MoveLemmas.{moved4}
@@ -13,10 +13,10 @@ use Rattle.programs.proofs.serving.shell.Goals as goal
 pub returns-in-Err : goal.returns-in-Err
 returns-in-Err g c =
     let fault = c.in-Err.fault in
-    let line = start_line fault in
+    let line = start_told c.args.options.now.explain fault in
     not_started fault c.in-Err.ensures.stops (record { unread = refl; unwritten = refl })
     (told g.M.Sink.contents g.M.Sink.failures c.args.messages.now c.report.new.messages c.report.result _ _ string_bytes
-    c.line.result line c.status.ensures c.line.ensures c.report.ensures)
+    c.start_text-text.result line c.status.ensures c.start_text-text.ensures c.report.ensures)
 
 pub returns : goal.returns
 returns g c =

@@ -1,0 +1,71 @@
+//! What explains why commands about the index of a file aren't answered.
+
+ghost use Rattle.std.specs.Prelude.{◌≡◌, IfOk, string_bytes};
+ghost use Rattle.programs.specs.QueryExplanations.{answer_explanation, explanation_of, told, wire_explanation};
+
+use crate::query_fault::QueryFault;
+use scip_query::AnswerFault;
+use scip_wire::WireFault;
+use std::alloc::{AllocError, Global};
+
+/// Of bytes that decode to no index: a sentence behind a line end; nothing of want of memory.
+fn wire_explanation(fault: &WireFault) -> &'static str
+    ensures { result.now ≡ wire_explanation fault.now }
+{
+    match fault {
+        WireFault::Truncated(_) => {
+            "\nthis file is no SCIP index, or was cut off: the record here runs past the end"
+        }
+        WireFault::Varint(_) => "\nthis file is no SCIP index: the number here is too large",
+        WireFault::FieldZero(_) => "\nthis file is no SCIP index: no field has the number 0",
+        WireFault::Group(_) => "\nthis file is no SCIP index: the record here is a group",
+        WireFault::WireType(_) => "\nthis file is no SCIP index: no record has this wire type",
+        WireFault::Repeated(_) => "\nthis file is no SCIP index: it has its metadata twice",
+        WireFault::Utf8(_) => "\nthis file is no SCIP index: the text here isn't UTF-8",
+        WireFault::BadRange(_) => {
+            "\nthis file is no SCIP index: a range has three or four numbers"
+        }
+        WireFault::Memory => "",
+    }
+}
+
+/// Of commands that can't be read, and of answers that can't be written; nothing of want of memory.
+fn answer_explanation(fault: &AnswerFault) -> &'static str
+    ensures { result.now ≡ answer_explanation fault.now }
+{
+    match fault {
+        AnswerFault::Read => "\nstandard input couldn't be read to its end",
+        AnswerFault::Write(_) => {
+            "\nthe output can't be made, or its disk is full, or nobody reads it"
+        }
+        AnswerFault::Memory => "",
+    }
+}
+
+/// A sentence behind a line end; nothing of want of memory.
+fn explanation_of(fault: &QueryFault) -> &'static str
+    ensures { result.now ≡ explanation_of fault.now }
+{
+    match fault {
+        QueryFault::Unreadable => "\nit isn't there, or is a folder, or can't be read",
+        QueryFault::Wire(fault) => wire_explanation(fault),
+        QueryFault::Answers(fault) => answer_explanation(fault),
+    }
+}
+
+/// The line, without its end, that says this of the index with this path, explained where that is
+/// asked for.
+pub(crate) fn query_text(
+    alloc: Global,
+    fault: &QueryFault,
+    path: &str,
+    explain: bool,
+) -> Result<String, AllocError>
+    ensures { IfOk result (λ text. string_bytes text ≡ told explain path.now fault.now) }
+{
+    let mut text = fault.line(alloc, path)?;
+    if explain {
+        text.push_str(explanation_of(fault))?;
+    }
+    Ok(text)
+}

@@ -169,7 +169,7 @@ fn has_its_paths(linker: &Linker) -> bool {
 }
 
 /// What a linker answers; nothing where it lacks the path of a file, or has one of none.
-fn listing_with_paths(alloc: Global, linker: &Linker) -> Result<String, AllocError> {
+pub(crate) fn listing_with_paths(alloc: Global, linker: &Linker) -> Result<String, AllocError> {
     if has_its_paths(linker) {
         listing_of(alloc, linker)
     } else {

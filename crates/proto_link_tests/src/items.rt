@@ -96,7 +96,7 @@ pub(crate) fn items_of(
 }
 
 /// Whether the one place is before the other.
-pub(crate) fn is_before(place: FilePlace, other: FilePlace) -> bool {
+fn is_before(place: FilePlace, other: FilePlace) -> bool {
     place.file < other.file || (place.file == other.file && place.span.start < other.span.start)
 }
 

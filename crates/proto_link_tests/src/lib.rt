@@ -12,7 +12,7 @@ mod generated;
 #[cfg(test)]
 mod items;
 #[cfg(test)]
-mod left_out;
+mod kept;
 #[cfg(test)]
 mod meanings;
 #[cfg(test)]

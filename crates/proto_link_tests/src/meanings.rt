@@ -223,7 +223,8 @@ fn add_files(alloc: Global, draft: &mut Draft, files: &[LinkFile]) -> Result<(),
     Ok(())
 }
 
-fn listing_of(alloc: Global, files: &[LinkFile]) -> Result<String, AllocError> {
+/// What scans tell of files with clear names.
+pub(crate) fn listing_of(alloc: Global, files: &[LinkFile]) -> Result<String, AllocError> {
     let mut draft = Draft::new(alloc);
     add_files(alloc, &mut draft, files)?;
     draft.finish()

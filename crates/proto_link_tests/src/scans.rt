@@ -1,6 +1,6 @@
 //! Which files see which, and why files can't be linked, found by scans of all files.
 
-use crate::items::{first_clash, is_before, items_of};
+use crate::items::{first_clash, items_of};
 use proto_link::{FilePlace, LinkFault, LinkFile};
 use proto_parse::ImportKind;
 use std::alloc::{AllocError, Global};
@@ -97,40 +97,36 @@ fn has_path(files: &[LinkFile], path: &str) -> bool {
     false
 }
 
-fn lesser(least: Option<FilePlace>, place: FilePlace) -> Option<FilePlace> {
-    match least {
-        Some(so_far) if is_before(so_far, place) => least,
-        _ => Some(place),
-    }
-}
-
-fn least_absent(
+/// Adds the imports of a file that have to be there and name no file.
+fn add_absent(
     files: &[LinkFile],
     number: usize,
     file: &LinkFile,
-    mut least: Option<FilePlace>,
-) -> Option<FilePlace> {
+    absent: &mut Vec<FilePlace>,
+) -> Result<(), AllocError> {
     let Some(facts) = file.facts else {
-        return least;
+        return Ok(());
     };
     for import in facts.imports() {
         let is_needed = !file.included || import.kind == ImportKind::Public;
         if is_needed && !has_path(files, import.path.as_str()) {
             let span = import.span;
-            least = lesser(least, FilePlace { file: number, span });
+            absent.push(FilePlace { file: number, span })?;
         }
     }
-    least
+    Ok(())
 }
 
-fn first_absent(files: &[LinkFile], counted: &[usize]) -> Option<FilePlace> {
-    let mut least = None;
+/// The imports that have to be there and name no file, of all files that count, in order.
+pub(crate) fn absent_of(alloc: Global, files: &[LinkFile]) -> Result<Vec<FilePlace>, AllocError> {
+    let counted = counted_of(alloc, files)?;
+    let mut absent = Vec::new(alloc);
     for (number, file) in files.iter().enumerate() {
         if counted.contains(&number) {
-            least = least_absent(files, number, file, least);
+            add_absent(files, number, file, &mut absent)?;
         }
     }
-    least
+    Ok(absent)
 }
 
 fn fault_of_counted(
@@ -141,13 +137,12 @@ fn fault_of_counted(
     if let Some(file) = first_unread(files, counted) {
         return Ok(Some(LinkFault::Broken(file)));
     }
-    let absent = first_absent(files, counted);
     let items = items_of(alloc, files, counted)?;
-    Ok(match (first_clash(items.as_slice()), absent) {
-        (Some((first, second)), _) => Some(LinkFault::Duplicate(first, second)),
-        (None, Some(place)) => Some(LinkFault::MissingImport(place)),
-        (None, None) => None,
-    })
+    if let Some((first, second)) = first_clash(items.as_slice()) {
+        return Ok(Some(LinkFault::Duplicate(first, second)));
+    }
+    let absent = absent_of(alloc, files)?;
+    Ok(absent.first().map(|place| LinkFault::MissingImport(*place)))
 }
 
 /// Why a file that counts is left out, if it is: it has no facts, or a name clashes with one of the files

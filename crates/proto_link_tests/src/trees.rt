@@ -5,7 +5,7 @@
 
 use crate::answers::answer_of;
 use crate::facts::facts_of;
-use crate::left_out::are_left_out_as_scanned;
+use crate::kept::are_kept_as_scanned;
 use crate::meanings::scan_of;
 use proto_decl::FileFacts;
 use proto_link::{LinkFile, have_own_paths};
@@ -14,7 +14,7 @@ use std::process::Abort;
 
 /// A file of a tree.
 #[derive(Drop)]
-pub(crate) struct Source<'a> {
+struct Source<'a> {
     path: &'a str,
     text: &'a str,
     included: bool,
@@ -29,7 +29,7 @@ fn source_of(file: &str) -> Source<'_> {
     }
 }
 
-pub(crate) fn sources_of<'a>(alloc: Global, tree: &'a str) -> Result<Vec<Source<'a>>, AllocError> {
+fn sources_of<'a>(alloc: Global, tree: &'a str) -> Result<Vec<Source<'a>>, AllocError> {
     let mut sources = Vec::new(alloc);
     for file in tree.split_terminator('|') {
         sources.push(source_of(file))?;
@@ -48,10 +48,7 @@ fn add_facts(
     Ok(())
 }
 
-pub(crate) fn facts_of_all(
-    alloc: Global,
-    sources: &[Source],
-) -> Result<Vec<Option<FileFacts>>, AllocError> {
+fn facts_of_all(alloc: Global, sources: &[Source]) -> Result<Vec<Option<FileFacts>>, AllocError> {
     let mut all = Vec::with_capacity(alloc, sources.len())?;
     for (number, source) in sources.iter().enumerate() {
         add_facts(alloc, &mut all, number, source.text)?;
@@ -66,7 +63,7 @@ fn facts_at<'a>(facts: &'a [Option<FileFacts>], number: usize) -> Option<&'a Fil
     }
 }
 
-pub(crate) fn files_of<'a>(
+fn files_of<'a>(
     alloc: Global,
     sources: &'a [Source<'a>],
     facts: &'a [Option<FileFacts>],
@@ -101,7 +98,7 @@ fn are_files_answered<'a>(
         return Ok(due == Some("a path twice\n"));
     }
     let answer = answer_of(alloc, files)?;
-    Ok(is_as_scanned(alloc, files, answer.as_str(), due)? && are_left_out_as_scanned(alloc, files)?)
+    Ok(is_as_scanned(alloc, files, answer.as_str(), due)? && are_kept_as_scanned(alloc, files)?)
 }
 
 fn is_answered_with(
@@ -138,7 +135,7 @@ fn is_answered(alloc: Global, tree: &str, due: Option<&str>) -> Result<bool, All
 }
 
 /// Ends the test, with this number, where something isn't right.
-pub(crate) fn see(rt: &impl Abort, number: usize, is_right: bool) {
+fn see(rt: &impl Abort, number: usize, is_right: bool) {
     assert!(rt; is_right, "wrong at {number}");
 }
 

@@ -1,0 +1,101 @@
+//! Which files of a tree with faults are left out, and what linking answers to the others, beside what scans tell.
+
+ghost use Rattle.std.specs.Prelude.{◌≡◌, IfOk};
+ghost use Rattle.proto_visibility.specs.Files.{HaveOwnPaths};
+ghost use Rattle.proto_visibility.specs.Kept.{AreOmissions, kept_of};
+ghost use Rattle.proto_visibility.specs.Linked.{HaveClearNames};
+
+use crate::answers::listing_with_paths;
+use crate::meanings::listing_of;
+use crate::scans::{absent_of, omissions_of};
+use proto_link::{LinkFault, LinkFile, Linker, kept_files_are_clear, left_out};
+use std::alloc::{AllocError, Global};
+
+fn same<'a>(file: &LinkFile<'a>) -> LinkFile<'a>
+    ensures { result ≡ file.now }
+{
+    LinkFile {
+        path: file.path,
+        facts: file.facts,
+        included: file.included,
+    }
+}
+
+/// The files that aren't left out, in order.
+fn kept_files<'a>(
+    alloc: Global,
+    files: &[LinkFile<'a>],
+    omissions: &[Option<LinkFault>],
+) -> Result<Vec<LinkFile<'a>>, AllocError>
+    ensures { IfOk result (λ kept. kept.items ≡ kept_of omissions.now files.now) }
+{
+    let mut kept = Vec::new(alloc);
+    let (mut left, mut rest) = (files, omissions);
+    while let [omission, omissions_behind @ ..] = rest {
+        let [file, files_behind @ ..] = left else {
+            return Ok(kept);
+        };
+        if omission.is_none() {
+            kept.push(same(file))?;
+        }
+        left = files_behind;
+        rest = omissions_behind;
+    }
+    Ok(kept)
+}
+
+fn is_listed_as_scanned(
+    alloc: Global,
+    linker: &Linker,
+    files: &[LinkFile],
+) -> Result<bool, AllocError> {
+    let answer = listing_with_paths(alloc, linker)?;
+    let scan = listing_of(alloc, files)?;
+    Ok(answer.as_str() == scan.as_str())
+}
+
+fn are_missing_as_scanned(
+    alloc: Global,
+    linker: &Linker,
+    files: &[LinkFile],
+) -> Result<bool, AllocError> {
+    let missing = linker.missing_imports(alloc)?;
+    let absent = absent_of(alloc, files)?;
+    Ok(missing.as_slice() == absent.as_slice())
+}
+
+fn are_linked_as_scanned<'a>(alloc: Global, files: &'a [LinkFile<'a>]) -> Result<bool, AllocError>
+    requires own { HaveOwnPaths files.now }
+    requires clear { HaveClearNames files.now }
+{
+    let linker = Linker::of_kept(alloc, files)?;
+    Ok(
+        is_listed_as_scanned(alloc, &linker, files)?
+            && are_missing_as_scanned(alloc, &linker, files)?,
+    )
+}
+
+fn are_omitted_as_scanned<'a>(
+    alloc: Global,
+    files: &'a [LinkFile<'a>],
+    omissions: &[Option<LinkFault>],
+) -> Result<bool, AllocError>
+    requires own { HaveOwnPaths files.now }
+    requires omissions { AreOmissions files.now omissions.now }
+{
+    kept_files_are_clear();
+    let kept = kept_files(alloc, files, omissions)?;
+    let scanned = omissions_of(alloc, files)?;
+    Ok(omissions == scanned.as_slice() && are_linked_as_scanned(alloc, kept.as_slice())?)
+}
+
+/// Whether scans tell which files are left out, and what linking answers to those that are kept.
+pub(crate) fn are_kept_as_scanned<'a>(
+    alloc: Global,
+    files: &'a [LinkFile<'a>],
+) -> Result<bool, AllocError>
+    requires { HaveOwnPaths files.now }
+{
+    let omissions = left_out(alloc, files)?;
+    are_omitted_as_scanned(alloc, files, omissions.as_slice())
+}

@@ -20,7 +20,7 @@ use Rattle.index_pool.proofs.LaneNumbersLemmas.{lane_none, lane_more_own, lane_m
 use Rattle.index_pool.proofs.LaneLemmas.{lane_given, lane_popped, lane_stolen}
 
 -- what holds of a test of two numbers, where it holds both for equal ones and for others
-by_equality : (P : Bool → Type 0) (a b : ℕ) → (a ≡ b → P true) → (a ≢ b → P false) → P (a == b)
+pub by_equality : (P : Bool → Type 0) (a b : ℕ) → (a ≡ b → P true) → (a ≢ b → P false) → P (a == b)
 by_equality P a b same other = ⊎_elim
     (λ (yes : ((a == b) ≡ true) × (a ≡ b)). subst P (sym yes.0) (same yes.1))
     (λ (no : ((a == b) ≡ false) × (a ≢ b)). subst P (sym no.0) (other no.1))
@@ -34,7 +34,7 @@ same_either part false x y same = refl
 module _ {A : Type 0} (part : WorkerState → A) (s : CoreState) (i w : ℕ) (x : WorkerState)
     (within : i < length s.workers) where
   -- a part of worker w, where worker i is exchanged for one that has the same
-  same_part : part x ≡ part (worker_at s i) → part (worker_at (with_worker s i x) w) ≡ part (worker_at s w)
+  pub same_part : part x ≡ part (worker_at s i) → part (worker_at (with_worker s i x) w) ≡ part (worker_at s w)
   same_part same = ⊎_elim
       (λ (yes : ((i == w) ≡ true) × (i ≡ w)). subst
       (λ j. part (worker_at (with_worker s i x) j) ≡ part (worker_at s j)) yes.1
@@ -43,7 +43,7 @@ module _ {A : Type 0} (part : WorkerState → A) (s : CoreState) (i w : ℕ) (x 
       (eqb_tells i w)
 
   -- and where it is exchanged for one in which that part was changed
-  changed_part : (change : A → A) → part x ≡ change (part (worker_at s i))
+  pub changed_part : (change : A → A) → part x ≡ change (part (worker_at s i))
       → part (worker_at (with_worker s i x) w) ≡ cond (i == w) (change (part (worker_at s w))) (part (worker_at s w))
   changed_part change new =
       by_equality (λ b. part (worker_at (with_worker s i x) w)
@@ -60,7 +60,7 @@ module _ (s : CoreState) (from to w : ℕ) (from_in : from < length s.workers) (
   to_middle : to < length middle.workers
   to_middle = omega (arith, length-set s.workers from (unqueued (worker_at s from)))
 
-  queue_after : queue_of (after_take s from to) w ≡ cond (from == w) (drop 1 (queue_of s w)) (queue_of s w)
+  pub queue_after : queue_of (after_take s from to) w ≡ cond (from == w) (drop 1 (queue_of s w)) (queue_of s w)
   queue_after =
       same_part (λ x. x.queue) middle to w
       (taken (worker_at middle to) (slice_index (queue_of s from) 0)) to_middle refl
@@ -75,7 +75,7 @@ module _ (s : CoreState) (from to w : ℕ) (from_in : from < length s.workers) (
       changed_part (λ x. x.takings) middle to w (taken (worker_at middle to) k) to_middle (λ l. l ++ k ∷ []) refl
       ∙ ap (λ l. cond (to == w) (l ++ k ∷ []) l) same
 
-  note_after : (worker_at (after_take s from to) w).found_empty ≡ (worker_at s w).found_empty
+  pub note_after : (worker_at (after_take s from to) w).found_empty ≡ (worker_at s w).found_empty
   note_after =
       same_part (λ x. x.found_empty) middle to w
       (taken (worker_at middle to) (slice_index (queue_of s from) 0)) to_middle refl

@@ -1,20 +1,22 @@
 -- The results, put into the order of their inputs.
 use Rattle.std.proofs.Common.{◌≡◌, ◌≢◌, ℕ, zero, suc, ◌+◌, ◌<◌, ◌≤◌, true, false, List, [], ◌∷◌, ◌++◌, length, set}
 use Rattle.std.proofs.Common.{get_or, drop, slice_get, All, Option, Some, None, Result, Ok, Err, refl, sym, ap, ◌∙◌}
-use Rattle.std.proofs.Common.{subst, append-nil, ◌⊎◌, inl, inr, ⊎_elim, add-one, ◌==◌, arith}
+use Rattle.std.proofs.Common.{subst, append-nil, ◌⊎◌, inl, inr, ⊎_elim, add-one, ◌==◌, map, arith}
+use Rattle.std.specs.Prelude.{IfOk, IfErr, MatchResult}
+use lib.ListN.{get_or-map, length-map}
 use Rattle.std.proofs.Math.ListN.{length-set, length-drop}
 use Rattle.std.proofs.Math.Seq.{drop-cons}
 use Rattle.std.proofs.lemmas.List.{length_push, get_or-set_same, get_or-set_other}
 use Rattle.std.proofs.lemmas.Option.{slice_get_within, get_or_from_slice_get, slice_get-get_or}
-use Rattle.std.proofs.lemmas.List.Elements.{All-get_or, Contains-append_left, Contains-push}
+use Rattle.std.proofs.lemmas.List.Elements.{All-get_or, All-map, Contains-append_left, Contains-push}
 use Rattle.std.proofs.lemmas.List.Sums.{sum_by_push}
 use Rattle.std.proofs.lemmas.Bool.Decides.{eqb_tells}
 use Rattle.index_pool.specs.declared.phase.worker.Ran.{Ran}
 use Rattle.index_pool.specs.declared.phase.fault.PoolFault.{PoolFault}
 use Rattle.index_pool.specs.declared.phase.fault.PoolFault.TheVariants.{Spawn, Memory, Job}
 use Rattle.index_pool.specs.Once.{HasEachOnceBelow}
-use Rattle.index_pool.specs.Phase.{AnswersEach, MayRefuse, IfEachRan}
-use Rattle.index_pool.specs.PhaseSteps.{weight, numbers_of, IsAmong, IsFilled, IsFull, HasResult}
+use Rattle.index_pool.specs.Phase.{AnswersEach, MayRefuse, RanOnce, Returned, AnswersRuns, RefusesRuns}
+use Rattle.index_pool.specs.PhaseSteps.{weight, numbers_of, RanEach, IsAmong, IsFilled, IsFull, HasResult}
 use Rattle.index_pool.proofs.OnceLemmas.{only_at, only_at_other, one_below}
 use Rattle.index_pool.proofs.ResultsLemmas.{once_weighs}
 
@@ -188,11 +190,46 @@ refusal_weaker P Q n m workers same weaker (Job k fault) a = (
   λ j below. (let o = a.2 j below in (o.0, weaker j (Ok o.0) o.1)),
 )
 
-pub each_ran : {A Fault : Type 0} (result : Result A (PoolFault Fault)) (fact : Type 0) → fact → IfEachRan result fact
-each_ran (Ok all) fact holds = holds
-each_ran (Err Spawn) fact holds = tt
-each_ran (Err Memory) fact holds = tt
-each_ran (Err (Job k fault)) fact holds = holds
+-- a result as a run: its number, and what `run` returned
+abbrev pub run_of : {A : Type 0} → Ran A → ℕ × A
+run_of r = (r.number, r.answer)
+
+numbers_of_runs : {A : Type 0} (rs : List (Ran A)) → map (λ (run : ℕ × A). run.0) (map run_of rs) ≡ numbers_of rs
+numbers_of_runs [] = refl
+numbers_of_runs (r ∷ rs) = ap (λ ns. r.number ∷ ns) (numbers_of_runs rs)
+
+runs_once : {A : Type 0} (gives : ℕ → A → Type 0) (n : ℕ) (rs : List (Ran A)) → RanEach gives n rs
+    → RanOnce gives n (map run_of rs)
+runs_once {A} gives n rs ran = (
+  subst (HasEachOnceBelow n) (sym (numbers_of_runs rs)) ran.1,
+  All-map (λ (run : ℕ × A). gives run.0 run.1) run_of rs ran.0,
+)
+
+-- what is among the results was returned by a run
+returned : {A : Type 0} (rs : List (Ran A)) (k : ℕ) (a : A) → IsAmong rs k a → Returned (map run_of rs) k a
+returned {A} rs k a among =
+    let r : Ran A = record { number = k; answer = a } in
+    let few = among.1 in
+    let count = length-map rs run_of in
+    (among.0, omega arith, get_or-map run_of rs among.0 r ∙ ap run_of among.2)
+
+pub of_runs : {V Out Fault : Type 0} (gives : ℕ → Result Out Fault → Type 0) (n : ℕ)
+    (rs : List (Ran (Result Out Fault))) → RanEach gives n rs → (items : V → List Out)
+    → (answer : Result V (PoolFault Fault)) → IfOk answer (λ v. AnswersEach (IsAmong rs) n (items v))
+    → IfErr answer (MayRefuse (IsAmong rs) n 1)
+    → MatchResult answer (λ v. AnswersRuns gives n (items v)) (RefusesRuns gives n)
+of_runs gives n rs ran items (Ok v) outs none = (
+  map run_of rs,
+  runs_once gives n rs ran,
+  answers_weaker (IsAmong rs) (Returned (map run_of rs)) n n refl (returned rs) (items v) outs,
+)
+of_runs gives n rs ran items (Err Spawn) none fault = tt
+of_runs gives n rs ran items (Err Memory) none fault = tt
+of_runs gives n rs ran items (Err (Job k cause)) none fault = (
+  map run_of rs,
+  runs_once gives n rs ran,
+  refusal_weaker (IsAmong rs) (Returned (map run_of rs)) n n 1 refl (returned rs) (Job k cause) fault,
+)
 
 -- what a filled slot has is among the results
 pub filled_among : {A : Type 0} (among : ℕ → A → Type 0) (n : ℕ) (slots : List (Option A)) → IsFilled among n slots

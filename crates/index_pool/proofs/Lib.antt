@@ -9,6 +9,7 @@ mod LaneNumbersLemmas
 mod LaneLemmas
 mod LaneEndsLemmas
 mod CoreLanesLemmas
+mod LaneRunsLemmas
 -- phases: results, the recursion over threads, and the results in order
 mod ResultsLemmas
 mod TakenLemmas

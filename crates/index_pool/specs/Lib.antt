@@ -4,6 +4,7 @@ pub mod CoreFields
 pub mod Lane
 pub mod LaneEnds
 pub mod CoreLanes
+pub mod LaneRuns
 pub mod StolenCases
 pub mod Phase
 pub mod PhaseSteps

@@ -9,7 +9,7 @@ use Rattle.index_pool.specs.declared.phase.worker.Post.{Post}
 use Rattle.index_pool.specs.declared.phase.worker.Done.{Done}
 use Rattle.index_pool.specs.declared.phase.levels.Gathered.{Gathered}
 use Rattle.index_pool.specs.declared.phase.fault.Stop.{Stop}
-use Rattle.index_pool.specs.declared.phase.fault.Stop.TheVariants.{Spawn, Memory}
+use Rattle.index_pool.specs.declared.phase.fault.Stop.TheVariants.{Lanes, Spawn, Memory}
 use Rattle.index_pool.specs.Once.{HasEachOnceBelow}
 use Rattle.index_pool.specs.Lane.{lane_view}
 use Rattle.index_pool.specs.LaneEnds.{owner_view, owner_deque, found_empty, thief_view, thief_deque, tries_left}
@@ -90,14 +90,17 @@ pub record Settles {A : Type 0} (gives : ℕ → A → Type 0) (done : Done A) (
 -- where one is to be started, and then the calling thread's own lane was found empty; memory is told only where all
 -- were started
 abbrev pub MayStop : Post → ℕ → ℕ → Stop → Type 0
+MayStop post lanes starts Lanes = ⊥
 MayStop post lanes starts (Spawn owner) =
     (0 < lanes) × (owner_deque owner ≡ owner_deque post.owner) × (found_empty owner ≡ true)
 MayStop post lanes starts Memory = lanes ≤ starts
 
--- why there are no results: a thread is refused only for two workers or more
-abbrev pub MayEnd : ℕ → Stop → Type 0
-MayEnd workers (Spawn owner) = 1 < workers
-MayEnd workers Memory = ⊤
+-- why there are no results, where so many threads may be started: a thread is refused only for two workers or more;
+-- room for the lanes may be refused; and memory is told otherwise only where all threads were started
+abbrev pub MayEnd : ℕ → ℕ → Stop → Type 0
+MayEnd workers starts Lanes = ⊤
+MayEnd workers starts (Spawn owner) = 1 < workers
+MayEnd workers starts Memory = workers ≤ starts + 1
 
 -- the inputs' numbers of the results
 abbrev pub numbers_of : {A : Type 0} → List (Ran A) → List ℕ

@@ -2,6 +2,7 @@
 
 ghost use Rattle.index_pool.specs.CoreMachine.{LosesNoNumber, TakesEachNumber};
 ghost use Rattle.index_pool.specs.CoreLanes.{ShowsLanes};
+ghost use Rattle.index_pool.specs.LaneRuns.{LanesRunAsCore};
 
 /// In every state to which events lead, each seeded number stands in one queue or in one worker's
 /// takings, once.
@@ -20,4 +21,11 @@ pub fn core_takes_each_number()
 /// known of the lanes as the push, the pop or the steal does whose event it is.
 pub fn core_shows_lanes()
     ensures { ShowsLanes }
+{}
+
+/// However the steps of the workers at their deques come after one another, for any number of workers:
+/// if each deque by itself allows the steps at it, and each worker steals only once its own lane was
+/// found empty, the steps are a run of the core machine, with the same numbers got.
+pub fn lanes_run_as_core()
+    ensures { LanesRunAsCore }
 {}

@@ -1,10 +1,11 @@
 //! Phases: the inputs of a job, run by workers who pop and steal their numbers.
 
-ghost use Rattle.std.specs.Prelude.{◌≡◌, ℕ, ◌+◌, ◌≤◌, All, length, sum_by, IfOk, IfErr};
+ghost use Rattle.std.specs.Prelude.{◌≡◌, ℕ, ◌+◌, ◌<◌, ◌≤◌, All, length, sum_by, Err, IfOk, IfErr, MatchResult};
 ghost use Rattle.std.specs.List.{range_with_len};
 ghost use Rattle.index_pool.specs.Lane.{lane_numbers};
 ghost use Rattle.index_pool.specs.LaneEnds.{owner_view};
-ghost use Rattle.index_pool.specs.Phase.{AnswersEach, MayRefuse, IfEachRan};
+ghost use Rattle.index_pool.specs.Phase.{AnswersEach, MayRefuse, AnswersRuns, RefusesRuns, IsStartRefused};
+ghost use Rattle.index_pool.specs.declared.phase.fault.PoolFault.TheVariants.{Spawn};
 ghost use Rattle.index_pool.specs.PhaseSteps.{FreshPost, FreshLane, Gathers, RanEach, MayStop, MayEnd};
 
 mod fault;
@@ -51,31 +52,49 @@ pub fn run_phase<R: Threads + Wait, J: Job, G: Gate>(
     requires known { inputs ≤ J.inputs job.now }
     ensures answers { IfOk result (λ outs. AnswersEach (J.gives job.now) inputs outs.items) }
     ensures refused { IfErr result (MayRefuse (J.gives job.now) inputs workers) }
+    ensures ran { MatchResult result (λ outs. AnswersRuns (J.gives job.now) inputs outs.items) (RefusesRuns (J.gives job.now) inputs) }
 {
     let task = Task { alloc, job, gate };
-    run_phase_with_starts(rt, &task, inputs, workers, MAX_WORKERS)
+    match run_phase_refusing(rt, &task, inputs, workers, None) {
+        Ok(answer) => answer,
+        Err(AllocError) => Err(PoolFault::Memory),
+    }
 }
 
-/// As `run_phase`, where at most `starts` threads can be started: a further start is refused, and the
-/// answer is then `Spawn`, or `Memory` where not even the lanes could be made. It serves tests of such
-/// a refusal.
-pub fn run_phase_with_starts<R: Threads + Wait, J: Job, G: Gate>(
+/// As `run_phase`, where the start of this number is refused. It serves tests of such a refusal.
+///
+/// The starts of the threads are numbered from 1, so that of W workers the last is W - 1. If a start
+/// of this number is due, the answer is `Spawn`, whatever memory the workers lack that were started.
+/// An error means that not even the lanes could be made, so that no start was tried.
+pub fn run_phase_refusing<R: Threads + Wait, J: Job, G: Gate>(
     rt: &R,
     task: &Task<'_, J, G>,
     inputs: usize,
     workers: Workers,
-    starts: usize,
-) -> Result<Vec<J::Out>, PoolFault<J::Fault>>
+    refused: Option<usize>,
+) -> Result<Result<Vec<J::Out>, PoolFault<J::Fault>>, AllocError>
     requires few { inputs ≤ MAX_INPUTS }
     requires known { inputs ≤ J.inputs task.now.job.now }
-    ensures answers { IfOk result (λ outs. AnswersEach (J.gives task.now.job.now) inputs outs.items) }
-    ensures refused { IfErr result (MayRefuse (J.gives task.now.job.now) inputs workers) }
-    ensures started { IfEachRan result (workers ≤ starts + 1) }
+    ensures answers { IfOk result (λ answer. IfOk answer (λ outs. AnswersEach (J.gives task.now.job.now) inputs outs.items)) }
+    ensures refused { IfOk result (λ answer. IfErr answer (MayRefuse (J.gives task.now.job.now) inputs workers)) }
+    ensures ran { IfOk result (λ answer. MatchResult answer (λ outs. AnswersRuns (J.gives task.now.job.now) inputs outs.items) (RefusesRuns (J.gives task.now.job.now) inputs)) }
+    ensures spawn { IfOk result (λ answer. IsStartRefused refused workers → answer ≡ Err Spawn) }
 {
-    match run_lanes(rt, task, inputs, workers, starts) {
-        Ok(results) => in_order(task.alloc, inputs, results),
-        Err(Stop::Spawn(_)) => Err(PoolFault::Spawn),
-        Err(Stop::Memory) => Err(PoolFault::Memory),
+    match run_lanes(rt, task, inputs, workers, starts_before(refused)) {
+        Ok(results) => Ok(in_order(task.alloc, inputs, results)),
+        Err(Stop::Lanes) => Err(AllocError),
+        Err(Stop::Spawn(_)) => Ok(Err(PoolFault::Spawn)),
+        Err(Stop::Memory) => Ok(Err(PoolFault::Memory)),
+    }
+}
+
+// How many threads may be started before the start of this number, from 1.
+fn starts_before(refused: Option<usize>) -> usize
+    ensures { (workers : ℕ) → IsStartRefused refused workers → result + 1 < workers }
+{
+    match refused {
+        Some(0) | None => MAX_WORKERS,
+        Some(number) => number - 1,
     }
 }
 
@@ -91,10 +110,14 @@ fn run_lanes<R: Threads + Wait, J: Job, G: Gate>(
     requires known { inputs ≤ J.inputs task.now.job.now }
     ensures ran { IfOk result (λ v. RanEach (J.gives task.now.job.now) inputs v.items) }
     ensures started { IfOk result (λ _. workers ≤ starts + 1) }
-    ensures stopped { IfErr result (MayEnd workers) }
+    ensures stopped { IfErr result (MayEnd workers starts) }
 {
-    let (owner, thief) = lane(task.alloc, inputs, workers, 0)?;
-    let lanes = further_lanes(task.alloc, inputs, workers)?;
+    let Ok((owner, thief)) = lane(task.alloc, inputs, workers, 0) else {
+        return Err(Stop::Lanes);
+    };
+    let Ok(lanes) = further_lanes(task.alloc, inputs, workers) else {
+        return Err(Stop::Lanes);
+    };
     let post = Post { owner, thief };
     let gathered = start_all(rt, task, post, lanes, starts)?;
     let Gathered { post, mut results } = gathered;

@@ -1,7 +1,6 @@
 //! How many workers and inputs a phase has.
 
 ghost use Rattle.std.specs.Prelude.{◌≡◌, ◌<◌, ◌≤◌, SomeIff};
-ghost use Rattle.index_pool.specs.declared.workers.TheConstants.{MAX_WORKERS};
 
 use std::marker::Model;
 
@@ -19,13 +18,12 @@ pub struct Workers {
 
 impl Model for Workers {
     ghost use Rattle.std.specs.Prelude.{ℕ, ◌<◌, ◌≤◌};
-    ghost use Rattle.index_pool.specs.declared.workers.TheConstants.{MAX_WORKERS};
 
     ghost Value = { ℕ };
 
     ghost view = { λ w. w.count };
 
-    ghost invariant = { λ w. (0 < w.count) × (w.count ≤ MAX_WORKERS) };
+    ghost invariant = { λ w. (0 < w.count) × (w.count ≤ 16) };
 
     ghost inverse = { λ n. record { count = n } };
 }
@@ -33,7 +31,7 @@ impl Model for Workers {
 impl Workers {
     /// So many workers, where they are 1 to `MAX_WORKERS`.
     pub fn new(count: usize) -> Option<Workers>
-        ensures { SomeIff result ((0 < count) × (count ≤ MAX_WORKERS)) count }
+        ensures { SomeIff result ((0 < count) × (count ≤ 16)) count }
     {
         if 0 < count && count <= MAX_WORKERS {
             Some(Workers { count })
@@ -45,7 +43,7 @@ impl Workers {
     /// How many they are: 1 to `MAX_WORKERS`.
     pub fn count(self) -> usize
         ensures value { result ≡ self }
-        ensures range { (0 < result) × (result ≤ MAX_WORKERS) }
+        ensures range { (0 < result) × (result ≤ 16) }
     {
         self.count
     }

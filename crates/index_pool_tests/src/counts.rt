@@ -4,7 +4,7 @@ ghost use Rattle.std.specs.Prelude.{◌≡◌, ◌*◌, Ok};
 
 use crate::calls::{see, workers};
 use index_pool::{
-    Gate, Job, MAX_INPUTS, NoGate, PoolFault, Task, Workers, run_phase, run_phase_with_starts,
+    Gate, Job, MAX_INPUTS, NoGate, PoolFault, Task, Workers, run_phase, run_phase_refusing,
 };
 use std::alloc::{AllocError, Global};
 use std::sync::Wait;
@@ -194,14 +194,14 @@ fn are_ended(counts: &Counts) -> bool {
         && how_many(&counts.before, 0).wrapping_add(how_many(&counts.before, 1)) == INPUTS
 }
 
-/// Whether a phase of whose threads so many can be started answers, or else says that a thread is
-/// refused; leaves no run half done; and answers where no start is refused after it. Nothing where
-/// memory or another thread is refused.
+/// Whether a phase that has no start of this number answers, and any other says that a thread is
+/// refused; whether it leaves no run half done; and answers where no start is refused after it.
+/// Nothing where memory or another thread is refused.
 fn ends_with<R: Threads + Wait>(
     rt: &R,
     alloc: Global,
     workers: Workers,
-    starts: usize,
+    refused: usize,
     spawned: bool,
 ) -> Result<Option<bool>, AllocError> {
     let counts = no_counts(alloc)?;
@@ -210,7 +210,9 @@ fn ends_with<R: Threads + Wait>(
         job: &counts,
         gate: &counts,
     };
-    let answer = run_phase_with_starts(rt, &task, INPUTS, workers, starts);
+    let Ok(answer) = run_phase_refusing(rt, &task, INPUTS, workers, Some(refused)) else {
+        return Ok(None);
+    };
     if !are_ended(&counts) {
         return Ok(Some(false));
     }
@@ -238,21 +240,21 @@ fn are_same(some: &Vec<AtomicU64>, others: &Vec<AtomicU64>) -> bool {
 
 #[test]
 fn a_refused_start_is_spawn(rt: HostRuntime) -> Result<(), Fail> {
-    // With 4 workers, three threads are to be started: where two can be, the third start is refused.
-    for (count, starts, spawned) in [
-        (1, 0, true),
-        (2, 0, false),
-        (4, 0, false),
+    // With 4 workers, three threads are to be started: there is no start 4.
+    for (count, refused, spawned) in [
+        (1, 1, true),
+        (2, 1, false),
         (4, 1, false),
         (4, 2, false),
-        (4, 3, true),
-        (16, 0, false),
-        (16, 14, false),
-        (16, 15, true),
+        (4, 3, false),
+        (4, 4, true),
+        (16, 1, false),
+        (16, 15, false),
+        (16, 16, true),
     ] {
         let workers = workers(&rt, count);
-        let ended = match ends_with(&rt, rt.alloc(), workers, starts, spawned)? {
-            None => ends_with(&rt, rt.alloc(), workers, starts, spawned)?,
+        let ended = match ends_with(&rt, rt.alloc(), workers, refused, spawned)? {
+            None => ends_with(&rt, rt.alloc(), workers, refused, spawned)?,
             told => told,
         };
         see(&rt, ended == Some(true), "refused start");

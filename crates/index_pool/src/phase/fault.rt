@@ -14,10 +14,12 @@ pub enum PoolFault<F> {
     Job(usize, F),
 }
 
-// Why no results are gathered. With a refused start comes the calling thread's own lane, which was
-// emptied, so that no thief gets more of it.
+// Why no results are gathered: room for the lanes was refused, before any start; a start was, and
+// with it comes the calling thread's own lane, which was emptied, so that no thief gets more of it; or,
+// once all threads were started, room for results was.
 #[derive(Drop)]
 pub(crate) enum Stop {
+    Lanes,
     Spawn(LaneOwner),
     Memory,
 }

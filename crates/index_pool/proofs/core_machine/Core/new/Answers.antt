@@ -1,5 +1,4 @@
 use Rattle.std.proofs.Common.{◌≡◌, ◌≤◌, ◌<◌, length, arith}
-use Rattle.index_pool.specs.declared.workers.TheConstants.{MAX_WORKERS}
 use Rattle.index_pool.proofs.CoreFieldsLemmas.{start_kept}
 use Rattle.index_pool.proofs.core_machine.Core.new.Goals as goal
 
@@ -15,5 +14,5 @@ returns c =
     let value = c.count-end.ensures.value in
     let full : length c.loop.all.items ≡ c.args.workers = omega (arith, c.loop.invariant.count) in
     let some : 0 < c.args.workers = omega arith in
-    let few : c.args.workers ≤ MAX_WORKERS = omega arith in
+    let few : c.args.workers ≤ 16 = omega arith in
     (start_kept _ _ _ some few c.requires full c.loop.invariant.idles c.loop.invariant.roomy).1

@@ -1,10 +1,10 @@
-use Rattle.std.proofs.Common.{refl}
+use Rattle.std.proofs.Common.{refl, arith}
 use Rattle.std.proofs.lemmas.Result.{IfOk-weaker, IfErr-weaker}
 use Rattle.index_pool.specs.Phase.{AnswersEach, MayRefuse}
 use Rattle.index_pool.specs.PhaseSteps.{IsAmong}
 use Rattle.index_pool.proofs.ResultsLemmas.{given_among}
-use Rattle.index_pool.proofs.InOrderLemmas.{answers_weaker, refusal_weaker, each_ran}
-use Rattle.index_pool.proofs.phase.run_phase_with_starts.Goals as goal
+use Rattle.index_pool.proofs.InOrderLemmas.{answers_weaker, refusal_weaker, of_runs}
+use Rattle.index_pool.proofs.phase.run_phase_refusing.Goals as goal
 
 pub returns-in-Ok-clause-answers : goal.returns-in-Ok-clause-answers
 returns-in-Ok-clause-answers g c =
@@ -23,5 +23,11 @@ returns-in-Ok-clause-refused g c =
     (refusal_weaker among gives c.args.inputs c.args.inputs c.args.workers refl
     (given_among gives c.in-Ok.results.items c.in-Ok.ensures.ran.0)) c.in_order.ensures.refused
 
-pub returns-in-Ok-clause-started : goal.returns-in-Ok-clause-started
-returns-in-Ok-clause-started g c = each_ran c.in_order.result _ c.in-Ok.ensures.started
+pub returns-in-Ok-clause-ran : goal.returns-in-Ok-clause-ran
+returns-in-Ok-clause-ran g c =
+    of_runs (g.J.Job.gives c.args.task.now.job.now) c.args.inputs c.in-Ok.results.items c.in-Ok.ensures.ran
+    (λ outs. outs.items) c.in_order.result c.in_order.ensures.answers c.in_order.ensures.refused
+
+pub returns-in-Ok-clause-spawn : goal.returns-in-Ok-clause-spawn
+returns-in-Ok-clause-spawn g c = λ due.
+    absurd (let late = c.starts_before.ensures c.args.workers due in let all = c.in-Ok.ensures.started in omega arith)

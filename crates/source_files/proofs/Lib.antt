@@ -1,3 +1,4 @@
 pub mod KeptLemmas
 pub mod RootLemmas
 pub mod LoadLemmas
+pub mod FolderLemmas

@@ -7,3 +7,5 @@ pub mod RootFaults
 -- the tree below a root and included roots, and why there is none
 pub mod Loads
 pub mod LoadFaults
+-- files that are made
+pub mod Made

@@ -1,11 +1,11 @@
 -- What the tree below a root and included roots is, and why there is none.
 use Rattle.std.specs.Prelude.{◌≡◌, ℕ, ⊤, List, ◌∷◌, Option, string_bytes}
-use Rattle.source_tree.specs.Files.{SourceFile, TreeFile}
+use Rattle.source_tree.specs.Files.{SourceFile, TreeFile, paths_of}
 use Rattle.source_tree.specs.Trees.{IsTreeOf}
 use Rattle.source_tree.specs.Refusals.{AreTooMany, HaveBadPath, HaveSamePath}
 use Rattle.source_files.specs.declared.load_fault.LoadFault.{LoadFault}
 use Rattle.source_files.specs.declared.load_fault.LoadFault.TheVariants.{Unreadable, TooMany, BadPath, SamePath, Memory}
-use Rattle.source_files.specs.Roots.{AreBelow, AreBelowEach, IsUnreadableBelow}
+use Rattle.source_files.specs.Roots.{AreBelow, AreBelowEach, AreFolders, IsUnreadableBelow}
 
 -- the first file of all without a good path has this one
 abbrev pub HasBadPath : (path : List ℕ) → (sources included : List SourceFile) → Type 0
@@ -30,6 +30,15 @@ module _ (lists : List ℕ → Option (List (List ℕ)) → Type 0) (gives : Lis
   -- the tree of these files
   abbrev pub IsTreeBelow : List TreeFile → Type 0
   IsTreeBelow files = OfFiles (λ sources included. IsTreeOf sources included files)
+
+  -- the tree of these files, with the paths of the files below the root, and of those below each included root
+  pub record IsLoadedBelow (files : List TreeFile) (own : List (List ℕ)) (others : List (List (List ℕ))) : Type 0 where
+    pub sources : List SourceFile
+    pub included : List SourceFile
+    pub below : AreBelow lists gives root sources
+    pub below_each : AreFolders lists gives roots included others
+    pub tree_is : IsTreeOf sources included files
+    pub own_are : own ≡ paths_of sources
 
   -- why there is no tree: something can't be read, the first of all; or these files make none; of memory nothing is
   -- said

@@ -1,5 +1,6 @@
 -- What the sources below a root are, by what a system of files gave.
-use Rattle.std.specs.Prelude.{◌≡◌, ℕ, List, [], ◌∷◌, ◌++◌, Option, Some, None, All}
+use Rattle.std.specs.Prelude.{◌≡◌, ℕ, List, [], ◌∷◌, ◌++◌, Option, Some, None, All, map}
+use Rattle.std.specs.List.{AllZip, flat_map}
 use Rattle.source_tree.specs.Files.{SourceFile, paths_of}
 use Rattle.source_files.specs.Source.{MayKeep}
 
@@ -30,6 +31,20 @@ module _ (lists : List ℕ → Option (List (List ℕ)) → Type 0) (gives : Lis
     no_root : AreBelowEach [] []
     next_root : {root : List ℕ} {roots : List (List ℕ)} {here others : List SourceFile}
         → AreBelow root here → AreBelowEach roots others → AreBelowEach (root ∷ roots) (here ++ others)
+
+  -- the same, with the paths of the files below each
+  pub record AreFolders (roots : List (List ℕ)) (files : List SourceFile) (paths : List (List (List ℕ))) : Type 0 where
+    pub folders : List (List SourceFile)
+    pub below : AllZip (AreBelow) roots folders
+    pub files_are : files ≡ flat_map (λ here. here) folders
+    pub paths_are : paths ≡ map paths_of folders
+
+  -- the files below one root more
+  pub record AddsFolder (root : List ℕ) (old new : List SourceFile) (paths more : List (List (List ℕ))) : Type 0 where
+    pub here : List SourceFile
+    pub below : AreBelow root here
+    pub files_are : new ≡ old ++ here
+    pub paths_are : more ≡ paths ++ paths_of here ∷ []
 
   -- what can't be read first below several roots: those before its root can be read whole
   pub record IsUnreadableBelow (roots : List (List ℕ)) (name : List ℕ) : Type 0 where

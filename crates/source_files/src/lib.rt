@@ -1,17 +1,20 @@
-//! The files of a run: the sources below a root, the tree that they make with included files, and the file that an
-//! index is written to.
+//! The files of a run: the sources below a root, the tree that they make with included files, the file that an
+//! index is written to, and files that are made by their paths.
 #![tactic(auto)]
 
+mod folders;
 mod load;
 mod load_fault;
+mod make_files;
 mod out_file;
 mod read_files;
 mod root;
 mod system_files;
 mod walk;
 
-pub use load::load_tree;
+pub use load::{LoadedTree, load_tree, load_tree_with_paths};
 pub use load_fault::LoadFault;
+pub use make_files::MakeFiles;
 pub use out_file::OutFile;
 pub use read_files::ReadFiles;
 pub use root::read_root;

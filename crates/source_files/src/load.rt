@@ -4,9 +4,10 @@ ghost use Rattle.std.specs.Prelude.{◌≡◌, ◌+◌, ◌++◌, ◌<◌, Some,
 ghost use Rattle.std.specs.Option.{option_map};
 ghost use Rattle.source_tree.specs.Trees.{IsTreeOf};
 ghost use Rattle.source_files.specs.Roots.{AreBelowEach};
-ghost use Rattle.source_files.specs.Loads.{IsTreeBelow, MayNotLoad};
+ghost use Rattle.source_files.specs.Loads.{IsLoadedBelow, IsTreeBelow, MayNotLoad};
 ghost use Rattle.source_files.specs.LoadFaults.{MayRefuseFiles, MayStopBelow};
 
+use crate::folders::{paths_of, read_folders};
 use crate::load_fault::LoadFault;
 use crate::read_files::ReadFiles;
 use crate::root::read_root;
@@ -92,4 +93,37 @@ pub fn load_tree<F: ReadFiles>(
     let sources = read_root(alloc, files, root)?;
     let included = read_roots(alloc, files, included)?;
     make_tree(alloc, sources, included)
+}
+
+/// A tree, and the paths of the files below each of the folders that it was read from.
+#[derive(Debug, Drop)]
+pub struct LoadedTree {
+    /// The tree.
+    pub tree: Tree,
+    /// The paths of the sources.
+    pub own: Vec<String>,
+    /// For each included root the paths of the files below it.
+    pub others: Vec<Vec<String>>,
+}
+
+/// The tree that `load_tree` makes, or why it makes none, with the paths of the files of each folder.
+pub fn load_tree_with_paths<F: ReadFiles>(
+    alloc: Global,
+    files: &F,
+    root: &str,
+    included: &[String],
+) -> Result<LoadedTree, LoadFault>
+    ensures loaded { IfOk result (λ loaded. IsLoadedBelow (F.lists files.now) (F.gives files.now) root.now (map string_bytes included.now)
+        loaded.tree (map string_bytes loaded.own.items) (map (λ paths. map string_bytes paths.items) loaded.others.items)) }
+    ensures refused { IfErr result (MayNotLoad (F.lists files.now) (F.gives files.now) root.now (map string_bytes included.now)) }
+{
+    let sources = read_root(alloc, files, root)?;
+    let own = paths_of(alloc, &sources)?;
+    let folders = read_folders(alloc, files, included)?;
+    let tree = make_tree(alloc, sources, folders.files)?;
+    Ok(LoadedTree {
+        tree,
+        own,
+        others: folders.paths,
+    })
 }

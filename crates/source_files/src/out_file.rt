@@ -1,18 +1,23 @@
-//! A file that is made at its first write.
+//! A file that is made at its first write, and files that are made whole.
 
 ghost use Rattle.std.specs.Prelude.{◌≡◌, ◌≤◌, None, length, IfOk};
 
+use crate::make_files::MakeFiles;
+use crate::system_files::given;
+use std::alloc::AllocError;
+use std::fs::File;
 use std::io::Write;
 use std::rt::Files;
 use std::{fs, io};
 use streams::{Failed, Sink};
 
 /// A file that is made at the first write to it, in place of one that is there. What it holds isn't
-/// known.
+/// known, nor what is made by other paths. It is none of the standard streams, even where these are closed.
 #[derive(Drop)]
 pub struct OutFile<'a, S: Files> {
     system: &'a S,
     path: &'a str,
+    held: [Option<S::File>; 3],
     file: Option<S::File>,
     failures: u64,
 }
@@ -26,9 +31,25 @@ impl<'a, S: Files> OutFile<'a, S> {
         OutFile {
             system,
             path,
+            held: [None, None, None],
             file: None,
             failures: 0,
         }
+    }
+
+    // A file that holds nothing, where the system has it.
+    fn nothing(&self) -> Option<S::File> {
+        File::open(self.system, "/dev/null").ok()
+    }
+
+    // Makes the file. The system gives it the least number that is free, which is that of a standard stream
+    // where one is closed: so what is said would be written to it. Other files take these numbers before.
+    fn make(&mut self) -> io::Result<()>
+        ensures failures { self.new.failures ≡ self.old.failures }
+    {
+        self.held = [self.nothing(), self.nothing(), self.nothing()];
+        self.file = Some(fs::create(self.system, self.path)?);
+        Ok(())
     }
 
     // Makes the file where it isn't made yet, and writes to it.
@@ -37,7 +58,7 @@ impl<'a, S: Files> OutFile<'a, S> {
         ensures failures { self.new.failures ≡ self.old.failures }
     {
         if self.file.is_none() {
-            self.file = Some(fs::create(self.system, self.path)?);
+            self.make()?;
         }
         match &mut self.file {
             Some(file) => file.write(bytes),
@@ -63,5 +84,27 @@ impl<'a, S: Files> Sink for OutFile<'a, S> {
             self.failures = self.failures.saturating_add(1);
         }
         result.map_err(|_| Failed)
+    }
+}
+
+// Makes the folders on the way to a file. None where the system refuses that.
+fn make_folders<S: Files>(system: &S, path: &str) -> Result<Option<()>, AllocError> {
+    match path.rsplit_once('/') {
+        Some((folder, _)) => given(fs::create_dir_all(system, folder)),
+        None => Ok(Some(())),
+    }
+}
+
+impl<'a, S: Files> MakeFiles for OutFile<'a, S> {
+    ghost use Rattle.std.specs.Prelude.{None};
+
+    ghost made = { λ _. None };
+
+    fn make_file(&mut self, path: &str, bytes: &[u8]) -> Result<bool, AllocError> {
+        if make_folders(self.system, path)?.is_none() {
+            return Ok(false);
+        }
+        let written = given(fs::write(self.system, path, bytes))?;
+        Ok(written.is_some())
     }
 }

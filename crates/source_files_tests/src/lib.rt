@@ -2,6 +2,8 @@
 #![tactic(auto)]
 
 #[cfg(test)]
+mod closed_streams;
+#[cfg(test)]
 mod loads;
 #[cfg(test)]
 mod outputs;

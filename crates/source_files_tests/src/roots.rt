@@ -14,7 +14,7 @@ pub(crate) fn see_text(rt: &impl Abort, found: &str, due: &str) {
 }
 
 /// The paths, each with a space behind it.
-fn listing(alloc: Global, paths: &[String]) -> Result<String, AllocError> {
+pub(crate) fn listing(alloc: Global, paths: &[String]) -> Result<String, AllocError> {
     let mut text = String::new(alloc);
     for path in paths {
         text.push_str(path.as_str())?;

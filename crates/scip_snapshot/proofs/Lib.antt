@@ -1,0 +1,2 @@
+mod OutcomeLemmas
+pub mod ShowLemmas

@@ -1,0 +1,16 @@
+use Rattle.std.proofs.Common.{◌∙◌, sym, subst, append-nil}
+use Rattle.streams.specs.WholeWrites.{IsWritten, IsCutOff}
+use Rattle.scip_snapshot.proofs.printing.print_text.Goals as goal
+
+pub returns-in-Ok : goal.returns-in-Ok
+returns-in-Ok g c =
+    subst (IsWritten g.W.Sink.contents g.W.Sink.failures c.args.out.now c.write_all.new.sink)
+    (c.as_slice.ensures.value ∙ c.in_ok-all.ensures ∙ sym (append-nil _)) c.in-Ok.ensures.ok
+
+pub returns : goal.returns
+returns g c =
+    let count = c.in-Err.field-0.written in (
+      count,
+      subst (λ text. IsCutOff g.W.Sink.contents g.W.Sink.failures c.args.out.now c.write_all.new.sink text count)
+          (c.as_slice.ensures.value ∙ c.in_ok-all.ensures ∙ sym (append-nil _)) c.in-Err.ensures.err,
+    )

@@ -1,0 +1,87 @@
+//! Why a document of an index is left out.
+
+ghost use Rattle.std.specs.Prelude.{◌≡◌, IfOk, string_bytes};
+ghost use Rattle.scip_snapshot.specs.LeftOuts.{line_of, line_with, name_of};
+ghost use Rattle.scip_snapshot.specs.Showing.{IsSaid, SaysLine, writer};
+ghost use Rattle.scip_snapshot.specs.declared.left_out.LeftOut.TheVariants.{NoSnapshot};
+
+use crate::show_fault::ShowFault;
+use scip_pages::SnapshotFault;
+use std::alloc::{AllocError, Global};
+use streams::{Sink, write_all};
+
+/// Why a document of an index has no snapshot that is printed. The first of those that hold.
+#[derive(Clone, Copy, Debug, Drop, PartialEq, Eq)]
+pub enum LeftOut {
+    /// Its path leads to no place of its own below the root (`scip_pages::path_fault`).
+    BadPath,
+    /// Its source can't be read.
+    Unreadable,
+    /// Its source isn't UTF-8.
+    NotText,
+    /// It has no snapshot.
+    NoSnapshot(SnapshotFault),
+}
+
+/// The name of why a document has no snapshot.
+fn name_of(fault: SnapshotFault) -> &'static str
+    ensures { result.now ≡ name_of (NoSnapshot fault) }
+{
+    match fault {
+        SnapshotFault::NoDocument => "NoDocument",
+        SnapshotFault::NoUnit => "NoUnit",
+        SnapshotFault::Misfit(_) => "Misfit",
+        SnapshotFault::Memory => "Memory",
+    }
+}
+
+/// The line that says a name of the document with a path.
+fn line_with(alloc: Global, path: &str, name: &str) -> Result<String, AllocError>
+    ensures { IfOk result (λ line. string_bytes line ≡ line_with path.now name.now) }
+{
+    format!(in alloc; "protoscip: {path}: {name}")
+}
+
+impl LeftOut {
+    /// Its name.
+    pub fn name(&self) -> &'static str
+        ensures { result.now ≡ name_of self.now }
+    {
+        match self {
+            LeftOut::BadPath => "BadPath",
+            LeftOut::Unreadable => "Unreadable",
+            LeftOut::NotText => "NotText",
+            LeftOut::NoSnapshot(fault) => name_of(*fault),
+        }
+    }
+
+    /// The line, without its end, that says this of the document with a path.
+    pub fn line(&self, alloc: Global, path: &str) -> Result<String, AllocError>
+        ensures { IfOk result (λ line. string_bytes line ≡ line_of path.now self.now) }
+    {
+        line_with(alloc, path, self.name())
+    }
+}
+
+/// Writes a line and its end. What the stream doesn't take is lost.
+fn say<M: Sink>(messages: &mut M, line: &str)
+    ensures { IsSaid M.contents M.failures line.now messages.old messages.new }
+{
+    if write_all(messages, line.as_bytes()).is_ok() {
+        let _ = write_all(messages, b"\n");
+    }
+}
+
+/// Says that the document with a path is left out, and why.
+pub(crate) fn tell<M: Sink>(
+    alloc: Global,
+    path: &str,
+    left: LeftOut,
+    messages: &mut M,
+) -> Result<(), ShowFault>
+    ensures { SaysLine (line_of path.now left) (writer M.contents M.failures messages.old messages.new) result }
+{
+    let line = left.line(alloc, path)?;
+    say(messages, line.as_str());
+    Ok(())
+}

@@ -37,6 +37,7 @@ asks_answer (k ∷ ks) program e r (inr among) p = (kind_of e, among, p.1)
 pub refuses : (r : Request) → Prints kind.ValueValidation r → IsRefused r
 refuses (request.Dump custom_options explain) p = absurd p
 refuses (request.Query index explain) p = absurd p
+refuses (request.Snapshot options) p = absurd p
 refuses (request.Index options out) p = absurd p
 refuses (request.Shell options) p = absurd p
 refuses (request.Print text) (inl help) = absurd cc

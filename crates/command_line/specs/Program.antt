@@ -1,8 +1,10 @@
 -- The programs of the command line with their arguments and options, as the rules of the crate `clap`
 -- see them.
-use Rattle.std.specs.Prelude.{List, [], ◌∷◌, ◌++◌, Some, true, codes}
+use Rattle.std.specs.Prelude.{◌≡◌, List, [], ◌∷◌, ◌++◌, Some, false, true, codes}
+use Rattle.std.specs.List.{All}
 use Rattle.std.specs.Borrow.{Bor}
 use Rattle.clap.specs.Words.{App, Rule, Shape, Text, new_app, new_rule, with_rule, with_subcommand}
+use Rattle.clap.specs.declared.builder.arg.Arg.{Arg}
 use Rattle.clap.specs.declared.builder.action.ArgAction.TheVariants.{Append, SetTrue}
 use Rattle.clap.specs.declared.builder.value_parser.ValueParser.TheVariants as values
 use Rattle.command_line.specs.declared.words.WordLists.{WordLists}
@@ -25,19 +27,37 @@ or_default text rule = record rule { defaults = text ∷ [] }
 abbrev pub taking_words : Bor (List (Bor Text)) → Rule → Rule
 taking_words words rule = record rule { parser = Some (values.Names words) }
 
--- a number from 1 to 16, and 4 where it isn't given
+-- the option takes a number from 1 to 16
+abbrev pub taking_threads : Rule → Rule
+taking_threads rule = record rule { parser = Some (values.Unsigned 1 16) }
+
+-- such a number, and 4 if it isn't given
 abbrev pub workers_rule : Rule
-workers_rule = record (or_default (codes "4") (option_rule (codes "workers"))) {
-  parser = Some (values.Unsigned 1 16);
-}
+workers_rule = or_default (codes "4") (taking_threads (option_rule (codes "workers")))
+
+abbrev pub project_root_rule : Rule
+project_root_rule = or_default (codes "file:///") (option_rule (codes "project-root"))
+
+abbrev pub doc_rule : Bor (List (Bor Text)) → Rule
+doc_rule words = taking_words words (option_rule (codes "doc"))
 
 -- an option that may be given again
 abbrev pub include_rule : Rule
 include_rule = record (option_rule (codes "include")) { action = Some Append }
 
+-- one of four values, that may be given again
+abbrev pub include_package_rule : Rule
+include_package_rule = record (option_rule (codes "include-package")) { value_names = 4; action = Some Append }
+
+abbrev pub positions_rule : Bor (List (Bor Text)) → Rule
+positions_rule words = or_default (codes "utf8") (taking_words words (option_rule (codes "positions")))
+
 abbrev pub custom_options_rule : Bor (List (Bor Text)) → Rule
 custom_options_rule words =
     or_default (codes "refuse") (taking_words words (option_rule (codes "custom-options")))
+
+abbrev pub faulty_rule : Bor (List (Bor Text)) → Rule
+faulty_rule words = or_default (codes "refuse") (taking_words words (option_rule (codes "faulty")))
 
 -- an option without a value, at most once
 abbrev pub explain_rule : Rule
@@ -46,7 +66,7 @@ explain_rule = record (new_rule (codes "explain")) { long = Some (codes "explain
 -- the options on the run and on the package
 abbrev pub setting_rules : List Rule
 setting_rules = workers_rule
-    ∷ or_default (codes "file:///") (option_rule (codes "project-root"))
+    ∷ project_root_rule
     ∷ option_rule (codes "manager")
     ∷ option_rule (codes "package")
     ∷ option_rule (codes "release")
@@ -55,10 +75,12 @@ setting_rules = workers_rule
 -- the options on what is indexed, and how
 abbrev pub choice_rules : WordLists → List Rule
 choice_rules lists = option_rule (codes "only")
-    ∷ taking_words lists.doc (option_rule (codes "doc"))
+    ∷ doc_rule lists.doc
     ∷ include_rule
-    ∷ or_default (codes "utf8") (taking_words lists.positions (option_rule (codes "positions")))
+    ∷ include_package_rule
+    ∷ positions_rule lists.positions
     ∷ custom_options_rule lists.custom_options
+    ∷ faulty_rule lists.faulty
     ∷ explain_rule
     ∷ []
 
@@ -66,33 +88,51 @@ choice_rules lists = option_rule (codes "only")
 abbrev pub tree_rules : WordLists → List Rule
 tree_rules lists = setting_rules ++ choice_rules lists
 
+-- an argument that the programs below don't have, too
+abbrev pub IsLocal : Arg → Type 0
+IsLocal arg = arg.global ≡ false
+
+abbrev pub AreLocal : List Arg → Type 0
+AreLocal args = All IsLocal args
+
 -- ---- programs
 
 abbrev pub with_rules : App → List Rule → App
 with_rules a [] = a
 with_rules a (rule ∷ rules) = with_rules (with_rule a rule) rules
 
+-- a program by its name, arguments and options
+abbrev pub line_of : Text → List Rule → Shape
+line_of name rules = (with_rules (new_app name) rules).top
+
 abbrev pub index_line : WordLists → Shape
-index_line lists = (with_rules (new_app (codes "index"))
-    (required_rule (codes "ROOT") ∷ required_rule (codes "OUT") ∷ tree_rules lists)).top
+index_line lists =
+    line_of (codes "index") (required_rule (codes "ROOT") ∷ required_rule (codes "OUT") ∷ tree_rules lists)
 
 -- `shell` wants the folder alone
 abbrev pub shell_line : WordLists → Shape
-shell_line lists = (with_rules (new_app (codes "shell")) (required_rule (codes "ROOT") ∷ tree_rules lists)).top
+shell_line lists = line_of (codes "shell") (required_rule (codes "ROOT") ∷ tree_rules lists)
 
 -- `query` wants one argument, the path of an index
 abbrev pub query_line : Shape
-query_line = (with_rules (new_app (codes "query")) (required_rule (codes "INDEX") ∷ explain_rule ∷ [])).top
+query_line = line_of (codes "query") (required_rule (codes "INDEX") ∷ explain_rule ∷ [])
+
+-- `snapshot` wants the path of an index, and the folder with its sources
+abbrev pub snapshot_line : Shape
+snapshot_line =
+    line_of (codes "snapshot")
+    (required_rule (codes "INDEX") ∷ required_rule (codes "ROOT") ∷ option_rule (codes "to") ∷ explain_rule ∷ [])
 
 abbrev pub dump_line : WordLists → Shape
-dump_line lists =
-    (with_rules (new_app (codes "dump")) (custom_options_rule lists.custom_options ∷ explain_rule ∷ [])).top
+dump_line lists = line_of (codes "dump") (custom_options_rule lists.custom_options ∷ explain_rule ∷ [])
 
 -- `protoscip` has a version and wants a program
+abbrev pub no_program : App
+no_program =
+    let plain = (new_app (codes "protoscip")).top in
+    record { top = record plain { has_version = true; subcommand_required = true }; subs = [] }
+
 abbrev pub command_line : WordLists → App
 command_line lists =
-    let plain = (new_app (codes "protoscip")).top in
-    with_subcommand (with_subcommand (with_subcommand (with_subcommand (record {
-      top = record plain { has_version = true; subcommand_required = true };
-      subs = [];
-    }) (index_line lists)) (shell_line lists)) query_line) (dump_line lists)
+    with_subcommand (with_subcommand (with_subcommand (with_subcommand (with_subcommand no_program
+    (index_line lists)) (shell_line lists)) query_line) snapshot_line) (dump_line lists)

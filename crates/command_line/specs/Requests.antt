@@ -4,6 +4,7 @@ use Rattle.clap.specs.Words.{Text}
 use Rattle.clap.specs.declared.error.kind.ErrorKind.{ErrorKind}
 use Rattle.clap.specs.declared.error.kind.ErrorKind.TheVariants as kind
 use Rattle.command_line.specs.declared.options.IndexOptions.{IndexOptions}
+use Rattle.command_line.specs.declared.options.SnapshotOptions.{SnapshotOptions}
 use Rattle.command_line.specs.declared.options.CustomOptionsWord.{CustomOptionsWord}
 use Rattle.command_line.specs.declared.request.Request.{Request}
 use Rattle.command_line.specs.declared.request.Request.TheVariants as request
@@ -53,6 +54,11 @@ out_path _ = None
 abbrev pub shell_options : Request → Option IndexOptions
 shell_options (request.Shell options) = Some options
 shell_options _ = None
+
+-- what the snapshots of an index are asked for with
+abbrev pub snapshot_options : Request → Option SnapshotOptions
+snapshot_options (request.Snapshot options) = Some options
+snapshot_options _ = None
 
 -- whether a fault of the dump or of the answers from a file is explained
 abbrev pub explains : Request → Bool

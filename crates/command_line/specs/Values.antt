@@ -1,16 +1,20 @@
 -- What arguments and options are given, in the rows that the rules of `clap` give for the words.
-use Rattle.std.specs.Prelude.{◌≡◌, ◌≤◌, ℕ, Bool, List, [], Option, Some, None, codes, map, string_bytes, unwrap_or}
+use Rattle.std.specs.Prelude.{◌≡◌, ◌≤◌, ℕ, Bool, List, [], ◌∷◌, Option, Some, None, codes, map, string_bytes}
+use Rattle.std.specs.Prelude.{unwrap_or}
 use Rattle.std.specs.Prelude.{if◌then◌else◌, nat_le, ◌&&◌}
 use Rattle.std.specs.Option.{option_map, option_map_or}
 use Rattle.std.specs.Str.{bytes_eq}
 use Rattle.std.specs.Str.Parse.{digits_value, without_leading_plus}
 use Rattle.clap.specs.Words.{Row, Text, all_of, first_of, one_of}
 use Rattle.clap.specs.ValueTests.{is_unsigned_in}
-use Rattle.command_line.specs.Words.{custom_options_word, doc_word, positions_word}
+use Rattle.command_line.specs.Words.{custom_options_word, doc_word, faulty_word, positions_word}
 use Rattle.command_line.specs.declared.options.IndexOptions.{IndexOptions}
+use Rattle.command_line.specs.declared.options.SnapshotOptions.{SnapshotOptions}
+use Rattle.command_line.specs.declared.options.PackageFolder.{PackageFolder}
 use Rattle.command_line.specs.declared.options.DocWord.{DocWord}
 use Rattle.command_line.specs.declared.options.PositionsWord.{PositionsWord}
 use Rattle.command_line.specs.declared.options.CustomOptionsWord.{CustomOptionsWord}
+use Rattle.command_line.specs.declared.options.FaultyWord.{FaultyWord}
 
 -- the rows of the program that the words name
 abbrev pub rows_in : Option (Text × List Row) → List Row
@@ -42,9 +46,33 @@ positions_of rows = positions_word (text_of (codes "positions") rows)
 abbrev pub custom_options_of : List Row → CustomOptionsWord
 custom_options_of rows = custom_options_word (text_of (codes "custom-options") rows)
 
+abbrev pub faulty_of : List Row → FaultyWord
+faulty_of rows = faulty_word (text_of (codes "faulty") rows)
+
 -- whether `--explain` is given: `clap` then gives the text `true`
 abbrev pub explains_in : List Row → Bool
 explains_in rows = bytes_eq (text_of (codes "explain") rows) (codes "true")
+
+-- a folder, and the package that its files belong to
+pub record Folder : Type 0 where
+  pub manager : Text
+  pub name : Text
+  pub release : Text
+  pub folder : Text
+
+abbrev pub folder_of : PackageFolder → Folder
+folder_of given = record {
+  manager = string_bytes given.manager;
+  name = string_bytes given.name;
+  release = string_bytes given.release;
+  folder = string_bytes given.folder;
+}
+
+-- four texts are a folder; `clap` takes no other number of them
+abbrev pub folders_in : List Text → List Folder
+folders_in (manager ∷ (name ∷ (release ∷ (folder ∷ others)))) =
+    record { manager = manager; name = name; release = release; folder = folder } ∷ folders_in others
+folders_in others = []
 
 -- the options are those that the rows give, each by its name
 pub record Carries (rows : List Row) (options : IndexOptions) : Type 0 where
@@ -58,6 +86,16 @@ pub record Carries (rows : List Row) (options : IndexOptions) : Type 0 where
   pub only : option_map string_bytes options.only ≡ first_of (codes "only") rows
   pub doc : options.doc ≡ doc_of rows
   pub include : map string_bytes options.include.items ≡ unwrap_or (all_of (codes "include") rows) []
+  pub include_packages : map folder_of options.include_packages.items
+      ≡ folders_in (unwrap_or (all_of (codes "include-package") rows) [])
   pub positions : options.positions ≡ positions_of rows
   pub custom_options : options.custom_options ≡ custom_options_of rows
+  pub faulty : options.faulty ≡ faulty_of rows
+  pub explain : options.explain ≡ explains_in rows
+
+-- and so those of `snapshot`
+pub record CarriesSnapshot (rows : List Row) (options : SnapshotOptions) : Type 0 where
+  pub index : string_bytes options.index ≡ text_of (codes "INDEX") rows
+  pub root : string_bytes options.root ≡ text_of (codes "ROOT") rows
+  pub to : option_map string_bytes options.to ≡ first_of (codes "to") rows
   pub explain : options.explain ≡ explains_in rows

@@ -10,16 +10,19 @@ use Rattle.command_line.specs.declared.options.PositionsWord.{PositionsWord}
 use Rattle.command_line.specs.declared.options.PositionsWord.TheVariants.{Utf8, Utf16}
 use Rattle.command_line.specs.declared.options.CustomOptionsWord.{CustomOptionsWord}
 use Rattle.command_line.specs.declared.options.CustomOptionsWord.TheVariants.{Refuse, Skip}
+use Rattle.command_line.specs.declared.options.FaultyWord.{FaultyWord}
+use Rattle.command_line.specs.declared.options.FaultyWord.TheVariants as faulty
 
 -- the texts of a list, wherever it stands in memory
 abbrev pub texts_at : Bor (List (Bor Text)) → List Text
 texts_at list = map (λ (s : Bor Text). s.now) list.now
 
--- the lists hold the words of `--doc`, `--positions` and `--custom-options`
+-- the lists hold the words of `--doc`, `--positions`, `--custom-options` and `--faulty`
 pub record AreListed (lists : WordLists) : Type 0 where
   pub doc : texts_at lists.doc ≡ codes "leading" ∷ codes "trailing" ∷ codes "both" ∷ codes "nothing" ∷ []
   pub positions : texts_at lists.positions ≡ codes "utf8" ∷ codes "utf16" ∷ []
   pub custom_options : texts_at lists.custom_options ≡ codes "refuse" ∷ codes "skip" ∷ []
+  pub faulty : texts_at lists.faulty ≡ codes "refuse" ∷ codes "skip" ∷ []
 
 -- what each word says; `clap` refuses every other text
 abbrev pub doc_word : Text → DocWord
@@ -32,3 +35,6 @@ positions_word text = if bytes_eq text (codes "utf16") then Utf16 else Utf8
 
 abbrev pub custom_options_word : Text → CustomOptionsWord
 custom_options_word text = if bytes_eq text (codes "skip") then Skip else Refuse
+
+abbrev pub faulty_word : Text → FaultyWord
+faulty_word text = if bytes_eq text (codes "skip") then faulty.Skip else faulty.Refuse

@@ -10,6 +10,9 @@ mod tree;
 mod values;
 mod words;
 
-pub use options::{CustomOptionsWord, DocWord, IndexOptions, PositionsWord};
+pub use options::{
+    CustomOptionsWord, DocWord, FaultyWord, IndexOptions, PackageFolder, PositionsWord,
+    SnapshotOptions,
+};
 pub use reading::{request_of, request_of_process};
 pub use request::Request;

@@ -8,10 +8,12 @@ pub(crate) const QUERY: &str = "query";
 
 pub(crate) const SHELL: &str = "shell";
 
-/// The argument that `query` wants.
+pub(crate) const SNAPSHOT: &str = "snapshot";
+
+/// The argument that `query` and `snapshot` want.
 pub(crate) const INDEX_FILE: &str = "INDEX";
 
-/// The argument that `index` and `shell` want.
+/// The argument that `index` and `shell` want, and the other one of `snapshot`.
 pub(crate) const ROOT: &str = "ROOT";
 
 /// The other argument that `index` wants.
@@ -33,8 +35,18 @@ pub(crate) const DOC: &str = "doc";
 
 pub(crate) const INCLUDE: &str = "include";
 
+pub(crate) const INCLUDE_PACKAGE: &str = "include-package";
+
+/// What one use of that option is given.
+pub(crate) static PACKAGE_FOLDER: [&str; 4] = ["MANAGER", "NAME", "RELEASE", "DIR"];
+
 pub(crate) const POSITIONS: &str = "positions";
 
 pub(crate) const CUSTOM_OPTIONS: &str = "custom-options";
 
+pub(crate) const FAULTY: &str = "faulty";
+
 pub(crate) const EXPLAIN: &str = "explain";
+
+/// The option of `snapshot`.
+pub(crate) const TO: &str = "to";

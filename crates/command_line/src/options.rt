@@ -23,13 +23,43 @@ pub struct IndexOptions {
     pub doc: Option<DocWord>,
     /// The paths of the folders with included files, in the order of the words.
     pub include: Vec<String>,
+    /// The folders with included files that have a package of their own, in the order of the words.
+    pub include_packages: Vec<PackageFolder>,
     /// The unit of columns; UTF-8 where it isn't said.
     pub positions: PositionsWord,
     /// What is done about custom options; they are refused where it isn't said.
     pub custom_options: CustomOptionsWord,
+    /// What is done about a tree with faults; it is refused where it isn't said.
+    pub faulty: FaultyWord,
     /// Whether a fault is explained.
     pub explain: bool,
     ghost workers_fit: { (1 ≤ workers) × (workers ≤ 16) },
+}
+
+/// What `snapshot` is given.
+#[derive(Debug, Drop)]
+pub struct SnapshotOptions {
+    /// The path of the file that holds the index.
+    pub index: String,
+    /// The folder below which the sources of its documents are.
+    pub root: String,
+    /// The folder below which each snapshot goes to a file of its own; they are printed where it isn't said.
+    pub to: Option<String>,
+    /// Whether a fault is explained.
+    pub explain: bool,
+}
+
+/// A folder with included files, and the package that these belong to.
+#[derive(Debug, Drop)]
+pub struct PackageFolder {
+    /// The package's manager, which may be empty, as may be the two that follow.
+    pub manager: String,
+    /// The package's name.
+    pub name: String,
+    /// The package's release.
+    pub release: String,
+    /// The path of the folder.
+    pub folder: String,
 }
 
 /// A word of `--doc`.
@@ -60,5 +90,14 @@ pub enum CustomOptionsWord {
     /// `refuse`: a source that has one is refused.
     Refuse,
     /// `skip`: they are read past.
+    Skip,
+}
+
+/// A word of `--faulty`.
+#[derive(Clone, Copy, Debug, PartialEq, Eq)]
+pub enum FaultyWord {
+    /// `refuse`: a tree with a fault is refused.
+    Refuse,
+    /// `skip`: what has one is left out and told.
     Skip,
 }

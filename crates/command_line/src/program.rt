@@ -1,30 +1,34 @@
 //! The programs of the command line.
 
-ghost use Rattle.std.specs.Prelude.{◌≡◌, IfOk, false};
-ghost use Rattle.clap.specs.Words.{app_of};
+ghost use Rattle.std.specs.Prelude.{◌≡◌, map, IfOk, false};
+ghost use Rattle.clap.specs.Words.{Shape, app_of, rule_of, with_subcommand};
 ghost use Rattle.clap.specs.declared.builder.command.Command.TheViews.{out-Command as fields_of};
 ghost use Rattle.command_line.specs.Program.{
+  AreLocal,
   command_line,
   dump_line,
   index_line,
+  line_of,
+  no_program,
   query_line,
   shell_line,
+  snapshot_line,
 };
 
-use crate::names::{DUMP, INDEX, INDEX_FILE, OUT, QUERY, ROOT, SHELL};
-use crate::tree::{custom_options, explain, required, with_tree_options};
+use crate::names::{DUMP, INDEX, INDEX_FILE, OUT, QUERY, ROOT, SHELL, SNAPSHOT, TO};
+use crate::tree::{add_tree_options, custom_options, explain, option, required};
 use crate::words::WordLists;
-use clap::Command;
+use clap::{Arg, Command};
 use std::alloc::{AllocError, Global};
 use tool::{NAME, VERSION};
 
 const INDEX_EXAMPLE: &str =
-    "Example, the sources below api with those below vendor for their imports:
+    "Example: index the sources below api, with those below vendor for their imports:
 
   protoscip index --include vendor --package api --release 1.2 api api.scip";
 
 const SHELL_EXAMPLE: &str =
-    "Example session, in which the lines that begin with a word are typed, and Ctrl-D ends it:
+    "Example session. The lines that begin with a word are typed; Ctrl-D ends the session:
 
   $ protoscip shell examples/library
   def 24 10 library/lending/loan.proto
@@ -34,27 +38,49 @@ const SHELL_EXAMPLE: &str =
   | The days from the first to the last, both included.
   = 1";
 
-const QUERY_EXAMPLE: &str = "Example, the symbols of a document:
+const QUERY_EXAMPLE: &str = "Example: list the symbols of a document:
 
   echo 'sym shop/order.proto' | protoscip query api.scip";
 
-const DUMP_EXAMPLE: &str = "Example:
+const SNAPSHOT_EXAMPLE: &str =
+    "Example: show the sources below api with what the index says about them:
+
+  protoscip snapshot api.scip api";
+
+const DUMP_EXAMPLE: &str = "Example: print the occurrences of a source, past its custom options:
 
   protoscip dump --custom-options skip < order.proto";
+
+/// A program by its name, what help says of it, and its arguments and options.
+fn program_of<'a>(
+    alloc: Global,
+    name: &'a str,
+    about: &'a str,
+    example: &'a str,
+    arguments: Vec<Arg<'a>>,
+) -> Result<Command<'a>, AllocError>
+    requires { AreLocal arguments.items }
+    ensures line { IfOk result (λ c. (app_of c).top ≡ line_of name.entry.now (map rule_of arguments.entry.items)) }
+    ensures local { IfOk result (λ c. (fields_of c).has_globals ≡ false) }
+{
+    Command::new(alloc, name)
+        .about(about)
+        .after_help(example)
+        .args(arguments)
+}
 
 /// The command line of `index`.
 fn index_program<'a>(alloc: Global, lists: WordLists<'a>) -> Result<Command<'a>, AllocError>
     ensures line { IfOk result (λ c. (app_of c).top ≡ index_line lists.entry) }
     ensures local { IfOk result (λ c. (fields_of c).has_globals ≡ false) }
 {
-    let root = required(alloc, ROOT, "The folder whose sources are indexed");
-    let out = required(alloc, OUT, "The file that the index goes to");
-    let program = Command::new(alloc, INDEX)
-        .about("Indexes the sources below a folder and writes the index to a file")
-        .after_help(INDEX_EXAMPLE)
-        .arg(root)?
-        .arg(out)?;
-    with_tree_options(alloc, program, lists)
+    let about = "Indexes the sources below a folder and writes the index to a file";
+    let mut args = vec![in alloc;
+        required(alloc, ROOT, "The folder whose sources are indexed"),
+        required(alloc, OUT, "The file to which the index is written"),
+    ]?;
+    add_tree_options(alloc, &mut args, lists)?;
+    program_of(alloc, INDEX, about, INDEX_EXAMPLE, args)
 }
 
 /// The command line of `shell`.
@@ -62,12 +88,11 @@ fn shell_program<'a>(alloc: Global, lists: WordLists<'a>) -> Result<Command<'a>,
     ensures line { IfOk result (λ c. (app_of c).top ≡ shell_line lists.entry) }
     ensures local { IfOk result (λ c. (fields_of c).has_globals ≡ false) }
 {
+    let about = "Indexes the sources below a folder and answers commands from standard input";
     let root = required(alloc, ROOT, "The folder whose sources are indexed");
-    let program = Command::new(alloc, SHELL)
-        .about("Indexes the sources below a folder and answers commands, from standard input")
-        .after_help(SHELL_EXAMPLE)
-        .arg(root)?;
-    with_tree_options(alloc, program, lists)
+    let mut args = vec![in alloc; root]?;
+    add_tree_options(alloc, &mut args, lists)?;
+    program_of(alloc, SHELL, about, SHELL_EXAMPLE, args)
 }
 
 /// The command line of `query`.
@@ -75,12 +100,28 @@ fn query_program<'a>(alloc: Global) -> Result<Command<'a>, AllocError>
     ensures line { IfOk result (λ c. (app_of c).top ≡ query_line) }
     ensures local { IfOk result (λ c. (fields_of c).has_globals ≡ false) }
 {
-    let index = required(alloc, INDEX_FILE, "The file of a SCIP index");
-    Command::new(alloc, QUERY)
-        .about("Answers commands about an index, from standard input")
-        .after_help(QUERY_EXAMPLE)
-        .arg(index)?
-        .arg(explain(alloc))
+    let about = "Answers commands from standard input about an index";
+    let args = vec![in alloc;
+        required(alloc, INDEX_FILE, "A file with a SCIP index"),
+        explain(alloc),
+    ]?;
+    program_of(alloc, QUERY, about, QUERY_EXAMPLE, args)
+}
+
+/// The command line of `snapshot`.
+fn snapshot_program<'a>(alloc: Global) -> Result<Command<'a>, AllocError>
+    ensures line { IfOk result (λ c. (app_of c).top ≡ snapshot_line) }
+    ensures local { IfOk result (λ c. (fields_of c).has_globals ≡ false) }
+{
+    let about = "Shows the sources of an index, and below each line what the index says about it";
+    let to = "Writes each document to a file below this folder; if not given, they are printed";
+    let args = vec![in alloc;
+        required(alloc, INDEX_FILE, "A file with a SCIP index"),
+        required(alloc, ROOT, "The folder with the sources that were indexed"),
+        option(alloc, TO, "DIR", to),
+        explain(alloc),
+    ]?;
+    program_of(alloc, SNAPSHOT, about, SNAPSHOT_EXAMPLE, args)
 }
 
 /// The command line of `dump`.
@@ -88,23 +129,40 @@ fn dump_program<'a>(alloc: Global, lists: WordLists<'a>) -> Result<Command<'a>, 
     ensures line { IfOk result (λ c. (app_of c).top ≡ dump_line lists.entry) }
     ensures local { IfOk result (λ c. (fields_of c).has_globals ≡ false) }
 {
-    Command::new(alloc, DUMP)
-        .about("Indexes one source from standard input and prints its occurrences")
-        .after_help(DUMP_EXAMPLE)
-        .arg(custom_options(alloc, lists.custom_options))?
-        .arg(explain(alloc))
+    let about = "Indexes one source from standard input and prints its occurrences";
+    let args = vec![in alloc; custom_options(alloc, lists.custom_options), explain(alloc)]?;
+    program_of(alloc, DUMP, about, DUMP_EXAMPLE, args)
+}
+
+/// The command line without its programs.
+fn no_program<'a>(alloc: Global) -> Command<'a>
+    ensures { app_of result ≡ no_program }
+{
+    Command::new(alloc, NAME)
+        .version(VERSION)
+        .about("Indexes proto3 sources and writes SCIP")
+        .subcommand_required(true)
+}
+
+/// Adds a program, if there is one.
+fn with_program<'a>(
+    line: Command<'a>,
+    program: Result<Command<'a>, AllocError>,
+) -> Result<Command<'a>, AllocError>
+    ensures { (shape : Shape) → IfOk program.entry (λ p. (app_of p).top ≡ shape)
+        → IfOk program.entry (λ p. (fields_of p).has_globals ≡ false)
+        → IfOk result (λ c. app_of c ≡ with_subcommand (app_of line.entry) shape) }
+{
+    line.subcommand(program?)
 }
 
 /// The command line's programs and options.
 pub(crate) fn program<'a>(alloc: Global, lists: WordLists<'a>) -> Result<Command<'a>, AllocError>
     ensures { IfOk result (λ c. app_of c ≡ command_line lists.entry) }
 {
-    Command::new(alloc, NAME)
-        .version(VERSION)
-        .about("Indexes proto3 sources and writes SCIP")
-        .subcommand_required(true)
-        .subcommand(index_program(alloc, lists)?)?
-        .subcommand(shell_program(alloc, lists)?)?
-        .subcommand(query_program(alloc)?)?
-        .subcommand(dump_program(alloc, lists)?)
+    let indexing = with_program(no_program(alloc), index_program(alloc, lists))?;
+    let serving = with_program(indexing, shell_program(alloc, lists))?;
+    let querying = with_program(serving, query_program(alloc))?;
+    let showing = with_program(querying, snapshot_program(alloc))?;
+    with_program(showing, dump_program(alloc, lists))
 }

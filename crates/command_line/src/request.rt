@@ -1,6 +1,6 @@
 //! What a command line asks for.
 
-use crate::options::{CustomOptionsWord, IndexOptions};
+use crate::options::{CustomOptionsWord, IndexOptions, SnapshotOptions};
 
 /// What a command line asks for.
 #[derive(Debug, Drop)]
@@ -10,6 +10,8 @@ pub enum Request {
     /// The program `query`, about the index that the file with this path holds, and whether a fault
     /// is explained.
     Query(String, bool),
+    /// The program `snapshot`.
+    Snapshot(SnapshotOptions),
     /// The program `index`, whose index goes to the file with this path.
     Index(IndexOptions, String),
     /// The program `shell`, about the index of the tree that the options tell.

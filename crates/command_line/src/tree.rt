@@ -1,29 +1,34 @@
 //! The options of the programs that index a tree.
 
-ghost use Rattle.std.specs.Prelude.{◌≡◌, Some, IfOk, false};
-ghost use Rattle.clap.specs.Words.{app_of, rule_of};
-ghost use Rattle.clap.specs.declared.builder.command.Command.TheViews.{out-Command as fields_of};
+ghost use Rattle.std.specs.Prelude.{◌≡◌, ◌++◌, map, Some, IfOk, OnOk, false};
+ghost use Rattle.clap.specs.Words.{rule_of};
 ghost use Rattle.command_line.specs.Program.{
+  AreLocal,
   choice_rules,
   custom_options_rule,
+  doc_rule,
   explain_rule,
+  faulty_rule,
+  include_package_rule,
   include_rule,
   option_rule,
   or_default,
+  positions_rule,
+  project_root_rule,
   required_rule,
   setting_rules,
+  taking_threads,
   taking_words,
   tree_rules,
-  with_rules,
   workers_rule,
 };
 
 use crate::names::{
-    CUSTOM_OPTIONS, DOC, EXPLAIN, INCLUDE, MANAGER, ONLY, PACKAGE, POSITIONS, PROJECT_ROOT,
-    RELEASE, WORKERS,
+    CUSTOM_OPTIONS, DOC, EXPLAIN, FAULTY, INCLUDE, INCLUDE_PACKAGE, MANAGER, ONLY, PACKAGE,
+    PACKAGE_FOLDER, POSITIONS, PROJECT_ROOT, RELEASE, WORKERS,
 };
 use crate::words::WordLists;
-use clap::{Arg, ArgAction, Command, value_parser};
+use clap::{Arg, ArgAction, value_parser};
 use std::alloc::{AllocError, Global};
 
 /// An argument that has to be given.
@@ -35,7 +40,7 @@ pub(crate) fn required<'a>(alloc: Global, name: &'a str, help: &'a str) -> Arg<'
 }
 
 /// An option `--name VALUE` that takes any text.
-fn option<'a>(alloc: Global, name: &'a str, value: &'a str, help: &'a str) -> Arg<'a>
+pub(crate) fn option<'a>(alloc: Global, name: &'a str, value: &'a str, help: &'a str) -> Arg<'a>
     ensures rule { rule_of result ≡ option_rule name.entry.now }
     ensures local { result.global ≡ false }
 {
@@ -61,18 +66,43 @@ fn taking_words<'a>(option: Arg<'a>, words: &'a [&'a str]) -> Arg<'a>
     option.value_parser(words)
 }
 
+/// The option, with a number from 1 to 16 for its value.
+fn taking_threads<'a>(option: Arg<'a>) -> Arg<'a>
+    ensures rule { rule_of result ≡ taking_threads (rule_of option.entry) }
+    ensures local { result.global ≡ option.entry.global }
+{
+    option.value_parser(value_parser!(usize).range(1..=16))
+}
+
+/// How many threads there are.
 fn workers<'a>(alloc: Global) -> Arg<'a>
     ensures rule { rule_of result ≡ workers_rule }
     ensures local { result.global ≡ false }
 {
-    Arg::new(alloc, WORKERS)
-        .long(WORKERS)
-        .value_name("N")
-        .help("How many threads work, 1 to 16; the index is the same for any number")
-        .value_parser(value_parser!(usize).range(1..=16))
-        .default_value("4")
+    let option = option(
+        alloc,
+        WORKERS,
+        "N",
+        "How many threads to use, 1 to 16; the index is the same for any number",
+    );
+    or_default(taking_threads(option), "4")
 }
 
+/// Where the sources' folder is.
+fn project_root<'a>(alloc: Global) -> Arg<'a>
+    ensures rule { rule_of result ≡ project_root_rule }
+    ensures local { result.global ≡ false }
+{
+    let option = option(
+        alloc,
+        PROJECT_ROOT,
+        "URI",
+        "Where the sources' folder is, for the index's metadata",
+    );
+    or_default(option, "file:///")
+}
+
+/// The folders with included files.
 fn include<'a>(alloc: Global) -> Arg<'a>
     ensures rule { rule_of result ≡ include_rule }
     ensures local { result.global ≡ false }
@@ -80,8 +110,48 @@ fn include<'a>(alloc: Global) -> Arg<'a>
     Arg::new(alloc, INCLUDE)
         .long(INCLUDE)
         .value_name("DIR")
-        .help("A folder with sources that may be imported and aren't indexed; may be given again")
+        .help("A folder with sources that may be imported but aren't indexed; may be given again")
         .action(ArgAction::Append)
+}
+
+/// Those whose files belong to another package.
+fn include_package<'a>(alloc: Global) -> Arg<'a>
+    ensures rule { rule_of result ≡ include_package_rule }
+    ensures local { result.global ≡ false }
+{
+    Arg::new(alloc, INCLUDE_PACKAGE)
+        .long(INCLUDE_PACKAGE)
+        .value_names(PACKAGE_FOLDER.as_slice())
+        .help("Like --include, for a folder whose files belong to this package; may be given again")
+        .action(ArgAction::Append)
+}
+
+/// Which comments document a declaration.
+fn doc<'a>(alloc: Global, words: &'a [&'a str]) -> Arg<'a>
+    ensures rule { rule_of result ≡ doc_rule words.entry }
+    ensures local { result.global ≡ false }
+{
+    let option = option(
+        alloc,
+        DOC,
+        "WORD",
+        "Which comments document a declaration; if not given, those before it",
+    );
+    taking_words(option, words)
+}
+
+/// The unit of columns.
+fn positions<'a>(alloc: Global, words: &'a [&'a str]) -> Arg<'a>
+    ensures rule { rule_of result ≡ positions_rule words.entry }
+    ensures local { result.global ≡ false }
+{
+    let option = option(
+        alloc,
+        POSITIONS,
+        "WORD",
+        "The unit of columns: bytes, or UTF-16 code units",
+    );
+    or_default(taking_words(option, words), "utf8")
 }
 
 /// What is done about custom options.
@@ -93,7 +163,21 @@ pub(crate) fn custom_options<'a>(alloc: Global, words: &'a [&'a str]) -> Arg<'a>
         alloc,
         CUSTOM_OPTIONS,
         "WORD",
-        "Whether a source with custom options is refused, or they are read past",
+        "What to do with custom options: refuse the source, or skip them",
+    );
+    or_default(taking_words(option, words), "refuse")
+}
+
+/// What is done about a tree with faults.
+fn faulty<'a>(alloc: Global, words: &'a [&'a str]) -> Arg<'a>
+    ensures rule { rule_of result ≡ faulty_rule words.entry }
+    ensures local { result.global ≡ false }
+{
+    let option = option(
+        alloc,
+        FAULTY,
+        "WORD",
+        "What to do with faults: refuse the tree, or leave out what has one and report it",
     );
     or_default(taking_words(option, words), "refuse")
 }
@@ -105,99 +189,55 @@ pub(crate) fn explain<'a>(alloc: Global) -> Arg<'a>
 {
     Arg::new(alloc, EXPLAIN)
         .long(EXPLAIN)
-        .help("Adds the place of a fault as editors show it, its line, and a sentence")
+        .help("Explains a fault: adds its line and column, a sentence, and the text of that line")
         .action(ArgAction::SetTrue)
 }
 
-/// Adds the options on the run and on the package.
-fn with_settings<'a>(alloc: Global, program: Command<'a>) -> Result<Command<'a>, AllocError>
-    ensures rules { IfOk result (λ c. app_of c ≡ with_rules (app_of program.entry) setting_rules) }
-    ensures local { (fields_of program.entry).has_globals ≡ false
-        → IfOk result (λ c. (fields_of c).has_globals ≡ false) }
+/// The options on the run and on the package.
+fn settings<'a>(alloc: Global) -> Result<Vec<Arg<'a>>, AllocError>
+    ensures rules { IfOk result (λ args. map rule_of args.items ≡ setting_rules) }
+    ensures local { IfOk result (λ args. AreLocal args.items) }
 {
-    program
-        .arg(workers(alloc))?
-        .arg(or_default(
-            option(
-                alloc,
-                PROJECT_ROOT,
-                "URI",
-                "Where the sources' folder lies, as the index says it",
-            ),
-            "file:///",
-        ))?
-        .arg(option(
-            alloc,
-            MANAGER,
-            "NAME",
-            "The manager of the package that the symbols name, empty if not given",
-        ))?
-        .arg(option(
-            alloc,
-            PACKAGE,
-            "NAME",
-            "The name of that package, empty if not given",
-        ))?
-        .arg(option(
-            alloc,
-            RELEASE,
-            "TEXT",
-            "The release of that package, empty if not given",
-        ))
+    let manager = "The manager of the package that the symbols name, empty if not given";
+    let package = "The name of that package, empty if not given";
+    let release = "The release of that package, empty if not given";
+    Ok(vec![in alloc;
+        workers(alloc),
+        project_root(alloc),
+        option(alloc, MANAGER, "NAME", manager),
+        option(alloc, PACKAGE, "NAME", package),
+        option(alloc, RELEASE, "TEXT", release),
+    ]?)
 }
 
-/// Adds the options on what is indexed, and how.
-fn with_choices<'a>(
-    alloc: Global,
-    program: Command<'a>,
-    lists: WordLists<'a>,
-) -> Result<Command<'a>, AllocError>
-    ensures rules { IfOk result (λ c. app_of c ≡ with_rules (app_of program.entry) (choice_rules lists.entry)) }
-    ensures local { (fields_of program.entry).has_globals ≡ false
-        → IfOk result (λ c. (fields_of c).has_globals ≡ false) }
+/// The options on what is indexed, and how.
+fn choices<'a>(alloc: Global, lists: WordLists<'a>) -> Result<Vec<Arg<'a>>, AllocError>
+    ensures rules { IfOk result (λ args. map rule_of args.items ≡ choice_rules lists.entry) }
+    ensures local { IfOk result (λ args. AreLocal args.items) }
 {
-    program
-        .arg(option(
-            alloc,
-            ONLY,
-            "PREFIX",
-            "Keeps the declaration of this full name and those below it alone",
-        ))?
-        .arg(taking_words(
-            option(
-                alloc,
-                DOC,
-                "WORD",
-                "Which comments document a declaration; those before it if not given",
-            ),
-            lists.doc,
-        ))?
-        .arg(include(alloc))?
-        .arg(or_default(
-            taking_words(
-                option(
-                    alloc,
-                    POSITIONS,
-                    "WORD",
-                    "The unit of columns: bytes, or UTF-16 code units",
-                ),
-                lists.positions,
-            ),
-            "utf8",
-        ))?
-        .arg(custom_options(alloc, lists.custom_options))?
-        .arg(explain(alloc))
+    let only = "Keeps only the declaration with this full name and those below it";
+    Ok(vec![in alloc;
+        option(alloc, ONLY, "PREFIX", only),
+        doc(alloc, lists.doc),
+        include(alloc),
+        include_package(alloc),
+        positions(alloc, lists.positions),
+        custom_options(alloc, lists.custom_options),
+        faulty(alloc, lists.faulty),
+        explain(alloc),
+    ]?)
 }
 
 /// Adds the options that the programs about a tree share.
-pub(crate) fn with_tree_options<'a>(
+pub(crate) fn add_tree_options<'a>(
     alloc: Global,
-    program: Command<'a>,
+    args: &mut Vec<Arg<'a>>,
     lists: WordLists<'a>,
-) -> Result<Command<'a>, AllocError>
-    ensures rules { IfOk result (λ c. app_of c ≡ with_rules (app_of program.entry) (tree_rules lists.entry)) }
-    ensures local { (fields_of program.entry).has_globals ≡ false
-        → IfOk result (λ c. (fields_of c).has_globals ≡ false) }
+) -> Result<(), AllocError>
+    ensures rules { OnOk result (map rule_of args.new.items ≡ map rule_of args.old.items ++ tree_rules lists.entry) }
+    ensures local { OnOk result (AreLocal args.old.items → AreLocal args.new.items) }
 {
-    with_choices(alloc, with_settings(alloc, program)?, lists)
+    args.append(&mut settings(alloc)?)?;
+    args.append(&mut choices(alloc, lists)?)?;
+    Ok(())
 }

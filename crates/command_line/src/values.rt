@@ -1,23 +1,30 @@
 //! What the arguments and options of a program are given.
 
-ghost use Rattle.std.specs.Prelude.{◌≡◌, ◌≤◌, IfOk, [], map, string_bytes, option_map, unwrap_or};
+ghost use Rattle.std.specs.Prelude.{◌≡◌, ◌≤◌, IfOk, [], map, codes, string_bytes, option_map, unwrap_or};
 ghost use Rattle.clap.specs.Words.{all_of, first_of, found_of, rows_of};
 ghost use Rattle.command_line.specs.Values.{
   Carries,
+  CarriesSnapshot,
   custom_options_of,
   doc_of,
   explains_in,
+  faulty_of,
   fitting,
+  folder_of,
+  folders_in,
   positions_of,
   text_of,
   workers_of,
 };
 
 use crate::names::{
-    CUSTOM_OPTIONS, DOC, EXPLAIN, INCLUDE, MANAGER, ONLY, PACKAGE, POSITIONS, PROJECT_ROOT,
-    RELEASE, ROOT, WORKERS,
+    CUSTOM_OPTIONS, DOC, EXPLAIN, FAULTY, INCLUDE, INCLUDE_PACKAGE, INDEX_FILE, MANAGER, ONLY,
+    PACKAGE, POSITIONS, PROJECT_ROOT, RELEASE, ROOT, TO, WORKERS,
 };
-use crate::options::{CustomOptionsWord, DocWord, IndexOptions, PositionsWord};
+use crate::options::{
+    CustomOptionsWord, DocWord, FaultyWord, IndexOptions, PackageFolder, PositionsWord,
+    SnapshotOptions,
+};
 use clap::ArgMatches;
 use index_pool::MAX_WORKERS;
 use std::alloc::{AllocError, Global};
@@ -83,6 +90,57 @@ fn copies_of(alloc: Global, texts: &[&str]) -> Result<Vec<String>, AllocError>
     Ok(copies)
 }
 
+/// A folder of its own, by its four texts.
+fn copy_of_folder(
+    alloc: Global,
+    manager: &str,
+    name: &str,
+    release: &str,
+    folder: &str,
+) -> Result<PackageFolder, AllocError>
+    ensures { IfOk result (λ given. folder_of given ≡ record {
+      manager = manager.now;
+      name = name.now;
+      release = release.now;
+      folder = folder.now;
+    }) }
+{
+    Ok(PackageFolder {
+        manager: String::from_str(alloc, manager)?,
+        name: String::from_str(alloc, name)?,
+        release: String::from_str(alloc, release)?,
+        folder: String::from_str(alloc, folder)?,
+    })
+}
+
+/// The folders that texts are, four each.
+fn folders_in(alloc: Global, texts: &[&str]) -> Result<Vec<PackageFolder>, AllocError>
+    ensures { IfOk result (λ v. map folder_of v.items ≡ folders_in (map (λ s. s.now) texts.now)) }
+{
+    let mut folders = Vec::new(alloc);
+    let mut rest = texts;
+    while let [manager, name, release, folder, others @ ..] = rest {
+        let copy = copy_of_folder(alloc, *manager, *name, *release, *folder)?;
+        folders.push(copy)?;
+        rest = others;
+    }
+    Ok(folders)
+}
+
+/// The folders of `--include-package`, in the order of the words.
+fn package_folders_of(
+    alloc: Global,
+    given: &ArgMatches<'_>,
+) -> Result<Vec<PackageFolder>, AllocError>
+    ensures { IfOk result (λ v. map folder_of v.items
+        ≡ folders_in (unwrap_or (all_of (codes "include-package") (rows_of (found_of given.now))) [])) }
+{
+    match given.get_strs(INCLUDE_PACKAGE) {
+        Some(texts) => folders_in(alloc, texts),
+        None => Ok(Vec::new(alloc)),
+    }
+}
+
 /// The number of threads. `clap` takes no number but 1 to 16.
 fn workers_of(given: &ArgMatches<'_>) -> usize
     ensures number { result ≡ workers_of (rows_of (found_of given.now)) }
@@ -126,6 +184,13 @@ pub(crate) fn custom_options_of(given: &ArgMatches<'_>) -> CustomOptionsWord
     CustomOptionsWord::of(given_text(given, CUSTOM_OPTIONS))
 }
 
+/// The word of `--faulty`, or its default.
+fn faulty_of(given: &ArgMatches<'_>) -> FaultyWord
+    ensures { result ≡ faulty_of (rows_of (found_of given.now)) }
+{
+    FaultyWord::of(given_text(given, FAULTY))
+}
+
 /// Whether `--explain` is given.
 pub(crate) fn explains_in(given: &ArgMatches<'_>) -> bool
     ensures { result ≡ explains_in (rows_of (found_of given.now)) }
@@ -147,8 +212,25 @@ pub(crate) fn options_of(alloc: Global, given: &ArgMatches<'_>) -> Result<IndexO
         only: optional_text_of(alloc, given, ONLY)?,
         doc: doc_of(given),
         include: texts_of(alloc, given, INCLUDE)?,
+        include_packages: package_folders_of(alloc, given)?,
         positions: positions_of(given),
         custom_options: custom_options_of(given),
+        faulty: faulty_of(given),
+        explain: explains_in(given),
+    })
+}
+
+/// What `snapshot` is given.
+pub(crate) fn snapshot_options_of(
+    alloc: Global,
+    given: &ArgMatches<'_>,
+) -> Result<SnapshotOptions, AllocError>
+    ensures { IfOk result (CarriesSnapshot (rows_of (found_of given.now))) }
+{
+    Ok(SnapshotOptions {
+        index: text_of(alloc, given, INDEX_FILE)?,
+        root: text_of(alloc, given, ROOT)?,
+        to: optional_text_of(alloc, given, TO)?,
         explain: explains_in(given),
     })
 }

@@ -1,9 +1,15 @@
 //! The words that options take alone.
 
 ghost use Rattle.std.specs.Prelude.{◌≡◌};
-ghost use Rattle.command_line.specs.Words.{AreListed, custom_options_word, doc_word, positions_word};
+ghost use Rattle.command_line.specs.Words.{
+  AreListed,
+  custom_options_word,
+  doc_word,
+  faulty_word,
+  positions_word,
+};
 
-use crate::options::{CustomOptionsWord, DocWord, PositionsWord};
+use crate::options::{CustomOptionsWord, DocWord, FaultyWord, PositionsWord};
 
 /// The lists of words of the options that take listed words alone.
 #[derive(Clone, Copy)]
@@ -11,6 +17,7 @@ pub(crate) struct WordLists<'a> {
     pub(crate) doc: &'a [&'a str],
     pub(crate) positions: &'a [&'a str],
     pub(crate) custom_options: &'a [&'a str],
+    pub(crate) faulty: &'a [&'a str],
 }
 
 static DOC: [&str; 4] = ["leading", "trailing", "both", "nothing"];
@@ -18,6 +25,8 @@ static DOC: [&str; 4] = ["leading", "trailing", "both", "nothing"];
 static POSITIONS: [&str; 2] = ["utf8", "utf16"];
 
 static CUSTOM_OPTIONS: [&str; 2] = ["refuse", "skip"];
+
+static FAULTY: [&str; 2] = ["refuse", "skip"];
 
 impl<'a> WordLists<'a> {
     /// The words of each of these options.
@@ -28,6 +37,7 @@ impl<'a> WordLists<'a> {
             doc: DOC.as_slice(),
             positions: POSITIONS.as_slice(),
             custom_options: CUSTOM_OPTIONS.as_slice(),
+            faulty: FAULTY.as_slice(),
         }
     }
 }
@@ -66,6 +76,18 @@ impl CustomOptionsWord {
         match text {
             "skip" => CustomOptionsWord::Skip,
             _ => CustomOptionsWord::Refuse,
+        }
+    }
+}
+
+impl FaultyWord {
+    /// What a word of `--faulty` says. `clap` takes no other text than these words.
+    pub(crate) fn of(text: &str) -> FaultyWord
+        ensures { result ≡ faulty_word text.now }
+    {
+        match text {
+            "skip" => FaultyWord::Skip,
+            _ => FaultyWord::Refuse,
         }
     }
 }

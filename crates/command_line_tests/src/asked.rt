@@ -11,12 +11,12 @@ pub(crate) fn see(rt: &impl Abort, holds: bool, case: &str) {
     assert!(rt; holds, "{case}");
 }
 
-/// The program's name and the words behind it, which a space parts.
+/// The program's name and the words behind it, which a space parts. Two quotes are an empty word.
 fn words_of(alloc: Global, arguments: &str) -> Result<Vec<String>, AllocError> {
     let mut words = Vec::new(alloc);
     words.push(String::from_str(alloc, "protoscip")?)?;
     for argument in arguments.split_whitespace() {
-        words.push(String::from_str(alloc, argument)?)?;
+        words.push(String::from_str(alloc, argument.trim_matches('\''))?)?;
     }
     Ok(words)
 }

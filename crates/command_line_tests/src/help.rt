@@ -12,22 +12,38 @@ struct Printed {
 /// The options of `index` and of `shell`.
 const OPTIONS: &str = "
 Options:
-      --workers <N>            How many threads work, 1 to 16; the index is the same for any number [default: 4]
-      --project-root <URI>     Where the sources' folder lies, as the index says it [default: file:///]
-      --manager <NAME>         The manager of the package that the symbols name, empty if not given
-      --package <NAME>         The name of that package, empty if not given
-      --release <TEXT>         The release of that package, empty if not given
-      --only <PREFIX>          Keeps the declaration of this full name and those below it alone
-      --doc <WORD>             Which comments document a declaration; those before it if not given [possible values: leading, trailing, both, nothing]
-      --include <DIR>          A folder with sources that may be imported and aren't indexed; may be given again
-      --positions <WORD>       The unit of columns: bytes, or UTF-16 code units [default: utf8] [possible values: utf8, utf16]
-      --custom-options <WORD>  Whether a source with custom options is refused, or they are read past [default: refuse] [possible values: refuse, skip]
-      --explain                Adds the place of a fault as editors show it, its line, and a sentence
-  -h, --help                   Print help
+      --workers <N>
+          How many threads to use, 1 to 16; the index is the same for any number [default: 4]
+      --project-root <URI>
+          Where the sources' folder is, for the index's metadata [default: file:///]
+      --manager <NAME>
+          The manager of the package that the symbols name, empty if not given
+      --package <NAME>
+          The name of that package, empty if not given
+      --release <TEXT>
+          The release of that package, empty if not given
+      --only <PREFIX>
+          Keeps only the declaration with this full name and those below it
+      --doc <WORD>
+          Which comments document a declaration; if not given, those before it [possible values: leading, trailing, both, nothing]
+      --include <DIR>
+          A folder with sources that may be imported but aren't indexed; may be given again
+      --include-package <MANAGER> <NAME> <RELEASE> <DIR>
+          Like --include, for a folder whose files belong to this package; may be given again
+      --positions <WORD>
+          The unit of columns: bytes, or UTF-16 code units [default: utf8] [possible values: utf8, utf16]
+      --custom-options <WORD>
+          What to do with custom options: refuse the source, or skip them [default: refuse] [possible values: refuse, skip]
+      --faulty <WORD>
+          What to do with faults: refuse the tree, or leave out what has one and report it [default: refuse] [possible values: refuse, skip]
+      --explain
+          Explains a fault: adds its line and column, a sentence, and the text of that line
+  -h, --help
+          Print help
 ";
 
 // The last row reads: `protoscip --version` prints one line.
-static PRINTED: [Printed; 6] = [
+static PRINTED: [Printed; 7] = [
     Printed {
         words: "--help",
         parts: [
@@ -36,11 +52,12 @@ static PRINTED: [Printed; 6] = [
 Usage: protoscip <COMMAND>
 
 Commands:
-  index  Indexes the sources below a folder and writes the index to a file
-  shell  Indexes the sources below a folder and answers commands, from standard input
-  query  Answers commands about an index, from standard input
-  dump   Indexes one source from standard input and prints its occurrences
-  help   Print this message or the help of the given subcommand(s)
+  index     Indexes the sources below a folder and writes the index to a file
+  shell     Indexes the sources below a folder and answers commands from standard input
+  query     Answers commands from standard input about an index
+  snapshot  Shows the sources of an index, and below each line what the index says about it
+  dump      Indexes one source from standard input and prints its occurrences
+  help      Print this message or the help of the given subcommand(s)
 
 Options:
   -h, --help     Print help
@@ -59,11 +76,11 @@ Usage: protoscip index [OPTIONS] <ROOT> <OUT>
 
 Arguments:
   <ROOT>  The folder whose sources are indexed
-  <OUT>   The file that the index goes to
+  <OUT>   The file to which the index is written
 ",
             OPTIONS,
             "
-Example, the sources below api with those below vendor for their imports:
+Example: index the sources below api, with those below vendor for their imports:
 
   protoscip index --include vendor --package api --release 1.2 api api.scip
 ",
@@ -72,7 +89,7 @@ Example, the sources below api with those below vendor for their imports:
     Printed {
         words: "shell --help",
         parts: [
-            "Indexes the sources below a folder and answers commands, from standard input
+            "Indexes the sources below a folder and answers commands from standard input
 
 Usage: protoscip shell [OPTIONS] <ROOT>
 
@@ -81,7 +98,7 @@ Arguments:
 ",
             OPTIONS,
             "
-Example session, in which the lines that begin with a word are typed, and Ctrl-D ends it:
+Example session. The lines that begin with a word are typed; Ctrl-D ends the session:
 
   $ protoscip shell examples/library
   def 24 10 library/lending/loan.proto
@@ -96,20 +113,44 @@ Example session, in which the lines that begin with a word are typed, and Ctrl-D
     Printed {
         words: "query --help",
         parts: [
-            "Answers commands about an index, from standard input
+            "Answers commands from standard input about an index
 
 Usage: protoscip query [OPTIONS] <INDEX>
 
 Arguments:
-  <INDEX>  The file of a SCIP index
+  <INDEX>  A file with a SCIP index
 
 Options:
-      --explain  Adds the place of a fault as editors show it, its line, and a sentence
+      --explain  Explains a fault: adds its line and column, a sentence, and the text of that line
   -h, --help     Print help
 
-Example, the symbols of a document:
+Example: list the symbols of a document:
 
   echo 'sym shop/order.proto' | protoscip query api.scip
+",
+            "",
+            "",
+        ],
+    },
+    Printed {
+        words: "snapshot --help",
+        parts: [
+            "Shows the sources of an index, and below each line what the index says about it
+
+Usage: protoscip snapshot [OPTIONS] <INDEX> <ROOT>
+
+Arguments:
+  <INDEX>  A file with a SCIP index
+  <ROOT>   The folder with the sources that were indexed
+
+Options:
+      --to <DIR>  Writes each document to a file below this folder; if not given, they are printed
+      --explain   Explains a fault: adds its line and column, a sentence, and the text of that line
+  -h, --help      Print help
+
+Example: show the sources below api with what the index says about them:
+
+  protoscip snapshot api.scip api
 ",
             "",
             "",
@@ -123,11 +164,11 @@ Example, the symbols of a document:
 Usage: protoscip dump [OPTIONS]
 
 Options:
-      --custom-options <WORD>  Whether a source with custom options is refused, or they are read past [default: refuse] [possible values: refuse, skip]
-      --explain                Adds the place of a fault as editors show it, its line, and a sentence
+      --custom-options <WORD>  What to do with custom options: refuse the source, or skip them [default: refuse] [possible values: refuse, skip]
+      --explain                Explains a fault: adds its line and column, a sentence, and the text of that line
   -h, --help                   Print help
 
-Example:
+Example: print the occurrences of a source, past its custom options:
 
   protoscip dump --custom-options skip < order.proto
 ",

@@ -29,6 +29,10 @@ query
 error: the following required arguments were not provided:
   <INDEX>
 
+snapshot a.scip
+error: the following required arguments were not provided:
+  <ROOT>
+
 index api out --workers 0
 error: invalid value '0' for '--workers <N>': 0 is not in 1..=16
 
@@ -53,11 +57,46 @@ dump --custom-options keep
 error: invalid value 'keep' for '--custom-options <WORD>'
   [possible values: refuse, skip]
 
+dump --faulty skip
+error: unexpected argument '--faulty' found
+
+snapshot a.scip api --to d --to=e
+error: the argument '--to <DIR>' cannot be used multiple times
+
+snapshot a.scip api --include i
+error: unexpected argument '--include' found
+
+index api out --faulty
+error: a value is required for '--faulty <WORD>' but none was supplied
+
+shell api --faulty skip --faulty=skip
+error: the argument '--faulty <WORD>' cannot be used multiple times
+
+index api out --faulty yes
+error: invalid value 'yes' for '--faulty <WORD>'
+  [possible values: refuse, skip]
+
 index api out --only a --only=b
 error: the argument '--only <PREFIX>' cannot be used multiple times
 
 index api out --include
 error: a value is required for '--include <DIR>' but none was supplied
+
+index api out --include-package
+error: a value is required for '--include-package <MANAGER> <NAME> <RELEASE> <DIR>' but none was supplied
+
+index api out --include-package m n r
+error: 4 values required for '--include-package <MANAGER> <NAME> <RELEASE> <DIR>' but 3 were provided
+
+index api out --include-package m n --include-package r d
+error: 4 values required for '--include-package <MANAGER> <NAME> <RELEASE> <DIR>' but 2 were provided
+
+index api out --include-package m n --include i
+error: 4 values required for '--include-package <MANAGER> <NAME> <RELEASE> <DIR>' but 2 were provided
+
+index --include-package m n r d api
+error: the following required arguments were not provided:
+  <OUT>
 
 index api out --only --doc both
 error: a value is required for '--only <PREFIX>' but none was supplied

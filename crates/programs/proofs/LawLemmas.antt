@@ -9,6 +9,6 @@ use Rattle.programs.specs.Settings.{allowed_by, settings_in}
 
 pub headline_of_files : (lists : List ℕ → Option (List (List ℕ)) → Type 0) (gives : List ℕ → Option (List ℕ) → Type 0)
     (options : IndexOptions) → LawsOfNames → HeadlineOfFiles lists gives options
-headline_of_files lists gives options laws tree below is_package =
-    headline (allowed_by options) laws (settings_in options) tree
-    (tree_of_files below.sources below.included tree below.holds) is_package
+headline_of_files lists gives options laws tree ids folders are =
+    headline (allowed_by options) laws (settings_in options ids) tree
+    (tree_of_files folders.below.sources folders.below.included tree folders.below.tree_is) are

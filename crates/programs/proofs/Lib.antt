@@ -1,5 +1,7 @@
 mod MoveLemmas
 mod MessageLemmas
+mod FolderLemmas
+mod LackLemmas
 mod TreeRunLemmas
 mod DumpEndLemmas
 mod QueryLemmas

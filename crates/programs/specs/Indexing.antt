@@ -3,6 +3,7 @@
 use Rattle.std.specs.Prelude.{◌≡◌, ℕ, List, Option}
 use Rattle.protoscip.specs.Indexes.{Indexes}
 use Rattle.command_line.specs.declared.options.IndexOptions.{IndexOptions}
+use Rattle.programs.specs.Messages.{SaysOfSuccess}
 use Rattle.programs.specs.Settings.{allowed_by, settings_in}
 use Rattle.programs.specs.Streams.{Writer}
 use Rattle.programs.specs.TreeRuns.{IsRun}
@@ -12,6 +13,7 @@ abbrev pub Indexed : {W M : Type 0} → (lists : List ℕ → Option (List (List
     → (gives : List ℕ → Option (List ℕ) → Type 0)
     → IndexOptions → Writer W → Writer M → (status : ℕ) → Type 0
 Indexed lists gives options out messages status =
-    IsRun lists gives messages.contents messages.failures options (out.after ≡ out.before)
-    (λ tree done. Indexes out.contents out.failures (allowed_by options)
-    (settings_in options) tree options.workers out.before out.after done) messages.before messages.after status
+    IsRun lists gives messages.contents messages.failures (SaysOfSuccess messages.contents messages.failures) options
+    (out.after ≡ out.before)
+    (λ tree ids done. Indexes out.contents out.failures (allowed_by options)
+    (settings_in options ids) tree options.workers out.before out.after done) messages.before messages.after status

@@ -8,9 +8,13 @@ pub mod QueryFaults
 pub mod QueryExplanations
 pub mod Queries
 pub mod Answering
+-- `snapshot`
+pub mod ShowFaults
+pub mod Snapshotting
 -- `index` and `shell`: what their options say, why there is no package or no tree, and what they do
 pub mod Choices
 pub mod Settings
+pub mod Folders
 pub mod StartFaults
 pub mod StartExplanations
 pub mod Starting

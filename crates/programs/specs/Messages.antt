@@ -1,5 +1,5 @@
 -- What a program says on standard error, and the status that it ends with.
-use Rattle.std.specs.Prelude.{◌≡◌, ◌<◌, ◌-◌, ◌^◌, ◌++◌, ◌⊎◌, ℕ, List, Option, codes}
+use Rattle.std.specs.Prelude.{◌≡◌, ◌<◌, ◌-◌, ◌^◌, ◌++◌, ◌⊎◌, ℕ, List, Option, Some, None, codes}
 use Rattle.std.specs.Io.KnownBytes.{Appends}
 use Rattle.protoscip.specs.Lines.{plain_line}
 use Rattle.protoscip.specs.declared.statuses.TheConstants.{MEMORY_STATUS}
@@ -35,3 +35,19 @@ Tells contents failures line due before after status =
 -- of a success nothing is said, and the exit status is 0
 abbrev pub IsSilent : {M : Type 0} → M → M → (status : ℕ) → Type 0
 IsSilent before after status = (after ≡ before) × (status ≡ 0)
+
+-- of a success this text is said,
+abbrev pub SaysOfSuccess : {M : Type 0} → (contents : M → Option (List ℕ)) → (failures : M → ℕ) → (text : List ℕ) → M
+    → M → (status : ℕ) → Type 0
+SaysOfSuccess contents failures text before after status = Says contents failures text 0 before after status
+
+-- if there is one
+abbrev pub SaysIfAny : {M : Type 0} → (contents : M → Option (List ℕ)) → (failures : M → ℕ) → Option (List ℕ) → M → M
+    → (status : ℕ) → Type 0
+SaysIfAny contents failures None before after status = IsSilent before after status
+SaysIfAny contents failures (Some text) before after status = SaysOfSuccess contents failures text before after status
+
+-- it is said; or, where memory doesn't suffice for it, that of want of memory is, with its status
+abbrev pub TellsOfSuccess : {M : Type 0} → (contents : M → Option (List ℕ)) → (failures : M → ℕ) → (text : List ℕ) → M
+    → M → (status : ℕ) → Type 0
+TellsOfSuccess contents failures text before after status = Tells contents failures text 0 before after status

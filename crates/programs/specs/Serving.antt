@@ -3,6 +3,7 @@
 use Rattle.std.specs.Prelude.{ℕ, List, Option}
 use Rattle.protoscip.specs.Sessions.{AreUntouched, Serves}
 use Rattle.command_line.specs.declared.options.IndexOptions.{IndexOptions}
+use Rattle.programs.specs.Messages.{TellsOfSuccess}
 use Rattle.programs.specs.Settings.{allowed_by, settings_in}
 use Rattle.programs.specs.Streams.{Reader, Writer}
 use Rattle.programs.specs.TreeRuns.{IsRun}
@@ -13,8 +14,8 @@ abbrev pub Served : {R W M : Type 0} → (lists : List ℕ → Option (List (Lis
     → (gives : List ℕ → Option (List ℕ) → Type 0)
     → IndexOptions → Reader R → Writer W → Writer M → (status : ℕ) → Type 0
 Served lists gives options commands answers messages status =
-    IsRun lists gives messages.contents messages.failures options
+    IsRun lists gives messages.contents messages.failures (TellsOfSuccess messages.contents messages.failures) options
     (AreUntouched commands.before commands.after answers.before answers.after)
-    (λ tree done. Serves commands.remaining commands.failures commands.reads commands.ends answers.contents
-    answers.failures (allowed_by options) (settings_in options) tree options.workers
+    (λ tree ids done. Serves commands.remaining commands.failures commands.reads commands.ends answers.contents
+    answers.failures (allowed_by options) (settings_in options ids) tree options.workers
     commands.before commands.after answers.before answers.after done) messages.before messages.after status

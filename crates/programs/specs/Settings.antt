@@ -8,12 +8,17 @@ use Rattle.proto_parse.specs.tree.CustomOptions.TheVariants as custom
 use Rattle.proto_decl.specs.Seen.{Seen}
 use Rattle.index_hooks.specs.declared.choice.Choice.{Choice}
 use Rattle.scip_symbol.specs.Package.{Package}
+use Rattle.scip_build.specs.declared.faulty.Faulty.{Faulty}
+use Rattle.scip_build.specs.declared.faulty.Faulty.TheVariants as faulty
+use Rattle.scip_document.specs.Packages.{Packages}
 use Rattle.scip_build.specs.declared.settings.Settings.{Settings}
 use Rattle.command_line.specs.declared.options.IndexOptions.{IndexOptions}
 use Rattle.command_line.specs.declared.options.PositionsWord.{PositionsWord}
 use Rattle.command_line.specs.declared.options.PositionsWord.TheVariants as positions
 use Rattle.command_line.specs.declared.options.CustomOptionsWord.{CustomOptionsWord}
 use Rattle.command_line.specs.declared.options.CustomOptionsWord.TheVariants as word
+use Rattle.command_line.specs.declared.options.FaultyWord.{FaultyWord}
+use Rattle.command_line.specs.declared.options.FaultyWord.TheVariants as faulty_word
 use Rattle.programs.specs.Choices.{IsChosenBy, choice_of_word}
 
 -- the unit of columns
@@ -26,6 +31,11 @@ abbrev pub custom_options_of : CustomOptionsWord → CustomOptions
 custom_options_of word.Refuse = custom.Refuse
 custom_options_of word.Skip = custom.Skip
 
+-- what is done about a tree with faults
+abbrev pub faulty_of : FaultyWord → Faulty
+faulty_of faulty_word.Refuse = faulty.Refuse
+faulty_of faulty_word.Skip = faulty.Skip
+
 -- the package that symbols name
 abbrev pub package_in : IndexOptions → Package
 package_in options = record {
@@ -34,12 +44,14 @@ package_in options = record {
   version = string_bytes options.release;
 }
 
-abbrev pub settings_in : IndexOptions → Settings
-settings_in options = record {
+-- what the options say of an index whose symbols belong to these packages
+abbrev pub settings_in : IndexOptions → Packages → Settings
+settings_in options ids = record {
   project_root = string_bytes options.project_root;
-  «package» = package_in options;
+  «package» = ids;
   encoding = encoding_of options.positions;
   custom_options = custom_options_of options.custom_options;
+  faulty = faulty_of options.faulty;
 }
 
 -- the choices that they allow

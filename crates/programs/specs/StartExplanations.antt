@@ -3,12 +3,13 @@
 use Rattle.std.specs.Prelude.{Bool, ℕ, List, [], ◌++◌, codes, if◌then◌else◌}
 use Rattle.source_files.specs.declared.load_fault.LoadFault.TheVariants.{Unreadable, TooMany, BadPath, SamePath, Memory}
 use Rattle.programs.specs.declared.start_fault.StartFault.{StartFault}
-use Rattle.programs.specs.declared.start_fault.StartFault.TheVariants.{BadPart, Load}
+use Rattle.programs.specs.declared.start_fault.StartFault.TheVariants.{BadPart, BadFolder, Load}
 use Rattle.programs.specs.StartFaults.{line_of}
 
 -- nothing of a fault of the command line, and of want of memory
 abbrev pub explanation_of : StartFault → List ℕ
 explanation_of BadPart = []
+explanation_of (BadFolder path) = []
 explanation_of (Load (Unreadable name)) = codes "\nit isn't there, or can't be read, or an entry's name isn't UTF-8"
 explanation_of (Load TooMany) = codes "\nthe sources and the included files are at most 65536"
 explanation_of (Load (BadPath path)) = codes "\na path has at most 4096 bytes, and no character below U+0020"

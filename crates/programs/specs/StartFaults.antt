@@ -2,13 +2,14 @@
 use Rattle.std.specs.Prelude.{ℕ, List, codes, string_bytes}
 use Rattle.source_files.specs.declared.load_fault.LoadFault.TheVariants.{Unreadable, TooMany, BadPath, SamePath, Memory}
 use Rattle.programs.specs.declared.start_fault.StartFault.{StartFault}
-use Rattle.programs.specs.declared.start_fault.StartFault.TheVariants.{BadPart, Load}
+use Rattle.programs.specs.declared.start_fault.StartFault.TheVariants.{BadPart, BadFolder, Load}
 use Rattle.programs.specs.declared.statuses.TheConstants.{COMMAND_LINE_STATUS}
 use Rattle.protoscip.specs.Lines.{path_line, plain_line}
 use Rattle.protoscip.specs.declared.statuses.TheConstants.{MEMORY_STATUS, SOURCES_STATUS, STREAM_STATUS}
 
 abbrev pub line_of : StartFault → List ℕ
 line_of BadPart = plain_line (codes "BadPart")
+line_of (BadFolder path) = path_line (string_bytes path) (codes "BadPart")
 line_of (Load (Unreadable name)) = path_line (string_bytes name) (codes "Unreadable")
 line_of (Load TooMany) = plain_line (codes "TooMany")
 line_of (Load (BadPath path)) = path_line (string_bytes path) (codes "BadPath")
@@ -17,6 +18,7 @@ line_of (Load Memory) = plain_line (codes "Memory")
 
 abbrev pub status_of : StartFault → ℕ
 status_of BadPart = COMMAND_LINE_STATUS
+status_of (BadFolder path) = COMMAND_LINE_STATUS
 status_of (Load (Unreadable name)) = STREAM_STATUS
 status_of (Load TooMany) = SOURCES_STATUS
 status_of (Load (BadPath path)) = SOURCES_STATUS

@@ -1,24 +1,46 @@
 -- Why a program about a tree doesn't start, by its options and the files.
 -- `lists` and `gives` are what the system of files gives.
-use Rattle.std.specs.Prelude.{ℕ, List, Option, map, string_bytes}
+use Rattle.std.specs.Prelude.{◌≡◌, ℕ, List, Option, string_bytes}
 use Rattle.source_files.specs.declared.load_fault.LoadFault.TheVariants as load
 use Rattle.source_files.specs.Loads.{MayNotLoad}
 use Rattle.scip_symbol.specs.Package.{IsPackage}
 use Rattle.command_line.specs.declared.options.IndexOptions.{IndexOptions}
+use Rattle.command_line.specs.declared.options.PackageFolder.{PackageFolder}
 use Rattle.programs.specs.declared.start_fault.StartFault.{StartFault}
-use Rattle.programs.specs.declared.start_fault.StartFault.TheVariants.{BadPart, Load}
+use Rattle.programs.specs.declared.start_fault.StartFault.TheVariants.{BadPart, BadFolder, Load}
 use Rattle.programs.specs.Settings.{package_in}
+use Rattle.programs.specs.Folders.{folder_package, included_in, NamePackages, HasBadFolder}
 
--- the options name no package, or memory ran out
+-- the options name no package of the run; or memory ran out
 abbrev pub NamesNone : IndexOptions → StartFault → Type 0
 NamesNone options BadPart = IsPackage (package_in options) → ⊥
+NamesNone options (BadFolder path) = ⊥
 NamesNone options (Load load.Memory) = Unit {0}
 NamesNone options (Load fault) = ⊥
 
--- the options name no package; or memory ran out; or they name one, and there is no tree of the files
+-- the folder's package isn't one, or memory ran out
+abbrev pub IsBadFolder : PackageFolder → StartFault → Type 0
+IsBadFolder folder BadPart = ⊥
+IsBadFolder folder (BadFolder path) =
+    (IsPackage (folder_package folder) → ⊥) × (string_bytes path ≡ string_bytes folder.folder)
+IsBadFolder folder (Load load.Memory) = Unit {0}
+IsBadFolder folder (Load fault) = ⊥
+
+-- of folders the first whose package isn't one is named; or memory ran out
+abbrev pub HasNoPackage : List PackageFolder → StartFault → Type 0
+HasNoPackage folders BadPart = ⊥
+HasNoPackage folders (BadFolder path) = HasBadFolder folders (string_bytes path)
+HasNoPackage folders (Load load.Memory) = Unit {0}
+HasNoPackage folders (Load fault) = ⊥
+
+-- the options name no package of the run, or none of a folder; or memory ran out; or they name packages, and there is
+-- no
+-- tree of the files
 abbrev pub MayNotStart : (lists : List ℕ → Option (List (List ℕ)) → Type 0)
     → (gives : List ℕ → Option (List ℕ) → Type 0) → IndexOptions → StartFault → Type 0
 MayNotStart lists gives options BadPart = IsPackage (package_in options) → ⊥
+MayNotStart lists gives options (BadFolder path) =
+    IsPackage (package_in options) × HasBadFolder options.include_packages.items (string_bytes path)
 MayNotStart lists gives options (Load load.Memory) = Unit {0}
-MayNotStart lists gives options (Load fault) = IsPackage (package_in options)
-    × MayNotLoad lists gives (string_bytes options.root) (map string_bytes options.include.items) fault
+MayNotStart lists gives options (Load fault) = NamePackages options
+    × MayNotLoad lists gives (string_bytes options.root) (included_in options) fault

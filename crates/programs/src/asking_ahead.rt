@@ -4,11 +4,11 @@ use index_pool::Gate;
 use std::alloc::{AllocError, Global};
 
 /// So many bytes are asked for at once.
-const ROOM: usize = 4_194_304;
+const ROOM: usize = 1_048_576;
 
 /// Before every so many of a worker's files. It is prime: the files of one worker leave one remainder
 /// when they are divided by the number of workers.
-const FILES: usize = 31;
+const FILES: usize = 17;
 
 /// A gate at which a worker asks for much memory now and then, and gives it back at once.
 ///

@@ -48,7 +48,8 @@ fn filter_of(
     alloc: Global,
     prefix: Option<&str>,
 ) -> Result<Option<Filter<NamePrefix, NamePrefix>>, AllocError>
-    ensures { IfOk result (λ filter. option_map (λ f. string_bytes f.0) filter ≡ option_map (λ text. text.now) prefix.entry) }
+    ensures { IfOk result (λ filter. option_map (λ f. string_bytes f.0) filter ≡ option_map (λ text. text.now)
+        prefix.entry) }
 {
     match prefix {
         Some(prefix) => Ok(Some(NamePrefix::filter(alloc, prefix)?)),
@@ -63,7 +64,8 @@ impl OptionChoices {
         only: Option<&str>,
         doc: Option<DocWord>,
     ) -> Result<OptionChoices, AllocError>
-        ensures only { IfOk result (λ choices. option_map (λ f. string_bytes f.0) choices.filter ≡ option_map (λ text. text.now) only.entry) }
+        ensures only { IfOk result (λ choices. option_map (λ f. string_bytes f.0) choices.filter ≡ option_map (λ text.
+            text.now) only.entry) }
         ensures doc { IfOk result (λ choices. option_map (λ r. r.0) choices.rule ≡ option_map choice_of_word doc) }
     {
         Ok(OptionChoices {

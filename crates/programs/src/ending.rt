@@ -1,32 +1,59 @@
 //! How a program about a tree ends.
 
-ghost use Rattle.std.specs.Prelude.{IfErr};
-ghost use Rattle.protoscip.specs.FaultLines.{HasFilesOf};
-ghost use Rattle.programs.specs.TreeRuns.{Ends};
+ghost use Rattle.std.specs.Prelude.{string_bytes};
+ghost use Rattle.std.specs.Option.{option_map};
+ghost use Rattle.protoscip.specs.Explanations.{told};
+ghost use Rattle.protoscip.specs.FaultLines.{HasFilesOf, HaveFilesOf};
+ghost use Rattle.protoscip.specs.Statuses.{status_of};
+ghost use Rattle.programs.specs.Messages.{SaysIfAny, Tells, TellsOfSuccess};
+ghost use Rattle.programs.specs.TreeRuns.{Lacks};
 
 use crate::messages::report;
-use protoscip::{Fault, fault_text};
+use protoscip::{Fault, fault_text, told_text};
+use scip_build::BuildFault;
 use source_tree::Tree;
 use std::alloc::Global;
 use streams::Sink;
 
-/// Gives the exit status of a run over a tree. Why it stopped, if it did, is said, and explained where
-/// that is asked for.
-pub(crate) fn end<A, M: Sink>(
+/// Says what an index of the tree lacks, if it lacks anything, and gives the exit status.
+pub(crate) fn tell<M: Sink>(
     alloc: Global,
     tree: &Tree,
-    done: &Result<A, Fault>,
+    told: &[BuildFault],
     explain: bool,
     messages: &mut M,
 ) -> u8
-    requires { IfErr done.now (HasFilesOf tree.now) }
-    ensures { Ends M.contents M.failures explain tree.now done.now messages.old messages.new result }
+    requires { HaveFilesOf tree.now told.now }
+    ensures { Lacks (TellsOfSuccess M.contents M.failures) explain tree.now told.now messages.old messages.new result }
 {
-    match done {
-        Ok(_) => 0,
-        Err(fault) => {
-            let text = fault_text(alloc, tree, fault, explain);
-            report(text, fault.status(), messages)
-        }
+    if told.is_empty() {
+        return 0;
     }
+    report(told_text(alloc, tree, told, explain), 0, messages)
+}
+
+/// Says a text of a success, if there is one, and gives the exit status.
+pub(crate) fn say_text<M: Sink>(text: Option<String>, messages: &mut M) -> u8
+    ensures { SaysIfAny M.contents M.failures (option_map string_bytes text) messages.old messages.new result }
+{
+    match text {
+        Some(text) => report(Ok(text), 0, messages),
+        None => 0,
+    }
+}
+
+/// Says why a run over a tree stopped, explained where that is asked for, and gives the exit status.
+pub(crate) fn stop<M: Sink>(
+    alloc: Global,
+    tree: &Tree,
+    fault: &Fault,
+    explain: bool,
+    messages: &mut M,
+) -> u8
+    requires { HasFilesOf tree.now fault.now }
+    ensures { Tells M.contents M.failures (told explain tree.now fault.now) (status_of fault.now) messages.old
+        messages.new result }
+{
+    let text = fault_text(alloc, tree, fault, explain);
+    report(text, fault.status(), messages)
 }

@@ -1,27 +1,61 @@
 //! The program `index`.
 
+ghost use Rattle.std.specs.Prelude.{IfErr, IfOk, string_bytes};
+ghost use Rattle.std.specs.Option.{option_map};
+ghost use Rattle.protoscip.specs.FaultLines.{HasFilesOf};
+ghost use Rattle.protoscip.specs.ToldLines.{IsTextOfLacks};
 ghost use Rattle.programs.specs.Indexing.{Indexed};
+ghost use Rattle.programs.specs.Messages.{SaysOfSuccess};
 ghost use Rattle.programs.specs.Streams.{writer};
+ghost use Rattle.programs.specs.TreeRuns.{Ends};
 
 use crate::asking_ahead::AskingAhead;
-use crate::ending::end;
+use crate::ending::{say_text, stop};
 use crate::host::Host;
 use crate::messages::report;
 use crate::start_explanations::start_text;
 use crate::starting::start;
 use command_line::IndexOptions;
-use protoscip::index_and_keep;
+use protoscip::{Fault, KeptIndex, index_and_keep};
 use scip_build::Run;
 use source_files::ReadFiles;
+use source_tree::Tree;
+use std::alloc::Global;
 use std::mem::forget;
 use std::sync::Wait;
 use std::thread::Threads;
 use streams::Sink;
 
+/// Says what an index that is written lacks, or why there is none, and gives the exit status. The memory of what
+/// was made isn't given back.
+fn end<M: Sink>(
+    alloc: Global,
+    tree: &Tree,
+    done: Result<KeptIndex<'_>, Fault>,
+    explain: bool,
+    messages: &mut M,
+) -> u8
+    requires files { IfErr done (HasFilesOf tree.now) }
+    requires said { IfOk done (λ kept. IsTextOfLacks explain tree.now kept.built.told (option_map string_bytes
+        kept.text)) }
+    ensures { Ends M.contents M.failures (SaysOfSuccess M.contents M.failures) explain tree.now (λ kept.
+        kept.built.told) done.entry messages.old messages.new result }
+{
+    match done {
+        Ok(kept) => {
+            let KeptIndex { built, text } = kept;
+            // What was made goes with the process.
+            forget(built);
+            say_text(text, messages)
+        }
+        Err(fault) => stop(alloc, tree, &fault, explain, messages),
+    }
+}
+
 /// Reads the sources below the root of the options and the files below their included roots, builds
-/// the index of the sources, writes it to `out`, and gives the exit status. Why it stops, if it does,
-/// is said; before a failed write nothing was written then. The memory of the tree and of what was made of
-/// it isn't given back: the program ends.
+/// the index of the sources, writes it to `out`, and gives the exit status. What the index lacks is said; or
+/// why it stops, if it does: after every fault but a failed write nothing was written. The memory of the tree
+/// and of what was made of it isn't given back: the program ends.
 ///
 /// Of the faults the first is said: a bad part of the package; what can't be read; that the files make
 /// no tree; and those of `index_tree`. Want of memory may come at any step.
@@ -31,7 +65,8 @@ pub(crate) fn index<R: Threads + Wait, F: ReadFiles, W: Sink, M: Sink>(
     out: &mut W,
     messages: &mut M,
 ) -> u8
-    ensures { Indexed (F.lists host.now.files.now) (F.gives host.now.files.now) options.now (writer W.contents W.failures out.old out.new) (writer M.contents M.failures messages.old messages.new) result }
+    ensures { Indexed (F.lists host.now.files.now) (F.gives host.now.files.now) options.now (writer W.contents
+        W.failures out.old out.new) (writer M.contents M.failures messages.old messages.new) result }
 {
     let run = match start(host.alloc, options, host.files) {
         Ok(start) => start,
@@ -47,10 +82,15 @@ pub(crate) fn index<R: Threads + Wait, F: ReadFiles, W: Sink, M: Sink>(
         workers: run.workers,
         gate: &gate,
     };
-    let done = index_and_keep(&work, &run.tree, &run.choices, &run.settings, out);
-    let status = end(host.alloc, &run.tree, &done, options.explain, messages);
-    // What was made goes with the process.
-    forget(done);
+    let done = index_and_keep(
+        &work,
+        &run.tree,
+        &run.choices,
+        &run.settings,
+        options.explain,
+        out,
+    );
+    let status = end(host.alloc, &run.tree, done, options.explain, messages);
     forget(run);
     status
 }

@@ -13,9 +13,14 @@ mod query_explanations;
 mod query_fault;
 mod querying;
 
+// `snapshot`: the sources of an index, with what the index says of them, are printed, or go to files.
+mod show_faults;
+mod snapshotting;
+
 // The programs about a tree: what their options say of the run, and why there is no package or no tree.
 mod choices;
 mod ending;
+mod folders;
 mod package;
 mod settings;
 mod start_explanations;

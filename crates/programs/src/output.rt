@@ -14,7 +14,8 @@ pub(crate) fn print<W: Sink, M: Sink>(
     out: &mut W,
     messages: &mut M,
 ) -> u8
-    ensures { Prints W.contents W.failures M.contents M.failures text.now out.old out.new messages.old messages.new result }
+    ensures { Prints W.contents W.failures M.contents M.failures text.now out.old out.new messages.old messages.new
+        result }
 {
     match write_all(out, text.as_bytes()) {
         Ok(()) => 0,

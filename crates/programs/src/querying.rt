@@ -12,7 +12,11 @@ use std::alloc::Global;
 use streams::{Feed, Sink};
 
 /// The index that a file holds. Nothing of the file's bytes is kept beside it.
-fn index_of_file<F: ReadFiles>(alloc: Global, files: &F, path: &str) -> Result<Index, QueryFault>
+pub(crate) fn index_of_file<F: ReadFiles>(
+    alloc: Global,
+    files: &F,
+    path: &str,
+) -> Result<Index, QueryFault>
     ensures { IsReadFrom (F.gives files.now path.now) result }
 {
     let bytes = match files.read_file(alloc, path)? {
@@ -36,7 +40,8 @@ pub fn query<F: ReadFiles, R: Feed, W: Sink>(
     commands: &mut R,
     answers: &mut W,
 ) -> Result<(), QueryFault>
-    ensures { Queried (F.gives files.now path.now) (reader R.remaining R.failures R.reads R.ends commands.old commands.new) (writer W.contents W.failures answers.old answers.new) result }
+    ensures { Queried (F.gives files.now path.now) (reader R.remaining R.failures R.reads R.ends commands.old
+        commands.new) (writer W.contents W.failures answers.old answers.new) result }
 {
     let index = index_of_file(alloc, files, path)?;
     answer_commands(alloc, index, commands, answers)?;

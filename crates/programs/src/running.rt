@@ -2,6 +2,7 @@
 
 ghost use Rattle.std.specs.Prelude.{◌≡◌, Result, IfSome, IfOk, IfErr};
 ghost use Rattle.std.specs.Io.KnownBytes.{Appends};
+ghost use Rattle.scip_snapshot.specs.Showing.{maker, writer as stream};
 ghost use Rattle.command_line.specs.Requests.{
   dump_options,
   explains,
@@ -11,6 +12,7 @@ ghost use Rattle.command_line.specs.Requests.{
   printed_text,
   refused_text,
   shell_options,
+  snapshot_options,
 };
 ghost use Rattle.streams.specs.WholeReads.{IsReadBriefly};
 ghost use Rattle.protoscip.specs.declared.fault.Fault.{Fault};
@@ -25,6 +27,7 @@ ghost use Rattle.programs.specs.Printing.{Prints};
 ghost use Rattle.programs.specs.Queries.{Queried};
 ghost use Rattle.programs.specs.Serving.{Served};
 ghost use Rattle.programs.specs.Settings.{custom_options_of};
+ghost use Rattle.programs.specs.Snapshotting.{RunsSnapshot};
 ghost use Rattle.programs.specs.Streams.{reader, writer};
 
 use crate::dumping::dump_source;
@@ -35,10 +38,11 @@ use crate::output::print;
 use crate::query_explanations::query_text;
 use crate::querying::query;
 use crate::serving::shell;
+use crate::snapshotting::snapshot;
 use crate::statuses::COMMAND_LINE_STATUS;
 use command_line::Request;
 use protoscip::{MEMORY_STATUS, plain_line};
-use source_files::ReadFiles;
+use source_files::{MakeFiles, ReadFiles};
 use std::alloc::AllocError;
 use std::sync::Wait;
 use std::thread::Threads;
@@ -65,7 +69,8 @@ fn answer<R, F: ReadFiles, I: Feed, W: Sink, M: Sink>(
     messages: &mut M,
 ) -> u8
     ensures { (done : Result (Unit {0}) QueryFault)
-        × Queried (F.gives host.now.files.now path.now) (reader I.remaining I.failures I.reads I.ends input.old input.new) (writer W.contents W.failures out.old out.new) done
+        × Queried (F.gives host.now.files.now path.now) (reader I.remaining I.failures I.reads I.ends input.old
+        input.new) (writer W.contents W.failures out.old out.new) done
         × Answers M.contents M.failures explain path.now done messages.old messages.new result }
 {
     match query(host.alloc, host.files, path, input, out) {
@@ -87,9 +92,9 @@ pub fn out_path(asked: &Result<Request, AllocError>) -> &str
     }
 }
 
-/// Does what was asked for, and gives the exit status. An index goes to `file`, everything else to
-/// `out`. Where memory ran out while the command line was read, it says so.
-pub fn run<R: Threads + Wait, F: ReadFiles, I: Feed, W: Sink, O: Sink, M: Sink>(
+/// Does what was asked for, and gives the exit status. An index goes to `file`, which makes the files
+/// of snapshots too; everything else goes to `out`. Where memory ran out while the command line was read, it says so.
+pub fn run<R: Threads + Wait, F: ReadFiles, I: Feed, W: Sink, O: Sink + MakeFiles, M: Sink>(
     host: &Host<'_, R, F>,
     asked: &Result<Request, AllocError>,
     input: &mut I,
@@ -114,20 +119,31 @@ pub fn run<R: Threads + Wait, F: ReadFiles, I: Feed, W: Sink, O: Sink, M: Sink>(
         × EndsDump I.remaining M.contents M.failures (explains request) input.old done messages.old messages.new result)
         × (file.new ≡ file.old))) }
     // What `query` promises of its answers, and what becomes of that.
-    ensures queried { IfOk asked.now (λ request. IfSome (index_path request) (λ path. ((done : Result (Unit {0}) QueryFault)
-        × Queried (F.gives host.now.files.now path) (reader I.remaining I.failures I.reads I.ends input.old input.new) (writer W.contents W.failures out.old out.new) done
+    ensures queried { IfOk asked.now (λ request. IfSome (index_path request) (λ path. ((done : Result (Unit {0})
+        QueryFault)
+        × Queried (F.gives host.now.files.now path) (reader I.remaining I.failures I.reads I.ends input.old input.new)
+        (writer W.contents W.failures out.old out.new) done
         × Answers M.contents M.failures (explains request) path done messages.old messages.new result)
         × (file.new ≡ file.old))) }
     // What `index` does.
     ensures indexed { IfOk asked.now (λ request. IfSome (index_options request) (λ options.
-        Indexed (F.lists host.now.files.now) (F.gives host.now.files.now) options (writer O.contents O.failures file.old file.new) (writer M.contents M.failures messages.old messages.new) result
+        Indexed (F.lists host.now.files.now) (F.gives host.now.files.now) options
+        (writer O.contents O.failures file.old file.new) (writer M.contents M.failures messages.old messages.new) result
         × (input.new ≡ input.old) × (out.new ≡ out.old))) }
     // What `shell` does.
     ensures served { IfOk asked.now (λ request. IfSome (shell_options request) (λ options.
-        Served (F.lists host.now.files.now) (F.gives host.now.files.now) options (reader I.remaining I.failures I.reads I.ends input.old input.new) (writer W.contents W.failures out.old out.new) (writer M.contents M.failures messages.old messages.new) result
+        Served (F.lists host.now.files.now) (F.gives host.now.files.now) options
+        (reader I.remaining I.failures I.reads I.ends input.old input.new)
+        (writer W.contents W.failures out.old out.new) (writer M.contents M.failures messages.old messages.new) result
         × (file.new ≡ file.old))) }
+    // What `snapshot` does.
+    ensures snapshotted { IfOk asked.now (λ request. IfSome (snapshot_options request) (λ options.
+        RunsSnapshot (F.gives host.now.files.now) options (stream W.contents W.failures out.old out.new)
+        (maker O.made file.old file.new) (stream M.contents M.failures messages.old messages.new) result
+        × (input.new ≡ input.old))) }
     // Nothing was asked for, since memory ran out, and that is said.
-    ensures unknown { IfErr asked.now (λ _. Tells M.contents M.failures memory_line memory_status messages.old messages.new result
+    ensures unknown { IfErr asked.now (λ _. Tells M.contents M.failures memory_line memory_status messages.old
+        messages.new result
         × (input.new ≡ input.old) × (out.new ≡ out.old) × (file.new ≡ file.old)) }
 {
     match asked {
@@ -138,6 +154,7 @@ pub fn run<R: Threads + Wait, F: ReadFiles, I: Feed, W: Sink, O: Sink, M: Sink>(
             Request::Query(path, explain) => {
                 answer(host, path.as_str(), *explain, input, out, messages)
             }
+            Request::Snapshot(options) => snapshot(host, options, out, file, messages),
             Request::Index(options, _) => index(host, options, file, messages),
             Request::Shell(options) => shell(host, options, input, out, messages),
             Request::Print(text) => print(host.alloc, text.as_str(), out, messages),

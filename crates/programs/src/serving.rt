@@ -1,24 +1,50 @@
 //! The program `shell`.
 
+ghost use Rattle.std.specs.Prelude.{IfErr, IfOk};
+ghost use Rattle.protoscip.specs.FaultLines.{HasFilesOf, HaveFilesOf};
+ghost use Rattle.programs.specs.Messages.{TellsOfSuccess};
 ghost use Rattle.programs.specs.Serving.{Served};
 ghost use Rattle.programs.specs.Streams.{reader, writer};
+ghost use Rattle.programs.specs.TreeRuns.{Ends};
 
-use crate::ending::end;
+use crate::ending::{stop, tell};
 use crate::host::Host;
 use crate::messages::report;
 use crate::start_explanations::start_text;
 use crate::starting::start;
 use command_line::IndexOptions;
 use index_pool::NoGate;
-use protoscip::session;
+use protoscip::{Fault, Recorded, session};
 use source_files::ReadFiles;
+use source_tree::Tree;
+use std::alloc::Global;
 use std::sync::Wait;
 use std::thread::Threads;
 use streams::{Feed, Sink};
 
+/// Says what the index lacked about which commands were answered, or why they weren't, and gives the exit
+/// status.
+fn end<M: Sink>(
+    alloc: Global,
+    tree: &Tree,
+    done: &Result<Recorded, Fault>,
+    explain: bool,
+    messages: &mut M,
+) -> u8
+    requires files { IfErr done.now (HasFilesOf tree.now) }
+    requires told { IfOk done.now (λ recorded. HaveFilesOf tree.now recorded.told) }
+    ensures { Ends M.contents M.failures (TellsOfSuccess M.contents M.failures) explain tree.now (λ recorded.
+        recorded.told) done.now messages.old messages.new result }
+{
+    match done {
+        Ok(recorded) => tell(alloc, tree, recorded.told.as_slice(), explain, messages),
+        Err(fault) => stop(alloc, tree, fault, explain, messages),
+    }
+}
+
 /// Reads the sources below the root of the options and the files below their included roots, builds
 /// the index of the sources, answers commands about it, one a line, as `session` does, and gives the
-/// exit status. Why it stops, if it does, is said.
+/// exit status. What the index lacks is said once all are answered; or why it stops, if it does.
 ///
 /// Of the faults the first is said: those of `index` in its order, up to `TooLarge`, after which nothing
 /// was read or written; and then `Read` or `Answer`. Want of memory may come at any step.
@@ -29,7 +55,9 @@ pub(crate) fn shell<R: Threads + Wait, F: ReadFiles, I: Feed, W: Sink, M: Sink>(
     answers: &mut W,
     messages: &mut M,
 ) -> u8
-    ensures { Served (F.lists host.now.files.now) (F.gives host.now.files.now) options.now (reader I.remaining I.failures I.reads I.ends commands.old commands.new) (writer W.contents W.failures answers.old answers.new) (writer M.contents M.failures messages.old messages.new) result }
+    ensures { Served (F.lists host.now.files.now) (F.gives host.now.files.now) options.now (reader I.remaining
+        I.failures I.reads I.ends commands.old commands.new) (writer W.contents W.failures answers.old answers.new)
+        (writer M.contents M.failures messages.old messages.new) result }
 {
     let run = match start(host.alloc, options, host.files) {
         Ok(start) => start,

@@ -3,14 +3,14 @@
 ghost use Rattle.std.specs.Prelude.{◌≡◌, IfOk};
 ghost use Rattle.std.specs.Option.{option_map};
 ghost use Rattle.std.specs.String.{string_bytes};
-ghost use Rattle.programs.specs.Settings.{custom_options_of, encoding_of, package_in, settings_in};
+ghost use Rattle.programs.specs.Settings.{custom_options_of, encoding_of, faulty_of, settings_in};
 
-use command_line::{CustomOptionsWord, IndexOptions, PositionsWord};
+use command_line::{CustomOptionsWord, FaultyWord, IndexOptions, PositionsWord};
 use index_pool::Workers;
 use proto_lex::Encoding;
 use proto_parse::CustomOptions;
-use scip_build::Settings;
-use scip_symbol::PackageId;
+use scip_build::{Faulty, Settings};
+use scip_document::FilePackages;
 use sequences::OwnedText;
 use std::alloc::{AllocError, Global};
 
@@ -34,20 +34,30 @@ pub(crate) fn custom_options_of(word: CustomOptionsWord) -> CustomOptions
     }
 }
 
-/// The settings that options ask for, with the package that they name.
+/// What a word of `--faulty` asks for.
+fn faulty_of(word: FaultyWord) -> Faulty
+    ensures { result ≡ faulty_of word }
+{
+    match word {
+        FaultyWord::Refuse => Faulty::Refuse,
+        FaultyWord::Skip => Faulty::Skip,
+    }
+}
+
+/// The settings that options ask for, with these packages.
 pub(crate) fn settings_of(
     alloc: Global,
     options: &IndexOptions,
-    id: PackageId,
+    packages: FilePackages,
 ) -> Result<Settings, AllocError>
-    requires { id ≡ package_in options.now }
-    ensures { IfOk result (λ settings. settings ≡ settings_in options.now) }
+    ensures { IfOk result (λ settings. settings ≡ settings_in options.now packages) }
 {
     Ok(Settings {
         project_root: OwnedText::copy_of(alloc, options.project_root.as_str())?,
-        package: id,
+        package: packages,
         encoding: encoding_of(options.positions),
         custom_options: custom_options_of(options.custom_options),
+        faulty: faulty_of(options.faulty),
     })
 }
 

@@ -12,7 +12,7 @@ fn explanation_of(fault: &StartFault) -> &'static str
     ensures { result.now ≡ explanation_of fault.now }
 {
     match fault {
-        StartFault::BadPart => "",
+        StartFault::BadPart | StartFault::BadFolder(_) => "",
         StartFault::Load(fault) => match fault {
             LoadFault::Unreadable(_) => {
                 "\nit isn't there, or can't be read, or an entry's name isn't UTF-8"

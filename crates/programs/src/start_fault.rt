@@ -14,6 +14,8 @@ use std::alloc::{AllocError, Global};
 pub(crate) enum StartFault {
     /// The manager, the name or the release of the package begins with a space or is `.`.
     BadPart,
+    /// The same of the package of the included folder with this path.
+    BadFolder(String),
     /// There is no tree of the files, or memory ran out.
     Load(LoadFault),
 }
@@ -46,6 +48,7 @@ impl StartFault {
     {
         match self {
             StartFault::BadPart => plain_line(alloc, "BadPart"),
+            StartFault::BadFolder(path) => path_line(alloc, path.as_str(), "BadPart"),
             StartFault::Load(fault) => match fault {
                 LoadFault::Unreadable(name) => path_line(alloc, name.as_str(), "Unreadable"),
                 LoadFault::TooMany => plain_line(alloc, "TooMany"),
@@ -61,7 +64,7 @@ impl StartFault {
         ensures { result ≡ status_of self.now }
     {
         match self {
-            StartFault::BadPart => COMMAND_LINE_STATUS,
+            StartFault::BadPart | StartFault::BadFolder(_) => COMMAND_LINE_STATUS,
             StartFault::Load(fault) => match fault {
                 LoadFault::Unreadable(_) => STREAM_STATUS,
                 LoadFault::TooMany | LoadFault::BadPath(_) | LoadFault::SamePath(_) =>

@@ -3,20 +3,19 @@
 ghost use Rattle.std.specs.Prelude.{◌≡◌, IfOk, IfErr, map};
 ghost use Rattle.std.specs.Option.{option_map};
 ghost use Rattle.std.specs.String.{string_bytes};
-ghost use Rattle.scip_symbol.specs.Package.{IsPackage};
-ghost use Rattle.source_files.specs.Loads.{IsTreeBelow};
 ghost use Rattle.programs.specs.Choices.{choice_of_word};
-ghost use Rattle.programs.specs.Settings.{package_in, settings_in};
+ghost use Rattle.programs.specs.Folders.{AreFolders, NamePackages};
+ghost use Rattle.programs.specs.Settings.{settings_in};
 ghost use Rattle.programs.specs.Starting.{MayNotStart};
 
 use crate::choices::OptionChoices;
-use crate::package::package_of;
+use crate::folders::{Folders, load_folders};
 use crate::settings::{only_of, settings_of, workers_of};
 use crate::start_fault::StartFault;
 use command_line::IndexOptions;
 use index_pool::Workers;
 use scip_build::Settings;
-use source_files::{ReadFiles, load_tree};
+use source_files::ReadFiles;
 use source_tree::Tree;
 use std::alloc::Global;
 
@@ -40,17 +39,19 @@ pub(crate) fn start<F: ReadFiles>(
     options: &IndexOptions,
     files: &F,
 ) -> Result<TreeRun, StartFault>
-    ensures named { IfOk result (λ _. IsPackage (package_in options.now)) }
-    ensures tree { IfOk result (λ start. IsTreeBelow (F.lists files.now) (F.gives files.now) (string_bytes options.now.root) (map string_bytes options.now.include.items) start.tree) }
-    ensures only { IfOk result (λ start. option_map (λ f. string_bytes f.0) start.choices.filter ≡ option_map string_bytes options.now.only) }
-    ensures doc { IfOk result (λ start. option_map (λ r. r.0) start.choices.rule ≡ option_map choice_of_word options.now.doc) }
+    ensures named { IfOk result (λ _. NamePackages options.now) }
+    ensures folders { IfOk result (λ start. AreFolders (F.lists files.now) (F.gives files.now) options.now start.tree
+        start.settings.package) }
+    ensures only { IfOk result (λ start. option_map (λ f. string_bytes f.0) start.choices.filter ≡ option_map
+        string_bytes options.now.only) }
+    ensures doc { IfOk result (λ start. option_map (λ r. r.0) start.choices.rule ≡ option_map choice_of_word
+        options.now.doc) }
     ensures workers { IfOk result (λ start. start.workers ≡ options.now.workers) }
-    ensures settings { IfOk result (λ start. start.settings ≡ settings_in options.now) }
+    ensures settings { IfOk result (λ start. start.settings ≡ settings_in options.now start.settings.package) }
     ensures stops { IfErr result (MayNotStart (F.lists files.now) (F.gives files.now) options.now) }
 {
-    let id = package_of(alloc, options)?;
-    let tree = load_tree(alloc, files, options.root.as_str(), &options.include)?;
-    let settings = settings_of(alloc, options, id)?;
+    let Folders { tree, packages } = load_folders(alloc, options, files)?;
+    let settings = settings_of(alloc, options, packages)?;
     let choices = OptionChoices::new(alloc, only_of(options), options.doc)?;
     let workers = workers_of(options);
     Ok(TreeRun {

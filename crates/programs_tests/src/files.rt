@@ -13,7 +13,7 @@ struct Entry {
 }
 
 // The first row reads: below `api` is one source, `a.proto`, with a message `A`.
-static ENTRIES: [Entry; 10] = [
+static ENTRIES: [Entry; 13] = [
     Entry {
         root: "api",
         path: "a.proto",
@@ -59,6 +59,21 @@ static ENTRIES: [Entry; 10] = [
         text: Some("@"),
     },
     Entry {
+        root: "own",
+        path: "a.proto",
+        text: Some("syntax = \"proto3\";\nimport \"t.proto\";\nmessage A { T t = 1; }\n"),
+    },
+    Entry {
+        root: "base",
+        path: "a.proto",
+        text: Some("@"),
+    },
+    Entry {
+        root: "base",
+        path: "t.proto",
+        text: Some("syntax = \"proto3\";\nmessage T {}\n"),
+    },
+    Entry {
         root: "clash",
         path: "a.proto",
         text: Some("syntax = \"proto3\";\nimport \"no.proto\";\nmessage A {}\n"),
@@ -70,8 +85,15 @@ static ENTRIES: [Entry; 10] = [
     },
 ];
 
-/// The sources of `ENTRIES`, and beside them the index `a.scip` of one document `a` with one occurrence, and
-/// `cut.scip`, which is cut off.
+/// An index of three documents: `a.txt` with a definition that is documented; one whose source can't be read; and
+/// `b/c.txt` with a reference.
+const SEEN: &[u8] =
+    b"\x12\x22\x0a\x05a.txt\x12\x0b\x0a\x03\x00\x00\x02\x12\x02X#\x18\x01\x1a\x0a\x0a\x02X#\x1a\x04One.0\x01\
+\x12\x0a\x0a\x06no.txt0\x01\
+\x12\x16\x0a\x07b/c.txt\x12\x09\x0a\x03\x00\x01\x02\x12\x02X#0\x01";
+
+/// The sources of `ENTRIES`, and beside them the index `a.scip` of one document `a` with one occurrence,
+/// `cut.scip`, which is cut off, and `SEEN` with sources below `src`.
 #[derive(Clone, Copy)]
 pub(crate) struct Files;
 
@@ -118,6 +140,9 @@ impl ReadFiles for Files {
             "a.scip" =>
                 b"\x12\x0f\x0a\x01a\x12\x0a\x0a\x03\x01\x08\x09\x12\x01x\x18\x01".as_slice(),
             "cut.scip" => b"\x0a".as_slice(),
+            "seen.scip" => SEEN,
+            "src/a.txt" => b"ab\n".as_slice(),
+            "src/b/c.txt" => b"\tx".as_slice(),
             _ => return Ok(None),
         };
         Ok(Some(Vec::from_slice(alloc, bytes)?))

@@ -6,12 +6,13 @@ use crate::files::Files;
 use crate::shared::{see, words_of};
 use command_line::{Request, request_of};
 use programs::{Host, run};
+use source_files::MakeFiles;
 use std::alloc::{AllocError, Global};
 use std::process::Abort;
 use std::sync::Wait;
 use std::test::Fail;
 use std::thread::Threads;
-use streams::Std;
+use streams::{Failed, Sink, Std, write_all};
 
 /// The most bytes that a run prints, writes to a file or says in these tests.
 const ROOM: usize = 512;
@@ -37,7 +38,7 @@ const SILENT: Row = Row {
 };
 
 // The second row reads: of the version 5 bytes are taken, so a write fails, which is said, with status 3.
-static ROWS: [Row; 21] = [
+static ROWS: [Row; 28] = [
     Row {
         words: "--version",
         printed: "protoscip 1\n\0",
@@ -105,6 +106,40 @@ static ROWS: [Row; 21] = [
         ..SILENT
     },
     Row {
+        words: "snapshot seen.scip src",
+        printed: "a.txt
+  ab
+//^^ definition X#
+//documentation
+//> One.
+  
+b/c.txt
+  \tx
+//\t^ reference X#
+\0",
+        said: "protoscip: no.txt: Unreadable\n",
+        ..SILENT
+    },
+    Row {
+        words: "snapshot --to out seen.scip src",
+        written: b"[out/a.txt]  ab
+//^^ definition X#
+//documentation
+//> One.
+  
+[out/b/c.txt]  \tx
+//\t^ reference X#
+\0",
+        said: "protoscip: no.txt: Unreadable\n",
+        ..SILENT
+    },
+    Row {
+        words: "snapshot none.scip src",
+        status: 3,
+        said: "protoscip: none.scip: Unreadable\n",
+        ..SILENT
+    },
+    Row {
         words: "index api out",
         written: b"\x0A\x1C\x12\x0E\x0A\x09protoscip\x12\x011\x1A\x08file:///\x20\x01\
 \x12\xA7\x01\x0A\x07a.proto\
@@ -119,6 +154,29 @@ static ROWS: [Row; 21] = [
         words: "index --package . nowhere out",
         status: 2,
         said: "protoscip: BadPart\n",
+        ..SILENT
+    },
+    // `own` and `base` have an `a.proto`, of which that of `own` counts; `t.proto` has the package of `base`
+    Row {
+        words: "index own out --include-package m n r base",
+        written: b"\n\x1C\x12\x0E\n\x09protoscip\x12\x011\x1A\x08file:/// \x01\
+\x12\xB1\x02\n\x07a.proto\
+\x12'\n\x03\x00\x00\x00\x12\x1Escip-protobuf . . . `a.proto`/\x18\x01\
+\x12'\n\x03\x01\x07\x10\x12\x1Escip-protobuf m n r `t.proto`/\x18\x02\
+\x12\x1F\n\x03\x02\x08\x09\x12\x16scip-protobuf . . . A#\x18\x01\
+\x12\x1D\n\x03\x02\x0C\x0D\x12\x16scip-protobuf m n r T#\
+\x12!\n\x03\x02\x0E\x0F\x12\x18scip-protobuf . . . A#t.\x18\x01\
+\x1A\x1B\n\x16scip-protobuf . . . A#2\x01A\
+\x1A\x1D\n\x18scip-protobuf . . . A#t.2\x01t\
+\x1A)\n\x1Escip-protobuf . . . `a.proto`/2\x07a.proto\
+\"\x08Protobuf0\x01\
+\x1A\x1B\n\x16scip-protobuf m n r T#2\x01T\0",
+        ..SILENT
+    },
+    Row {
+        words: "index nowhere out --include-package m n r base --include-package . n r bad",
+        status: 2,
+        said: "protoscip: bad: BadPart\n",
         ..SILENT
     },
     Row {
@@ -159,9 +217,44 @@ static ROWS: [Row; 21] = [
         ..SILENT
     },
     Row {
-        words: "shell one",
-        input: "ref 3 28 a.proto\ndef 3 28 a.proto\ndef 3 31 a.proto\ndef 0 0 a.proto\ndef 0 0 z.proto\nref\nsym a.proto",
-        printed: "2 8 2 11 1 a.proto\n3 28 3 31 0 a.proto\n= 2\n2 8 2 11 1 a.proto\n= 1\n? nothing there\n0 0 0 0 1 a.proto\n= 1\n? no document\n? bad command\nscip-protobuf . . . `a.proto`/\nscip-protobuf . . . p/\nscip-protobuf . . . p/Foo#\nscip-protobuf . . . p/M#\nscip-protobuf . . . p/M#Foo.\nscip-protobuf . . . p/M#x.\n= 6\n\0",
+        words: "index clash out --faulty skip",
+        written: b"\x0A\x1C\x12\x0E\x0A\x09protoscip\x12\x011\x1A\x08file:///\x20\x01\
+\x12\xA7\x01\x0A\x07a.proto\
+\x12\x27\x0A\x03\x00\x00\x00\x12\x1Escip-protobuf . . . `a.proto`/\x18\x01\
+\x12\x1F\x0A\x03\x02\x08\x09\x12\x16scip-protobuf . . . A#\x18\x01\
+\x1A\x1B\x0A\x16scip-protobuf . . . A#\x32\x01A\
+\x1A\x29\x0A\x1Escip-protobuf . . . `a.proto`/\x32\x07a.proto\
+\x22\x08Protobuf\x30\x01\0",
+        said: "protoscip: no target: a.proto@26: MissingImport
+protoscip: skipped: b.proto@27: Duplicate of a.proto@46
+protoscip: 1 sources indexed, 1 skipped, 1 imports and 0 uses without a target\n",
+        ..SILENT
+    },
+    Row {
+        words: "shell clash --faulty skip --explain",
+        input: "def 2 8 a.proto\nsym b.proto",
+        printed: "2 8 2 9 1 a.proto\n= 1\n? no document\n\0",
+        said: "protoscip: no target: a.proto@26: MissingImport
+a.proto:2:8: no source has this path, below ROOT or a folder that is included
+  2 | import \"no.proto\";
+    |        ^^^^^^^^^^
+protoscip: skipped: b.proto@27: Duplicate of a.proto@46
+b.proto:2:9: this full name is given already
+  2 | message A {}
+    |         ^
+a.proto:3:9: it is given here
+  3 | message A {}
+    |         ^
+protoscip: 1 sources indexed, 1 skipped, 1 imports and 0 uses without a target
+",
+        ..SILENT
+    },
+    Row {
+        words: "shell clash --faulty skip",
+        input: "sym a.proto",
+        printed: "scip-protobuf",
+        status: 3,
+        said: "protoscip: Answer\n",
         ..SILENT
     },
     Row {
@@ -180,6 +273,39 @@ static ROWS: [Row; 21] = [
     },
 ];
 
+/// Room that an index is written to, and also the files that are made, each behind its path in brackets.
+#[derive(Drop)]
+struct Written<'a> {
+    room: Std<&'a mut [u8]>,
+}
+
+impl<'a> Sink for Written<'a> {
+    ghost use Rattle.std.specs.Prelude.{None};
+    ghost use Rattle.streams.specs.StdStreams.{failures_of};
+
+    ghost contents = { λ _. None };
+
+    ghost failures = { λ w. failures_of w.room };
+
+    fn write(&mut self, bytes: &[u8]) -> Result<usize, Failed> {
+        self.room.write(bytes)
+    }
+}
+
+impl<'a> MakeFiles for Written<'a> {
+    ghost use Rattle.std.specs.Prelude.{None};
+
+    ghost made = { λ _. None };
+
+    fn make_file(&mut self, path: &str, bytes: &[u8]) -> Result<bool, AllocError> {
+        let mut is_made = true;
+        for part in [b"[".as_slice(), path.as_bytes(), b"]".as_slice(), bytes] {
+            is_made = is_made && write_all(&mut self.room, part).is_ok();
+        }
+        Ok(is_made)
+    }
+}
+
 /// Runs what was asked for. Gives the status, and whether what is due is said.
 fn ended<R: Threads + Wait>(
     rt: &R,
@@ -191,7 +317,9 @@ fn ended<R: Threads + Wait>(
 ) -> (u8, bool) {
     let mut input = Std::new(row.input.as_bytes());
     let mut out = Std::new(printed);
-    let mut file = Std::new(written);
+    let mut file = Written {
+        room: Std::new(written),
+    };
     let mut told = [0u8; ROOM];
     let mut messages = Std::new(told.as_mut_slice());
     let host = Host {

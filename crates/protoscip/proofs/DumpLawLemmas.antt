@@ -1,8 +1,6 @@
 -- A source has one listing, and is refused for want of memory alone where it has one.
 use Rattle.std.proofs.Common.{◌≡◌, ◌∙◌, ℕ, ◌<◌, List, ap, sym, subst, refl, arith}
-use Rattle.proto_decl.specs.Seen.{Seen}
 use Rattle.proto_parse.specs.tree.CustomOptions.{CustomOptions}
-use Rattle.index_hooks.specs.declared.choice.Choice.{Choice}
 use Rattle.scip_wire.specs.Decodes.{Decodes}
 use Rattle.protoscip.specs.Dump.{dump_tree, dump_settings, default_choices, IsListing, IsRefusal}
 use Rattle.protoscip.specs.DumpLaws.{OneListing, ListedUnlessMemory}
@@ -20,7 +18,7 @@ one_choice seen choice another is also =
 pub one_listing : OneIndexing default_choices default_choices → OneListing
 one_listing one custom bytes listing other is also =
     let same = one (dump_settings custom)
-    (dump_tree bytes) is.choices also.choices is.spelling also.spelling one_choice is.indexed also.indexed in
+    (dump_tree bytes) is.recorded also.recorded is.spelling also.spelling one_choice is.indexed also.indexed in
     let decodes = subst (λ (b : List ℕ). Decodes b also.indexed.index) (sym same.1) also.indexed.spelled.decodes in
     let index = is.indexed.spelled.alone also.indexed.index decodes in
     is.listing_is ∙ (ap dump_text (sym index) ∙ sym also.listing_is)
@@ -29,7 +27,7 @@ module _ (accepted : OneIndexingHasNoFault default_choices default_choices) wher
   none : (custom : CustomOptions) (bytes listing : List ℕ) (e : Fault) → IsListing custom bytes listing
       → IsRefusal custom bytes e → reason_of e ≡ outside
   none custom bytes listing e is refused =
-      accepted (dump_settings custom) (dump_tree bytes) 1 is.choices is.spelling e one_choice is.indexed refused
+      accepted (dump_settings custom) (dump_tree bytes) 1 is.recorded is.spelling e one_choice is.indexed refused
 
   pub listed_unless_memory : ListedUnlessMemory
   listed_unless_memory custom bytes listing fault.Spawn is refused =

@@ -1,8 +1,7 @@
 -- What a dump answers, by where it stops.
-use Rattle.std.proofs.Common.{◌≡◌, ◌∙◌, ◌⊎◌, inl, inr, ℕ, zero, suc, ◌<◌, ◌≤◌, List, [], ◌∷◌, length, Some, Option}
+use Rattle.std.proofs.Common.{◌≡◌, ◌∙◌, inl, inr, ℕ, zero, suc, ◌<◌, ◌≤◌, List, [], ◌∷◌, length, Some, Option}
 use Rattle.std.proofs.Common.{Result, Ok, Err, refl, ap, sym, subst, arith}
 use Rattle.std.specs.Prelude.{true, false, IfErr, IfSome}
-use Rattle.std.specs.List.{slice_get}
 use Rattle.std.proofs.lemmas.Option.{same_Some, none-some}
 use Rattle.std.proofs.lemmas.List.{take_all, length-take}
 use Rattle.proto_lex.specs.declared.fault.LexFault.{LexFault}
@@ -15,12 +14,13 @@ use Rattle.index_hooks.specs.declared.choice.Choice.{Choice}
 use Rattle.source_tree.specs.Files.{TreeFile}
 use Rattle.source_tree.specs.Reading.{kept_bytes, max_kept_length}
 use Rattle.scip_model.specs.declared.records.Index.{Index}
-use Rattle.scip_build.specs.Builds.{IsBuilt, IsBuildFault, OfReadings}
+use Rattle.scip_build.specs.Builds.{IsBuilt, IsBuildFault}
 use Rattle.proto_visibility.specs.Linked.{CanBeLinked}
 use Rattle.scip_build.specs.Documents.{IsLeastUnresolved}
 use Rattle.scip_build.specs.Files.{FileContents, ReadFile}
 use Rattle.scip_build.specs.Linking.{linked_files, MayRefuseReadings}
-use Rattle.scip_build.specs.Parsed.{IsUnlexed, IsUnparsed, IsUnreadable}
+use Rattle.scip_build.specs.Parsed.{IsUnparsed, IsUnreadable}
+use Rattle.scip_build.specs.declared.faulty.Faulty.TheVariants.{Refuse}
 use Rattle.scip_build.specs.Readings.{HasContents, AreReadingsOf, IsFirstFaulty}
 use Rattle.scip_build.specs.declared.built.Built.{Built}
 use Rattle.scip_build.specs.declared.settings.Settings.{Settings}
@@ -35,6 +35,7 @@ use Rattle.protoscip.specs.Indexes.{IsRefused}
 use Rattle.protoscip.specs.Writing.{IsReadBack}
 use Rattle.protoscip.specs.Output.{Writes}
 use Rattle.protoscip.specs.DumpText.{dump_text}
+use Rattle.protoscip.specs.Indexes.{recorded_of}
 use Rattle.protoscip.specs.Dump.{source_path, dump_tree, dump_settings, default_choices, IsListing, IsRefusal, Dumps}
 use Rattle.protoscip.specs.Dump.{LeavesWriter, IsDumped, IsTreeOfFault, IsTreeOfSource}
 use Rattle.protoscip.specs.declared.fault.Fault.{Fault}
@@ -42,7 +43,7 @@ use Rattle.protoscip.specs.declared.fault.Fault.TheVariants as fault
 use Rattle.protoscip.proofs.FileLemmas.{files_of_build}
 
 refused_of_build : (allows : Seen → Choice → Type 0) (settings : Settings) (tree : List TreeFile) (workers : ℕ)
-    (e : BuildFault) → IsBuildFault allows settings.custom_options tree workers e
+    (e : BuildFault) → IsBuildFault allows settings.faulty settings.custom_options tree workers e
     → IsRefused allows settings tree workers (fault_of_build e)
 refused_of_build allows settings tree workers build.Spawn is = is
 refused_of_build allows settings tree workers build.Memory is = is
@@ -56,7 +57,8 @@ module _ (custom : CustomOptions) (bytes : List ℕ) (settings : Settings) (tree
     (set : settings ≡ dump_settings custom) (alone : tree ≡ dump_tree bytes) where
   -- why its tree isn't built is why a source has no listing
   pub refusal_of_build : (workers : ℕ) (e : BuildFault) → workers ≡ 1
-      → IsBuildFault default_choices settings.custom_options tree workers e → IsRefusal custom bytes (fault_of_build e)
+      → IsBuildFault default_choices settings.faulty settings.custom_options tree workers e
+      → IsRefusal custom bytes (fault_of_build e)
   refusal_of_build workers e one is =
       let of : IsRefused default_choices settings tree workers (fault_of_build e) =
       refused_of_build default_choices settings tree workers e is in
@@ -75,7 +77,7 @@ module _ (custom : CustomOptions) (bytes : List ℕ) (settings : Settings) (tree
       let of_tree = subst (λ (t : List TreeFile). IsBuilt default_choices (dump_settings custom) t built) alone
       by_settings in
       record {
-        choices = built.choices;
+        recorded = recorded_of built.choices built.told;
         spelling = spelling_of built.index;
         indexed = record { index = built.index; built = of_tree; spelled = back.0 };
         listing_is = text ∙ ap dump_text back.1;
@@ -98,12 +100,12 @@ module _ (custom : CustomOptions) (bytes : List ℕ) where
   abbrev pub alone : TreeFile
   alone = record { path = source_path; bytes = bytes; is_included = false }
 
-  short_contents : (contents : Result FileContents FileFault) → HasContents custom default_choices zero alone contents
-      → length bytes ≤ max_text_length
+  short_contents : (contents : Result FileContents FileFault)
+      → HasContents Refuse custom default_choices zero alone contents → length bytes ≤ max_text_length
   short_contents (Ok contents) has = has.1.facts_in.lexing.text.short
   short_contents (Err e) has = absurd (let same : false ≡ true = has.0 in cc)
 
-  pub short_source : (readings : List ReadFile) → AreReadingsOf custom default_choices (dump_tree bytes) readings
+  pub short_source : (readings : List ReadFile) → AreReadingsOf Refuse custom default_choices (dump_tree bytes) readings
       → length bytes ≤ max_text_length
   short_source [] are = absurd (let none = are.one_each in omega (arith, none))
   short_source (reading ∷ others) are = short_contents reading.contents (are.each zero alone reading refl refl).contents
@@ -139,19 +141,20 @@ module _ (custom : CustomOptions) (bytes : List ℕ) where
   faulty_of_all (suc number) e is = absurd (none-some is.file is.numbered)
 
   of_readings : (P : List TreeFile → List ReadFile → Type 0)
-      → (readings : List ReadFile) × AreReadingsOf custom default_choices (dump_tree (kept_bytes bytes)) readings
+      → (readings : List ReadFile) × AreReadingsOf Refuse custom default_choices (dump_tree (kept_bytes bytes)) readings
       × P (dump_tree (kept_bytes bytes)) readings
-      → (readings : List ReadFile) × AreReadingsOf custom default_choices (dump_tree bytes) readings
+      → (readings : List ReadFile) × AreReadingsOf Refuse custom default_choices (dump_tree bytes) readings
       × P (dump_tree bytes) readings
   of_readings P of =
-      whole (λ b. (readings : List ReadFile) × AreReadingsOf custom default_choices (dump_tree b) readings
+      whole (λ b. (readings : List ReadFile) × AreReadingsOf Refuse custom default_choices (dump_tree b) readings
       × P (dump_tree b) readings) bytes (short_source custom (kept_bytes bytes) of.0 of.1) of
 
   fault_of_all : (number : ℕ) (e : FileFault)
-      → IsBuildFault default_choices custom (dump_tree (kept_bytes bytes)) 1 (build.File number e)
-      → IsBuildFault default_choices custom (dump_tree bytes) 1 (build.File number e)
-  fault_of_all number e (inl first) = inl (faulty_of_all number e first)
-  fault_of_all number e (inr of) = inr (of_readings (λ _ readings. MayRefuseReadings readings (build.File number e)) of)
+      → IsBuildFault default_choices Refuse custom (dump_tree (kept_bytes bytes)) 1 (build.File number e)
+      → IsBuildFault default_choices Refuse custom (dump_tree bytes) 1 (build.File number e)
+  fault_of_all number e (refuse, inl first) = (refuse, inl (faulty_of_all number e first))
+  fault_of_all number e (refuse, inr of) =
+      (refuse, inr (of_readings (λ _ readings. MayRefuseReadings readings (build.File number e)) of))
 
   -- what holds of the bytes that are kept holds of all
   pub refusal_of_all : (e : Fault) → IsRefusal custom (kept_bytes bytes) e → IsRefusal custom bytes e
@@ -160,24 +163,26 @@ module _ (custom : CustomOptions) (bytes : List ℕ) where
   refusal_of_all (fault.Lex number e) is = fault_of_all number (file.Lex e) is
   refusal_of_all (fault.Syntax number e) is = fault_of_all number (file.Syntax e) is
   refusal_of_all (fault.Duplicate first second) is =
-      of_readings (λ _ readings. MayRefuseReadings readings (build.Duplicate first second)) is
+      (is.0, of_readings (λ _ readings. MayRefuseReadings readings (build.Duplicate first second)) is.1)
   refusal_of_all (fault.MissingImport place) is =
-      of_readings (λ _ readings. MayRefuseReadings readings (build.MissingImport place)) is
-  refusal_of_all (fault.Unresolved place) is =
-      of_readings (λ _ readings. CanBeLinked (linked_files readings) × IsLeastUnresolved (linked_files readings) place)
-      is
+      (is.0, of_readings (λ _ readings. MayRefuseReadings readings (build.MissingImport place)) is.1)
+  refusal_of_all (fault.Unresolved place) is = (
+    is.0,
+    of_readings
+        (λ _ readings. CanBeLinked (linked_files readings) × IsLeastUnresolved (linked_files readings) place) is.1,
+  )
   refusal_of_all fault.TooLarge is =
       whole (λ b. IsRefusal custom b fault.TooLarge) bytes
-      (short_source custom (kept_bytes bytes) is.1.readings is.1.read) is
+      (short_source custom (kept_bytes bytes) is.1.all is.1.read) is
   refusal_of_all (fault.Write count) is = is
   refusal_of_all fault.Read is = is
   refusal_of_all (fault.Answer count) is = is
 
   pub listing_of_all : (listing : List ℕ) → IsListing custom (kept_bytes bytes) listing → IsListing custom bytes listing
   listing_of_all listing is =
-      let readings = is.indexed.built in
+      let built = is.indexed.built in
       whole (λ b. IsListing custom b listing) bytes
-      (short_source custom (kept_bytes bytes) readings.readings readings.read) is
+      (short_source custom (kept_bytes bytes) built.all built.read) is
 
   -- a source that has no listing is refused,
   pub refused_dumps : (due : List ℕ) (e : Fault) → IsRefusal custom bytes e → Dumps custom bytes due (Err e)
@@ -213,15 +218,15 @@ module _ (custom : CustomOptions) (bytes : List ℕ) where
   dump_files fault.Spawn is = tt
   dump_files fault.Memory is = tt
   dump_files (fault.Lex number e) is =
-      files_of_build default_choices custom (dump_tree bytes) 1 (build.File number (file.Lex e)) is
+      files_of_build default_choices Refuse custom (dump_tree bytes) 1 (build.File number (file.Lex e)) is
   dump_files (fault.Syntax number e) is =
-      files_of_build default_choices custom (dump_tree bytes) 1 (build.File number (file.Syntax e)) is
+      files_of_build default_choices Refuse custom (dump_tree bytes) 1 (build.File number (file.Syntax e)) is
   dump_files (fault.Duplicate first second) is =
-      files_of_build default_choices custom (dump_tree bytes) 1 (build.Duplicate first second) is
+      files_of_build default_choices Refuse custom (dump_tree bytes) 1 (build.Duplicate first second) is
   dump_files (fault.MissingImport place) is =
-      files_of_build default_choices custom (dump_tree bytes) 1 (build.MissingImport place) is
+      files_of_build default_choices Refuse custom (dump_tree bytes) 1 (build.MissingImport place) is
   dump_files (fault.Unresolved place) is =
-      files_of_build default_choices custom (dump_tree bytes) 1 (build.Unresolved place) is
+      files_of_build default_choices Refuse custom (dump_tree bytes) 1 (build.Unresolved place) is
   dump_files fault.TooLarge is = tt
   dump_files (fault.Write count) is = tt
   dump_files fault.Read is = tt

@@ -1,9 +1,9 @@
 -- The tree of one source.
-use Rattle.std.proofs.Common.{◌≡◌, ◌∙◌, ℕ, zero, suc, arith, List, [], ◌∷◌, Some, ap, sym, subst, refl}
-use Rattle.std.specs.Prelude.{◌++◌, ◌≢◌, ◌≤◌, ◌<◌, length, false, codes, All}
+use Rattle.std.proofs.Common.{◌≡◌, ℕ, zero, suc, arith, List, [], ◌∷◌, Some, ap, sym, subst, refl}
+use Rattle.std.specs.Prelude.{◌++◌, ◌≢◌, ◌≤◌, length, false, codes, All}
 use Rattle.std.specs.List.{slice_get}
 use Rattle.std.specs.List.Sorted.{IsStrictlySortedBy}
-use Rattle.std.specs.declared.cmp.Ordering.TheVariants.{Less, Equal, Greater}
+use Rattle.std.specs.declared.cmp.Ordering.TheVariants.{Less}
 use Rattle.std.proofs.lemmas.Option.{same_Some, none-some, slice_get_within}
 use Rattle.std.proofs.lemmas.List.Elements.{All-nil, All-cons}
 use Rattle.std.proofs.lemmas.List.Sorted.{length_permutation}
@@ -12,7 +12,7 @@ use Rattle.source_tree.specs.Refusals.{MayRefuse}
 use Rattle.source_tree.specs.declared.fault.TreeFault.{TreeFault}
 use Rattle.source_tree.specs.declared.fault.TreeFault.TheVariants as refusal
 use Rattle.source_tree.specs.Files.{SourceFile, TreeFile, in_tree, file_cmp}
-use Rattle.source_tree.specs.Trees.{IsTreeOf, IsFileOf, of_source, of_included, Counts}
+use Rattle.source_tree.specs.Trees.{IsTreeOf, IsFileOf, of_source, of_included}
 use Rattle.protoscip.specs.Dump.{source_path, dump_tree}
 use Rattle.protoscip.proofs.ListLemmas.{place_of, contained}
 

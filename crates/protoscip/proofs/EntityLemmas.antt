@@ -1,7 +1,7 @@
--- The entities of files that can be linked: what occurs names one, and a symbol's text is that of one.
-use Rattle.std.proofs.Common.{◌≡◌, ◌∙◌, ◌⊎◌, inl, inr, ℕ, zero, ◌<◌, Some, List, [], ◌∷◌, ◌++◌, map, take, sym, ap}
+-- The entities of linked files: what occurs names one, and a symbol's text is that of one.
+use Rattle.std.proofs.Common.{◌≡◌, ◌∙◌, ◌⊎◌, inl, inr, ℕ, zero, ◌+◌, ◌<◌, Some, List, [], ◌∷◌, ◌++◌, map, take, sym, ap}
 use Rattle.std.proofs.Common.{refl, subst, arith}
-use Rattle.std.specs.Prelude.{All, Contains}
+use Rattle.std.specs.Prelude.{Contains}
 use Rattle.std.specs.List.{slice_get}
 use Rattle.std.specs.Str.{bytes_eq}
 use Rattle.std.proofs.lemmas.Bool.{cases_Bool, false≢true}
@@ -11,21 +11,18 @@ use Rattle.std.proofs.lemmas.Slice.Eq.{bytes_eq-Decides}
 use Rattle.proto_lex.specs.declared.position.Encoding.{Encoding}
 use Rattle.proto_decl.specs.Names.{dotted, components_of, prefix_of}
 use Rattle.proto_decl.specs.Names as names
-use Rattle.proto_decl.specs.Facts.{Facts, AreOfSomeFile}
+use Rattle.proto_decl.specs.Facts.{Facts}
 use Rattle.proto_decl.specs.Ancestors.{names_of, component_names, AreHeld}
 use Rattle.proto_decl.specs.declared.imported.Imported.{Imported}
 use Rattle.proto_decl.specs.declared.declaration.Declaration.{Declaration}
 use Rattle.proto_decl.specs.declared.type_use.Component.{Component}
 use Rattle.proto_visibility.specs.declared.entities.Entity.{Entity as Part}
 use Rattle.proto_visibility.specs.declared.entities.Entity.TheVariants as link
-use Rattle.proto_visibility.specs.Absences.{IsMissing}
-use Rattle.proto_visibility.specs.Absences.IsNeeded.{of_source}
 use Rattle.proto_visibility.specs.Clashes.{NoClash}
 use Rattle.proto_visibility.specs.Files.{File, HasFacts, HaveOrigins, HasPath, IsSource}
 use Rattle.proto_visibility.specs.Knows.{NameKind, Knows}
 use Rattle.proto_visibility.specs.Knows.NameKind.{OfPackage as IsPackageKind}
 use Rattle.proto_visibility.specs.Knows.Knows.{declared as known_declared, packaged as known_packaged}
-use Rattle.proto_visibility.specs.Linked.{CanBeLinked}
 use Rattle.proto_visibility.specs.Sees.{Counts}
 use Rattle.proto_visibility.specs.Sees.LeadsTo.{at_once}
 use Rattle.proto_visibility.specs.Sees.SeesBy.{import}
@@ -33,21 +30,23 @@ use Rattle.proto_visibility.specs.Sees.Counts.{seen}
 use Rattle.proto_link.specs.Targets.{IsNamed}
 use Rattle.proto_link.specs.Targets.IsNamed.{packaged as named_package, declared as named_declared}
 use Rattle.scip_symbol.specs.Package.{Package, IsPackage}
+use Rattle.scip_document.specs.Packages.{Packages, ArePackages, package_of_path, package_of_file, package_of_part}
 use Rattle.scip_symbol.specs.Entities.{Entity, OfFile, OfPackage, OfDeclaration, IsEntity}
 use Rattle.scip_symbol.specs.OneEntity.{Declaration as Way, declarations_of, AreWithoutClash, IsAmong}
 use Rattle.scip_symbol.proofs.ClashLemmas.{put}
 use Rattle.scip_document.specs.Chosen.{Chosen}
 use Rattle.scip_document.specs.Conditions.{HaveGoodPaths}
-use Rattle.scip_document.specs.Named.{HasDeclaration, NamesIn, text_of, declaration_at}
+use Rattle.scip_document.specs.Named.{HasDeclaration, NamesIn, text_of, package_at, declaration_at}
 use Rattle.scip_document.specs.Occurs.{Occurs}
 use Rattle.scip_document.specs.Occurs as rule
 use Rattle.scip_document.proofs.ApartLemmas.{AreIdentifiers, AreCounted, one-text}
 use Rattle.scip_document.proofs.EntityLemmas.{package-is, declaration-is}
 use Rattle.scip_document.proofs.EntryLemmas.{nothing-in, alone-in, first-in, behind-in}
 use Rattle.scip_document.proofs.LinkedLemmas.{source-counts}
+use Rattle.scip_document.proofs.PackageLemmas.{by_path, file_good}
 use Rattle.scip_model.specs.declared.records.Occurrence.{Occurrence}
 use Rattle.protoscip.specs.NameLaws.{LawsOfNames}
-use Rattle.protoscip.specs.Headline.{IsEntityOf, of_file, of_package, of_declaration, entity_of}
+use Rattle.protoscip.specs.Headline.{IsEntityOf, of_file, of_package, of_declaration, entity_of, package_of_entity}
 use Rattle.protoscip.proofs.DottedLemmas.{same_front}
 use Rattle.protoscip.proofs.LinkedLemmas.{mapped_at}
 use Rattle.protoscip.proofs.ListLemmas.{place_of, contained}
@@ -77,18 +76,13 @@ has_text (first ∷ texts) text = elim (cases_Bool (bytes_eq first text)) [
 
 -- ---- what occurs
 
-module _ (files : List File) (linked : CanBeLinked files) (origins : HaveOrigins files) (laws : LawsOfNames) where
+module _ (files : List File) (origins : HaveOrigins files) (laws : LawsOfNames) where
   -- the file that an import of a source names
   imported_is : (source : ℕ) → IsSource files source → (facts : Facts) (imported : Imported)
-      → HasFacts files source facts → Contains facts.imports imported
+      → HasFacts files source facts → Contains facts.imports imported → HasPath files imported.path
       → IsEntityOf files (OfFile imported.path)
-  imported_is source is facts imported has listed =
-      either named (λ none. absurd (linked.complete (record { file = source; span = imported.span }) (missing none)))
-      (has_text (map (λ (file : File). file.path) files) imported.path)
+  imported_is source is facts imported has listed there = named there
     where
-      missing : (HasPath files imported.path → ⊥) → IsMissing files (record { file = source; span = imported.span })
-      missing none = record { import = imported; needed = of_source is has listed; stands = refl; missing = none }
-
       counts : (number : ℕ) (file : File) → slice_get files number ≡ Some file → file.path ≡ imported.path
           → Counts files number
       counts number file at path =
@@ -157,28 +151,19 @@ module _ (files : List File) (linked : CanBeLinked files) (origins : HaveOrigins
       let counts = named_file_counts source is names.target.name _ (link.Declared file index) named file index refl in
       subst (IsEntityOf files) (sym names.entity_is.is) (of_declaration counts names.entity_is.has)
 
-  module _ (chosen : Chosen) (id : Package) (encoding : Encoding) (source : ℕ) (text : List ℕ) where
-    -- what an occurrence of a source names is an entity of the files,
-    pub entity_is : IsSource files source → (o : Occurrence) (occurs : Occurs files chosen id encoding source text o)
+  module _ (chosen : Chosen) (ids : Packages) (encoding : Encoding) (source : ℕ) (text : List ℕ) where
+    -- what an occurrence of a source names is an entity of the files
+    pub entity_is : IsSource files source → (o : Occurrence) (occurs : Occurs files chosen ids encoding source text o)
         → IsEntityOf files (entity_of occurs)
     entity_is is _ (rule.of_file numbered) = of_file (source-counts files source is) numbered
     entity_is is _ (rule.of_import {facts = facts} {imported = imported} has listed there) =
-        imported_is source is facts imported has listed
+        imported_is source is facts imported has listed there
     entity_is is _ (rule.of_package {facts = facts} index {component = component} has stands) =
         of_package (source-counts files source is) has (omega arith)
         (omega (arith, slice_get_within facts.package_name index component stands))
     entity_is is _ (rule.of_declaration index has kept) = of_declaration (source-counts files source is) has
     entity_is is _ (rule.of_component {component = component} {part = part} {entity = entity} names shown) =
         component_is source is component part entity names
-
-    -- and its symbol is that of the entity
-    pub symbol_is : (o : Occurrence) (occurs : Occurs files chosen id encoding source text o)
-        → o.symbol ≡ text_of id (entity_of occurs)
-    symbol_is _ (rule.of_file numbered) = refl
-    symbol_is _ (rule.of_import has listed there) = refl
-    symbol_is _ (rule.of_package index has stands) = refl
-    symbol_is _ (rule.of_declaration index has kept) = refl
-    symbol_is _ (rule.of_component names shown) = refl
 
 -- ---- entities and symbols
 
@@ -230,26 +215,26 @@ module _ (files : List File) (origins : HaveOrigins files) (good : HaveGoodPaths
     one_name = λ facts others d e there also listed its same. absurd (nothing-in facts there);
   }
 
-  module _ (id : Package) (is_package : IsPackage id) where
+  module _ (id its_id : Package) (is_package : IsPackage id) (is_fine : IsPackage its_id) where
     -- two entities, each of facts that count, or of none
     one_of : (m n : ℕ) (f g : Facts) → AreCounted files m f → AreCounted files n g → (entity other : Entity)
         → IsEntity entity → IsEntity other
         → IsAmong (declarations_of (f ∷ (g ∷ []))) entity → IsAmong (declarations_of (f ∷ (g ∷ []))) other
-        → text_of id entity ≡ text_of id other → entity ≡ other
+        → text_of id entity ≡ text_of its_id other → entity ≡ other
     one_of m n f g a b entity other its also here there same =
-        one-text files origins clear laws.one_name
-        (spelled laws) laws.symbols laws.unclashed id is_package m n f g a b entity other its also here there same
+        one-text files origins clear laws.one_name (spelled laws) laws.symbols laws.unclashed m n f g a b id its_id
+        is_package is_fine entity other its also here there same
 
     one_else : (entity other : Entity) → IsEntity entity → IsEntity other → IsElse entity → IsElse other
-        → text_of id entity ≡ text_of id other → entity ≡ other
+        → text_of id entity ≡ text_of its_id other → entity ≡ other
     unfolding text_of IsElse
     one_else entity other its also here there same =
-        laws.symbols id (declarations_of []) is_package (laws.unclashed [] no_facts) entity other its also
-        (here (declarations_of [])) (there (declarations_of [])) same
+        laws.symbols id its_id (declarations_of []) is_package is_fine (laws.unclashed [] no_facts) entity other its
+        also (here (declarations_of [])) (there (declarations_of [])) same
 
     one_by : (entity other : Entity) → IsEntity entity → IsEntity other → IsDeclared entity ⊎ IsElse entity
         → IsDeclared other ⊎ IsElse other
-        → text_of id entity ≡ text_of id other → entity ≡ other
+        → text_of id entity ≡ text_of its_id other → entity ≡ other
     unfolding IsElse
     one_by entity other its also (inl a) (inl b) same =
         let all : List Facts = a.facts ∷ (b.facts ∷ []) in
@@ -266,10 +251,9 @@ module _ (files : List File) (origins : HaveOrigins files) (good : HaveGoodPaths
         (among other b all (first-in b.facts (b.facts ∷ []))) same
     one_by entity other its also (inr a) (inr b) same = one_else entity other its also a b same
 
-    -- entities of the files with one symbol are one
-    pub one_entity : (entity other : Entity) → IsEntityOf files entity → IsEntityOf files other
-        → text_of id entity ≡ text_of id other → entity ≡ other
-    one_entity entity other its also same =
+    one_text_one : (entity other : Entity) → IsEntityOf files entity → IsEntityOf files other
+        → text_of id entity ≡ text_of its_id other → entity ≡ other
+    one_text_one entity other its also same =
         one_by entity other (is_entity entity its) (is_entity other also) (kind_of entity its) (kind_of other also) same
 
   -- ---- a declaration's entity is its own
@@ -297,3 +281,105 @@ module _ (files : List File) (origins : HaveOrigins files) (good : HaveGoodPaths
       (record { facts = facts; counts = counts; known = has.has_facts; stands = has.numbered })
       (record { facts = more; counts = also; known = there.has_facts; stands = there.numbered })
       (full_name_is number index facts a has ∙ (ap full_name_in same ∙ sym (full_name_is other its more b there)))
+
+  -- ---- an entity has one package
+
+  module _ (ids : Packages) where
+    -- the package of an entity is one of the packages
+    home_good : ArePackages ids → (entity : Entity) (is : IsEntityOf files entity)
+        → IsPackage (package_of_entity files ids is)
+    home_good are _ (of_file {number = number} counts at) = file_good files ids number are
+    home_good are _ (of_package counts has some few) = are.run
+    home_good are _ (of_declaration {number = number} counts has) = file_good files ids number are
+
+    path_of : (a b : List ℕ) → OfFile a ≡ OfFile b → a ≡ b
+    path_of a b e = cc
+
+    -- of a file it goes by the path
+    file_home : (path : List ℕ) (entity : Entity) (is : IsEntityOf files entity) → entity ≡ OfFile path
+        → package_of_entity files ids is ≡ package_of_path ids path
+    file_home path _ (of_file {number = number} {file = file} counts at) same =
+        by_path files ids number file at ∙ ap (package_of_path ids) (path_of file.path path same)
+    file_home path _ (of_package counts has some few) same = absurd cc
+    file_home path _ (of_declaration counts has) same = absurd cc
+
+    -- of a package it is the run's
+    package_home : (components : List (List ℕ)) (entity : Entity) (is : IsEntityOf files entity)
+        → entity ≡ OfPackage components → package_of_entity files ids is ≡ ids.run
+    package_home components _ (of_file counts at) same = absurd cc
+    package_home components _ (of_package counts has some few) same = refl
+    package_home components _ (of_declaration counts has) same = absurd cc
+
+    -- of a declaration it is that of the file
+    declaration_home : (number index : ℕ) (facts : Facts) (declared : Declaration) → Counts files number
+        → HasDeclaration files number index facts declared → (entity : Entity) (is : IsEntityOf files entity)
+        → entity ≡ declaration_at facts declared → package_of_entity files ids is ≡ package_of_file files ids number
+    declaration_home number index facts declared counts has _ (of_file also at) same = absurd cc
+    declaration_home number index facts declared counts has _ (of_package also its some few) same = absurd cc
+    declaration_home number index facts declared counts has _
+        (of_declaration {number = other} {index = its} {facts = more} {declared = declaration} also there) same =
+        ap (package_of_file files ids)
+        (own_entity other its number index more facts declaration declared also counts there has same).0
+
+    pub one_home : (entity other : Entity) (is : IsEntityOf files entity) (its : IsEntityOf files other)
+        → entity ≡ other → package_of_entity files ids is ≡ package_of_entity files ids its
+    one_home entity _ is (of_file {number = number} {file = file} counts at) same =
+        file_home file.path entity is same ∙ sym (by_path files ids number file at)
+    one_home entity _ is (of_package {count = count} {facts = facts} counts has some few) same =
+        package_home (component_names (take count facts.package_name)) entity is same
+    one_home entity _ is
+        (of_declaration {number = number} {index = index} {facts = facts} {declared = declared} counts has) same =
+        declaration_home number index facts declared counts has entity is same
+
+    -- entities of the files with one symbol are one
+    pub one_entity : ArePackages ids → (entity other : Entity) (is : IsEntityOf files entity)
+        (its : IsEntityOf files other)
+        → text_of (package_of_entity files ids is) entity ≡ text_of (package_of_entity files ids its) other
+        → entity ≡ other
+    one_entity are entity other is its same =
+        one_text_one (package_of_entity files ids is) (package_of_entity files ids its) (home_good are entity is)
+        (home_good are other its) entity other is its same
+
+    -- and have one symbol
+    pub one_symbol : (entity other : Entity) (is : IsEntityOf files entity) (its : IsEntityOf files other)
+        → entity ≡ other
+        → text_of (package_of_entity files ids is) entity ≡ text_of (package_of_entity files ids its) other
+    one_symbol entity other is its same =
+        ap (λ (id : Package). text_of id entity) (one_home entity other is its same)
+        ∙ ap (text_of (package_of_entity files ids its)) same
+
+    -- ---- the symbol of an occurrence
+
+    module _ (source : ℕ) (is_source : IsSource files source) where
+      part_home : (component : Component) (part : Part) (entity : Entity) → NamesIn files source component part entity
+          → (is : IsEntityOf files entity) → package_of_part files ids part ≡ package_of_entity files ids is
+      part_home component (link.Package count) entity names is =
+          sym (package_home (take count (components_of names.target.name)) entity is names.entity_is)
+      part_home component (link.Declared number index) entity names is =
+          let named = names.is_target.named names.index (link.Declared number index) names.part_is in
+          let counts = named_file_counts files origins laws source is_source names.target.name _
+          (link.Declared number index) named number index refl in
+          let of = names.entity_is in
+          sym (declaration_home number index of.facts of.declaration counts of.has entity is of.is)
+
+      -- it is that of the entity, in its package
+      pub symbol_is : (chosen : Chosen) (encoding : Encoding) (text : List ℕ) (o : Occurrence)
+          (occurs : Occurs files chosen ids encoding source text o) (is : IsEntityOf files (entity_of occurs))
+          → o.symbol ≡ text_of (package_of_entity files ids is) (entity_of occurs)
+      symbol_is chosen encoding text _ (rule.of_file {file = file} numbered) is =
+          ap (λ (id : Package). text_of id (OfFile file.path))
+          (by_path files ids source file numbered ∙ sym (file_home file.path (OfFile file.path) is refl))
+      symbol_is chosen encoding text _ (rule.of_import {imported = imported} has listed there) is =
+          ap (λ (id : Package). text_of id (OfFile imported.path))
+          (sym (file_home imported.path (OfFile imported.path) is refl))
+      symbol_is chosen encoding text _ (rule.of_package {facts = facts} index has stands) is =
+          let entity = package_at facts (index + 1) in
+          ap (λ (id : Package). text_of id entity)
+          (sym (package_home (component_names (take (index + 1) facts.package_name)) entity is refl))
+      symbol_is chosen encoding text _ (rule.of_declaration {facts = facts} index {declared = declared} has kept) is =
+          let entity = declaration_at facts declared in
+          ap (λ (id : Package). text_of id entity)
+          (sym (declaration_home source index facts declared (source-counts files source is_source) has entity is refl))
+      symbol_is chosen encoding text _ (rule.of_component {component = component} {part = part} {entity = entity} names
+          shown) is =
+          ap (λ (id : Package). text_of id entity) (part_home component part entity names is)

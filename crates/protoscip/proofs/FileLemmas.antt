@@ -1,27 +1,38 @@
 -- The files that a fault of a build names are files of its tree.
-use Rattle.std.proofs.Common.{◌≡◌, ◌∙◌, ◌⊎◌, inl, inr, ℕ, ◌<◌, List, length, map, Some, ap, sym, subst}
-use Rattle.std.specs.List.{slice_get}
+use Rattle.std.proofs.Common.{◌≡◌, ◌∙◌, inl, inr, ℕ, ◌<◌, List, length, Option, Some, None, sym, subst}
+use Rattle.std.specs.List.{Contains, slice_get}
+use Rattle.std.proofs.lemmas.List.Elements.{All-contains_itself, All-weaker}
 use Rattle.std.proofs.lemmas.Option.{slice_get_within}
 use Rattle.std.proofs.lemmas.List.{length-map}
 use Rattle.proto_parse.specs.tree.CustomOptions.{CustomOptions}
 use Rattle.proto_decl.specs.Seen.{Seen}
 use Rattle.proto_visibility.specs.declared.place.FilePlace.{FilePlace}
+use Rattle.proto_visibility.specs.declared.fault.LinkFault.{LinkFault}
+use Rattle.proto_visibility.specs.declared.fault.LinkFault.TheVariants as link
 use Rattle.proto_visibility.specs.Files.{File}
+use Rattle.proto_visibility.specs.Kept.{Omissions, IsOmission, AreOmissions, kept_of, number_among_all}
 use Rattle.proto_visibility.specs.Items.{Item, IsItem, declared, packaged}
 use Rattle.proto_visibility.specs.Absences.{IsNeeded, of_source, of_included}
 use Rattle.proto_decl.specs.declared.imported.Imported.{Imported}
 use Rattle.index_hooks.specs.declared.choice.Choice.{Choice}
 use Rattle.source_tree.specs.Files.{TreeFile}
-use Rattle.scip_build.specs.Builds.{IsBuildFault}
+use Rattle.scip_build.specs.Builds.{IsBuilt, IsBuildFault}
+use Rattle.scip_build.specs.Kept.{IsLeftFor, IsTold}
+use Rattle.scip_build.specs.Kept.IsTold.{of_file, of_import as told_import, of_use}
 use Rattle.scip_build.specs.Files.{ReadFile}
-use Rattle.scip_build.specs.Linking.{linked_file, linked_files}
+use Rattle.scip_build.specs.Linking.{linked_file, linked_files, HasFault}
+use Rattle.scip_build.specs.declared.faulty.Faulty.{Faulty}
+use Rattle.scip_build.specs.declared.faulty.Faulty.TheVariants.{Refuse}
 use Rattle.scip_build.specs.Readings.{AreReadingsOf}
+use Rattle.scip_build.specs.declared.settings.Settings.{Settings}
+use Rattle.scip_build.specs.declared.built.Built.{Built}
 use Rattle.scip_build.specs.declared.fault.BuildFault.{BuildFault}
 use Rattle.scip_build.specs.declared.fault.BuildFault.TheVariants as build
 use Rattle.scip_build.specs.declared.fault.FileFault.{FileFault}
 use Rattle.scip_build.specs.declared.fault.FileFault.TheVariants as file
 use Rattle.protoscip.specs.Faults.{fault_of_build}
-use Rattle.protoscip.specs.FaultLines.{HasFile, HasFilesOf}
+use Rattle.protoscip.specs.FaultLines.{HasFile, HasFilesOf, HaveFilesOf}
+use Rattle.protoscip.proofs.LinkedLemmas.{at_all_linked}
 
 -- an item stands in one of the files
 of_item : (files : List File) (item : Item) → IsItem files item → item.place.file < length files
@@ -36,37 +47,108 @@ of_import files number import (of_source source has listed) = slice_get_within f
 of_import files number import (of_included counts has listed public) =
     slice_get_within files number has.file has.numbered
 
-module _ (allows : Seen → Choice → Type 0) (custom : CustomOptions) (tree : List TreeFile) where
-  in_tree : (readings : List ReadFile) (number : ℕ) → AreReadingsOf custom allows tree readings
+module _ (allows : Seen → Choice → Type 0) (faulty : Faulty) (custom : CustomOptions) (tree : List TreeFile) where
+  pub in_tree : (mode : Faulty) (readings : List ReadFile) (number : ℕ) → AreReadingsOf mode custom allows tree readings
       → number < length (linked_files readings) → HasFile tree number
-  in_tree readings number are within =
+  in_tree mode readings number are within =
       let count : length (linked_files readings) ≡ length tree = length-map readings linked_file ∙ are.one_each in
       subst (λ (n : ℕ). number < n) count within
 
-  pub files_of_build : (workers : ℕ) (e : BuildFault) → IsBuildFault allows custom tree workers e
+  pub files_of_build : (workers : ℕ) (e : BuildFault) → IsBuildFault allows faulty custom tree workers e
       → HasFilesOf tree (fault_of_build e)
   files_of_build workers build.Spawn is = tt
   files_of_build workers build.Memory is = tt
-  files_of_build workers (build.File number (file.Lex e)) (inl first) =
+  files_of_build workers (build.File number (file.Lex e)) (refuse, inl first) =
       slice_get_within tree number first.file first.numbered
-  files_of_build workers (build.File number (file.Syntax e)) (inl first) =
+  files_of_build workers (build.File number (file.Syntax e)) (refuse, inl first) =
       slice_get_within tree number first.file first.numbered
-  files_of_build workers (build.File number (file.Lex e)) (inr of) =
+  files_of_build workers (build.File number (file.Lex e)) (refuse, inr of) =
       subst (λ (n : ℕ). number < n) of.1.one_each (slice_get_within of.0 number of.2.1.reading of.2.1.numbered)
-  files_of_build workers (build.File number (file.Syntax e)) (inr of) =
+  files_of_build workers (build.File number (file.Syntax e)) (refuse, inr of) =
       subst (λ (n : ℕ). number < n) of.1.one_each (slice_get_within of.0 number of.2.1.reading of.2.1.numbered)
-  files_of_build workers (build.Duplicate first second) is =
+  files_of_build workers (build.Duplicate first second) (refuse, is) =
       let clash = is.2.1 in
       let files = linked_files is.0 in
       let earlier = of_item files clash.earlier clash.exclude.first_is in
       let later = of_item files clash.later clash.exclude.second_is in
       let Within : FilePlace → Type 0 = λ place. place.file < length files in (
-        in_tree is.0 first.file is.1 (subst Within clash.first_is earlier),
-        in_tree is.0 second.file is.1 (subst Within clash.second_is later),
+        in_tree Refuse is.0 first.file is.1 (subst Within clash.first_is earlier),
+        in_tree Refuse is.0 second.file is.1 (subst Within clash.second_is later),
       )
-  files_of_build workers (build.MissingImport place) is =
+  files_of_build workers (build.MissingImport place) (refuse, is) =
       let missing = is.2.2.missing in
-      in_tree is.0 place.file is.1 (of_import (linked_files is.0) place.file missing.import missing.needed)
-  files_of_build workers (build.Unresolved place) is =
+      in_tree Refuse is.0 place.file is.1 (of_import (linked_files is.0) place.file missing.import missing.needed)
+  files_of_build workers (build.Unresolved place) (refuse, is) =
       let source = is.2.1.source in
-      in_tree is.0 place.file is.1 (slice_get_within (linked_files is.0) place.file source.file source.numbered)
+      in_tree Refuse is.0 place.file is.1 (slice_get_within (linked_files is.0) place.file source.file source.numbered)
+
+-- ---- the files of what is told
+
+module _ (allows : Seen → Choice → Type 0) (faulty : Faulty) (custom : CustomOptions) (tree : List TreeFile)
+    (all : List ReadFile) (read : AreReadingsOf faulty custom allows tree all) (omissions : Omissions)
+    (are : AreOmissions (linked_files all) omissions) where
+  within : (number : ℕ) → number < length (linked_files all) → HasFile tree number
+  within number = in_tree allows faulty custom tree faulty all number read
+
+  abbrev kept : List File
+  kept = linked_files (kept_of omissions all)
+
+  kept_within : (number : ℕ) (file : File) → slice_get kept number ≡ Some file
+      → HasFile tree (number_among_all omissions number)
+  kept_within number file at =
+      let there = number_among_all omissions number in
+      within there (slice_get_within (linked_files all) there file (at_all_linked omissions all number file at))
+
+  fault_within : (number : ℕ) (fault : FileFault) → HasFault all number fault
+      → HasFilesOf tree (fault_of_build (build.File number fault))
+  fault_within number (file.Lex e) has =
+      subst (λ (n : ℕ). number < n) read.one_each (slice_get_within all number has.reading has.numbered)
+  fault_within number (file.Syntax e) has =
+      subst (λ (n : ℕ). number < n) read.one_each (slice_get_within all number has.reading has.numbered)
+
+  of_left : (number : ℕ) (omission : Option LinkFault) (told : BuildFault)
+      → IsOmission (linked_files all) omissions number omission → IsLeftFor all omission told
+      → HasFilesOf tree (fault_of_build told)
+  of_left number None told out left = absurd left
+  of_left number (Some (link.Broken other)) told out left =
+      let Has : BuildFault → Type 0 = λ f. HasFilesOf tree (fault_of_build f) in
+      subst Has (sym left.2) (fault_within other left.0 left.1)
+  of_left number (Some (link.Duplicate first second)) told out left =
+      let files = linked_files all in
+      let earlier = of_item files out.earlier out.exclude.first_is.is_item in
+      let later = of_item files out.later out.exclude.second_is.is_item in
+      let Within : FilePlace → Type 0 = λ place. place.file < length files in
+      let Has : BuildFault → Type 0 = λ f. HasFilesOf tree (fault_of_build f) in
+      subst Has (sym left) (
+        within first.file (subst Within out.first_is earlier),
+        within second.file (subst Within out.second_is later),
+      )
+  of_left number (Some (link.MissingImport place)) told out left = absurd left
+  of_left number (Some (link.Unresolved place)) told out left = absurd left
+  of_left number (Some link.Memory) told out left = absurd left
+
+  needed_at : (number : ℕ) (import : Imported) → IsNeeded kept number import
+      → (file : File) × (slice_get kept number ≡ Some file)
+  needed_at number import (of_source source has listed) = (has.file, has.numbered)
+  needed_at number import (of_included counts has listed public) = (has.file, has.numbered)
+
+  file_of_told : (told : BuildFault) → IsTold all omissions told → HasFilesOf tree (fault_of_build told)
+  file_of_told told (of_file n o at left) = of_left n o told (are.each n o at) left
+  file_of_told _ (told_import p missing) =
+      let at = needed_at p.file missing.import missing.needed in kept_within p.file at.0 at.1
+  file_of_told _ (of_use p is) = kept_within p.file is.source.file is.source.numbered
+
+  pub files_of_told : (told : List BuildFault)
+      → ((fault : BuildFault) → Contains told fault → IsTold all omissions fault)
+      → HaveFilesOf tree told
+  files_of_told told is =
+      All-weaker (Contains told) (λ fault. HasFilesOf tree (fault_of_build fault))
+      (λ fault there. file_of_told fault (is fault there)) told (All-contains_itself told)
+
+-- of what was built
+pub files_of_built : (allows : Seen → Choice → Type 0) (settings : Settings) (tree : List TreeFile) (built : Built)
+    → IsBuilt allows settings tree built → HaveFilesOf tree built.told
+files_of_built allows settings tree built is =
+    let kept = is.of_files.kept in
+    files_of_told allows settings.faulty settings.custom_options tree is.all is.read kept.omissions kept.left_out
+    built.told (λ fault there. (kept.told_is.exact fault).0 there)

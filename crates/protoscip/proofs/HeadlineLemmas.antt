@@ -1,17 +1,22 @@
 -- Queries over the index of a tree answer exactly the occurrences of the entity asked.
-use Rattle.std.proofs.Common.{◌≡◌, ◌∙◌, ◌↔◌, ℕ, List, Option, Result, Ok, Err, ap, sym, subst, refl}
+use Rattle.std.proofs.Common.{◌≡◌, ◌∙◌, ◌↔◌, ℕ, List, Option, Result, Ok, Err, ap, sym, subst}
+use Rattle.std.proofs.Common.{refl}
 use Rattle.std.specs.Prelude.{true, false, ◌&&◌, Contains}
 use Rattle.std.specs.declared.cmp.Ordering.{Ordering}
 use Rattle.std.specs.Result.{result_map_both}
 use Rattle.proto_lex.specs.declared.position.Encoding.{Encoding}
 use Rattle.proto_decl.specs.Seen.{Seen}
-use Rattle.proto_visibility.specs.Files.{File, IsSource, HaveOrigins}
+use Rattle.proto_decl.specs.Facts.{Facts}
+use Rattle.proto_decl.specs.declared.type_use.Use.{Use}
+use Rattle.proto_visibility.specs.Files.{File, HasFacts, IsSource, HaveOrigins}
+use Rattle.proto_visibility.specs.Kept.{Omissions, kept_of, number_among_all}
 use Rattle.index_hooks.specs.declared.choice.Choice.{Choice}
 use Rattle.source_tree.specs.Files.{TreeFile}
-use Rattle.scip_symbol.specs.Package.{Package, IsPackage}
+use Rattle.scip_symbol.specs.Package.{Package}
+use Rattle.scip_document.specs.Packages.{Packages, ArePackages}
 use Rattle.scip_symbol.specs.Entities.{Entity}
 use Rattle.scip_document.specs.Chosen.{Chosen}
-use Rattle.scip_document.specs.Conditions.{HaveGoodPaths}
+use Rattle.scip_document.specs.Conditions.{HaveGoodPaths, IsResolved, AllResolve}
 use Rattle.scip_document.specs.Indexes.{HasDocument, IsAscendingListOf}
 use Rattle.scip_document.specs.Named.{text_of}
 use Rattle.scip_document.specs.Occurs.{Occurs}
@@ -24,14 +29,18 @@ use Rattle.scip_query.specs.References.{definitions_at}
 use Rattle.scip_query.specs.Sites.{Site, Numbered}
 use Rattle.scip_build.specs.Builds.{IsBuilt}
 use Rattle.scip_build.specs.Documents.{texts_of}
+use Rattle.scip_build.specs.Files.{ReadFile}
 use Rattle.scip_build.specs.Linking.{linked_files}
 use Rattle.scip_build.specs.declared.built.Built.{Built}
+use Rattle.scip_build.specs.declared.faulty.Faulty.{Faulty}
+use Rattle.scip_build.specs.declared.faulty.Faulty.TheVariants.{Refuse, Skip}
 use Rattle.scip_build.specs.declared.settings.Settings.{Settings}
-use Rattle.protoscip.specs.Headline.{IsEntityOf, entity_of, defines, IsSite, site_cmp, IsOf, IsSiteOf, IsDefinitionOf}
+use Rattle.protoscip.specs.Headline.{IsEntityOf, package_of_entity, entity_of, defines, IsSite, site_cmp, IsOf}
+use Rattle.protoscip.specs.Headline.{IsSiteOf, IsDefinitionOf}
 use Rattle.protoscip.specs.Headline.{IsAt, Answers, AnswersNames, Headline}
 use Rattle.protoscip.specs.NameLaws.{LawsOfNames}
-use Rattle.protoscip.proofs.EntityLemmas.{entity_is, symbol_is, one_entity, own_entity}
-use Rattle.protoscip.proofs.LinkedLemmas.{have_origins, good_paths}
+use Rattle.protoscip.proofs.EntityLemmas.{entity_is, symbol_is, one_entity, one_symbol, own_entity}
+use Rattle.protoscip.proofs.LinkedLemmas.{at_all_linked, have_origins, good_paths}
 use Rattle.protoscip.proofs.ListLemmas.{contained}
 use Rattle.protoscip.proofs.UseLemmas.{component_names}
 use Rattle.protoscip.proofs.SiteLemmas.{IsAsked, asked, of_symbol, defining, just}
@@ -42,9 +51,9 @@ unfolding text_of
 not_local id entity = refl
 
 -- the role of what occurs is that of the rule
-role_is : {files : List File} {chosen : Chosen} {id : Package} {encoding : Encoding} {source : ℕ} {text : List ℕ}
+role_is : {files : List File} {chosen : Chosen} {ids : Packages} {encoding : Encoding} {source : ℕ} {text : List ℕ}
     {o : Occurrence}
-    → (occurs : Occurs files chosen id encoding source text o) → is_definition o ≡ defines occurs
+    → (occurs : Occurs files chosen ids encoding source text o) → is_definition o ≡ defines occurs
 role_is (rule.of_file numbered) = refl
 role_is (rule.of_import has listed there) = refl
 role_is (rule.of_package index has stands) = refl
@@ -59,57 +68,101 @@ alike same of = record {
   ascends = of.ascends;
 }
 
+-- a use names a type where faults are refused, or where it is said to
+resolves : {allows : Seen → Choice → Type 0} {settings : Settings} {tree : List TreeFile} {result : Built}
+    (built : IsBuilt allows settings tree result) (source : ℕ) (facts : Facts) (type_use : Use)
+    → IsSource (linked_files built.of_files.readings) source
+    → HasFacts (linked_files built.of_files.readings) source facts → Contains facts.uses type_use
+    → (settings.faulty ≡ Skip → IsResolved (linked_files built.of_files.readings) source type_use)
+    → IsResolved (linked_files built.of_files.readings) source type_use
+resolves {settings = settings} built source facts type_use is has listed named = by settings.faulty refl
+  where
+    by : (faulty : Faulty) → settings.faulty ≡ faulty
+        → IsResolved (linked_files built.of_files.readings) source type_use
+    by Skip skip = named skip
+    by Refuse refuse =
+        let good = built.of_files.refused refuse in
+        let Resolve : List ReadFile → Type 0 = λ rs. AllResolve (linked_files rs) in
+        subst Resolve (sym good.all_kept) good.resolved source facts type_use is has listed
+
+-- what holds of all files holds of those that are kept
+kept_origins : (omissions : Omissions) (all : List ReadFile) → HaveOrigins (linked_files all)
+    → HaveOrigins (linked_files (kept_of omissions all))
+kept_origins omissions all origins number facts has =
+    origins (number_among_all omissions number) facts (record {
+      file = has.file;
+      numbered = at_all_linked omissions all number has.file has.numbered;
+      known = has.known;
+    })
+
+kept_paths : (omissions : Omissions) (all : List ReadFile) → HaveGoodPaths (linked_files all)
+    → HaveGoodPaths (linked_files (kept_of omissions all))
+kept_paths omissions all good number file at =
+    good (number_among_all omissions number) file (at_all_linked omissions all number file at)
+
 module _ {allows : Seen → Choice → Type 0} {settings : Settings} {tree : List TreeFile} {result : Built}
     (built : IsBuilt allows settings tree result)
-    (origins : HaveOrigins (linked_files built.readings)) (good : HaveGoodPaths (linked_files built.readings))
-    (is_package : IsPackage settings.package) (laws : LawsOfNames) where
+    (origins : HaveOrigins (linked_files built.of_files.readings))
+    (good : HaveGoodPaths (linked_files built.of_files.readings))
+    (are_packages : ArePackages settings.package) (laws : LawsOfNames) where
   Files : List File
-  Files = linked_files built.readings
+  Files = linked_files built.of_files.readings
 
   -- ---- the entity of an occurrence
 
   source_of : (document : Document)
-      (has : HasDocument (linked_files built.readings)
-      (texts_of built.readings) result.choices settings.package settings.encoding document)
-      → IsSource (linked_files built.readings) has.source
+      (has : HasDocument (linked_files built.of_files.readings)
+      (texts_of built.of_files.readings) result.choices settings.package settings.encoding document)
+      → IsSource (linked_files built.of_files.readings) has.source
   source_of document has = record { file = has.is.file; numbered = has.is.numbered; source = has.is.is_source }
 
   of_files : (entity : Entity) (document : Document) (o : Occurrence) → IsOf built entity document o
-      → IsEntityOf (linked_files built.readings) entity
+      → IsEntityOf (linked_files built.of_files.readings) entity
   of_files entity document o is =
-      subst (IsEntityOf (linked_files built.readings)) is.is
-      (entity_is (linked_files built.readings) built.linked origins laws result.choices settings.package
+      subst (IsEntityOf (linked_files built.of_files.readings)) is.is
+      (entity_is (linked_files built.of_files.readings) origins laws result.choices settings.package
       settings.encoding is.of_source.source is.of_source.text (source_of document is.of_source) o is.occurs)
 
-  symbol_of : (entity : Entity) (document : Document) (o : Occurrence) → IsOf built entity document o
-      → o.symbol ≡ text_of settings.package entity
-  symbol_of entity document o is =
-      symbol_is (linked_files built.readings) built.linked origins laws result.choices settings.package
-      settings.encoding is.of_source.source is.of_source.text o is.occurs
-      ∙ ap (text_of settings.package) is.is
+  -- the text of an entity's symbol
+  symbol_in : (entity : Entity) → IsEntityOf (linked_files built.of_files.readings) entity → List ℕ
+  symbol_in entity of = text_of (package_of_entity (linked_files built.of_files.readings) settings.package of) entity
+
+  symbol_of : (entity : Entity) (of : IsEntityOf (linked_files built.of_files.readings) entity) (document : Document)
+      (o : Occurrence) → IsOf built entity document o → o.symbol ≡ symbol_in entity of
+  unfolding symbol_in
+  symbol_of entity of document o is =
+      let its = subst (IsEntityOf (linked_files built.of_files.readings)) (sym is.is) of in
+      symbol_is (linked_files built.of_files.readings) origins good built.of_files.clear.clear laws settings.package
+      is.of_source.source (source_of document is.of_source) result.choices settings.encoding is.of_source.text o
+      is.occurs its
+      ∙ one_symbol (linked_files built.of_files.readings) origins good built.of_files.clear.clear laws settings.package
+      (entity_of is.occurs) entity its of is.is
 
   entity_at : (document : Document) (o : Occurrence) → Contains result.index.documents document
       → Contains document.occurrences o → (entity : Entity) × IsOf built entity document o
   entity_at document o listed there =
-      let has = (built.index.documents.exact document).0 listed in
+      let has = (built.of_files.index.documents.exact document).0 listed in
       let occurs = (has.is.occurrences.exact o).0 there in
       (entity_of occurs, record { of_source = has; occurs = occurs; is = refl })
 
-  same_entity : (entity other : Entity) → IsEntityOf (linked_files built.readings) entity
-      → IsEntityOf (linked_files built.readings) other
-      → text_of settings.package entity ≡ text_of settings.package other → entity ≡ other
+  same_entity : (entity other : Entity) (is : IsEntityOf (linked_files built.of_files.readings) entity)
+      (its : IsEntityOf (linked_files built.of_files.readings) other) → symbol_in entity is ≡ symbol_in other its
+      → entity ≡ other
+  unfolding symbol_in
   same_entity = one_entity
-      (linked_files built.readings) origins good built.linked.clear laws settings.package is_package
+      (linked_files built.of_files.readings) origins good built.of_files.clear.clear laws settings.package are_packages
 
   -- occurrences with one symbol are of one entity
   by_symbol : (entity other : Entity) (document another : Document) (o also : Occurrence) → IsOf built entity document o
       → IsOf built other another also → o.symbol ≡ also.symbol → other ≡ entity
   by_symbol entity other document another o also is its same =
-      same_entity other entity (of_files other another also its) (of_files entity document o is)
-      (sym (symbol_of other another also its) ∙ (sym same ∙ symbol_of entity document o is))
+      let other_is = of_files other another also its in
+      let own_is = of_files entity document o is in
+      same_entity other entity other_is own_is
+      (sym (symbol_of other other_is another also its) ∙ (sym same ∙ symbol_of entity own_is document o is))
 
   each : (site : Site) → IsSite result.index site
-      → (entity : Entity) × IsEntityOf (linked_files built.readings) entity × IsSiteOf built entity site
+      → (entity : Entity) × IsEntityOf (linked_files built.of_files.readings) entity × IsSiteOf built entity site
       × ((other : Entity) → IsSiteOf built other site → other ≡ entity)
   each site there =
       let listed = contained result.index.documents site.place.document site.document there.document_is in
@@ -149,16 +202,19 @@ module _ {allows : Seen → Choice → Type 0} {settings : Settings} {tree : Lis
           (both.0, subst (λ (e : Entity). IsOf built e site.document site.occurrence) same its.2.1),
       λ its. (
         its.0,
-        symbol_of entity site.document site.occurrence its.1
-            ∙ (sym (symbol_of entity of.named.document of.occurrence is) ∙ of.symbol),
+        symbol_of entity (of_files entity of.named.document of.occurrence is) site.document site.occurrence its.1
+            ∙ (sym (symbol_of entity (of_files entity of.named.document of.occurrence is) of.named.document
+            of.occurrence is) ∙ of.symbol),
       ),
     )
 
     is_global : (subject : Subject) (of : IsAsked result.index path line column subject) (entity : Entity)
         → IsOf built entity of.named.document of.occurrence → is_local subject.symbol ≡ false
+    unfolding symbol_in
     is_global subject of entity is =
-        ap is_local (sym of.symbol ∙ symbol_of entity of.named.document of.occurrence is)
-        ∙ not_local settings.package entity
+        let its = of_files entity of.named.document of.occurrence is in
+        ap is_local (sym of.symbol ∙ symbol_of entity its of.named.document of.occurrence is)
+        ∙ not_local (package_of_entity (linked_files built.of_files.readings) settings.package its) entity
 
     at_position : (subject : Subject) (of : IsAsked result.index path line column subject) (entity : Entity)
         → IsOf built entity of.named.document of.occurrence → IsAt built path line column entity
@@ -232,25 +288,39 @@ module _ {allows : Seen → Choice → Type 0} {settings : Settings} {tree : Lis
         subject_of_entity
 
   pub answers_names : AnswersNames built
+  unfolding symbol_in
   answers_names = record {
-    used = λ source. component_names (linked_files built.readings) source laws.targets origins built.resolved;
+    used = λ source facts type_use component is has listed among named.
+        component_names (linked_files built.of_files.readings) source laws.targets origins facts type_use component is
+        has listed among (resolves built source facts type_use is has listed named);
     each = each;
-    symbol = λ entity site is. symbol_of entity site.document site.occurrence is.1;
-    one_to_one = same_entity;
-    own = own_entity (linked_files built.readings) origins good built.linked.clear laws;
+    symbol = λ entity site of is. symbol_of entity of site.document site.occurrence is.1;
+    one_to_one = λ entity other is its. (
+      same_entity entity other is its,
+      one_symbol (linked_files built.of_files.readings) origins good built.of_files.clear.clear laws settings.package
+          entity other is
+          its,
+    );
+    own = own_entity (linked_files built.of_files.readings) origins good built.of_files.clear.clear laws;
     role = role;
     references = references;
     definitions = definitions;
   }
 
 pub headline : (allows : Seen → Choice → Type 0) → LawsOfNames → Headline allows
-headline allows laws settings tree is_tree is_package choices bytes indexed =
+headline allows laws settings tree is_tree are_packages recorded bytes indexed =
     let built = indexed.built in
-    let origins = have_origins settings.custom_options allows tree built.readings built.read in
-    let good = good_paths settings.custom_options allows tree built.readings built.read is_tree.good in
+    let readings = built.of_files.readings in
+    let kept = built.of_files.kept in
+    let Origins : List ReadFile → Type 0 = λ rs. HaveOrigins (linked_files rs) in
+    let Good : List ReadFile → Type 0 = λ rs. HaveGoodPaths (linked_files rs) in
+    let of_all = have_origins settings.faulty settings.custom_options allows tree built.all built.read in
+    let good_all = good_paths settings.faulty settings.custom_options allows tree built.all built.read is_tree.good in
+    let origins = subst Origins (sym kept.kept) (kept_origins kept.omissions built.all of_all) in
+    let good = subst Good (sym kept.kept) (kept_paths kept.omissions built.all good_all) in
     record {
       decodes = indexed.spelled.decodes;
       alone = indexed.spelled.alone;
       built = built;
-      names = answers_names built origins good is_package laws;
+      names = answers_names built origins good are_packages laws;
     }

@@ -11,7 +11,6 @@ use Rattle.scip_model.specs.declared.records.Index.{Index}
 use Rattle.scip_model.specs.declared.records.Document.{Document}
 use Rattle.scip_model.specs.declared.records.Metadata.{Metadata}
 use Rattle.scip_model.specs.declared.records.SymbolInformation.{SymbolInformation}
-use Rattle.streams.specs.WholeWrites.{IsWritten}
 use Rattle.scip_build.specs.Builds.{IsBuilt, IsBuildFault}
 use Rattle.scip_build.specs.Forms.{ArePartsOf}
 use Rattle.scip_build.specs.declared.parts.Parts.{Parts}
@@ -27,7 +26,7 @@ use Rattle.scip_wire.specs.Writing.{Leaves}
 use Rattle.scip_wire.specs.declared.write_fault.WriteFault.{WriteFault}
 use Rattle.scip_wire.specs.declared.write_fault.WriteFault.TheVariants as writing
 use Rattle.protoscip.specs.Faults.{fault_of_build, fault_of_writing}
-use Rattle.protoscip.specs.Indexes.{IsSpelled, IsIndexed, IsRefused, Indexes}
+use Rattle.protoscip.specs.Indexes.{recorded_of, IsSpelled, Indexes}
 use Rattle.protoscip.specs.Writing.{IsRecordOf, WritesIndex}
 use Rattle.protoscip.specs.FaultLines.{HasFilesOf}
 use Rattle.protoscip.specs.declared.fault.Fault.{Fault}
@@ -111,7 +110,7 @@ module _ (index : Index) (parts : Parts (List ℕ)) (are : ArePartsOf IsRecordOf
 module _ (W : Type 0) (contents : W → Option (List ℕ)) (failures : W → ℕ) (allows : Seen → Choice → Type 0)
     (settings : Settings) (tree : List TreeFile) (workers : ℕ) (before after : W) where
   -- a tree isn't built
-  pub unbuilt : (e : BuildFault) → IsBuildFault allows settings.custom_options tree workers e
+  pub unbuilt : (e : BuildFault) → IsBuildFault allows settings.faulty settings.custom_options tree workers e
       → Indexes contents failures allows settings tree workers before before (Err (fault_of_build e))
   unbuilt build.Spawn is = (is, refl)
   unbuilt build.Memory is = (is, refl)
@@ -133,14 +132,19 @@ module _ (W : Type 0) (contents : W → Option (List ℕ)) (failures : W → ℕ
     unwritten (fault.MissingImport place) wrote = absurd wrote
     unwritten (fault.Unresolved place) wrote = absurd wrote
     unwritten fault.TooLarge wrote = ((built, is, wrote.0), wrote.1)
-    unwritten (fault.Write count) wrote =
-        (built.choices, spelling_of built.index, record { index = built.index; built = is; spelled = wrote.0 }, wrote.1)
+    unwritten (fault.Write count) wrote = (
+      recorded_of built.choices built.told,
+      spelling_of built.index,
+      record { index = built.index; built = is; spelled = wrote.0 },
+      wrote.1,
+    )
     unwritten fault.Read wrote = absurd wrote
     unwritten (fault.Answer count) wrote = absurd wrote
 
     -- it is written
     pub written : (done : Unit {0}) → WritesIndex contents failures built.index before after (Ok done)
-        → Indexes contents failures allows settings tree workers before after (Ok built.choices)
+        → Indexes contents failures allows settings tree workers before after
+        (Ok (recorded_of built.choices built.told))
     written done wrote = (
       spelling_of built.index,
       record { index = built.index; built = is; spelled = wrote.0 },

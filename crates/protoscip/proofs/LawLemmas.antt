@@ -6,10 +6,9 @@ use Rattle.proto_visibility.specs.declared.fault.LinkFault.{LinkFault}
 use Rattle.proto_visibility.specs.declared.fault.LinkFault.TheVariants as link
 use Rattle.index_hooks.specs.declared.choice.Choice.{Choice}
 use Rattle.source_tree.specs.Files.{TreeFile}
-use Rattle.scip_document.specs.Chosen.{Chosen}
-use Rattle.scip_model.specs.declared.records.Index.{Index}
 use Rattle.scip_build.specs.Builds.{IsBuilt, IsBuildFault}
-use Rattle.scip_build.specs.BuildLaws.{cause_of, BuiltHasNoFault, OneBuildFault, FileFaultsAreAlike, OneBuilt}
+use Rattle.scip_build.specs.BuildLaws.{cause_of, BuiltHasNoFault, OneBuildFault, FileFaultsAreAlike, SetTheSame}
+use Rattle.scip_build.specs.BuildLaws.{OneBuilt}
 use Rattle.scip_build.specs.declared.built.Built.{Built}
 use Rattle.scip_build.specs.declared.settings.Settings.{Settings}
 use Rattle.scip_build.specs.declared.fault.BuildFault.{BuildFault}
@@ -18,8 +17,9 @@ use Rattle.scip_build.specs.declared.fault.FileFault.{FileFault}
 use Rattle.scip_build.specs.declared.fault.FileFault.TheVariants as file
 use Rattle.scip_build.specs.Laws.{AreAlike}
 use Rattle.scip_wire.specs.Spelling.{spelling_of, max_index_len}
-use Rattle.protoscip.specs.Indexes.{IsIndexed, IsRefused}
-use Rattle.protoscip.specs.IndexLaws.{Reason, unreadable, duplicate, missing_import, unresolved, too_large, outside}
+use Rattle.protoscip.specs.declared.recorded.Recorded.{Recorded}
+use Rattle.protoscip.specs.Indexes.{built_of, IsIndexed, IsRefused}
+use Rattle.protoscip.specs.IndexLaws.{Reason, unreadable, duplicate, missing_import, unresolved, outside}
 use Rattle.protoscip.specs.IndexLaws.{reason_of, OneReason, OneFileFault, IndexedHasNoFault, AllowOneChoice}
 use Rattle.protoscip.specs.IndexLaws.{OneIndexing, OneIndexingHasNoFault}
 use Rattle.protoscip.specs.declared.fault.Fault.{Fault}
@@ -41,7 +41,7 @@ IsLarge allows settings tree =
 record IsOfBuild (allows : Seen → Choice → Type 0) (settings : Settings) (tree : List TreeFile) (workers : ℕ)
     (of : Fault) : Type 0 where
   because : BuildFault
-  is : IsBuildFault allows settings.custom_options tree workers because
+  is : IsBuildFault allows settings.faulty settings.custom_options tree workers because
   named : cause_of because ≢ link.Memory
   reason : reason_of of ≡ reason_of_cause (cause_of because)
 
@@ -66,6 +66,9 @@ split allows settings tree workers (fault.Write count) is named = absurd is
 split allows settings tree workers fault.Read is named = absurd is
 split allows settings tree workers (fault.Answer count) is named = absurd is
 
+set_itself : (settings : Settings) → SetTheSame settings settings
+set_itself settings = record { project_root = refl; id = refl; encoding = refl; custom_options = refl }
+
 module _ (allows others : Seen → Choice → Type 0) where
   pub one_reason : OneBuildFault allows others → BuiltHasNoFault allows others → BuiltHasNoFault others allows
       → OneReason allows others
@@ -79,7 +82,8 @@ module _ (allows others : Seen → Choice → Type 0) where
         | inr built ↦ elim (split others settings tree more other is_other named_other) [
           | inl larger ↦ absurd (also settings tree workers larger.1.0 built.because larger.1.1 built.is built.named)
           | inr again ↦ built.reason
-              ∙ (ap reason_of_cause (one settings.custom_options tree workers more built.because again.because built.is
+              ∙ (ap reason_of_cause (one settings.faulty settings.custom_options tree workers more built.because
+              again.because built.is
               again.is built.named again.named) ∙ sym again.reason)
         ]
       ]
@@ -88,12 +92,12 @@ module _ (allows others : Seen → Choice → Type 0) where
     -- two files that can't be read are one, and two faults of its lexing one fault
     of_one : (settings : Settings) (tree : List TreeFile) (workers more number again : ℕ) (because : LexFault)
         (other : FileFault) → IsRefused allows settings tree workers (fault.Lex number because)
-        → IsBuildFault others settings.custom_options tree more (build.File again other)
+        → IsBuildFault others settings.faulty settings.custom_options tree more (build.File again other)
         → unreadable number ≡ unreadable again → (number ≡ again) × AreAlike (file.Lex because) other
     of_one settings tree workers more number again because other is also same =
         let it : number ≡ again = cc in (
           it,
-          alike settings.custom_options tree workers more again (file.Lex because) other
+          alike settings.faulty settings.custom_options tree workers more again (file.Lex because) other
               (subst (λ (n : ℕ). IsRefused allows settings tree workers (fault.Lex n because)) it is) also,
         )
 
@@ -129,56 +133,54 @@ module _ (allows others : Seen → Choice → Type 0) where
     one_file_fault settings tree workers more number because (fault.Answer count) is also named = absurd also
 
   pub indexed_has_no_fault : BuiltHasNoFault allows others → IndexedHasNoFault allows others
-  indexed_has_no_fault none settings tree workers choices bytes fault.Spawn indexed is = inl refl
-  indexed_has_no_fault none settings tree workers choices bytes fault.Memory indexed is = inl refl
-  indexed_has_no_fault none settings tree workers choices bytes (fault.Lex number e) indexed is =
-      absurd (none settings tree workers (record { index = indexed.index; choices = choices })
+  indexed_has_no_fault none settings tree workers recorded bytes fault.Spawn indexed is = inl refl
+  indexed_has_no_fault none settings tree workers recorded bytes fault.Memory indexed is = inl refl
+  indexed_has_no_fault none settings tree workers recorded bytes (fault.Lex number e) indexed is =
+      absurd (none settings tree workers (built_of indexed.index recorded)
       (build.File number (file.Lex e)) indexed.built is (λ same. cc))
-  indexed_has_no_fault none settings tree workers choices bytes (fault.Syntax number e) indexed is =
-      absurd (none settings tree workers (record { index = indexed.index; choices = choices })
+  indexed_has_no_fault none settings tree workers recorded bytes (fault.Syntax number e) indexed is =
+      absurd (none settings tree workers (built_of indexed.index recorded)
       (build.File number (file.Syntax e)) indexed.built is (λ same. cc))
-  indexed_has_no_fault none settings tree workers choices bytes (fault.Duplicate first second) indexed is =
-      absurd (none settings tree workers (record { index = indexed.index; choices = choices })
+  indexed_has_no_fault none settings tree workers recorded bytes (fault.Duplicate first second) indexed is =
+      absurd (none settings tree workers (built_of indexed.index recorded)
       (build.Duplicate first second) indexed.built is (λ same. cc))
-  indexed_has_no_fault none settings tree workers choices bytes (fault.MissingImport place) indexed is =
-      absurd (none settings tree workers (record { index = indexed.index; choices = choices })
+  indexed_has_no_fault none settings tree workers recorded bytes (fault.MissingImport place) indexed is =
+      absurd (none settings tree workers (built_of indexed.index recorded)
       (build.MissingImport place) indexed.built is (λ same. cc))
-  indexed_has_no_fault none settings tree workers choices bytes (fault.Unresolved place) indexed is =
-      absurd (none settings tree workers (record { index = indexed.index; choices = choices })
+  indexed_has_no_fault none settings tree workers recorded bytes (fault.Unresolved place) indexed is =
+      absurd (none settings tree workers (built_of indexed.index recorded)
       (build.Unresolved place) indexed.built is (λ same. cc))
-  indexed_has_no_fault none settings tree workers choices bytes fault.TooLarge indexed is = inr refl
-  indexed_has_no_fault none settings tree workers choices bytes (fault.Write count) indexed is = absurd is
-  indexed_has_no_fault none settings tree workers choices bytes fault.Read indexed is = absurd is
-  indexed_has_no_fault none settings tree workers choices bytes (fault.Answer count) indexed is = absurd is
+  indexed_has_no_fault none settings tree workers recorded bytes fault.TooLarge indexed is = inr refl
+  indexed_has_no_fault none settings tree workers recorded bytes (fault.Write count) indexed is = absurd is
+  indexed_has_no_fault none settings tree workers recorded bytes fault.Read indexed is = absurd is
+  indexed_has_no_fault none settings tree workers recorded bytes (fault.Answer count) indexed is = absurd is
 
   module _ (one : OneBuilt allows others) where
     pub one_indexing : OneIndexing allows others
-    one_indexing settings tree choices more bytes also sole indexed again =
-        let built : Built = record { index = indexed.index; choices = choices } in
-        let other : Built = record { index = again.index; choices = more } in
-        let same : built ≡ other = one settings tree built other sole indexed.built again.built in
-        let index : indexed.index ≡ again.index = ap (λ (b : Built). b.index) same in (
-          ap (λ (b : Built). b.choices) same,
+    one_indexing settings tree recorded more bytes also sole indexed again =
+        let same = (one settings settings tree (built_of indexed.index recorded) (built_of again.index more) sole
+        (set_itself settings) indexed.built again.built).1 in
+        let index : indexed.index ≡ again.index = same.index in (
+          same.choices,
           indexed.spelled.spelling ∙ (ap spelling_of index ∙ sym again.spelled.spelling),
         )
 
-    not_too_large : (settings : Settings) (tree : List TreeFile) (workers : ℕ) (choices : Chosen) (bytes : List ℕ)
+    not_too_large : (settings : Settings) (tree : List TreeFile) (workers : ℕ) (recorded : Recorded) (bytes : List ℕ)
         → AllowOneChoice allows others
-        → IsIndexed allows settings tree choices bytes → IsRefused others settings tree workers fault.TooLarge → ⊥
-    not_too_large settings tree workers choices bytes sole indexed is =
-        let built : Built = record { index = indexed.index; choices = choices } in
-        let same : built ≡ is.0 = one settings tree built is.0 sole indexed.built is.1 in
-        let spelling : bytes ≡ spelling_of is.0.index =
-        indexed.spelled.spelling ∙ ap (λ (b : Built). spelling_of b.index) same in
+        → IsIndexed allows settings tree recorded bytes → IsRefused others settings tree workers fault.TooLarge → ⊥
+    not_too_large settings tree workers recorded bytes sole indexed is =
+        let same = (one settings settings tree (built_of indexed.index recorded) is.0 sole (set_itself settings)
+        indexed.built is.1).1 in
+        let spelling : bytes ≡ spelling_of is.0.index = indexed.spelled.spelling ∙ ap spelling_of same.index in
         let small : length (spelling_of is.0.index) ≤ max_index_len =
         subst (λ (b : List ℕ). length b ≤ max_index_len) spelling indexed.spelled.small in
         let large = is.2 in
         absurd (omega (arith, small, large))
 
     pub no_fault : IndexedHasNoFault allows others → OneIndexingHasNoFault allows others
-    no_fault none settings tree workers choices bytes of sole indexed is =
-        elim (none settings tree workers choices bytes of indexed is) [
+    no_fault none settings tree workers recorded bytes of sole indexed is =
+        elim (none settings tree workers recorded bytes of indexed is) [
           | inl out ↦ out
-          | inr large ↦ absurd (not_too_large settings tree workers choices bytes sole indexed
+          | inr large ↦ absurd (not_too_large settings tree workers recorded bytes sole indexed
               (subst (IsRefused others settings tree workers) large is))
         ]

@@ -8,6 +8,8 @@ mod DumpTreeLemmas
 mod DumpLemmas
 -- explanations of faults
 mod ExplainingLemmas
+-- what an index lacks
+mod LackLemmas
 -- answers to commands
 mod SessionLemmas
 -- the laws

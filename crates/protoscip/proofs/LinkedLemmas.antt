@@ -1,5 +1,6 @@
 -- Files that were read are linked with facts of their texts, and under the tree's paths.
-use Rattle.std.proofs.Common.{◌≡◌, ◌∙◌, ℕ, zero, suc, ◌<◌, List, [], ◌∷◌, length, map, Some, Result, Ok, Err, ap, sym}
+use Rattle.std.proofs.Common.{◌≡◌, ◌∙◌, ℕ, zero, suc, ◌<◌, List, [], ◌∷◌, length, map, Some, None, Result, Ok, Err, ap}
+use Rattle.std.proofs.Common.{sym}
 use Rattle.std.proofs.Common.{refl, subst, arith}
 use Rattle.std.specs.Prelude.{All}
 use Rattle.std.specs.List.{slice_get}
@@ -10,12 +11,15 @@ use Rattle.proto_decl.specs.Facts.{Facts, AreFactsOf, AreOfSomeFile}
 use Rattle.proto_decl.specs.Seen.{Seen}
 use Rattle.index_hooks.specs.declared.choice.Choice.{Choice}
 use Rattle.proto_visibility.specs.Files.{File, HaveOrigins}
+use Rattle.proto_visibility.specs.Kept.{Omissions, kept_of, number_among_all}
+use Rattle.proto_visibility.proofs.KeptLemmas.{at_all}
 use Rattle.scip_symbol.specs.Path.{IsGoodPath}
 use Rattle.scip_document.specs.Conditions.{HaveGoodPaths}
 use Rattle.source_tree.specs.Files.{TreeFile}
 use Rattle.scip_build.specs.declared.fault.FileFault.{FileFault}
 use Rattle.scip_build.specs.Parsed.{AreFactsIn}
 use Rattle.scip_build.specs.Files.{FileContents, ReadFile}
+use Rattle.scip_build.specs.declared.faulty.Faulty.{Faulty}
 use Rattle.scip_build.specs.Readings.{HasContents, IsReadingOf, AreReadingsOf}
 use Rattle.scip_build.specs.Linking.{facts_in, linked_file, linked_files}
 use Rattle.protoscip.proofs.ListLemmas.{contained}
@@ -33,15 +37,32 @@ mapped_at f [] k y at = absurd (none-some y at)
 mapped_at f (x ∷ xs) zero y at = (x, refl, sym (same_Some (f x) y at))
 mapped_at f (x ∷ xs) (suc k) y at = mapped_at f xs k y at
 
-module _ (custom : CustomOptions) (allows : Seen → Choice → Type 0) (tree : List TreeFile) (readings : List ReadFile)
-    (are : AreReadingsOf custom allows tree readings) where
+-- the files that are kept, among all
+linked_kept : (omissions : Omissions) (all : List ReadFile)
+    → linked_files (kept_of omissions all) ≡ kept_of omissions (linked_files all)
+linked_kept [] all = refl
+linked_kept (None ∷ omissions) [] = refl
+linked_kept (Some fault ∷ omissions) [] = refl
+linked_kept (None ∷ omissions) (reading ∷ all) = ap (λ fs. linked_file reading ∷ fs) (linked_kept omissions all)
+linked_kept (Some fault ∷ omissions) (reading ∷ all) = linked_kept omissions all
+
+pub at_all_linked : (omissions : Omissions) (all : List ReadFile) (number : ℕ) (file : File)
+    → slice_get (linked_files (kept_of omissions all)) number ≡ Some file
+    → slice_get (linked_files all) (number_among_all omissions number) ≡ Some file
+at_all_linked omissions all number file at =
+    at_all omissions (linked_files all) number file
+    (subst (λ fs. slice_get fs number ≡ Some file) (linked_kept omissions all) at)
+
+module _ (faulty : Faulty) (custom : CustomOptions) (allows : Seen → Choice → Type 0) (tree : List TreeFile)
+    (readings : List ReadFile)
+    (are : AreReadingsOf faulty custom allows tree readings) where
   -- a linked file, as it was read and as it is in the tree
   record IsLinkedAt (number : ℕ) (file : File) : Type 0 where
     reading : ReadFile
     of : TreeFile
     linked : file ≡ linked_file reading
     numbered : slice_get tree number ≡ Some of
-    is : IsReadingOf custom allows number of reading
+    is : IsReadingOf faulty custom allows number of reading
 
   linked_at : (number : ℕ) (file : File) → slice_get (linked_files readings) number ≡ Some file → IsLinkedAt number file
   linked_at number file at =
@@ -70,7 +91,7 @@ module _ (custom : CustomOptions) (allows : Seen → Choice → Type 0) (tree : 
       }
 
   origin_in : (number : ℕ) (file : TreeFile) (contents : Result FileContents FileFault)
-      → HasContents custom allows number file contents → (facts : Facts) → facts_in contents ≡ Some facts
+      → HasContents faulty custom allows number file contents → (facts : Facts) → facts_in contents ≡ Some facts
       → AreOfSomeFile facts
   origin_in number file (Ok contents) has facts known =
       subst AreOfSomeFile (same_Some contents.facts facts known)

@@ -1,6 +1,6 @@
 -- Lists by their places, and what is found in them.
-use Rattle.std.proofs.Common.{◌≡◌, ◌∙◌, ℕ, zero, suc, List, [], ◌∷◌, Some, Option, None, ap, refl}
-use Rattle.std.specs.Prelude.{Bool, true, false, cond, All, Contains}
+use Rattle.std.proofs.Common.{◌≡◌, ◌∙◌, ℕ, zero, suc, List, [], ◌∷◌, Some, ap}
+use Rattle.std.specs.Prelude.{Bool, true, false, cond, Contains}
 use Rattle.std.specs.List.{slice_get, filter, find}
 use Rattle.std.proofs.lemmas.Option.{same_Some, none-some, slice_get_within, slice_get-get_or, get_or_from_slice_get}
 use Rattle.std.proofs.lemmas.List.Elements.{All-contains, All-contains_itself, All-filter, filter_passes}

@@ -1,9 +1,8 @@
 -- What a session answers, by where it stops.
-use Rattle.std.proofs.Common.{◌≡◌, ◌⊎◌, ℕ, List, Option, Result, Ok, Err, inl, inr, subst}
+use Rattle.std.proofs.Common.{◌≡◌, ℕ, List, Option, Result, Ok, Err, inl, inr, subst}
 use Rattle.proto_decl.specs.Seen.{Seen}
 use Rattle.index_hooks.specs.declared.choice.Choice.{Choice}
 use Rattle.source_tree.specs.Files.{TreeFile}
-use Rattle.scip_document.specs.Chosen.{Chosen}
 use Rattle.scip_model.specs.declared.records.Index.{Index}
 use Rattle.scip_build.specs.Builds.{IsBuilt}
 use Rattle.scip_build.specs.declared.built.Built.{Built}
@@ -13,7 +12,7 @@ use Rattle.scip_query.specs.declared.answer_fault.AnswerFault.TheVariants as ans
 use Rattle.scip_wire.specs.Spelling.{spelling_of}
 use Rattle.protoscip.specs.Faults.{fault_of_answering}
 use Rattle.protoscip.specs.FaultLines.{HasFilesOf}
-use Rattle.protoscip.specs.Indexes.{IsSpelled}
+use Rattle.protoscip.specs.Indexes.{recorded_of, IsSpelled}
 use Rattle.protoscip.specs.Conversing.{AreAnsweredFrom, Converses}
 use Rattle.protoscip.specs.Sessions.{AreAnswered, MayAnswer, IsServed, Serves}
 use Rattle.protoscip.specs.declared.fault.Fault.{Fault}
@@ -58,7 +57,7 @@ module _ {R W : Type 0} (remaining : R → Option (List ℕ)) (read_failures rea
         → AreAnsweredFrom remaining read_failures reads ends contents write_failures built.index before after first last
         answered
         → IsServed remaining read_failures reads ends contents write_failures allows settings tree before after first
-        last built.choices answered
+        last (recorded_of built.choices built.told) answered
     served answered from = record {
       bytes = spelling_of built.index;
       indexed = record { index = built.index; built = is; spelled = from.spelled };
@@ -72,7 +71,7 @@ module _ {R W : Type 0} (remaining : R → Option (List ℕ)) (read_failures rea
         first last (Err e)
     unserved fault.Spawn from = absurd from
     unserved fault.Memory (inl untouched) = inl untouched
-    unserved fault.Memory (inr from) = inr (built.choices, served (Err answer.Memory) from)
+    unserved fault.Memory (inr from) = inr (recorded_of built.choices built.told, served (Err answer.Memory) from)
     unserved (fault.Lex number e) from = absurd from
     unserved (fault.Syntax number e) from = absurd from
     unserved (fault.Duplicate earlier later) from = absurd from
@@ -80,14 +79,14 @@ module _ {R W : Type 0} (remaining : R → Option (List ℕ)) (read_failures rea
     unserved (fault.Unresolved place) from = absurd from
     unserved fault.TooLarge from = ((built, is, from.0), from.1)
     unserved (fault.Write count) from = absurd from
-    unserved fault.Read from = (built.choices, served (Err answer.Read) from)
-    unserved (fault.Answer count) from = (built.choices, served (Err (answer.Write count)) from)
+    unserved fault.Read from = (recorded_of built.choices built.told, served (Err answer.Read) from)
+    unserved (fault.Answer count) from = (recorded_of built.choices built.told, served (Err (answer.Write count)) from)
 
     pub all_served : (done : Unit {0})
         → Converses remaining read_failures reads ends contents write_failures built.index before after first last
         (Ok done)
         → Serves remaining read_failures reads ends contents write_failures allows settings tree workers before after
-        first last (Ok built.choices)
+        first last (Ok (recorded_of built.choices built.told))
     all_served done from = served (Ok tt) from
 
   -- it has no fault of a file

@@ -24,7 +24,7 @@ use Rattle.proto_link.specs.Targets.{IsNamed}
 use Rattle.proto_link.specs.Targets.IsNamed.{packaged as named_package, declared as named_declared}
 use Rattle.proto_link.proofs.TargetLemmas.{used_fit, resolved_type}
 use Rattle.scip_symbol.specs.Entities.{Entity, OfPackage}
-use Rattle.scip_document.specs.Conditions.{AllResolve}
+use Rattle.scip_document.specs.Conditions.{IsResolved}
 use Rattle.scip_document.specs.Named.{NamesIn, IsNamedAs, declaration_at}
 use Rattle.protoscip.specs.UseLaws.{EachUseHasATarget}
 use Rattle.protoscip.proofs.LinkedLemmas.{at_number}
@@ -110,12 +110,11 @@ module _ (files : List File) (source : ℕ) where
     record { facts = facts; declaration = declared; has = record { has_facts = has; numbered = at }; is = refl },
   )
 
-  pub component_names : EachUseHasATarget → HaveOrigins files → AllResolve files
+  pub component_names : EachUseHasATarget → HaveOrigins files
       → (facts : Facts) (type_use : Use) (component : Component) → IsSource files source → HasFacts files source facts
-      → Contains facts.uses type_use → Contains type_use.components component
+      → Contains facts.uses type_use → Contains type_use.components component → IsResolved files source type_use
       → (part : Part) × (entity : Entity) × NamesIn files source component part entity
-  component_names targets origins resolved facts type_use component is has listed among =
-      let type_name = resolved source facts type_use is has listed in
+  component_names targets origins facts type_use component is has listed among type_name =
       let target = targets files origins source type_use type_name.0 type_name.1 in
       let part = at_number target.0.parts among.0 (omega (arith, among.1, target.1.one_each)) in
       let entity = named_as target.0.name _ part.0 (target.1.named among.0 part.0 part.1) in (

@@ -8,12 +8,13 @@ use Rattle.index_hooks.specs.declared.choice.Choice.{Choice}
 use Rattle.index_hooks.specs.MayChoose.{IsDefaultChoice}
 use Rattle.source_tree.specs.Files.{TreeFile}
 use Rattle.source_tree.specs.Reading.{kept_bytes}
-use Rattle.scip_document.specs.Chosen.{Chosen}
 use Rattle.streams.specs.WholeReads.{IsReadFault, IsReadThrough}
 use Rattle.streams.specs.WholeWrites.{IsWritten, IsCutOff}
 use Rattle.scip_build.specs.declared.settings.Settings.{Settings}
+use Rattle.scip_build.specs.declared.faulty.Faulty.TheVariants.{Refuse}
 use Rattle.protoscip.specs.DumpText.{dump_text}
 use Rattle.protoscip.specs.Indexes.{IsIndexed, IsRefused}
+use Rattle.protoscip.specs.declared.recorded.Recorded.{Recorded}
 use Rattle.protoscip.specs.declared.fault.Fault.{Fault}
 use Rattle.protoscip.specs.declared.fault.Fault.TheVariants.{Memory, Read, Write}
 
@@ -29,9 +30,10 @@ dump_tree bytes = record { path = source_path; bytes = bytes; is_included = fals
 abbrev pub dump_settings : CustomOptions → Settings
 dump_settings custom = record {
   project_root = codes "file:///";
-  «package» = record { manager = []; name = []; version = [] };
+  «package» = record { run = record { manager = []; name = []; version = [] }; roots = [] };
   encoding = Utf8;
   custom_options = custom;
+  faulty = Refuse;
 }
 
 -- each declaration is kept, with its leading text
@@ -40,9 +42,9 @@ default_choices seen choice = IsDefaultChoice choice
 
 -- the listing of a source: that of its index
 pub record IsListing (custom : CustomOptions) (bytes listing : List ℕ) : Type 0 where
-  pub choices : Chosen
+  pub recorded : Recorded
   pub spelling : List ℕ
-  pub indexed : IsIndexed default_choices (dump_settings custom) (dump_tree bytes) choices spelling
+  pub indexed : IsIndexed default_choices (dump_settings custom) (dump_tree bytes) recorded spelling
   pub listing_is : listing ≡ dump_text indexed.index
 
 -- why a source has no listing: why its tree isn't indexed, by one worker
@@ -72,8 +74,7 @@ LeavesWriter contents failures before after due (Err (Write count)) = IsCutOff c
 LeavesWriter contents failures before after due (Err fault) = after ≡ before
 
 -- What a dump leaves of its writer, by the text that it has to write: that of the bytes which the reader tells that it
--- has left; where it
--- tells none, of some bytes.
+-- has left; where it tells none, of some bytes.
 pub record IsDumped {R W : Type 0} (remaining : R → Option (List ℕ)) (contents : W → Option (List ℕ)) (failures : W → ℕ)
     (custom : CustomOptions) (reader : R) (before after : W)
     (done : Result (Unit {0}) Fault) : Type 0 where

@@ -1,12 +1,14 @@
 -- The line that says why a run stops, on standard error. (The texts are this project's own.)
 use Rattle.std.specs.Prelude.{ℕ, ◌<◌, ⊤, List, [], ◌++◌, length, codes}
 use Rattle.std.specs.Fmt.{decimal}
-use Rattle.std.specs.List.{slice_get}
+use Rattle.std.specs.List.{All, slice_get}
 use Rattle.std.specs.Option.{option_map, unwrap_or}
 use Rattle.proto_visibility.specs.declared.place.FilePlace.{FilePlace}
 use Rattle.source_tree.specs.Files.{TreeFile}
 use Rattle.proto_lex.specs.FaultNames.{lex_name, lex_offset}
 use Rattle.proto_parse.specs.FaultNames.{syntax_name, syntax_offset}
+use Rattle.scip_build.specs.declared.fault.BuildFault.{BuildFault}
+use Rattle.protoscip.specs.Faults.{fault_of_build}
 use Rattle.protoscip.specs.Lines.{plain_line, line_at, placed_line}
 use Rattle.protoscip.specs.declared.fault.Fault.{Fault}
 use Rattle.protoscip.specs.declared.fault.Fault.TheVariants.{Spawn, Memory, Lex, Syntax, Duplicate, MissingImport}
@@ -70,3 +72,7 @@ HasFilesOf tree TooLarge = ⊤
 HasFilesOf tree (Write count) = ⊤
 HasFilesOf tree Read = ⊤
 HasFilesOf tree (Answer count) = ⊤
+
+-- it has those of all that is told
+abbrev pub HaveFilesOf : List TreeFile → List BuildFault → Type 0
+HaveFilesOf tree told = All (λ fault. HasFilesOf tree (fault_of_build fault)) told

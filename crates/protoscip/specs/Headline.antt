@@ -1,6 +1,6 @@
 -- The headline: what holds of the bytes of a tree's index, and of queries over them.
-use Rattle.std.specs.Prelude.{◌≡◌, ◌<◌, ◌≤◌, ℕ, ◌+◌, Bool, true, false, Option, Some, Result, Ok, Err, List, length}
-use Rattle.std.specs.Prelude.{Contains}
+use Rattle.std.specs.Prelude.{◌≡◌, ◌↔◌, ◌<◌, ◌≤◌, ℕ, ◌+◌, Bool, true, false, Option, Some, Result, Ok, Err, List}
+use Rattle.std.specs.Prelude.{length, Contains}
 use Rattle.std.specs.declared.cmp.Ordering.{Ordering}
 use Rattle.std.specs.Ordering.{nat_cmp, on, then_cmp}
 use Rattle.std.specs.List.{slice_get}
@@ -17,8 +17,10 @@ use Rattle.index_hooks.specs.declared.choice.Choice.{Choice}
 use Rattle.source_tree.specs.Files.{TreeFile}
 use Rattle.source_tree.specs.Trees.{IsTree}
 use Rattle.scip_symbol.specs.Entities.{Entity, OfFile}
-use Rattle.scip_symbol.specs.Package.{Package, IsPackage}
+use Rattle.scip_symbol.specs.Package.{Package}
+use Rattle.scip_document.specs.Packages.{Packages, ArePackages, package_of_file}
 use Rattle.scip_document.specs.Chosen.{Chosen}
+use Rattle.scip_document.specs.Conditions.{IsResolved}
 use Rattle.scip_document.specs.Indexes.{HasDocument, IsAscendingListOf}
 use Rattle.scip_document.specs.Named.{HasDeclaration, NamesIn, text_of, package_at, declaration_at}
 use Rattle.scip_document.specs.Occurs.{Occurs}
@@ -31,12 +33,14 @@ use Rattle.scip_build.specs.Builds.{IsBuilt}
 use Rattle.scip_build.specs.Documents.{texts_of}
 use Rattle.scip_build.specs.Linking.{linked_files}
 use Rattle.scip_build.specs.declared.built.Built.{Built}
+use Rattle.scip_build.specs.declared.faulty.Faulty.TheVariants.{Skip}
 use Rattle.scip_build.specs.declared.settings.Settings.{Settings}
 use Rattle.scip_query.specs.OccurrenceAt.{occurrence_in}
 use Rattle.scip_query.specs.References.{definitions_at, references_at, is_definition}
 use Rattle.scip_query.specs.Sites.{Site, Numbered, document_named}
 use Rattle.scip_wire.specs.Decodes.{Decodes}
-use Rattle.protoscip.specs.Indexes.{IsIndexed}
+use Rattle.protoscip.specs.declared.recorded.Recorded.{Recorded}
+use Rattle.protoscip.specs.Indexes.{built_of, IsIndexed}
 use Rattle.protoscip.specs.Sessions.{AreAnswered}
 
 -- ---- what is named
@@ -52,10 +56,16 @@ pub data IsEntityOf (files : List File) : Entity → Type 0 where
       → HasDeclaration files number index facts declared
       → IsEntityOf files (declaration_at facts declared)
 
+-- the package of an entity: that of the file which it is, or which declares it, and of a proto package the run's
+abbrev pub package_of_entity : (files : List File) → Packages → {entity : Entity} → IsEntityOf files entity → Package
+package_of_entity files ids (of_file {number = number} counts numbered) = package_of_file files ids number
+package_of_entity files ids (of_package counts has some few) = ids.run
+package_of_entity files ids (of_declaration {number = number} counts has) = package_of_file files ids number
+
 -- the entity that an occurrence names: the one of the rule by which it occurs
-abbrev pub entity_of : {files : List File} {chosen : Chosen} {id : Package} {encoding : Encoding} {source : ℕ}
+abbrev pub entity_of : {files : List File} {chosen : Chosen} {ids : Packages} {encoding : Encoding} {source : ℕ}
     {text : List ℕ} {occurrence : Occurrence}
-    → Occurs files chosen id encoding source text occurrence → Entity
+    → Occurs files chosen ids encoding source text occurrence → Entity
 entity_of (rule.of_file {file = file} numbered) = OfFile file.path
 entity_of (rule.of_import {imported = imported} has listed there) = OfFile imported.path
 entity_of (rule.of_package {facts = facts} index has stands) = package_at facts (index + 1)
@@ -63,9 +73,9 @@ entity_of (rule.of_declaration {facts = facts} index {declared = declared} has k
 entity_of (rule.of_component {entity = entity} names shown) = entity
 
 -- whether it defines that entity: the file itself does, and each component of its package's name and each declaration
-abbrev pub defines : {files : List File} {chosen : Chosen} {id : Package} {encoding : Encoding} {source : ℕ}
+abbrev pub defines : {files : List File} {chosen : Chosen} {ids : Packages} {encoding : Encoding} {source : ℕ}
     {text : List ℕ} {occurrence : Occurrence}
-    → Occurs files chosen id encoding source text occurrence → Bool
+    → Occurs files chosen ids encoding source text occurrence → Bool
 defines (rule.of_file numbered) = true
 defines (rule.of_import has listed there) = false
 defines (rule.of_package index has stands) = true
@@ -87,12 +97,12 @@ site_cmp = then_cmp (on (λ (s : Site). s.place.document) nat_cmp) (on (λ (s : 
 module _ {allows : Seen → Choice → Type 0} {settings : Settings} {tree : List TreeFile} {result : Built}
     (built : IsBuilt allows settings tree result) where
   -- An occurrence of a document is one of an entity: the document is that of a source, and a rule by which it occurs
-  -- there names this
-  -- entity.
+  -- there names this entity.
   pub record IsOf (entity : Entity) (document : Document) (occurrence : Occurrence) : Type 0 where
-    pub of_source : HasDocument (linked_files built.readings)
-        (texts_of built.readings) result.choices settings.package settings.encoding document
-    pub occurs : Occurs (linked_files built.readings) result.choices settings.package settings.encoding of_source.source
+    pub of_source : HasDocument (linked_files built.of_files.readings)
+        (texts_of built.of_files.readings) result.choices settings.package settings.encoding document
+    pub occurs : Occurs (linked_files built.of_files.readings) result.choices settings.package settings.encoding
+        of_source.source
         of_source.text occurrence
     pub is : entity_of occurs ≡ entity
 
@@ -113,8 +123,7 @@ module _ {allows : Seen → Choice → Type 0} {settings : Settings} {tree : Lis
     pub is : IsOf entity named.document occurrence
 
   -- What is answered about a position: just the sites that are wanted of the entity there, each once, in the index's
-  -- order; it is refused
-  -- only where there is none.
+  -- order; it is refused only where there is none.
   abbrev pub Answers : (IsWanted : Entity → Site → Type 0) → (path : List ℕ) → (line column : ℕ) → {E : Type 0}
       → Result (List Site) E → Type 0
   Answers IsWanted path line column (Ok sites) =
@@ -122,29 +131,33 @@ module _ {allows : Seen → Choice → Type 0} {settings : Settings} {tree : Lis
   Answers IsWanted path line column (Err miss) = (entity : Entity) → IsAt path line column entity → ⊥
 
   -- Each component of a use in a source names an entity, so that it occurs unless what it names isn't kept. Each site
-  -- is one of an entity of
-  -- the files, and of no other; entities and symbols are one to one, and a declaration's entity is its own; a site has
-  -- the definition's role
-  -- just where it defines its entity; and a query answers the occurrences of the entity asked, or its definitions among
-  -- them, all of them
-  -- and nothing else.
+  -- is one of an entity of the files, and of no other; entities and symbols are one to one, and a declaration's entity
+  -- is its own; a site has the definition's role just where it defines its entity; and a query answers the occurrences
+  -- of the entity asked, or its definitions among them, all of them and nothing else.
   pub record AnswersNames : Type 0 where
     pub used : (source : ℕ) (facts : Facts) (type_use : Use) (component : Component)
-        → IsSource (linked_files built.readings) source → HasFacts (linked_files built.readings) source facts
+        → IsSource (linked_files built.of_files.readings) source
+        → HasFacts (linked_files built.of_files.readings) source facts
         → Contains facts.uses type_use → Contains type_use.components component
-        → (part : Part) × (entity : Entity) × NamesIn (linked_files built.readings) source component part entity
+        → (settings.faulty ≡ Skip → IsResolved (linked_files built.of_files.readings) source type_use)
+        → (part : Part) × (entity : Entity)
+        × NamesIn (linked_files built.of_files.readings) source component part entity
     pub each : (site : Site) → IsSite result.index site
-        → (entity : Entity) × IsEntityOf (linked_files built.readings) entity × IsSiteOf entity site
+        → (entity : Entity) × IsEntityOf (linked_files built.of_files.readings) entity × IsSiteOf entity site
         × ((other : Entity) → IsSiteOf other site → other ≡ entity)
-    pub symbol : (entity : Entity) (site : Site) → IsSiteOf entity site
-        → site.occurrence.symbol ≡ text_of settings.package entity
-    pub one_to_one : (entity other : Entity) → IsEntityOf (linked_files built.readings) entity
-        → IsEntityOf (linked_files built.readings) other
-        → text_of settings.package entity ≡ text_of settings.package other → entity ≡ other
+    pub symbol : (entity : Entity) (site : Site) (is : IsEntityOf (linked_files built.of_files.readings) entity)
+        → IsSiteOf entity site
+        → site.occurrence.symbol
+        ≡ text_of (package_of_entity (linked_files built.of_files.readings) settings.package is) entity
+    pub one_to_one : (entity other : Entity) (is : IsEntityOf (linked_files built.of_files.readings) entity)
+        (its : IsEntityOf (linked_files built.of_files.readings) other)
+        → (text_of (package_of_entity (linked_files built.of_files.readings) settings.package is) entity
+        ≡ text_of (package_of_entity (linked_files built.of_files.readings) settings.package its) other)
+        ↔ (entity ≡ other)
     pub own : (number index other its : ℕ) (facts more : Facts) (a b : Declaration)
-        → Counts (linked_files built.readings) number → Counts (linked_files built.readings) other
-        → HasDeclaration (linked_files built.readings) number index facts a
-        → HasDeclaration (linked_files built.readings) other its more b
+        → Counts (linked_files built.of_files.readings) number → Counts (linked_files built.of_files.readings) other
+        → HasDeclaration (linked_files built.of_files.readings) number index facts a
+        → HasDeclaration (linked_files built.of_files.readings) other its more b
         → declaration_at facts a ≡ declaration_at more b → (number ≡ other) × (index ≡ its)
     pub role : (entity : Entity) (site : Site) → (of : IsSiteOf entity site)
         → is_definition site.occurrence ≡ defines of.1.occurs
@@ -157,40 +170,40 @@ module _ {allows : Seen → Choice → Type 0} {settings : Settings} {tree : Lis
 -- ---- the headline
 
 -- The bytes decode to one index only: the one that the grammar, the scoping rules, the recorded choices, which are
--- allowed, and the
--- settings give the tree. And each query about references or definitions over it answers exactly the occurrences of the
--- name asked.
-pub record Navigates (allows : Seen → Choice → Type 0) (settings : Settings) (tree : List TreeFile) (choices : Chosen)
+-- allowed, and the settings give the tree. And each query about references or definitions over it answers exactly the
+-- occurrences of the name asked.
+pub record Navigates (allows : Seen → Choice → Type 0) (settings : Settings) (tree : List TreeFile)
+    (recorded : Recorded)
     (bytes : List ℕ) (index : Index) : Type 0 where
   pub decodes : Decodes bytes index
   pub alone : (other : Index) → Decodes bytes other → other ≡ index
-  pub built : IsBuilt allows settings tree (record { index = index; choices = choices })
+  pub built : IsBuilt allows settings tree (built_of index recorded)
   pub names : AnswersNames built
 
 -- This holds of all that is made of a tree by settings,
 abbrev pub HeadlineOfTree : (allows : Seen → Choice → Type 0) → Settings → List TreeFile → Type 0
 HeadlineOfTree allows settings tree =
-    (choices : Chosen) (bytes : List ℕ) → (indexed : IsIndexed allows settings tree choices bytes)
-    → Navigates allows settings tree choices bytes indexed.index
+    (recorded : Recorded) (bytes : List ℕ) → (indexed : IsIndexed allows settings tree recorded bytes)
+    → Navigates allows settings tree recorded bytes indexed.index
 
--- for every tree, and all settings whose package's parts are good: of all that `index_tree` writes, and of all that a
+-- for every tree, and all settings whose packages' parts are good: of all that `index_tree` writes, and of all that a
 -- session answers from.
 abbrev pub Headline : (allows : Seen → Choice → Type 0) → Type 0
-Headline allows = (settings : Settings) (tree : List TreeFile) → IsTree tree → IsPackage settings.package
+Headline allows = (settings : Settings) (tree : List TreeFile) → IsTree tree → ArePackages settings.package
     → HeadlineOfTree allows settings tree
 
 -- An index of the tree by these choices navigates it, and its bytes are written.
 abbrev pub WritesNavigable : {W : Type 0} → (contents : W → Option (List ℕ)) → (failures : W → ℕ)
-    → (allows : Seen → Choice → Type 0) → Settings → List TreeFile → Chosen → W → W → Type 0
-WritesNavigable contents failures allows settings tree choices before after =
-    (bytes : List ℕ) × (index : Index) × Navigates allows settings tree choices bytes index
+    → (allows : Seen → Choice → Type 0) → Settings → List TreeFile → Recorded → W → W → Type 0
+WritesNavigable contents failures allows settings tree recorded before after =
+    (bytes : List ℕ) × (index : Index) × Navigates allows settings tree recorded bytes index
     × IsWritten contents failures before after bytes
 
 -- An index of the tree by these choices navigates it, and all commands are answered from it.
 abbrev pub AnswersNavigable : {R W : Type 0} → (remaining : R → Option (List ℕ)) → (read_failures reads ends : R → ℕ)
     → (contents : W → Option (List ℕ)) → (write_failures : W → ℕ)
-    → (allows : Seen → Choice → Type 0) → Settings → List TreeFile → Chosen → R → R → W → W → Type 0
-AnswersNavigable remaining read_failures reads ends contents write_failures allows settings tree choices before after
+    → (allows : Seen → Choice → Type 0) → Settings → List TreeFile → Recorded → R → R → W → W → Type 0
+AnswersNavigable remaining read_failures reads ends contents write_failures allows settings tree recorded before after
     first last =
-    (bytes : List ℕ) × (index : Index) × Navigates allows settings tree choices bytes index
+    (bytes : List ℕ) × (index : Index) × Navigates allows settings tree recorded bytes index
     × AreAnswered remaining read_failures reads ends contents write_failures index before after first last (Ok tt)

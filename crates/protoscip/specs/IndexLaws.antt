@@ -1,15 +1,14 @@
 -- What the definitions say of indexes of trees, whatever the code does. `allows` and `others` say which choices may
--- come, by one
--- chooser and by another, or by one that is asked twice.
+-- come, by one chooser and by another, or by one that is asked twice.
 use Rattle.std.specs.Prelude.{◌≡◌, ◌≢◌, ◌⊎◌, ℕ, List}
 use Rattle.proto_lex.specs.declared.fault.LexFault.{LexFault}
 use Rattle.proto_decl.specs.Seen.{Seen}
 use Rattle.proto_visibility.specs.declared.place.FilePlace.{FilePlace}
 use Rattle.index_hooks.specs.declared.choice.Choice.{Choice}
 use Rattle.source_tree.specs.Files.{TreeFile}
-use Rattle.scip_document.specs.Chosen.{Chosen}
 use Rattle.scip_build.specs.declared.settings.Settings.{Settings}
 use Rattle.protoscip.specs.Indexes.{IsIndexed, IsRefused}
+use Rattle.protoscip.specs.declared.recorded.Recorded.{Recorded}
 use Rattle.protoscip.specs.declared.fault.Fault.{Fault}
 use Rattle.protoscip.specs.declared.fault.Fault.TheVariants.{Spawn, Memory, Lex, Syntax, Duplicate, MissingImport}
 use Rattle.protoscip.specs.declared.fault.Fault.TheVariants.{Unresolved, TooLarge, Write, Read, Answer}
@@ -45,8 +44,7 @@ OneReason allows others =
     → reason_of fault ≢ outside → reason_of other ≢ outside → reason_of fault ≡ reason_of other
 
 -- Where a file's text can't be lexed, that is the one fault of the tree; so no fault of syntax stands beside it. (Of
--- the faults of syntax of
--- one file tests show which comes.)
+-- the faults of syntax of one file tests show which comes.)
 abbrev pub OneFileFault : (allows others : Seen → Choice → Type 0) → Type 0
 OneFileFault allows others =
     (settings : Settings) (tree : List TreeFile) (workers more number : ℕ) (because : LexFault) (other : Fault)
@@ -56,8 +54,8 @@ OneFileFault allows others =
 -- a tree that is indexed has no fault, but that by other choices its index may have too many bytes
 abbrev pub IndexedHasNoFault : (allows others : Seen → Choice → Type 0) → Type 0
 IndexedHasNoFault allows others =
-    (settings : Settings) (tree : List TreeFile) (workers : ℕ) (choices : Chosen) (bytes : List ℕ) (fault : Fault)
-    → IsIndexed allows settings tree choices bytes → IsRefused others settings tree workers fault
+    (settings : Settings) (tree : List TreeFile) (workers : ℕ) (recorded : Recorded) (bytes : List ℕ) (fault : Fault)
+    → IsIndexed allows settings tree recorded bytes → IsRefused others settings tree workers fault
     → (reason_of fault ≡ outside) ⊎ (fault ≡ TooLarge)
 
 -- for what is seen of a declaration one choice alone may come, whichever of the two is asked
@@ -69,15 +67,15 @@ AllowOneChoice allows others = (seen : Seen) (choice another : Choice) → allow
 -- workers;
 abbrev pub OneIndexing : (allows others : Seen → Choice → Type 0) → Type 0
 OneIndexing allows others =
-    (settings : Settings) (tree : List TreeFile) (choices more : Chosen) (bytes also : List ℕ)
+    (settings : Settings) (tree : List TreeFile) (recorded more : Recorded) (bytes also : List ℕ)
     → AllowOneChoice allows others
-    → IsIndexed allows settings tree choices bytes → IsIndexed others settings tree more also
-    → (choices ≡ more) × (bytes ≡ also)
+    → IsIndexed allows settings tree recorded bytes → IsIndexed others settings tree more also
+    → (recorded.choices ≡ more.choices) × (bytes ≡ also)
 
 -- and a tree that is indexed has no fault at all
 abbrev pub OneIndexingHasNoFault : (allows others : Seen → Choice → Type 0) → Type 0
 OneIndexingHasNoFault allows others =
-    (settings : Settings) (tree : List TreeFile) (workers : ℕ) (choices : Chosen) (bytes : List ℕ) (fault : Fault)
+    (settings : Settings) (tree : List TreeFile) (workers : ℕ) (recorded : Recorded) (bytes : List ℕ) (fault : Fault)
     → AllowOneChoice allows others
-    → IsIndexed allows settings tree choices bytes → IsRefused others settings tree workers fault
+    → IsIndexed allows settings tree recorded bytes → IsRefused others settings tree workers fault
     → reason_of fault ≡ outside

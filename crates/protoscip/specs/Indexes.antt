@@ -1,7 +1,5 @@
--- What indexing a tree answers, and what it leaves of the writer.
--- `allows` says which choices may come for a declaration, `contents` and `failures` are the sink's, and `before` and
--- `after` the
--- sink around the call.
+-- What indexing a tree answers, and what it leaves of the writer. `allows` says which choices may come for a
+-- declaration, `contents` and `failures` are the sink's, and `before` and `after` the sink around the call.
 use Rattle.std.specs.Prelude.{◌≡◌, ℕ, ◌<◌, ◌≤◌, ⊤, List, length, Option, Result, Ok, Err}
 use Rattle.proto_decl.specs.Seen.{Seen}
 use Rattle.index_hooks.specs.declared.choice.Choice.{Choice}
@@ -11,11 +9,13 @@ use Rattle.streams.specs.WholeWrites.{IsWritten, IsCutOff}
 use Rattle.scip_model.specs.declared.records.Index.{Index}
 use Rattle.scip_build.specs.Builds.{IsBuilt, IsBuildFault}
 use Rattle.scip_build.specs.declared.built.Built.{Built}
+use Rattle.scip_build.specs.declared.fault.BuildFault.{BuildFault}
 use Rattle.scip_build.specs.declared.settings.Settings.{Settings}
 use Rattle.scip_build.specs.declared.fault.BuildFault.TheVariants as build
 use Rattle.scip_build.specs.declared.fault.FileFault.TheVariants as file
 use Rattle.scip_wire.specs.Decodes.{Decodes}
 use Rattle.scip_wire.specs.Spelling.{spelling_of, max_index_len}
+use Rattle.protoscip.specs.declared.recorded.Recorded.{Recorded}
 use Rattle.protoscip.specs.declared.fault.Fault.{Fault}
 use Rattle.protoscip.specs.declared.fault.Fault.TheVariants.{Spawn, Memory, Lex, Syntax, Duplicate, MissingImport}
 use Rattle.protoscip.specs.declared.fault.Fault.TheVariants.{Unresolved, TooLarge, Write, Read, Answer}
@@ -27,32 +27,38 @@ pub record IsSpelled (index : Index) (bytes : List ℕ) : Type 0 where
   pub decodes : Decodes bytes index
   pub alone : (other : Index) → Decodes bytes other → other ≡ index
 
--- The bytes of a tree's index, and the choices that it is made by: the index is built from the tree by them and the
--- settings, and these
--- are its bytes.
-pub record IsIndexed (allows : Seen → Choice → Type 0) (settings : Settings) (tree : List TreeFile) (choices : Chosen)
+-- what was recorded beside an index: the choices that it is made by, and what was left out
+abbrev pub recorded_of : Chosen → List BuildFault → Recorded
+recorded_of choices told = record { choices = choices; told = told }
+
+abbrev pub built_of : Index → Recorded → Built
+built_of index recorded = record { index = index; choices = recorded.choices; told = recorded.told }
+
+-- The bytes of a tree's index, and what was recorded beside it: the index is built from the tree by these choices and
+-- the settings, this was left out, and these are its bytes.
+pub record IsIndexed (allows : Seen → Choice → Type 0) (settings : Settings) (tree : List TreeFile)
+    (recorded : Recorded)
     (bytes : List ℕ) : Type 0 where
   pub index : Index
-  pub built : IsBuilt allows settings tree (record { index = index; choices = choices })
+  pub built : IsBuilt allows settings tree (built_of index recorded)
   pub spelled : IsSpelled index bytes
 
 -- Why a tree isn't indexed: why it isn't built; or that the index which it has by some choices would have too many
--- bytes. A thread is
--- refused only where one is to be started; of memory nothing is said, and reading and writing are no matter of the
--- tree.
+-- bytes. A thread is refused only where one is to be started; of memory nothing is said, and reading and writing are no
+-- matter of the tree.
 abbrev pub IsRefused : (allows : Seen → Choice → Type 0) → Settings → List TreeFile → (workers : ℕ) → Fault → Type 0
 IsRefused allows settings tree workers Spawn = 1 < workers
 IsRefused allows settings tree workers Memory = ⊤
 IsRefused allows settings tree workers (Lex number fault) =
-    IsBuildFault allows settings.custom_options tree workers (build.File number (file.Lex fault))
+    IsBuildFault allows settings.faulty settings.custom_options tree workers (build.File number (file.Lex fault))
 IsRefused allows settings tree workers (Syntax number fault) =
-    IsBuildFault allows settings.custom_options tree workers (build.File number (file.Syntax fault))
+    IsBuildFault allows settings.faulty settings.custom_options tree workers (build.File number (file.Syntax fault))
 IsRefused allows settings tree workers (Duplicate first second) =
-    IsBuildFault allows settings.custom_options tree workers (build.Duplicate first second)
+    IsBuildFault allows settings.faulty settings.custom_options tree workers (build.Duplicate first second)
 IsRefused allows settings tree workers (MissingImport place) =
-    IsBuildFault allows settings.custom_options tree workers (build.MissingImport place)
+    IsBuildFault allows settings.faulty settings.custom_options tree workers (build.MissingImport place)
 IsRefused allows settings tree workers (Unresolved place) =
-    IsBuildFault allows settings.custom_options tree workers (build.Unresolved place)
+    IsBuildFault allows settings.faulty settings.custom_options tree workers (build.Unresolved place)
 IsRefused allows settings tree workers TooLarge =
     (built : Built) × IsBuilt allows settings tree built × (max_index_len < length (spelling_of built.index))
 IsRefused allows settings tree workers (Write count) = ⊥
@@ -60,15 +66,14 @@ IsRefused allows settings tree workers Read = ⊥
 IsRefused allows settings tree workers (Answer count) = ⊥
 
 -- The tree is indexed and the bytes are written; or a write fails, and their first `count` are; or the tree isn't
--- indexed, and the writer
--- is as it was.
+-- indexed, and the writer is as it was.
 abbrev pub Indexes : {W : Type 0} → (contents : W → Option (List ℕ)) → (failures : W → ℕ)
     → (allows : Seen → Choice → Type 0) → Settings → List TreeFile → (workers : ℕ)
-    → W → W → Result Chosen Fault → Type 0
-Indexes contents failures allows settings tree workers before after (Ok choices) =
-    (bytes : List ℕ) × IsIndexed allows settings tree choices bytes × IsWritten contents failures before after bytes
+    → W → W → Result Recorded Fault → Type 0
+Indexes contents failures allows settings tree workers before after (Ok recorded) =
+    (bytes : List ℕ) × IsIndexed allows settings tree recorded bytes × IsWritten contents failures before after bytes
 Indexes contents failures allows settings tree workers before after (Err (Write count)) =
-    (choices : Chosen) × (bytes : List ℕ) × IsIndexed allows settings tree choices bytes
+    (recorded : Recorded) × (bytes : List ℕ) × IsIndexed allows settings tree recorded bytes
     × IsCutOff contents failures before after bytes count
 Indexes contents failures allows settings tree workers before after (Err fault) =
     IsRefused allows settings tree workers fault × (after ≡ before)

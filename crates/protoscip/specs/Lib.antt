@@ -7,6 +7,8 @@ pub mod FaultLines
 pub mod Statuses
 -- what is added to that line where it is to be explained
 pub mod Explanations
+-- what is said of what an index lacks
+pub mod ToldLines
 -- the index of a tree and its bytes
 pub mod Indexes
 pub mod Writing

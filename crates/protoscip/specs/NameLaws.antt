@@ -1,18 +1,15 @@
 -- Laws of names, symbols and targets: what the headline rests on.
-use Rattle.std.specs.Prelude.{◌≡◌, ◌≢◌, ℕ, List, [], All}
+use Rattle.std.specs.Prelude.{◌≢◌, List, [], All}
 use Rattle.proto_decl.specs.Names.{IsSimple}
 use Rattle.proto_decl.specs.Facts.{Facts, AreOfSomeFile}
 use Rattle.proto_decl.specs.Ancestors.{AreNamed, AreHeld}
 use Rattle.proto_link.specs.Laws.{OneDeclarationAName}
-use Rattle.scip_symbol.specs.Package.{Package, IsPackage}
-use Rattle.scip_symbol.specs.Entities.{Entity, IsEntity, symbol_in}
-use Rattle.scip_symbol.specs.SymbolText.{symbol_text}
-use Rattle.scip_symbol.specs.OneEntity.{Declaration, IsWithoutClash, IsAmong, declarations_of, AreWithoutClash}
+use Rattle.scip_symbol.specs.OneEntity.{IsWithoutClash, declarations_of, AreWithoutClash}
+use Rattle.scip_document.specs.Laws.{SymbolsNameOne}
 use Rattle.protoscip.specs.UseLaws.{EachUseHasATarget}
 
 -- Names are identifiers, and what holds a declaration is declared; a full name is that of one declaration, and a
--- symbol's text that of one
--- entity; and each use that names a type has a target.
+-- symbol's text that of one entity; and each use that names a type has a target.
 pub record LawsOfNames : Type 0 where
   pub named : (facts : Facts) → AreOfSomeFile facts → AreNamed facts.package_name facts.declarations
   pub paths : (facts : Facts) → AreOfSomeFile facts → All (λ declaration. declaration.path ≢ []) facts.declarations
@@ -20,8 +17,5 @@ pub record LawsOfNames : Type 0 where
   pub simple : (facts : Facts) → AreOfSomeFile facts → All (λ component. IsSimple component.name) facts.package_name
   pub one_name : OneDeclarationAName
   pub unclashed : (files : List Facts) → AreWithoutClash files → IsWithoutClash (declarations_of files)
-  pub symbols : (id : Package) (declarations : List Declaration) → IsPackage id → IsWithoutClash declarations
-      → (entity other : Entity) → IsEntity entity → IsEntity other
-      → IsAmong declarations entity → IsAmong declarations other
-      → symbol_text (symbol_in id entity) ≡ symbol_text (symbol_in id other) → entity ≡ other
+  pub symbols : SymbolsNameOne
   pub targets : EachUseHasATarget

@@ -15,7 +15,8 @@ pub fn answer_commands<F: Feed, W: Sink>(
     commands: &mut F,
     answers: &mut W,
 ) -> Result<(), AnswerFault>
-    ensures { MayAnswer F.remaining F.failures F.reads F.ends W.contents W.failures index commands.old commands.new answers.old answers.new result }
+    ensures { MayAnswer F.remaining F.failures F.reads F.ends W.contents W.failures index commands.old commands.new
+        answers.old answers.new result }
 {
     match Queries::new(alloc, index) {
         Ok(queries) => queries.answer_all(alloc, commands, answers),

@@ -23,7 +23,8 @@ use index_pool::{NoGate, Workers};
 use proto_decl::DeclView;
 use proto_lex::Encoding;
 use proto_parse::CustomOptions;
-use scip_build::{Settings, build};
+use scip_build::{Faulty, Settings, build};
+use scip_document::FilePackages;
 use scip_symbol::PackageId;
 use sequences::OwnedText;
 use source_tree::{Source, Tree, TreeFault, read_source};
@@ -74,9 +75,10 @@ fn dump_settings(alloc: Global, custom_options: CustomOptions) -> Result<Setting
     let parts = [String::new(alloc), String::new(alloc), String::new(alloc)];
     Ok(Settings {
         project_root: OwnedText::copy_of(alloc, "file:///")?,
-        package: PackageId::new(parts).unwrap(),
+        package: FilePackages::of_run(alloc, PackageId::new(parts).unwrap()),
         encoding: Encoding::Utf8,
         custom_options,
+        faulty: Faulty::Refuse,
     })
 }
 

@@ -61,7 +61,7 @@ pub fn fault_text(
 }
 
 /// Appends what explains a fault.
-fn push_explanation(
+pub(crate) fn push_explanation(
     alloc: Global,
     out: &mut String,
     tree: &Tree,

@@ -66,7 +66,7 @@ fn line_at_place(
 }
 
 /// The line of two places that give one full name, each told by its path and offset.
-fn duplicate_line(
+pub(crate) fn duplicate_line(
     alloc: Global,
     path: &str,
     offset: usize,

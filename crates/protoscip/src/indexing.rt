@@ -1,20 +1,23 @@
 //! From a tree to the bytes of its index.
 
-ghost use Rattle.std.specs.Prelude.{Ok, Err, IfErr, IfOk, MatchResult};
+ghost use Rattle.std.specs.Prelude.{Ok, Err, IfErr, IfOk, MatchResult, string_bytes};
+ghost use Rattle.std.specs.Option.{option_map};
 ghost use Rattle.scip_model.specs.declared.records.Index.{Index};
 ghost use Rattle.scip_build.specs.Forms.{ArePartsOf};
-ghost use Rattle.protoscip.specs.FaultLines.{HasFilesOf};
+ghost use Rattle.protoscip.specs.FaultLines.{HasFilesOf, HaveFilesOf};
 ghost use Rattle.protoscip.specs.Headline.{WritesNavigable};
-ghost use Rattle.protoscip.specs.Indexes.{Indexes};
+ghost use Rattle.protoscip.specs.Indexes.{Indexes, recorded_of};
+ghost use Rattle.protoscip.specs.ToldLines.{IsTextOfLacks};
 ghost use Rattle.protoscip.specs.Writing.{IsRecordOf, WritesIndex};
 
 use crate::as_bytes::AsBytes;
 use crate::fault::Fault;
 use crate::laws::headline_of_tree;
+use crate::recorded::Recorded;
+use crate::telling::text_of_lacks;
 use index_hooks::Chooses;
 use index_pool::{Gate, Workers};
 use scip_build::{BuiltParts, Parts, Run, Settings, build_in_form};
-use scip_document::Choices;
 use scip_wire::{
     bytes_decode_to_one_index, spelling_decodes_to_its_index, spelling_is_of_pieces, write_pieces,
 };
@@ -33,7 +36,8 @@ fn write_spelled<W: Sink>(
     parts: &Parts<Sequence<u8>>,
     out: &mut W,
 ) -> Result<(), Fault>
-    ensures { (index : Index) → ArePartsOf IsRecordOf index parts.now → WritesIndex W.contents W.failures index out.old out.new result }
+    ensures { (index : Index) → ArePartsOf IsRecordOf index parts.now → WritesIndex W.contents W.failures index out.old
+        out.new result }
 {
     spelling_is_of_pieces();
     spelling_decodes_to_its_index();
@@ -48,30 +52,72 @@ fn write_spelled<W: Sink>(
     Ok(())
 }
 
-/// Builds the index of a tree and writes its bytes, as `index_tree` does, and hands out all that it made on
-/// the way: a program that ends then needn't let go of it.
+/// An index whose bytes are written, with all that was made on the way: a program that ends then needn't let
+/// go of it.
+#[derive(Drop)]
+pub struct KeptIndex<'a> {
+    /// Its parts, and what was recorded beside it.
+    pub built: BuiltParts<'a, Sequence<u8>>,
+    /// What is to be said of what it lacks, as `told_text` gives it; nothing if it lacks nothing.
+    pub text: Option<String>,
+}
+
+/// Builds the index of a tree and writes its bytes, as `index_tree` does, and hands out all that it made. What
+/// is to be said of what the index lacks, explained where that is asked for, is made before the first write:
+/// after it nothing but a write fails.
 pub fn index_and_keep<'a, R: Threads + Wait, C: Chooses + Sync, G: Gate, W: Sink>(
     run: &Run<'_, R, G>,
     tree: &'a Tree,
     chooser: &C,
     settings: &Settings,
+    explain: bool,
     out: &mut W,
-) -> Result<BuiltParts<'a, Sequence<u8>>, Fault>
+) -> Result<KeptIndex<'a>, Fault>
     ensures indexed { MatchResult result
-        (λ built. Indexes W.contents W.failures (C.allows chooser.now) settings.now tree.now run.now.workers out.old out.new (Ok built.choices))
-        (λ fault. Indexes W.contents W.failures (C.allows chooser.now) settings.now tree.now run.now.workers out.old out.new (Err fault)) }
-    ensures navigable { IfOk result (λ built. WritesNavigable W.contents W.failures (C.allows chooser.now) settings.now tree.now built.choices out.old out.new) }
+        (λ kept. Indexes W.contents W.failures (C.allows chooser.now) settings.now tree.now run.now.workers out.old
+        out.new (Ok (recorded_of kept.built.choices kept.built.told)))
+        (λ fault. Indexes W.contents W.failures (C.allows chooser.now) settings.now tree.now run.now.workers out.old
+        out.new (Err fault)) }
+    ensures navigable { IfOk result (λ kept. WritesNavigable W.contents W.failures (C.allows chooser.now) settings.now
+        tree.now (recorded_of kept.built.choices kept.built.told) out.old out.new) }
     ensures files { IfErr result (HasFilesOf tree.now) }
+    ensures told { IfOk result (λ kept. HaveFilesOf tree.now kept.built.told) }
+    ensures said { IfOk result (λ kept.
+        IsTextOfLacks explain tree.now kept.built.told (option_map string_bytes kept.text)) }
 {
     headline_of_tree(chooser, tree, settings);
     let built = build_in_form(run, tree, chooser, settings, &AsBytes)?;
+    let text = text_of_lacks(run.alloc, tree, built.told.as_slice(), explain)?;
     write_spelled(run.alloc, &built.parts, out)?;
-    Ok(built)
+    Ok(KeptIndex { built, text })
 }
 
-/// Builds the index of a tree on workers, with the gate's calls round each file, and writes its bytes.
-/// What was chosen for each declaration comes back. By the index that they decode to, each query for
-/// definitions or references is exact, as `headline` says.
+/// Builds the index of a tree and writes its bytes, as `index_tree` does.
+fn index_and_record<R: Threads + Wait, C: Chooses + Sync, G: Gate, W: Sink>(
+    run: &Run<'_, R, G>,
+    tree: &Tree,
+    chooser: &C,
+    settings: &Settings,
+    out: &mut W,
+) -> Result<Recorded, Fault>
+    ensures indexed { Indexes W.contents W.failures (C.allows chooser.now) settings.now tree.now run.now.workers out.old
+        out.new result }
+    ensures navigable { IfOk result (λ recorded. WritesNavigable W.contents W.failures (C.allows chooser.now)
+        settings.now tree.now recorded out.old out.new) }
+    ensures files { IfErr result (HasFilesOf tree.now) }
+    ensures told { IfOk result (λ recorded. HaveFilesOf tree.now recorded.told) }
+{
+    let kept = index_and_keep(run, tree, chooser, settings, false, out)?;
+    let built = kept.built;
+    Ok(Recorded {
+        choices: built.choices,
+        told: built.told,
+    })
+}
+
+/// Builds the index of a tree on workers, with the gate's calls round each file, and writes its bytes. What
+/// was chosen for each declaration comes back, and what was left out. By the index that they decode to,
+/// each query for definitions or references is exact, as `headline` says.
 ///
 /// `Fault` says why there is none, and in which order. After every fault but `Write` nothing was
 /// written.
@@ -84,10 +130,13 @@ pub fn index_tree<R: Threads + Wait, C: Chooses + Sync, G: Gate, W: Sink>(
     settings: &Settings,
     gate: &G,
     out: &mut W,
-) -> Result<Choices, Fault>
-    ensures indexed { Indexes W.contents W.failures (C.allows chooser.now) settings.now tree.now workers out.old out.new result }
-    ensures navigable { IfOk result (λ choices. WritesNavigable W.contents W.failures (C.allows chooser.now) settings.now tree.now choices out.old out.new) }
+) -> Result<Recorded, Fault>
+    ensures indexed { Indexes W.contents W.failures (C.allows chooser.now) settings.now tree.now workers out.old out.new
+        result }
+    ensures navigable { IfOk result (λ recorded. WritesNavigable W.contents W.failures (C.allows chooser.now)
+        settings.now tree.now recorded out.old out.new) }
     ensures files { IfErr result (HasFilesOf tree.now) }
+    ensures told { IfOk result (λ recorded. HaveFilesOf tree.now recorded.told) }
 {
     let run = Run {
         rt,
@@ -95,6 +144,5 @@ pub fn index_tree<R: Threads + Wait, C: Chooses + Sync, G: Gate, W: Sink>(
         workers,
         gate,
     };
-    let built = index_and_keep(&run, tree, chooser, settings, out)?;
-    Ok(built.choices)
+    index_and_record(&run, tree, chooser, settings, out)
 }

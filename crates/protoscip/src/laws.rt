@@ -3,7 +3,8 @@
 
 ghost use Rattle.protoscip.specs.DumpLaws.{OneListing, ListedUnlessMemory};
 ghost use Rattle.protoscip.specs.Headline.{Headline, HeadlineOfTree};
-ghost use Rattle.protoscip.specs.IndexLaws.{OneReason, OneFileFault, IndexedHasNoFault, OneIndexing, OneIndexingHasNoFault};
+ghost use Rattle.protoscip.specs.IndexLaws.{OneReason, OneFileFault, IndexedHasNoFault, OneIndexing};
+ghost use Rattle.protoscip.specs.IndexLaws.{OneIndexingHasNoFault};
 ghost use Rattle.protoscip.specs.NameLaws.{LawsOfNames};
 ghost use Rattle.protoscip.specs.UseLaws.{EachUseHasATarget};
 
@@ -12,7 +13,8 @@ use index_hooks::Chooses;
 use proto_decl::{names_are_identifiers, prefixes_are_entities, scopes_are_known};
 use proto_link::one_declaration_a_name;
 use scip_build::{Settings, built_has_no_fault, file_faults_are_alike, one_build_fault, one_built};
-use scip_symbol::{files_are_without_clash, symbols_name_one_entity};
+use scip_document::symbols_name_one_entity_in_packages;
+use scip_symbol::files_are_without_clash;
 use source_tree::Tree;
 
 /// Two faults of a tree name the same, whatever was chosen.
@@ -67,7 +69,7 @@ pub fn laws_of_names()
     scopes_are_known();
     one_declaration_a_name();
     each_use_has_a_target();
-    symbols_name_one_entity();
+    symbols_name_one_entity_in_packages();
     files_are_without_clash();
 }
 
@@ -90,7 +92,7 @@ pub(crate) fn headline_of_tree<C: Chooses>(chooser: &C, tree: &Tree, settings: &
 {
     headline(chooser);
     tree.file_count();
-    settings.package.manager();
+    settings.package.run();
 }
 
 /// A source has one listing at most.

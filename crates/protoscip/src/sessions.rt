@@ -1,7 +1,7 @@
 //! From a tree to answers to commands about its index.
 
 ghost use Rattle.std.specs.Prelude.{IfErr, IfOk};
-ghost use Rattle.protoscip.specs.FaultLines.{HasFilesOf};
+ghost use Rattle.protoscip.specs.FaultLines.{HasFilesOf, HaveFilesOf};
 ghost use Rattle.protoscip.specs.Conversing.{Converses};
 ghost use Rattle.protoscip.specs.Headline.{AnswersNavigable};
 ghost use Rattle.protoscip.specs.Sessions.{Serves};
@@ -10,10 +10,10 @@ use crate::answering::answer_commands;
 use crate::fault::Fault;
 use crate::laws::headline_of_tree;
 use crate::reading_back::read_back;
+use crate::recorded::Recorded;
 use index_hooks::Chooses;
 use index_pool::{Gate, Workers};
 use scip_build::{Built, Settings, build};
-use scip_document::Choices;
 use scip_model::Index;
 use source_tree::Tree;
 use std::alloc::Global;
@@ -28,7 +28,8 @@ fn converse<F: Feed, W: Sink>(
     commands: &mut F,
     answers: &mut W,
 ) -> Result<(), Fault>
-    ensures { Converses F.remaining F.failures F.reads F.ends W.contents W.failures index commands.old commands.new answers.old answers.new result }
+    ensures { Converses F.remaining F.failures F.reads F.ends W.contents W.failures index commands.old commands.new
+        answers.old answers.new result }
 {
     let read = read_back(alloc, index)?;
     answer_commands(alloc, read, commands, answers)?;
@@ -37,7 +38,7 @@ fn converse<F: Feed, W: Sink>(
 
 /// Builds the index of a tree, as `index_tree` does, and answers commands about it, one a line, as
 /// `Queries::answer_all` does: from the index that its bytes decode to. What was chosen for each
-/// declaration comes back.
+/// declaration comes back, and what was left out, once all commands are answered.
 ///
 /// After `Read` the answers of the lines that had ended stand, after `Answer(count)` the first `count`
 /// bytes of what was due, and after `Memory` the answers of the commands before; after every other
@@ -52,13 +53,21 @@ pub fn session<R: Threads + Wait, C: Chooses + Sync, G: Gate, F: Feed, W: Sink>(
     gate: &G,
     commands: &mut F,
     answers: &mut W,
-) -> Result<Choices, Fault>
-    ensures served { Serves F.remaining F.failures F.reads F.ends W.contents W.failures (C.allows chooser.now) settings.now tree.now workers commands.old commands.new answers.old answers.new result }
-    ensures navigable { IfOk result (λ choices. AnswersNavigable F.remaining F.failures F.reads F.ends W.contents W.failures (C.allows chooser.now) settings.now tree.now choices commands.old commands.new answers.old answers.new) }
+) -> Result<Recorded, Fault>
+    ensures served { Serves F.remaining F.failures F.reads F.ends W.contents W.failures (C.allows chooser.now)
+        settings.now tree.now workers commands.old commands.new answers.old answers.new result }
+    ensures navigable { IfOk result (λ recorded. AnswersNavigable F.remaining F.failures F.reads F.ends W.contents
+        W.failures (C.allows chooser.now) settings.now tree.now recorded commands.old commands.new answers.old
+        answers.new) }
     ensures files { IfErr result (HasFilesOf tree.now) }
+    ensures told { IfOk result (λ recorded. HaveFilesOf tree.now recorded.told) }
 {
     headline_of_tree(chooser, tree, settings);
-    let Built { index, choices } = build(rt, alloc, tree, chooser, workers, settings, gate)?;
+    let Built {
+        index,
+        choices,
+        told,
+    } = build(rt, alloc, tree, chooser, workers, settings, gate)?;
     converse(alloc, index, commands, answers)?;
-    Ok(choices)
+    Ok(Recorded { choices, told })
 }

@@ -1,14 +1,15 @@
 //! What several tests share.
 
-ghost use Rattle.protoscip.specs.FaultLines.{HasFilesOf};
+ghost use Rattle.protoscip.specs.FaultLines.{HasFilesOf, HaveFilesOf};
 
 use crate::faulty_streams::Failing;
-use index_hooks::Chooses;
+use index_hooks::Registry;
 use index_pool::{NoGate, Workers};
 use proto_lex::Encoding;
 use proto_parse::CustomOptions;
-use protoscip::{Fault, fault_line, index_tree};
-use scip_build::Settings;
+use protoscip::{Fault, fault_line, index_tree, told_text};
+use scip_build::{BuildFault, Faulty, Settings};
+use scip_document::FilePackages;
 use scip_symbol::PackageId;
 use sequences::OwnedText;
 use source_tree::{Source, Tree, TreeFault};
@@ -87,11 +88,13 @@ pub(crate) fn given_of(
     encoding: Encoding,
 ) -> Result<Given, AllocError> {
     let parts = [String::new(alloc), String::new(alloc), String::new(alloc)];
+    let id = PackageId::new(parts).ok().expect(rt, "good parts");
     let settings = Settings {
         project_root: OwnedText::copy_of(alloc, "file:///")?,
-        package: PackageId::new(parts).ok().expect(rt, "good parts"),
+        package: FilePackages::of_run(alloc, id),
         encoding,
         custom_options: CustomOptions::Refuse,
+        faulty: Faulty::Refuse,
     };
     let tree = tree_of(rt, alloc, files)?;
     Ok(Given { tree, settings })
@@ -124,57 +127,71 @@ pub(crate) fn said(
     Ok(Some((line, status)))
 }
 
-/// Whether this line is said, with status 1.
-pub(crate) fn is_said(answer: Option<(String, u8)>, line: &str) -> bool {
+/// Whether this is said, with this status.
+pub(crate) fn is_said(answer: Option<(String, u8)>, text: &str, status: u8) -> bool {
     match answer {
-        Some((said, status)) => said.as_str() == line && status == 1,
+        Some((said, its)) => said.as_str() == text && its == status,
         None => false,
     }
 }
 
-/// What one call of `index_tree` answers: nothing, or the line and the status of its fault.
-fn indexed_once<R: Threads + Wait, C: Chooses + Sync>(
+/// What is said of an index that was written, with status 0; none where it lacks nothing.
+fn said_of_index(
+    alloc: Global,
+    tree: &Tree,
+    told: &[BuildFault],
+) -> Result<Option<(String, u8)>, AllocError>
+    requires { HaveFilesOf tree.now told.now }
+{
+    if told.is_empty() {
+        return Ok(None);
+    }
+    Ok(Some((told_text(alloc, tree, told, false)?, 0)))
+}
+
+/// What one call of `index_tree` has to say.
+fn indexed_once<R: Threads + Wait>(
     rt: &R,
     alloc: Global,
-    chooser: &C,
+    registry: &Registry,
     given: &Given,
     workers: Workers,
     out: &mut Std<Failing>,
 ) -> Result<Option<(String, u8)>, AllocError> {
     let (tree, settings) = (&given.tree, &given.settings);
-    match index_tree(rt, alloc, tree, chooser, workers, settings, &NoGate, out) {
-        Ok(_) => Ok(None),
+    match index_tree(rt, alloc, tree, registry, workers, settings, &NoGate, out) {
+        Ok(recorded) => said_of_index(alloc, tree, recorded.told.as_slice()),
         Err(fault) => said(alloc, tree, &fault),
     }
 }
 
-/// What `index_tree` answers. After want of memory or of a thread, when nothing may be written, it is
-/// called again, and the second answer counts.
-pub(crate) fn indexed<R: Threads + Wait, C: Chooses + Sync>(
+/// What `index_tree` has to say: nothing, or what the index lacks, with status 0, or the line and the status of
+/// the fault. After want of memory or of a thread it is called again, and the second answer counts.
+pub(crate) fn indexed<R: Threads + Wait>(
     rt: &R,
     alloc: Global,
-    chooser: &C,
+    registry: &Registry,
     given: &Given,
     workers: Workers,
     out: &mut Std<Failing>,
 ) -> Result<Option<(String, u8)>, AllocError> {
-    match indexed_once(rt, alloc, chooser, given, workers, out) {
+    match indexed_once(rt, alloc, registry, given, workers, out) {
         Ok(answer) => Ok(answer),
-        Err(_) => indexed_once(rt, alloc, chooser, given, workers, out),
+        Err(_) => indexed_once(rt, alloc, registry, given, workers, out),
     }
 }
 
 /// Whether these bytes are what `index_tree` writes.
-pub(crate) fn is_indexed<R: Threads + Wait, C: Chooses + Sync>(
+pub(crate) fn is_indexed<R: Threads + Wait>(
     rt: &R,
     alloc: Global,
-    chooser: &C,
+    registry: &Registry,
     given: &Given,
     workers: Workers,
     due: &[u8],
 ) -> Result<bool, AllocError> {
     let mut out = writer(alloc, due.len())?;
-    let is_ok = indexed(rt, alloc, chooser, given, workers, &mut out)?.is_none();
+    let is_ok = indexed(rt, alloc, registry, given, workers, &mut out)?.is_none();
     Ok(is_ok && out.into_inner().bytes.as_slice() == due)
 }
 

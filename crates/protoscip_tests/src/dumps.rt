@@ -147,7 +147,7 @@ fn see_refused<R: Threads + Wait + Abort>(
         Ok(answer) => answer,
         Err(_) => refused_once(rt, alloc, source, &mut out)?,
     };
-    see(rt, is_said(answer, line), line);
+    see(rt, is_said(answer, line, 1), line);
     Ok(())
 }
 

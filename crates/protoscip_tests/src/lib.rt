@@ -8,8 +8,6 @@ mod dumps;
 #[cfg(test)]
 mod faulty_streams;
 #[cfg(test)]
-mod hooks;
-#[cfg(test)]
 mod indexes;
 #[cfg(test)]
 mod laws;

@@ -21,19 +21,21 @@ use Rattle.proto_visibility.specs.declared.fault.LinkFault.TheVariants as link
 use Rattle.scip_document.specs.Conditions.{IsResolved, AllResolve, IsFirstUnresolved}
 use Rattle.scip_document.specs.Uses.{UsesResolve}
 use Rattle.source_tree.specs.Files.{TreeFile}
+use Rattle.scip_build.specs.declared.faulty.Faulty.{Faulty}
+use Rattle.scip_build.specs.declared.faulty.Faulty.TheVariants.{Refuse}
 use Rattle.scip_build.specs.declared.fault.FileFault.{FileFault}
 use Rattle.scip_build.specs.declared.fault.BuildFault.{BuildFault}
 use Rattle.scip_build.specs.declared.fault.BuildFault.TheVariants as build
 use Rattle.scip_build.specs.Parsed.{IsUnreadable}
 use Rattle.scip_build.specs.Files.{FileContents}
-use Rattle.scip_build.specs.Readings.{HasContents, IsFirstFaulty}
+use Rattle.scip_build.specs.Readings.{HasContents, AreReadingsOf, IsFirstFaulty}
 use Rattle.scip_build.specs.Linking.{linked_files}
 use Rattle.scip_build.specs.Documents.{IsLeastUnresolved}
 use Rattle.scip_build.specs.Builds.{OfReadings, IsBuildFault}
 use Rattle.scip_build.specs.Laws.{FaultsAreAlike, OneFirstFaulty, OneLinking, NoReadingsWhereFaulty}
 use Rattle.scip_build.specs.BuildLaws.{cause_of, BuiltHasNoFault, OneBuildFault, FileFaultsAreAlike}
 use Rattle.scip_build.proofs.ReadingLemmas.{at_number}
-use Rattle.scip_build.proofs.ReadyLemmas.{have_origins}
+use Rattle.scip_build.proofs.ReadyLemmas.{whole_at, have_origins}
 
 in_middle : {X : Type 0} (before : List X) (x : X) (behind : List X) → Contains (before ++ x ∷ behind) x
 in_middle before x behind =
@@ -140,33 +142,43 @@ Reason custom allows tree cause =
     ((number : ℕ) × (fault : FileFault) × (cause ≡ link.Broken number) × IsFirstFaulty custom tree number fault)
     ⊎ OfReadings custom allows tree (λ readings. Refuses (linked_files readings) cause)
 
-reason : (custom : CustomOptions) (allows : Seen → Choice → Type 0) (tree : List TreeFile) (workers : ℕ)
-    (fault : BuildFault) → IsBuildFault allows custom tree workers fault
-    → cause_of fault ≢ link.Memory → Reason custom allows tree (cause_of fault)
-reason custom allows tree workers build.Spawn is not = absurd (not refl)
-reason custom allows tree workers build.Memory is not = absurd (not refl)
-reason custom allows tree workers (build.File number fault) (inl first) not = inl (number, fault, refl, first)
-reason custom allows tree workers (build.File number fault) (inr later) not = inr (later.0, later.1, inl later.2.0)
-reason custom allows tree workers (build.Duplicate first second) is not = inr (is.0, is.1, inl is.2)
-reason custom allows tree workers (build.MissingImport place) is not = inr (is.0, is.1, inl is.2)
-reason custom allows tree workers (build.Unresolved place) is not = inr (is.0, is.1, inr (is.2.0, place, refl, is.2.1))
+reason : (faulty : Faulty) (custom : CustomOptions) (allows : Seen → Choice → Type 0) (tree : List TreeFile)
+    (workers : ℕ) (fault : BuildFault) → IsBuildFault allows faulty custom tree workers fault
+    → cause_of fault ≢ link.Memory → (faulty ≡ Refuse) × Reason custom allows tree (cause_of fault)
+reason faulty custom allows tree workers build.Spawn is not = absurd (not refl)
+reason faulty custom allows tree workers build.Memory is not = absurd (not refl)
+reason faulty custom allows tree workers (build.File number fault) (refuse, inl first) not =
+    (refuse, inl (number, fault, refl, first))
+reason faulty custom allows tree workers (build.File number fault) (refuse, inr later) not =
+    (refuse, inr (later.0, later.1, inl later.2.0))
+reason faulty custom allows tree workers (build.Duplicate first second) (refuse, is) not =
+    (refuse, inr (is.0, is.1, inl is.2))
+reason faulty custom allows tree workers (build.MissingImport place) (refuse, is) not =
+    (refuse, inr (is.0, is.1, inl is.2))
+reason faulty custom allows tree workers (build.Unresolved place) (refuse, is) not =
+    (refuse, inr (is.0, is.1, inr (is.2.0, place, refl, is.2.1)))
 
 module _ (allows others : Seen → Choice → Type 0) (one_linking : OneLinking allows others)
     (none : NoReadingsWhereFaulty allows) (none_others : NoReadingsWhereFaulty others) where
   pub built_has_no_fault : BuiltHasNoFault allows others
   built_has_no_fault settings tree workers built fault is wrong not =
-      elim (reason settings.custom_options others tree workers fault wrong not) [
-        | inl first ↦ none settings.custom_options tree is.readings first.0 first.1 is.read first.3
+      let why = reason settings.faulty settings.custom_options others tree workers fault wrong not in
+      let Read : Faulty → Type 0 = λ f. AreReadingsOf f settings.custom_options allows tree is.all in
+      let read : Read Refuse = subst Read why.0 is.read in
+      let good = is.of_files.refused why.0 in
+      elim why.1 [
+        | inl first ↦ none settings.custom_options tree is.all first.0 first.1 read first.3
         | inr later ↦ (
             let Here : List File → Type 0 = λ files. Refuses files (cause_of fault) in
-            let here = subst Here (sym (one_linking settings.custom_options tree is.readings later.0 is.read later.1))
-            later.2 in
-            none_refuses (linked_files is.readings) is.linked is.resolved (cause_of fault) here not)
+            let here = subst Here (sym
+            (one_linking Refuse Refuse settings.custom_options tree is.all later.0 read later.1)) later.2 in
+            none_refuses (linked_files is.all) good.linked good.resolved (cause_of fault) here not)
       ]
 
   pub one_build_fault : OneFirstFaulty → OneRefusal → OneBuildFault allows others
-  one_build_fault one_first one_refusal custom tree workers more fault other is also not nor =
-      both (reason custom allows tree workers fault is not) (reason custom others tree more other also nor)
+  one_build_fault one_first one_refusal faulty custom tree workers more fault other is also not nor =
+      both (reason faulty custom allows tree workers fault is not).1
+      (reason faulty custom others tree more other also nor).1
     where
       both : Reason custom allows tree (cause_of fault) → Reason custom others tree (cause_of other)
           → cause_of fault ≡ cause_of other
@@ -175,9 +187,9 @@ module _ (allows others : Seen → Choice → Type 0) (one_linking : OneLinking 
       both (inr a) (inl b) = absurd (none custom tree a.0 b.0 b.1 a.1 b.3)
       both (inr a) (inr b) =
           let Here : List File → Type 0 = λ files. Refuses files (cause_of other) in
-          let here = subst Here (sym (one_linking custom tree a.0 b.0 a.1 b.1)) b.2 in
-          one_cause (linked_files a.0) one_refusal (have_origins custom allows tree a.0 a.1) (cause_of fault)
-          (cause_of other) a.2 here not nor
+          let here = subst Here (sym (one_linking Refuse Refuse custom tree a.0 b.0 a.1 b.1)) b.2 in
+          let origins = have_origins a.0 (whole_at Refuse custom allows tree a.0 a.1) in
+          one_cause (linked_files a.0) one_refusal origins (cause_of fault) (cause_of other) a.2 here not nor
 
 -- the file that is named can't be read, for the fault that is told
 record IsNamed (custom : CustomOptions) (tree : List TreeFile) (number : ℕ) (fault : FileFault) : Type 0 where
@@ -185,24 +197,24 @@ record IsNamed (custom : CustomOptions) (tree : List TreeFile) (number : ℕ) (f
   numbered : slice_get tree number ≡ Some file
   unreadable : IsUnreadable custom file.bytes fault
 
-named : (custom : CustomOptions) (allows : Seen → Choice → Type 0) (tree : List TreeFile) (workers number : ℕ)
-    (fault : FileFault)
-    → IsBuildFault allows custom tree workers (build.File number fault) → IsNamed custom tree number fault
-named custom allows tree workers number fault (inl first) =
+named : (faulty : Faulty) (custom : CustomOptions) (allows : Seen → Choice → Type 0) (tree : List TreeFile)
+    (workers number : ℕ) (fault : FileFault)
+    → IsBuildFault allows faulty custom tree workers (build.File number fault) → IsNamed custom tree number fault
+named faulty custom allows tree workers number fault (refuse, inl first) =
     record { file = first.file; numbered = first.numbered; unreadable = first.faulty.unreadable }
-named custom allows tree workers number fault (inr later) =
+named faulty custom allows tree workers number fault (refuse, inr later) =
     let has = later.2.1 in
     let within : number < length tree =
     rw (sym later.1.one_each) (slice_get_within later.0 number has.reading has.numbered) in
     let there = at_number tree number within in
-    let Contents : Result FileContents FileFault → Type 0 = HasContents custom allows number there.0 in
+    let Contents : Result FileContents FileFault → Type 0 = HasContents Refuse custom allows number there.0 in
     let contents = subst Contents has.unread (later.1.each number there.0 has.reading there.1 has.numbered).contents in
     record { file = there.0; numbered = there.1; unreadable = contents.1 }
 
 pub file_faults_are_alike : FaultsAreAlike → (allows others : Seen → Choice → Type 0) → FileFaultsAreAlike allows others
-file_faults_are_alike alike allows others custom tree workers more number fault other is also =
-    let first = named custom allows tree workers number fault is in
-    let second = named custom others tree more number other also in
+file_faults_are_alike alike allows others faulty custom tree workers more number fault other is also =
+    let first = named faulty custom allows tree workers number fault is in
+    let second = named faulty custom others tree more number other also in
     let same : first.file ≡ second.file = same_Some first.file second.file (sym first.numbered ∙ second.numbered) in
     let Of : TreeFile → Type 0 = λ file. IsUnreadable custom file.bytes other in
     alike custom first.file.bytes fault other first.unreadable (subst Of (sym same) second.unreadable)

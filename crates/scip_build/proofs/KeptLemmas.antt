@@ -1,26 +1,39 @@
 -- What is kept of documents, in a form.
-use Rattle.std.proofs.Common.{◌≡◌, ◌∙◌, ℕ, zero, suc, List, [], ◌∷◌, length, Some, Result, Ok, Err, refl, ap, subst}
-use Rattle.std.specs.Prelude.{MatchResult}
-use Rattle.std.specs.List.{AllZip, slice_get, each_same}
+use Rattle.std.proofs.Common.{◌≡◌, ◌∙◌, ℕ, ◌+◌, zero, suc, List, [], ◌∷◌, length, map, Some, refl, ap, sym, subst}
+use Rattle.std.proofs.Common.{arith}
+use Rattle.std.specs.List.{AllZip, Contains, slice_get, each_same}
 use Rattle.std.proofs.lemmas.Option.{same_Some, none-some}
 use Rattle.proto_lex.specs.declared.position.Encoding.{Encoding}
-use Rattle.proto_visibility.specs.Files.{File}
+use Rattle.proto_lex.specs.declared.span.Span.{Span}
+use Rattle.proto_visibility.specs.declared.place.FilePlace.{FilePlace}
+use Rattle.proto_visibility.specs.Files.{File, IsSource}
+use Rattle.proto_visibility.specs.Linked.{HaveClearNames}
 use Rattle.index_pool.specs.Phase.{AnswersEach, IsLeastFault}
 use Rattle.scip_model.specs.declared.records.Document.{Document}
 use Rattle.scip_model.specs.declared.records.Index.{Index}
-use Rattle.scip_symbol.specs.Package.{Package}
+use Rattle.scip_document.specs.Packages.{Packages}
 use Rattle.scip_document.specs.Chosen.{Chosen}
+use Rattle.scip_document.specs.Conditions.{AllResolve}
+use Rattle.scip_document.specs.Indexes.{metadata_of, AreExternals}
 use Rattle.scip_document.specs.Laws.{OneDocument}
+use Rattle.scip_document.specs.declared.source_document.SourceDocument.{SourceDocument}
+use Rattle.scip_build.specs.declared.faulty.Faulty.{Faulty}
+use Rattle.scip_build.specs.declared.faulty.Faulty.TheVariants.{Refuse}
 use Rattle.scip_build.specs.declared.fault.BuildFault.{BuildFault}
-use Rattle.scip_build.specs.declared.fault.BuildFault.TheVariants as build
+use Rattle.scip_build.specs.declared.made.MadeDocument.{MadeDocument}
+use Rattle.scip_build.specs.declared.made.Made.{Made}
 use Rattle.scip_build.specs.declared.parts.Parts.{Parts}
 use Rattle.scip_build.specs.declared.settings.Settings.{Settings}
 use Rattle.scip_build.specs.Files.{ReadFile}
-use Rattle.scip_build.specs.Documents.{AreReady, IsDocumentAt, GivesDocument, MayRefuseDocuments, IsLeastUnresolved}
-use Rattle.scip_build.specs.Linking.{AreLinked}
-use Rattle.scip_build.specs.Making.{MayRefuseMaking}
-use Rattle.scip_build.specs.Forms.{index_of, ArePartsOf, GivesKept, AreKept, IsMadeInForm, IsLinkedInForm}
-use Rattle.scip_build.proofs.DocumentLemmas.{documents_of, refused_of}
+use Rattle.scip_build.specs.Documents.{AreReady, IsDocumentAt, GivesDocument, AllAreDecided, IsUnresolvedAt}
+use Rattle.scip_build.specs.Documents.{MayRefuseDocuments}
+use Rattle.scip_build.specs.Documents.{texts_of}
+use Rattle.scip_build.specs.Linking.{linked_files, choices_of}
+use Rattle.scip_build.specs.Making.{IsMade}
+use Rattle.scip_build.specs.Forms.{index_of, ArePartsOf, GivesKept, AreMade, IsMadeInForm, IsMadeOf}
+use Rattle.scip_build.specs.Made.{place_in, gaps_from}
+use Rattle.scip_build.proofs.DocumentLemmas.{document_in, made_at, is_source_at, list_of, each_of, resolves, refused_of}
+use Rattle.scip_build.proofs.GapLemmas.{use_decided, unresolved_at, gap_listed, place_at, listed_from, none_from}
 
 -- ---- where something is kept of what stands in each place, it is kept of a list
 
@@ -58,51 +71,179 @@ module _ {A Out : Type 0} (Is : A → Out → Type 0) where
 
 -- ---- what the second phase answers
 
-module _ {Out : Type 0} (Is : Document → Out → Type 0) (readings : List ReadFile) (files : List File) (chosen : Chosen)
-    (id : Package) (encoding : Encoding) (count : ℕ)
+module _ {Out : Type 0} (Is : Document → Out → Type 0) where
+  -- a document of which this is kept, with its uses that name no type
+  record IsMadeFrom (document : SourceDocument) (out : MadeDocument Out) : Type 0 where
+    pub kept : Is document.document out.kept
+    pub gaps : out.unresolved ≡ document.unresolved
+
+  abbrev kept_in : MadeDocument Out → Out
+  kept_in out = out.kept
+
+  each_kept : (made : List SourceDocument) (outs : List (MadeDocument Out)) → AllZip IsMadeFrom made outs
+      → AllZip Is (map document_in made) (map kept_in outs)
+  each_kept [] [] all = tt
+  each_kept [] (out ∷ outs) all = absurd all
+  each_kept (m ∷ made) [] all = absurd all
+  each_kept (m ∷ made) (out ∷ outs) all = (all.0.kept, each_kept made outs all.1)
+
+  -- what an out has beside it
+  from_zip : (made : List SourceDocument) (outs : List (MadeDocument Out)) → AllZip IsMadeFrom made outs
+      → (k : ℕ) (out : MadeDocument Out) → slice_get outs k ≡ Some out
+      → (m : SourceDocument) × (slice_get made k ≡ Some m) × IsMadeFrom m out
+  from_zip [] [] all k out at = absurd (none-some out at)
+  from_zip [] (o ∷ outs) all k out at = absurd all
+  from_zip (m ∷ made) [] all k out at = absurd all
+  from_zip (m ∷ made) (o ∷ outs) all zero out at = (m, refl, subst (IsMadeFrom m) (same_Some o out at) all.0)
+  from_zip (m ∷ made) (o ∷ outs) all (suc k) out at = from_zip made outs all.1 k out at
+
+  to_zip : (made : List SourceDocument) (outs : List (MadeDocument Out)) → AllZip IsMadeFrom made outs
+      → (k : ℕ) (m : SourceDocument) → slice_get made k ≡ Some m
+      → (out : MadeDocument Out) × (slice_get outs k ≡ Some out) × IsMadeFrom m out
+  to_zip [] [] all k m at = absurd (none-some m at)
+  to_zip [] (o ∷ outs) all k m at = absurd all
+  to_zip (x ∷ made) [] all k m at = absurd all
+  to_zip (x ∷ made) (o ∷ outs) all zero m at =
+      (o, refl, subst (λ (y : SourceDocument). IsMadeFrom y o) (same_Some x m at) all.0)
+  to_zip (x ∷ made) (o ∷ outs) all (suc k) m at = to_zip made outs all.1 k m at
+
+module _ {Out : Type 0} (Is : Document → Out → Type 0) (faulty : Faulty) (readings : List ReadFile) (files : List File)
+    (chosen : Chosen) (ids : Packages) (encoding : Encoding) (count : ℕ)
     (ready : AreReady readings files chosen count) where
-  pub kept_of : OneDocument → (outs : List Out)
-      → AnswersEach (GivesKept Is readings files chosen id encoding) count outs
-      → AreKept Is readings files chosen id encoding outs
+  abbrev At : ℕ → SourceDocument → Type 0
+  At = IsDocumentAt faulty readings files chosen ids encoding
+
+  module _ (made : List SourceDocument) (outs : List (MadeDocument Out)) (zip : AllZip (IsMadeFrom Is) made outs)
+      (sourced : (number : ℕ) (m : SourceDocument) → slice_get made number ≡ Some m → IsSource files number)
+      (each : (number : ℕ) (m : SourceDocument) → slice_get made number ≡ Some m → At number m)
+      (made_at : (number : ℕ) → IsSource files number
+      → (m : SourceDocument) × (slice_get made number ≡ Some m) × At number m) where
+    decide : AllAreDecided files
+    decide source facts type_use is known listed =
+        let there = made_at source is in
+        use_decided files source there.0.unresolved there.2.gaps facts type_use known listed
+
+    gap_there : (place : FilePlace) → Contains (gaps_from 0 outs) place → IsUnresolvedAt files place
+    gap_there place there =
+        let of = place_at 0 outs place there in
+        let m = from_zip Is made outs zip of.number of.document of.numbered in
+        let listed : Contains m.0.unresolved place.span =
+        subst (λ (spans : List Span). Contains spans place.span) m.2.gaps of.listed in
+        let is = unresolved_at files of.number m.0.unresolved (each of.number m.0 m.1).gaps
+        (sourced of.number m.0 m.1) place.span listed in
+        let file : of.number ≡ place.file = let e = of.file in omega (arith, e) in
+        let same : place_in of.number place.span ≡ place = ap (λ n. place_in n place.span) file in
+        subst (IsUnresolvedAt files) same is
+
+    gap_back : (place : FilePlace) → IsUnresolvedAt files place → Contains (gaps_from 0 outs) place
+    gap_back place is =
+        let there = made_at place.file is.source in
+        let out = to_zip Is made outs zip place.file there.0 there.1 in
+        let listed : Contains there.0.unresolved place.span =
+        subst (Contains there.0.unresolved) is.stands
+        (gap_listed files place.file there.0.unresolved there.2.gaps is.facts is.type_use is.known is.listed
+        is.unresolved) in
+        let kept : Contains out.0.unresolved place.span =
+        subst (λ (spans : List Span). Contains spans place.span) (sym out.2.gaps) listed in
+        let file : 0 + place.file ≡ place.file = omega arith in
+        let same : place_in (0 + place.file) place.span ≡ place = ap (λ n. place_in n place.span) file in
+        subst (Contains (gaps_from 0 outs)) same (listed_from 0 outs place.file out.0 out.1 place.span kept)
+
+    none_refused : faulty ≡ Refuse → AllResolve files × (gaps_from 0 outs ≡ [])
+    none_refused refuse = (
+      λ source facts type_use is known listed.
+          let there = made_at source is in
+          resolves faulty readings files chosen ids encoding count ready source there.0 there.2 refuse facts type_use
+          known listed,
+      none_from 0 outs (λ number out at.
+          let m = from_zip Is made outs zip number out at in
+          m.2.gaps ∙ (each number m.0 m.1).refused refuse),
+    )
+
+  pub kept_of : OneDocument → (outs : List (MadeDocument Out))
+      → AnswersEach (GivesKept Is faulty readings files chosen ids encoding) count outs
+      → AreMade Is faulty readings files chosen ids encoding outs
   kept_of one outs answers =
-      let of = kept_of_list Is (IsDocumentAt readings files chosen id encoding) outs
-      (λ k out at. let kept = answers.1 k out at in record { item = kept.document; at = kept.made; kept = kept.kept })
-      in
-      let made : AnswersEach (GivesDocument readings files chosen id encoding) count of.items =
-      (of.count ∙ answers.0, of.each) in
+      let of = kept_of_list (IsMadeFrom Is) At outs
+      (λ k out at. let kept = answers.1 k out at in
       record {
-        documents = of.items;
-        made = documents_of readings files chosen id encoding count ready one of.items made;
-        kept = of.kept;
+        item = kept.document;
+        at = kept.made;
+        kept = record { kept = kept.kept; gaps = kept.gaps };
+      }) in
+      let made : AnswersEach (GivesDocument faulty readings files chosen ids encoding) count of.items =
+      (of.count ∙ answers.0, of.each) in
+      let sourced = is_source_at faulty readings files chosen ids encoding count ready one of.items made in
+      let made_there = made_at faulty readings files chosen ids encoding count ready one of.items made in
+      record {
+        documents = map document_in of.items;
+        made = record {
+          decided = decide of.items outs of.kept sourced of.each made_there;
+          unresolved = λ place. (
+            gap_there of.items outs of.kept sourced of.each made_there place,
+            gap_back of.items outs of.kept sourced of.each made_there place,
+          );
+          refused = none_refused of.items outs of.kept sourced of.each made_there;
+          list = list_of faulty readings files chosen ids encoding count ready one of.items made;
+          each = each_of faulty readings files chosen ids encoding count ready one of.items made;
+        };
+        kept = each_kept Is of.items outs of.kept;
       }
 
   pub not_kept_of : (workers number : ℕ) (fault : BuildFault)
-      → IsLeastFault (GivesKept Is readings files chosen id encoding) count number fault
-      → MayRefuseDocuments files workers fault
+      → IsLeastFault (GivesKept Is faulty readings files chosen ids encoding) count number fault
+      → MayRefuseDocuments faulty files workers fault
   not_kept_of workers number fault least =
-      let made : IsLeastFault (GivesDocument readings files chosen id encoding) count number fault =
+      let made : IsLeastFault (GivesDocument faulty readings files chosen ids encoding) count number fault =
       (least.0, least.1, λ lesser less. let of = least.2 lesser less in (of.1.document, of.1.made)) in
-      refused_of readings files chosen id encoding count ready workers number fault made
+      refused_of faulty readings files chosen ids encoding count ready workers number fault made
 
--- ---- files that were linked
+-- ---- the parts of an index
 
-pub linked_of : {Out : Type 0} (Is : Document → Out → Type 0) (readings : List ReadFile) (chosen : Chosen)
-    (settings : Settings) (workers : ℕ) (files : List File) → AreLinked readings files
-    → (result : Result (Parts Out) BuildFault)
-    → MatchResult result (IsMadeInForm Is readings files chosen settings) (MayRefuseDocuments files workers)
-    → MatchResult result (IsLinkedInForm Is readings chosen settings) (MayRefuseMaking readings workers)
-linked_of Is readings chosen settings workers files linked (Ok parts) made =
-    let Made : List File → Type 0 = λ fs. IsMadeInForm Is readings fs chosen settings parts in
-    let here = subst Made linked.0 made in
-    record { index = here.index; made = record { linked = linked.1; made = here.made }; are = here.are }
-linked_of Is readings chosen settings workers files linked (Err build.Spawn) refused = refused
-linked_of Is readings chosen settings workers files linked (Err build.Memory) refused = tt
-linked_of Is readings chosen settings workers files linked (Err (build.File number fault)) refused = absurd refused
-linked_of Is readings chosen settings workers files linked (Err (build.Duplicate first second)) refused = absurd refused
-linked_of Is readings chosen settings workers files linked (Err (build.MissingImport place)) refused = absurd refused
-linked_of Is readings chosen settings workers files linked (Err (build.Unresolved place)) refused =
-    let Least : List File → Type 0 = λ fs. IsLeastUnresolved fs place in
-    (linked.1, subst Least linked.0 refused)
+pub parts_of : {Out : Type 0} (Is : Document → Out → Type 0) (readings : List ReadFile) (files : List File)
+    (chosen : Chosen) (settings : Settings) (outs : List (MadeDocument Out)) (parts : Parts Out) (gaps : List FilePlace)
+    → AreMade Is settings.faulty readings files chosen settings.package settings.encoding outs
+    → length (texts_of readings) ≡ length files → parts.metadata ≡ Some (metadata_of settings.project_root)
+    → parts.documents ≡ map (λ (out : MadeDocument Out). out.kept) outs
+    → AreExternals files chosen settings.package parts.external_symbols → gaps ≡ gaps_from 0 outs
+    → IsMadeInForm Is readings files chosen settings parts gaps
+parts_of {Out} Is readings files chosen settings outs parts gaps are texts metadata documents externals places =
+    let index : Index = record {
+      metadata = Some (metadata_of settings.project_root);
+      documents = are.documents;
+      external_symbols = parts.external_symbols;
+    } in
+    let made : IsMade readings files chosen settings index (gaps_from 0 outs) = record {
+      decided = are.made.decided;
+      unresolved = are.made.unresolved;
+      refused = are.made.refused;
+      is = record {
+        metadata_is = refl;
+        one_text_each = texts;
+        documents = are.made.list;
+        each = are.made.each;
+        externals = externals;
+      };
+    } in
+    let Kept : List Out → Type 0 = λ kept. AllZip Is are.documents kept in
+    record {
+      index = index;
+      made = subst (IsMade readings files chosen settings index) (sym places) made;
+      are = record {
+        metadata = metadata;
+        documents = subst Kept (sym documents) are.kept;
+        external_symbols = refl;
+      };
+    }
+
+-- of files that were linked
+pub in_form_of : {Out : Type 0} (Is : Document → Out → Type 0) (readings : List ReadFile) (files : List File)
+    (settings : Settings) (made : Made Out) → files ≡ linked_files readings → HaveClearNames files
+    → made.choices ≡ map choices_of readings
+    → IsMadeInForm Is readings files made.choices settings made.parts made.gaps → IsMadeOf Is readings settings made
+in_form_of Is readings files settings made linked clear choices is =
+    let In : List File → Type 0 = λ fs. IsMadeInForm Is readings fs made.choices settings made.parts made.gaps in
+    record { clear = subst HaveClearNames linked clear; choices = choices; in_form = subst In linked is }
 
 -- ---- where the documents are kept as they are, the parts are the index
 

@@ -10,7 +10,15 @@ mod ReadingLemmas
 mod PlaceLemmas
 mod ReadyLemmas
 mod DocumentLemmas
+mod GapLemmas
 mod KeptLemmas
+-- what is kept of a tree, and what is told of the rest
+mod KeptTreeLemmas
+mod AddLemmas
+mod ToldLemmas
+mod GoodTreeLemmas
+mod KeptUseLemmas
+mod BuiltLemmas
 -- a refusal of a stage is one of the whole
 mod RefusalLemmas
 -- the laws of what is built

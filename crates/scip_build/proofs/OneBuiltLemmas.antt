@@ -1,12 +1,28 @@
 -- Where one choice alone may come for what is seen, what is built is one.
-use Rattle.std.proofs.Common.{◌≡◌, ◌∙◌, ℕ, ◌<◌, List, [], ◌∷◌, length, map, Some, Result, Ok, Err, sym, refl, subst}
-use Rattle.std.specs.List.{slice_get}
-use Rattle.std.proofs.lemmas.Option.{slice_get_within}
+use Rattle.std.proofs.Common.{◌≡◌, ◌∙◌, ℕ, ◌<◌, List, [], ◌∷◌, length, map, Option, Some, None, Result, Ok, Err, ap}
+use Rattle.std.proofs.Common.{sym}
+use Rattle.std.proofs.Common.{refl, subst}
+use Rattle.std.specs.declared.cmp.Ordering.{Ordering}
+use Rattle.std.specs.declared.cmp.Ordering.TheVariants.{Less}
+use Rattle.std.specs.Ordering.{on}
+use Rattle.std.specs.List.{AllByRecursion, Contains, slice_get}
+use Rattle.std.specs.List.Sorted.{IsStrictlySortedBy}
+use Rattle.std.specs.Option.{option_map}
+use Rattle.std.proofs.lemmas.List.{length-map}
+use Rattle.std.proofs.lemmas.Option.{same_Some, slice_get-map, slice_get_within}
 use Rattle.proto_parse.specs.tree.CustomOptions.{CustomOptions}
 use Rattle.proto_decl.specs.Facts.{Facts}
 use Rattle.proto_decl.specs.Seen.{Seen}
 use Rattle.proto_decl.specs.declared.declaration.Declaration.{Declaration}
+use Rattle.proto_lex.specs.declared.position.Encoding.{Encoding}
+use Rattle.proto_visibility.specs.declared.place.FilePlace.{FilePlace}
+use Rattle.proto_visibility.specs.declared.fault.LinkFault.{LinkFault}
+use Rattle.proto_visibility.specs.declared.fault.LinkFault.TheVariants as link
 use Rattle.proto_visibility.specs.Files.{File}
+use Rattle.proto_visibility.specs.Absences.{IsUnread, IsMissing}
+use Rattle.proto_visibility.specs.Kept.{Omissions, IsOmission, AreOmissions, kept_of}
+use Rattle.proto_link.specs.Laws.{OneOmissionList}
+use Rattle.scip_document.specs.Packages.{Packages}
 use Rattle.index_hooks.specs.declared.choice.Choice.{Choice}
 use Rattle.scip_document.specs.Chosen.{Chosen}
 use Rattle.scip_document.specs.Indexes.{IsIndexOf}
@@ -14,97 +30,382 @@ use Rattle.scip_document.specs.Laws.{OneIndex}
 use Rattle.source_tree.specs.Files.{TreeFile}
 use Rattle.scip_build.specs.declared.settings.Settings.{Settings}
 use Rattle.scip_build.specs.declared.built.Built.{Built}
+use Rattle.scip_build.specs.declared.faulty.Faulty.{Faulty}
+use Rattle.scip_build.specs.declared.faulty.Faulty.TheVariants.{Refuse}
 use Rattle.scip_build.specs.declared.fault.FileFault.{FileFault}
+use Rattle.scip_build.specs.declared.fault.BuildFault.{BuildFault}
+use Rattle.scip_build.specs.declared.fault.BuildFault.TheVariants as build
+use Rattle.scip_build.specs.Parsed.{IsUnreadable}
 use Rattle.scip_build.specs.Files.{FileContents, ReadFile}
 use Rattle.scip_build.specs.Readings.{seen_of, AreChosen, HasContents, AreReadingsOf}
-use Rattle.scip_build.specs.Linking.{linked_files, choices_in, choices_of}
-use Rattle.scip_build.specs.Documents.{text_in, text_of, texts_of}
+use Rattle.scip_build.specs.Linking.{linked_file, linked_files, choices_in, choices_of, HasFault}
+use Rattle.scip_build.specs.Documents.{text_in, text_of, texts_of, IsUnresolvedAt}
+use Rattle.scip_build.specs.Kept.{IsLeftFor, place_among_all, IsTold, Key, told_key, key_cmp}
+use Rattle.scip_build.specs.Kept.IsTold.{of_file, of_import, of_use}
 use Rattle.scip_build.specs.Builds.{IsBuilt}
-use Rattle.scip_build.specs.Laws.{OneListOfFacts, NoFactsWhereUnreadable}
-use Rattle.scip_build.specs.BuildLaws.{OneBuilt}
+use Rattle.scip_build.specs.Laws.{OneListOfFacts, NoFactsWhereUnreadable, AreAlike, FaultsAreAlike}
+use Rattle.scip_build.specs.BuildLaws.{cause_of, SetTheSame, AllowOne, OneBuilt}
+use Rattle.scip_document.proofs.SortLemmas.{one-ascending}
 use Rattle.scip_build.proofs.ReadingLemmas.{at_number}
 use Rattle.scip_build.proofs.LinkingLemmas.{same_mapped, one_linking}
+use Rattle.scip_build.proofs.PlaceLemmas.{contained}
+use Rattle.scip_build.proofs.ReadyLemmas.{whole_at, have_origins}
+use Rattle.scip_build.proofs.GapLemmas.{of_mapped, is_mapped}
+use Rattle.scip_build.proofs.KeptTreeLemmas.{map_kept}
+use Rattle.scip_build.proofs.ToldLemmas.{key_total, of_same, one_told}
+use Rattle.scip_build.proofs.GoodTreeLemmas.{fault_of}
+
+-- a file with a fault can't be read
+unreadable : (faulty : Faulty) (custom : CustomOptions) (allows : Seen → Choice → Type 0) (tree : List TreeFile)
+    (readings : List ReadFile) → AreReadingsOf faulty custom allows tree readings → (number : ℕ) (fault : FileFault)
+    → HasFault readings number fault
+    → (file : TreeFile) × (slice_get tree number ≡ Some file) × IsUnreadable custom file.bytes fault
+unreadable faulty custom allows tree readings are number fault has =
+    let within : number < length tree =
+    rw (sym are.one_each) (slice_get_within readings number has.reading has.numbered) in
+    let there = at_number tree number within in
+    let Contents : Result FileContents FileFault → Type 0 = HasContents faulty custom allows number there.0 in
+    let contents = subst Contents has.unread (are.each number there.0 has.reading there.1 has.numbered).contents in
+    (there.0, there.1, contents.1)
 
 module _ (one : OneListOfFacts) (apart : NoFactsWhereUnreadable) (allows others : Seen → Choice → Type 0)
-    (agree : (seen : Seen) (choice another : Choice) → allows seen choice → others seen another → choice ≡ another)
+    (agree : AllowOne allows others) where
+  -- the choices for one list of declarations
+  same_choices : (declarations : List Declaration) (xs ys : List Choice) → AreChosen allows declarations xs
+      → AreChosen others declarations ys → xs ≡ ys
+  same_choices [] [] [] chosen also = refl
+  same_choices [] [] (y ∷ ys) chosen also = absurd also
+  same_choices [] (x ∷ xs) ys chosen also = absurd chosen
+  same_choices (d ∷ ds) [] ys chosen also = absurd chosen
+  same_choices (d ∷ ds) (x ∷ xs) [] chosen also = absurd also
+  same_choices (d ∷ ds) (x ∷ xs) (y ∷ ys) chosen also =
+      let here = agree (seen_of d) x y chosen.0 also.0 in
+      let more = same_choices ds xs ys chosen.1 also.1 in
+      λ i. here i ∷ more i
+
+  -- what is kept of a file beside its facts
+  abbrev AreSame : (a b : Result FileContents FileFault) → Type 0
+  AreSame a b = (choices_in a ≡ choices_in b) × (text_in a ≡ text_in b)
+
+  module _ (faulty another : Faulty) (custom : CustomOptions) where
+    same_contents : (number : ℕ) (file : TreeFile) (a b : Result FileContents FileFault)
+        → HasContents faulty custom allows number file a → HasContents another custom others number file b
+        → AreSame a b
+    same_contents number file (Ok a) (Ok b) has also =
+        let facts : a.facts ≡ b.facts = one custom number file.bytes a.facts b.facts has.1.facts_in also.1.facts_in in
+        let Of : Facts → Type 0 = λ f. AreChosen others f.declarations b.choices in (
+          same_choices a.facts.declarations a.choices b.choices has.1.chosen (subst Of (sym facts) also.1.chosen),
+          has.0 ∙ sym also.0,
+        )
+    same_contents number file (Ok a) (Err fault) has also =
+        absurd (apart custom number file.bytes a.facts fault has.1.facts_in also.1)
+    same_contents number file (Err fault) (Ok b) has also =
+        absurd (apart custom number file.bytes b.facts fault also.1.facts_in has.1)
+    same_contents number file (Err fault) (Err other) has also = (refl, refl)
+
+    module _ (tree : List TreeFile) (readings again : List ReadFile)
+        (are : AreReadingsOf faulty custom allows tree readings)
+        (also : AreReadingsOf another custom others tree again) where
+      same_at : (k : ℕ) (a b : ReadFile) → slice_get readings k ≡ Some a → slice_get again k ≡ Some b
+          → AreSame a.contents b.contents
+      same_at k a b at and =
+          let within : k < length tree = rw (sym are.one_each) (slice_get_within readings k a at) in
+          let there = at_number tree k within in
+          same_contents k there.0 a.contents b.contents (are.each k there.0 a there.1 at).contents
+          (also.each k there.0 b there.1 and).contents
+
+      same_lists : map choices_of readings ≡ map choices_of again
+      same_lists = same_mapped choices_of readings again (are.one_each ∙ sym also.one_each)
+          (λ k a b at and. (same_at k a b at and).0)
+
+      same_texts : texts_of readings ≡ texts_of again
+      same_texts = same_mapped text_of readings again (are.one_each ∙ sym also.one_each)
+          (λ k a b at and. (same_at k a b at and).1)
+
+-- what is the same of all is of those that are kept
+kept_same : {Y : Type 0} (f : ReadFile → Y) (all again readings others : List ReadFile) (a b : Omissions)
+    → readings ≡ kept_of a all → others ≡ kept_of b again → a ≡ b → map f all ≡ map f again
+    → map f readings ≡ map f others
+kept_same f all again readings others a b first second omissions whole =
+    ap (map f) first ∙ (map_kept f a all
+    ∙ (ap (kept_of a) whole ∙ (ap (λ o. kept_of o (map f again)) omissions
+    ∙ (sym (map_kept f b again) ∙ ap (map f) (sym second)))))
+
+module _ (one : OneListOfFacts) (apart : NoFactsWhereUnreadable) (alike : FaultsAreAlike) (one_list : OneOmissionList)
+    (one_index : OneIndex) (allows others : Seen → Choice → Type 0) (agree : AllowOne allows others)
+    (settings another : Settings) (tree : List TreeFile) (built other : Built)
+    (same : SetTheSame settings another) (is : IsBuilt allows settings tree built)
+    (also : IsBuilt others another tree other) where
+  abbrev all : List ReadFile
+  all = is.all
+
+  abbrev again : List ReadFile
+  again = also.all
+
+  abbrev a : Omissions
+  a = is.of_files.kept.omissions
+
+  abbrev b : Omissions
+  b = also.of_files.kept.omissions
+
+  read_again : AreReadingsOf another.faulty settings.custom_options others tree again
+  read_again =
+      let Read : CustomOptions → Type 0 = λ c. AreReadingsOf another.faulty c others tree again in
+      subst Read (sym same.custom_options) also.read
+
+  all_linked : linked_files all ≡ linked_files again
+  all_linked =
+      one_linking one apart settings.faulty another.faulty settings.custom_options allows others tree all again is.read
+      read_again
+
+  same_omissions : a ≡ b
+  same_omissions =
+      let Are : List File → Type 0 = λ files. AreOmissions files b in
+      one_list (linked_files all)
+      (have_origins all (whole_at settings.faulty settings.custom_options allows tree all is.read)) a b
+      is.of_files.kept.left_out (subst Are (sym all_linked) also.of_files.kept.left_out)
+
+  kept_alike : {Y : Type 0} (f : ReadFile → Y) → map f all ≡ map f again
+      → map f is.of_files.readings ≡ map f also.of_files.readings
+  kept_alike f = kept_same f all again is.of_files.readings also.of_files.readings a b is.of_files.kept.kept
+      also.of_files.kept.kept same_omissions
+
+  same_files : linked_files is.of_files.readings ≡ linked_files also.of_files.readings
+  same_files = kept_alike linked_file all_linked
+
+  choices_are : built.choices ≡ other.choices
+  choices_are = is.of_files.choices ∙ (kept_alike choices_of
+      (same_lists one apart allows others agree settings.faulty another.faulty settings.custom_options tree all again
+      is.read read_again) ∙ sym also.of_files.choices)
+
+  texts_are : texts_of is.of_files.readings ≡ texts_of also.of_files.readings
+  texts_are = kept_alike text_of
+      (same_texts one apart allows others agree settings.faulty another.faulty settings.custom_options tree all again
+      is.read read_again)
+
+  index_is : built.index ≡ other.index
+  index_is =
+      let Is : List File → List (List ℕ) → Chosen → Packages → Encoding → List ℕ → Type 0 =
+      λ fs ts chosen ids encoding root. IsIndexOf fs ts chosen ids encoding root other.index in
+      let files = linked_files is.of_files.readings in
+      let texts = texts_of is.of_files.readings in
+      let lines = texts_of also.of_files.readings in
+      let f = subst (λ x. Is x lines other.choices another.package another.encoding another.project_root)
+      (sym same_files) also.of_files.index in
+      let t = subst (λ x. Is files x other.choices another.package another.encoding another.project_root)
+      (sym texts_are) f in
+      let c = subst (λ x. Is files texts x another.package another.encoding another.project_root) (sym choices_are) t
+      in
+      let p = subst (λ x. Is files texts built.choices x another.encoding another.project_root) (sym same.id) c in
+      let e = subst (λ x. Is files texts built.choices settings.package x another.project_root) (sym same.encoding) p
+      in
+      let r = subst (λ x. Is files texts built.choices settings.package settings.encoding x) (sym same.project_root) e
+      in
+      one_index files texts built.choices settings.package settings.encoding settings.project_root built.index
+      other.index is.of_files.index r
+
+  -- ---- what is told
+
+  -- what is told of one is told of the other, but for the fault of a file that can't be read
+  record IsToldAlike (told : BuildFault) : Type 0 where
+    pub more : BuildFault
+    pub is_told : IsTold again b more
+    pub key : told_key told ≡ told_key more
+    pub cause : cause_of told ≡ cause_of more
+
+  of_left : (number : ℕ) (omission : Option LinkFault) (told : BuildFault) → slice_get b number ≡ Some omission
+      → IsOmission (linked_files again) b number omission → IsLeftFor all omission told → IsToldAlike told
+  of_left number None told at out left = absurd left
+  of_left number (Some (link.Broken k)) told at out left =
+      let unread = subst (IsUnread (linked_files again)) (sym out.0) out.1 in
+      let fault = fault_of again k unread in
+      record {
+        more = build.File k fault.0;
+        is_told = of_file number (Some (link.Broken k)) at (fault.0, fault.1, refl);
+        key = ap told_key left.2;
+        cause = ap cause_of left.2;
+      }
+  of_left number (Some (link.Duplicate first second)) told at out left =
+      record {
+        more = told;
+        is_told = of_file number (Some (link.Duplicate first second)) at left;
+        key = refl;
+        cause = refl;
+      }
+  of_left number (Some (link.MissingImport place)) told at out left = absurd left
+  of_left number (Some (link.Unresolved place)) told at out left = absurd left
+  of_left number (Some link.Memory) told at out left = absurd left
+
+  kept_files : linked_files (kept_of a all) ≡ linked_files (kept_of b again)
+  kept_files = map_kept linked_file a all ∙ (ap (kept_of a) all_linked
+      ∙ (ap (λ o. kept_of o (linked_files again)) same_omissions ∙ sym (map_kept linked_file b again)))
+
+  told_alike : (told : BuildFault) → IsTold all a told → IsToldAlike told
+  told_alike told (of_file n o at left) =
+      let there : slice_get b n ≡ Some o = subst (λ (x : Omissions). slice_get x n ≡ Some o) same_omissions at in
+      of_left n o told there (also.of_files.kept.left_out.each n o there) left
+  told_alike _ (of_import p missing) =
+      let place : place_among_all a p ≡ place_among_all b p = ap (λ o. place_among_all o p) same_omissions in
+      let it = build.MissingImport (place_among_all a p) in
+      let missing_too = subst (λ fs. IsMissing fs p) kept_files missing in
+      record {
+        more = it;
+        is_told = subst (IsTold again b) (ap build.MissingImport (sym place)) (of_import p missing_too);
+        key = refl;
+        cause = refl;
+      }
+  told_alike _ (of_use p is_use) =
+      let place : place_among_all a p ≡ place_among_all b p = ap (λ o. place_among_all o p) same_omissions in
+      let it = build.Unresolved (place_among_all a p) in
+      let use_too = subst (λ fs. IsUnresolvedAt fs p) kept_files is_use in
+      record {
+        more = it;
+        is_told = subst (IsTold again b) (ap build.Unresolved (sym place)) (of_use p use_too);
+        key = refl;
+        cause = refl;
+      }
+
+  keys_there : (key : Key) → Contains (map told_key built.told) key → Contains (map told_key other.told) key
+  keys_there key there =
+      let of = of_mapped told_key built.told key there in
+      let more = told_alike of.0 ((is.of_files.kept.told_is.exact of.0).0 of.1) in
+      let listed = (also.of_files.kept.told_is.exact more.more).1 more.is_told in
+      subst (Contains (map told_key other.told)) (sym more.key ∙ of.2) (is_mapped told_key other.told more.more listed)
+
+-- a file that can't be read is told for its fault
+file_told : (all : List ReadFile) (omissions : Omissions) (told : BuildFault) → IsTold all omissions told
+    → (number : ℕ) (fault : FileFault) → told ≡ build.File number fault → HasFault all number fault
+file_told all omissions told (of_file n o at left) number fault file = by o left
   where
-    -- the choices for one list of declarations
-    same_choices : (declarations : List Declaration) (xs ys : List Choice) → AreChosen allows declarations xs
-        → AreChosen others declarations ys → xs ≡ ys
-    same_choices [] [] [] chosen also = refl
-    same_choices [] [] (y ∷ ys) chosen also = absurd also
-    same_choices [] (x ∷ xs) ys chosen also = absurd chosen
-    same_choices (d ∷ ds) [] ys chosen also = absurd chosen
-    same_choices (d ∷ ds) (x ∷ xs) [] chosen also = absurd also
-    same_choices (d ∷ ds) (x ∷ xs) (y ∷ ys) chosen also =
-        let here = agree (seen_of d) x y chosen.0 also.0 in
-        let more = same_choices ds xs ys chosen.1 also.1 in
-        λ i. here i ∷ more i
+    number_in : {n m : ℕ} {f g : FileFault} → build.File n f ≡ build.File m g → n ≡ m
+    number_in e = cc
 
-    -- what is kept of a file beside its facts
-    abbrev AreSame : (a b : Result FileContents FileFault) → Type 0
-    AreSame a b = (choices_in a ≡ choices_in b) × (text_in a ≡ text_in b)
+    fault_in : {n m : ℕ} {f g : FileFault} → build.File n f ≡ build.File m g → f ≡ g
+    fault_in e = cc
 
-    module _ (custom : CustomOptions) where
-      same_contents : (number : ℕ) (file : TreeFile) (a b : Result FileContents FileFault)
-          → HasContents custom allows number file a → HasContents custom others number file b → AreSame a b
-      same_contents number file (Ok a) (Ok b) has also =
-          let facts : a.facts ≡ b.facts = one custom number file.bytes a.facts b.facts has.1.facts_in also.1.facts_in in
-          let Of : Facts → Type 0 = λ f. AreChosen others f.declarations b.choices in (
-            same_choices a.facts.declarations a.choices b.choices has.1.chosen (subst Of (sym facts) also.1.chosen),
-            has.0 ∙ sym also.0,
-          )
-      same_contents number file (Ok a) (Err fault) has also =
-          absurd (apart custom number file.bytes a.facts fault has.1.facts_in also.1)
-      same_contents number file (Err fault) (Ok b) has also =
-          absurd (apart custom number file.bytes b.facts fault also.1.facts_in has.1)
-      same_contents number file (Err fault) (Err other) has also = (refl, refl)
+    no_file : {p q : FilePlace} → build.Duplicate p q ≡ build.File number fault → ⊥
+    no_file e = cc
 
-      module _ (tree : List TreeFile) (readings again : List ReadFile) (are : AreReadingsOf custom allows tree readings)
-          (also : AreReadingsOf custom others tree again) where
-        same_at : (k : ℕ) (a b : ReadFile) → slice_get readings k ≡ Some a → slice_get again k ≡ Some b
-            → AreSame a.contents b.contents
-        same_at k a b at and =
-            let within : k < length tree = rw (sym are.one_each) (slice_get_within readings k a at) in
-            let there = at_number tree k within in
-            same_contents k there.0 a.contents b.contents (are.each k there.0 a there.1 at).contents
-            (also.each k there.0 b there.1 and).contents
+    by : (omission : Option LinkFault) → IsLeftFor all omission told → HasFault all number fault
+    by None is = absurd is
+    by (Some (link.Broken k)) is =
+        let same = sym is.2 ∙ file in
+        subst (HasFault all number) (fault_in same)
+        (subst (λ n. HasFault all n is.0) (number_in same) is.1)
+    by (Some (link.Duplicate p q)) is = absurd (no_file (sym is ∙ file))
+    by (Some (link.MissingImport place)) is = absurd is
+    by (Some (link.Unresolved place)) is = absurd is
+    by (Some link.Memory) is = absurd is
+file_told all omissions _ (of_import p missing) number fault file = absurd (apart file)
+  where
+    apart : {q : FilePlace} → build.MissingImport q ≡ build.File number fault → ⊥
+    apart e = cc
+file_told all omissions _ (of_use p is) number fault file = absurd (apart file)
+  where
+    apart : {q : FilePlace} → build.Unresolved q ≡ build.File number fault → ⊥
+    apart e = cc
 
-        same_lists : map choices_of readings ≡ map choices_of again
-        same_lists = same_mapped choices_of readings again (are.one_each ∙ sym also.one_each)
-            (λ k a b at and. (same_at k a b at and).0)
+-- the keys of a list in order are in order
+module _ {X K : Type 0} (f : X → K) (cmp : K → K → Ordering) where
+  all_mapped : (x : X) (xs : List X) → AllByRecursion (λ y. cmp (f x) (f y) ≡ Less) xs
+      → AllByRecursion (λ k. cmp (f x) k ≡ Less) (map f xs)
+  all_mapped x [] each = tt
+  all_mapped x (y ∷ ys) each = (each.0, all_mapped x ys each.1)
 
-        same_texts : texts_of readings ≡ texts_of again
-        same_texts = same_mapped text_of readings again (are.one_each ∙ sym also.one_each)
-            (λ k a b at and. (same_at k a b at and).1)
+  ascends_mapped : (xs : List X) → IsStrictlySortedBy (on f cmp) xs → IsStrictlySortedBy cmp (map f xs)
+  unfolding IsStrictlySortedBy
+  ascends_mapped [] up = tt
+  ascends_mapped (x ∷ xs) up = (all_mapped x xs up.0, ascends_mapped xs up.1)
 
-    same_built : OneIndex → (settings : Settings) (tree : List TreeFile) (built other : Built)
-        → IsBuilt allows settings tree built → IsBuilt others settings tree other → built ≡ other
-    same_built one_index settings tree built other is also =
-        let files = one_linking one apart settings.custom_options allows others tree is.readings also.readings is.read
-        also.read in
-        let texts = same_texts settings.custom_options tree is.readings also.readings is.read also.read in
-        let choices : built.choices ≡ other.choices =
-        is.choices ∙ (same_lists settings.custom_options tree is.readings also.readings is.read also.read
-        ∙ sym also.choices) in
-        let Linked : List File → Type 0 =
-        λ fs. IsIndexOf fs (texts_of also.readings) other.choices settings.package settings.encoding
-        settings.project_root other.index in
-        let With : List (List ℕ) → Type 0 =
-        λ ts. IsIndexOf (linked_files is.readings) ts other.choices settings.package settings.encoding
-        settings.project_root other.index in
-        let By : Chosen → Type 0 =
-        λ chosen. IsIndexOf (linked_files is.readings)
-        (texts_of is.readings) chosen settings.package settings.encoding settings.project_root other.index in
-        let here : By built.choices =
-        subst By (sym choices) (subst With (sym texts) (subst Linked (sym files) also.index)) in
-        let index : built.index ≡ other.index =
-        one_index (linked_files is.readings)
-        (texts_of is.readings) built.choices settings.package settings.encoding settings.project_root built.index
-        other.index is.index here in
-        λ i. record { index = index i; choices = choices i }
+none_mapped : {X Y : Type 0} (f : X → Y) (xs : List X) → map f xs ≡ [] → xs ≡ []
+none_mapped f [] e = refl
+none_mapped f (x ∷ xs) e = absurd (apart e)
+  where
+    apart : {Y : Type 0} {y : Y} {ys : List Y} → y ∷ ys ≡ [] → ⊥
+    apart e = cc
 
-pub one_built : OneListOfFacts → NoFactsWhereUnreadable → OneIndex → (allows others : Seen → Choice → Type 0)
-    → OneBuilt allows others
-one_built one apart one_index allows others settings tree built other agree is also =
-    same_built one apart allows others agree one_index settings tree built other is also
+set_the_same : (settings another : Settings) → SetTheSame settings another → SetTheSame another settings
+set_the_same settings another same = record {
+  project_root = sym same.project_root;
+  id = sym same.id;
+  encoding = sym same.encoding;
+  custom_options = sym same.custom_options;
+}
+
+allow_one : (allows others : Seen → Choice → Type 0) → AllowOne allows others → AllowOne others allows
+allow_one allows others agree seen choice another is also = sym (agree seen another choice also is)
+
+module _ (one : OneListOfFacts) (apart : NoFactsWhereUnreadable) (alike : FaultsAreAlike) (one_list : OneOmissionList)
+    (one_index : OneIndex) (allows others : Seen → Choice → Type 0) where
+  pub one_built : OneBuilt allows others
+  one_built settings another tree built other agree same is also = (
+    whole,
+    record {
+      index = index;
+      choices = choices;
+      told = told;
+      faults = faults;
+    },
+  )
+    where
+      index : built.index ≡ other.index
+      index = index_is one apart alike one_list one_index allows others agree settings another tree built other same is
+          also
+
+      choices : built.choices ≡ other.choices
+      choices = choices_are one apart alike one_list one_index allows others agree settings another tree built other
+          same is also
+
+      keys : map told_key built.told ≡ map told_key other.told
+      keys = one-ascending key_total (map told_key built.told) (map told_key other.told)
+          (ascends_mapped told_key key_cmp built.told is.of_files.kept.told_is.ascends)
+          (ascends_mapped told_key key_cmp other.told also.of_files.kept.told_is.ascends)
+          (keys_there one apart alike one_list one_index allows others agree settings another tree built other same is
+          also)
+          (keys_there one apart alike one_list one_index others allows (allow_one allows others agree) another settings
+          tree other built (set_the_same settings another same) also is)
+
+      -- what stands at one place of the two lists names the same
+      at_one_place : (k : ℕ) (x y : BuildFault) → slice_get built.told k ≡ Some x → slice_get other.told k ≡ Some y
+          → cause_of x ≡ cause_of y
+      at_one_place k x y at and =
+          let key_x : slice_get (map told_key built.told) k ≡ Some (told_key x) =
+          slice_get-map told_key built.told k ∙ ap (option_map told_key) at in
+          let key_y : slice_get (map told_key other.told) k ≡ Some (told_key y) =
+          slice_get-map told_key other.told k ∙ ap (option_map told_key) and in
+          let key : told_key x ≡ told_key y = same_Some (told_key x) (told_key y)
+          (sym key_x ∙ (ap (λ (l : List Key). slice_get l k) keys ∙ key_y)) in
+          let told_x = (is.of_files.kept.told_is.exact x).0 (contained built.told k x at) in
+          let told_y = (also.of_files.kept.told_is.exact y).0 (contained other.told k y and) in
+          let more = told_alike one apart alike one_list one_index allows others agree settings another tree built
+          other same is also x told_x in
+          let one_of = one_told also.all also.of_files.kept.omissions also.of_files.kept.left_out more.more y
+          more.is_told told_y (of_same (told_key more.more) (told_key y) (sym more.key ∙ key)) in
+          more.cause ∙ ap cause_of one_of
+
+      count : length built.told ≡ length other.told
+      count = sym (length-map built.told told_key) ∙ (ap length keys ∙ length-map other.told told_key)
+
+      told : map cause_of built.told ≡ map cause_of other.told
+      told = same_mapped cause_of built.told other.told count at_one_place
+
+      faults : (number : ℕ) (fault more : FileFault) → Contains built.told (build.File number fault)
+          → Contains other.told (build.File number more) → AreAlike fault more
+      faults number fault more there too =
+          let first = file_told is.all is.of_files.kept.omissions (build.File number fault)
+          ((is.of_files.kept.told_is.exact (build.File number fault)).0 there) number fault refl in
+          let second = file_told also.all also.of_files.kept.omissions (build.File number more)
+          ((also.of_files.kept.told_is.exact (build.File number more)).0 too) number more refl in
+          let a = unreadable settings.faulty settings.custom_options allows tree is.all is.read number fault first in
+          let b = unreadable another.faulty another.custom_options others tree also.all also.read number more second in
+          let file : a.0 ≡ b.0 = same_Some a.0 b.0 (sym a.1 ∙ b.1) in
+          let bytes = subst (λ (f : TreeFile). IsUnreadable another.custom_options f.bytes more) (sym file) b.2 in
+          let custom = subst (λ c. IsUnreadable c a.0.bytes more) (sym same.custom_options) bytes in
+          alike settings.custom_options a.0.bytes fault more a.2 custom
+
+      whole : settings.faulty ≡ Refuse → built ≡ other
+      whole refuse =
+          let none = (is.of_files.refused refuse).none in
+          let none_too : other.told ≡ [] = none_mapped cause_of other.told (sym told ∙ ap (map cause_of) none) in
+          let same_told : built.told ≡ other.told = none ∙ sym none_too in
+          λ i. record { index = index i; choices = choices i; told = same_told i }

@@ -1,6 +1,6 @@
 -- What the phase answers, file by file.
-use Rattle.std.proofs.Common.{◌≡◌, ◌∙◌, ℕ, zero, suc, ◌<◌, true≢false, List, [], ◌∷◌, length, Option, Some, Result, Ok}
-use Rattle.std.proofs.Common.{Err, sym, refl, subst, arith}
+use Rattle.std.proofs.Common.{◌≡◌, ◌∙◌, ℕ, zero, suc, ◌<◌, true, true≢false, List, [], ◌∷◌, length, Option, Some}
+use Rattle.std.proofs.Common.{Result, Ok, Err, sym, refl, subst, arith}
 use Rattle.std.specs.List.{slice_get}
 use Rattle.std.specs.Option.{IfSome}
 use Rattle.std.proofs.lemmas.Option.{slice_get_within}
@@ -8,14 +8,16 @@ use Rattle.proto_parse.specs.tree.CustomOptions.{CustomOptions}
 use Rattle.proto_decl.specs.Seen.{Seen}
 use Rattle.index_hooks.specs.declared.choice.Choice.{Choice}
 use Rattle.index_pool.specs.Phase.{AnswersEach, IsLeastFault}
+use Rattle.scip_build.specs.declared.faulty.Faulty.{Faulty}
+use Rattle.scip_build.specs.declared.faulty.Faulty.TheVariants.{Refuse}
 use Rattle.scip_build.specs.declared.fault.FileFault.{FileFault}
 use Rattle.scip_build.specs.declared.fault.BuildFault.{BuildFault}
 use Rattle.scip_build.specs.declared.fault.BuildFault.TheVariants as build
 use Rattle.scip_build.specs.Laws.{NoFactsWhereUnreadable}
 use Rattle.source_tree.specs.Files.{TreeFile}
 use Rattle.scip_build.specs.Files.{FileContents, ReadFile}
-use Rattle.scip_build.specs.Readings.{HasContents, IsReadingOf, AreReadingsOf, IsReadIfSource, IsFirstFaulty}
-use Rattle.scip_build.specs.Readings.{GivesReading, MayRefuseFiles, MayRefuseReading}
+use Rattle.scip_build.specs.Readings.{may_be_unread, HasContents, IsReadingOf, AreReadingsOf, IsReadIfSource}
+use Rattle.scip_build.specs.Readings.{IsFirstFaulty, GivesReading, MayRefuseFiles, MayRefuseReading}
 
 -- what a list has at a number below its length
 pub at_number : {X : Type 0} (xs : List X) (k : ℕ) → k < length xs → (x : X) × (slice_get xs k ≡ Some x)
@@ -28,59 +30,66 @@ holds_at : {X : Type 0} (P : X → Type 0) (xs : List X) (k : ℕ) (x : X) → s
     → IfSome (slice_get xs k) P → P x
 holds_at {X} P xs k x at holds = let Q : Option X → Type 0 = λ o. IfSome o P in subst Q at holds
 
--- a source that was read has facts
-pub source_has_facts : (custom : CustomOptions) (allows : Seen → Choice → Type 0) (number : ℕ) (file : TreeFile)
+-- a source that was read has facts, where it is refused else
+pub source_has_facts : (faulty : Faulty) → faulty ≡ Refuse
+    → (custom : CustomOptions) (allows : Seen → Choice → Type 0) (number : ℕ) (file : TreeFile)
     (contents : Result FileContents FileFault)
-    → HasContents custom allows number file contents → IsReadIfSource custom number file
-source_has_facts custom allows number file (Ok contents) has source = (contents.facts, has.1.facts_in)
-source_has_facts custom allows number file (Err fault) has source = absurd (true≢false (sym has.0 ∙ source))
+    → HasContents faulty custom allows number file contents → IsReadIfSource custom number file
+source_has_facts faulty refused custom allows number file (Ok contents) has source = (contents.facts, has.1.facts_in)
+source_has_facts faulty refused custom allows number file (Err fault) has source =
+    let May : Faulty → Type 0 = λ f. may_be_unread f file.is_included ≡ true in
+    absurd (true≢false (sym (subst May refused has.0) ∙ source))
 
-module _ (custom : CustomOptions) (allows : Seen → Choice → Type 0) (files : List TreeFile) where
-  pub readings_of : (readings : List ReadFile) → AnswersEach (GivesReading custom allows files) (length files) readings
-      → AreReadingsOf custom allows files readings
+module _ (faulty : Faulty) (custom : CustomOptions) (allows : Seen → Choice → Type 0) (files : List TreeFile) where
+  pub readings_of : (readings : List ReadFile)
+      → AnswersEach (GivesReading faulty custom allows files) (length files) readings
+      → AreReadingsOf faulty custom allows files readings
   readings_of readings answers = record {
     one_each = answers.0;
-    each = λ number file reading at is. holds_at (λ f. IsReadingOf custom allows number f reading) files number file at
-        (answers.1 number reading is);
+    each = λ number file reading at is. holds_at
+        (λ f. IsReadingOf faulty custom allows number f reading) files number file at (answers.1 number reading is);
   }
 
   -- why a file stops the run, the first of those that do, is why the files aren't read
   pub refused_of : (workers number : ℕ) (fault : BuildFault)
-      → IsLeastFault (GivesReading custom allows files) (length files) number fault
-      → MayRefuseFiles custom files workers fault
+      → IsLeastFault (GivesReading faulty custom allows files) (length files) number fault
+      → MayRefuseFiles faulty custom files workers fault
   refused_of workers number fault least =
       let there = at_number files number least.0 in
       by fault there.0 there.1
-      (holds_at (λ f. MayRefuseReading custom number f fault) files number there.0 there.1 least.1)
+      (holds_at (λ f. MayRefuseReading faulty custom number f fault) files number there.0 there.1 least.1)
     where
       by : (fault : BuildFault) (file : TreeFile) → slice_get files number ≡ Some file
-          → MayRefuseReading custom number file fault → MayRefuseFiles custom files workers fault
+          → MayRefuseReading faulty custom number file fault → MayRefuseFiles faulty custom files workers fault
       by build.Spawn file at may = absurd may
       by build.Memory file at may = tt
       by (build.File other of_file) file at may =
-          let At : ℕ → Type 0 = λ k. slice_get files k ≡ Some file in
-          record {
-            file = file;
-            numbered = subst At (sym may.0) at;
-            faulty = may.1;
-            before = λ lesser before less there.
-                let Below : ℕ → Type 0 = λ k. lesser < k in
-                let read = least.2 lesser (subst Below may.0 less) in
-                source_has_facts custom allows lesser before read.0.contents
-                (holds_at (λ f. IsReadingOf custom allows lesser f read.0) files lesser before there
-                read.1).contents;
-          }
+          let At : ℕ → Type 0 = λ k. slice_get files k ≡ Some file in (
+            may.0,
+            record {
+              file = file;
+              numbered = subst At (sym may.1) at;
+              faulty = may.2;
+              before = λ lesser before less there.
+                  let Below : ℕ → Type 0 = λ k. lesser < k in
+                  let read = least.2 lesser (subst Below may.1 less) in
+                  source_has_facts faulty may.0 custom allows lesser before read.0.contents
+                  (holds_at (λ f. IsReadingOf faulty custom allows lesser f read.0) files lesser before there
+                  read.1).contents;
+            },
+          )
       by (build.Duplicate first second) file at may = absurd may
       by (build.MissingImport place) file at may = absurd may
       by (build.Unresolved place) file at may = absurd may
 
-  -- files with readings have no faulty source
-  pub no_readings_where_faulty : NoFactsWhereUnreadable → (readings : List ReadFile) (number : ℕ) (fault : FileFault)
-      → AreReadingsOf custom allows files readings → IsFirstFaulty custom files number fault → ⊥
-  no_readings_where_faulty no_facts readings number fault are first =
+  -- files with readings have no faulty source, where it is refused
+  pub no_readings_where_faulty : faulty ≡ Refuse → NoFactsWhereUnreadable
+      → (readings : List ReadFile) (number : ℕ) (fault : FileFault) → AreReadingsOf faulty custom allows files readings
+      → IsFirstFaulty custom files number fault → ⊥
+  no_readings_where_faulty refused no_facts readings number fault are first =
       let within : number < length readings =
       rw are.one_each (slice_get_within files number first.file first.numbered) in
       let there = at_number readings number within in
-      let has = source_has_facts custom allows number first.file there.0.contents
+      let has = source_has_facts faulty refused custom allows number first.file there.0.contents
       (are.each number first.file there.0 first.numbered there.1).contents first.faulty.source in
       no_facts custom number first.file.bytes has.0 fault has.1 first.faulty.unreadable

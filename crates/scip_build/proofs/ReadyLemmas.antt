@@ -1,7 +1,8 @@
 -- Files that were read are ready for their documents.
-use Rattle.std.proofs.Common.{◌≡◌, ◌∙◌, ℕ, ◌<◌, Bool, false, true≢false, List, length, map, Some, Result, Ok, Err, ap}
-use Rattle.std.proofs.Common.{sym, refl, subst, arith}
-use Rattle.std.specs.List.{slice_get}
+use Rattle.std.proofs.Common.{◌≡◌, ◌∙◌, ℕ, ◌+◌, ◌<◌, ◌≤◌, zero, suc, Bool, false, true, not, true≢false, List, [], ◌∷◌}
+use Rattle.std.proofs.Common.{length}
+use Rattle.std.proofs.Common.{map, Some, Result, Ok, Err, ap, sym, refl, subst, arith}
+use Rattle.std.specs.List.{slice_get, prefix_len}
 use Rattle.std.specs.Option.{option_map}
 use Rattle.std.specs.declared.cmp.Ordering.TheVariants.{Less}
 use Rattle.std.specs.Ordering.{nat_cmp, bool_cmp, ordering_then}
@@ -14,203 +15,348 @@ use Rattle.proto_decl.specs.Seen.{Seen}
 use Rattle.proto_decl.specs.declared.declaration.Declaration.{Declaration}
 use Rattle.index_hooks.specs.declared.choice.Choice.{Choice}
 use Rattle.proto_visibility.specs.Files.{File, HasFacts, HaveOrigins, IsSource}
+use Rattle.proto_visibility.specs.Sees.Counts.{seen}
+use Rattle.proto_visibility.specs.Sees.SeesBy.{itself}
+use Rattle.proto_visibility.specs.Linked.{HaveClearNames}
 use Rattle.scip_symbol.specs.Path.{IsGoodPath}
-use Rattle.scip_document.specs.Chosen.{HasChoice, HaveChoices}
+use Rattle.scip_document.specs.Chosen.{HaveChoices}
 use Rattle.scip_document.specs.Conditions.{HaveGoodPaths}
 use Rattle.scip_document.specs.Texts.{AreOfText, HasText}
 use Rattle.source_tree.specs.Files.{TreeFile, file_cmp}
-use Rattle.source_tree.specs.Trees.{IsTree, IsSourceCount}
+use Rattle.source_tree.specs.Trees.{IsTree}
+use Rattle.scip_build.specs.declared.faulty.Faulty.{Faulty}
 use Rattle.scip_build.specs.declared.fault.FileFault.{FileFault}
 use Rattle.scip_build.specs.Parsed.{AreFactsIn}
 use Rattle.scip_build.specs.Files.{FileContents, ReadFile}
 use Rattle.scip_build.specs.Readings.{seen_of, HasContents, IsReadingOf, AreReadingsOf}
 use Rattle.scip_build.specs.Linking.{facts_in, linked_file, linked_files, choices_in, choices_of}
+use Rattle.scip_build.specs.Ready.{AreWhole, AreWholeIfRead, reading_cmp, AreOfTree}
+use Rattle.scip_build.specs.Keeping.{is_source}
 use Rattle.scip_build.specs.Documents.{text_of, HasReadText, IsRead, AreReady}
 use Rattle.scip_build.proofs.ReadingLemmas.{at_number}
-use Rattle.scip_build.proofs.LinkingLemmas.{mapped_at, in_tree}
+use Rattle.scip_build.proofs.LinkingLemmas.{mapped_at, own_paths}
 use Rattle.scip_build.proofs.PlaceLemmas.{beside, rising_at}
 
--- the order of two sources is that of their paths
-by_path : (a b : TreeFile) → a.is_included ≡ false → b.is_included ≡ false → file_cmp a b ≡ Less
+mapped : {A B : Type 0} (f : A → B) (xs : List A) (k : ℕ) (x : A) → slice_get xs k ≡ Some x
+    → slice_get (map f xs) k ≡ Some (f x)
+mapped f xs k x at = slice_get-map f xs k ∙ ap (option_map f) at
+
+-- ---- of a tree
+
+-- facts of a file's bytes are facts of that text
+of_text : (custom : CustomOptions) (number : ℕ) (bytes : List ℕ) (facts : Facts) → AreFactsIn custom number bytes facts
+    → AreOfText bytes facts
+of_text custom number bytes facts has =
+    let Of : ℕ → Type 0 = λ n. AreFactsOf n has.lexed has.tree facts in
+    record {
+      origin = record {
+        lexed = has.lexed;
+        file = has.tree;
+        custom = custom;
+        is_lexed = has.lexing.is_lexed;
+        derives = has.derives;
+        of_file = subst Of (sym has.of_tree.numbered) has.of_tree;
+      };
+      text_is = has.lexing.of_bytes;
+    }
+
+whole : (faulty : Faulty) (custom : CustomOptions) (allows : Seen → Choice → Type 0) (number : ℕ) (file : TreeFile)
+    (contents : Result FileContents FileFault)
+    → HasContents faulty custom allows number file contents → AreWholeIfRead contents
+whole faulty custom allows number file (Ok contents) has =
+    let Of : List ℕ → Type 0 = λ bytes. AreOfText bytes contents.facts in
+    let may_come : Declaration → Choice → Type 0 = λ declaration choice. allows (seen_of declaration) choice in
+    record {
+      of_text = subst Of (sym has.0) (of_text custom number file.bytes contents.facts has.1.facts_in);
+      chosen = λ index declared at.
+          beside may_come contents.facts.declarations contents.choices index declared has.1.chosen at;
+    }
+whole faulty custom allows number file (Err fault) has = tt
+
+module _ (faulty : Faulty) (custom : CustomOptions) (allows : Seen → Choice → Type 0) (tree : List TreeFile)
+    (readings : List ReadFile) (are : AreReadingsOf faulty custom allows tree readings) where
+  -- the file that a reading is one of
+  record IsReadAt (number : ℕ) (reading : ReadFile) : Type 0 where
+    file : TreeFile
+    numbered : slice_get tree number ≡ Some file
+    is : IsReadingOf faulty custom allows number file reading
+
+  read_at : (number : ℕ) (reading : ReadFile) → slice_get readings number ≡ Some reading → IsReadAt number reading
+  read_at number reading at =
+      let within : number < length tree = rw (sym are.one_each) (slice_get_within readings number reading at) in
+      let there = at_number tree number within in
+      record { file = there.0; numbered = there.1; is = are.each number there.0 reading there.1 at }
+
+  pub whole_at : (number : ℕ) (reading : ReadFile) → slice_get readings number ≡ Some reading
+      → AreWholeIfRead reading.contents
+  whole_at number reading at =
+      let read = read_at number reading at in
+      whole faulty custom allows number read.file reading.contents read.is.contents
+
+  module _ (is_tree : IsTree tree) where
+    good_at : (number : ℕ) (reading : ReadFile) → slice_get readings number ≡ Some reading → IsGoodPath reading.path
+    good_at number reading at =
+        let read = read_at number reading at in
+        let Good : TreeFile → Type 0 = λ f. IsGoodPath f.path in
+        let good : IsGoodPath read.file.path =
+        subst Good (get_or_from_slice_get tree number read.file read.file read.numbered)
+        (is_tree.good number read.file (slice_get_within tree number read.file read.numbered)) in
+        subst IsGoodPath (sym read.is.path) good
+
+    rises : (lesser number : ℕ) (a b : ReadFile) → lesser < number → slice_get readings lesser ≡ Some a
+        → slice_get readings number ≡ Some b → reading_cmp a b ≡ Less
+    rises lesser number a b less at and =
+        let first = read_at lesser a at in
+        let second = read_at number b and in
+        let up = rising_at file_cmp tree lesser number first.file second.file is_tree.rising less first.numbered
+        second.numbered in
+        let There : List ℕ → List ℕ → Bool → Bool → Type 0 =
+        λ p q x y. ordering_then (bool_cmp x y) (slice_cmp nat_cmp p q) ≡ Less in
+        let by_x = subst (λ x. There first.file.path second.file.path x second.file.is_included)
+        (sym first.is.is_included) up in
+        let by_y = subst (λ y. There first.file.path second.file.path a.is_included y) (sym second.is.is_included) by_x
+        in
+        let by_p = subst (λ p. There p second.file.path a.is_included b.is_included) (sym first.is.path) by_y in
+        subst (λ q. There a.path q a.is_included b.is_included) (sym second.is.path) by_p
+
+    pub of_tree : AreOfTree readings
+    of_tree = record {
+      few = rw are.one_each is_tree.few;
+      each = λ number reading at.
+          record { good = good_at number reading at; contents = whole_at number reading at };
+      own = own_paths faulty custom allows tree readings are is_tree.own;
+      rising = rises;
+    }
+
+-- ---- their facts
+
+-- the reading of a file with facts
+pub record HasReading (readings : List ReadFile) (number : ℕ) (facts : Facts) : Type 0 where
+  pub reading : ReadFile
+  pub at : slice_get readings number ≡ Some reading
+  pub contents : FileContents
+  pub read : reading.contents ≡ Ok contents
+  pub facts_are : contents.facts ≡ facts
+
+module _ (readings : List ReadFile)
+    (whole : (number : ℕ) (reading : ReadFile) → slice_get readings number ≡ Some reading
+    → AreWholeIfRead reading.contents) where
+  with_contents : (number : ℕ) (facts : Facts) (reading : ReadFile) → slice_get readings number ≡ Some reading
+      → (contents : Result FileContents FileFault) → reading.contents ≡ contents
+      → facts_in contents ≡ Some facts → HasReading readings number facts
+  with_contents number facts reading at (Ok contents) is known = record {
+    reading = reading;
+    at = at;
+    contents = contents;
+    read = is;
+    facts_are = same_Some contents.facts facts known;
+  }
+  with_contents number facts reading at (Err fault) is known = absurd (none-some facts known)
+
+  pub reading_of : (number : ℕ) (facts : Facts) → HasFacts (linked_files readings) number facts
+      → HasReading readings number facts
+  reading_of number facts has =
+      let read = mapped_at linked_file readings number has.file has.numbered in
+      with_contents number facts read.0 read.1 read.0.contents refl
+      (sym (ap (λ (f : File). f.facts) read.2) ∙ has.known)
+
+  whole_of : (number : ℕ) (facts : Facts) (of : HasReading readings number facts) → AreWhole of.contents
+  whole_of number facts of = subst AreWholeIfRead of.read (whole number of.reading of.at)
+
+  pub have_origins : HaveOrigins (linked_files readings)
+  have_origins number facts known =
+      let of = reading_of number facts known in
+      subst AreOfSomeFile of.facts_are (whole_of number facts of).of_text.origin
+
+  has_text : (number : ℕ) (text : List ℕ) → HasReadText readings number text
+      → HasText (linked_files readings) number text
+  has_text number text has facts known =
+      let of = reading_of number facts known in
+      let same : of.reading ≡ has.reading = same_Some of.reading has.reading (sym of.at ∙ has.numbered) in
+      let contents : of.contents ≡ has.contents =
+      one_ok of.contents has.contents (sym of.read ∙ (ap (λ (r : ReadFile). r.contents) same ∙ has.read)) in
+      let Of : List ℕ → Type 0 = λ t. AreOfText t facts in
+      let Whole : Facts → Type 0 = λ f. AreOfText of.contents.text f in
+      subst Of (ap (λ (c : FileContents). c.text) contents ∙ has.text_is)
+      (subst Whole of.facts_are (whole_of number facts of).of_text)
+    where
+      one_ok : (a b : FileContents) → ◌≡◌ {A = Result FileContents FileFault} (Ok a) (Ok b) → a ≡ b
+      one_ok a b e = cc
+
+  has_choices : HaveChoices (linked_files readings) (map choices_of readings)
+  has_choices number index facts declared has =
+      let of = reading_of number facts has.has_facts in
+      let In : Facts → Type 0 = λ f. slice_get f.declarations index ≡ Some declared in
+      let chosen = (whole_of number facts of).chosen index declared (subst In (sym of.facts_are) has.numbered) in (
+        chosen.0,
+        record {
+          of_file = of.contents.choices;
+          file_is = mapped choices_of readings number of.reading of.at ∙ ap (λ c. Some (choices_in c)) of.read;
+          declaration_is = chosen.1;
+        },
+      )
+
+-- ---- the sources in front
+
+not_true : (b : Bool) → not b ≡ true → b ≡ false
+not_true false e = refl
+not_true true e = absurd (true≢false (sym e))
+
+not_false : (b : Bool) → b ≡ false → not b ≡ true
+not_false false e = refl
+not_false true e = absurd (true≢false e)
+
+module _ {X : Type 0} (p : X → Bool) where
+  chosen_length : (x : X) (xs : List X) → p x ≡ true → prefix_len p (x ∷ xs) ≡ 1 + prefix_len p xs
+  chosen_length x xs e = rw e refl
+
+  none_length : (x : X) (xs : List X) → p x ≡ false → prefix_len p (x ∷ xs) ≡ zero
+  none_length x xs e = rw e refl
+
+  -- what is below the length of the front passes
+  front_passes : (xs : List X) (k : ℕ) (x : X) → slice_get xs k ≡ Some x → k < prefix_len p xs → p x ≡ true
+  front_passes [] k x at below = absurd (none-some x at)
+  front_passes (y ∷ ys) k x at below = by (λ j. front_passes ys j x) (p y) refl k at below
+    where
+      by : ((j : ℕ) → slice_get ys j ≡ Some x → j < prefix_len p ys → p x ≡ true) → (b : Bool) → p y ≡ b → (k : ℕ)
+          → slice_get (y ∷ ys) k ≡ Some x → k < prefix_len p (y ∷ ys) → p x ≡ true
+      by more true e zero at below = subst (λ (z : X). p z ≡ true) (same_Some y x at) e
+      by more true e (suc k) at below = more k at (let n = chosen_length y ys e in omega (arith, n, below))
+      by more false e k at below = absurd (let n = none_length y ys e in omega (arith, n, below))
+
+  -- and what passes is below it, where all before such a one passes, too
+  in_front : (xs : List X) → ((i j : ℕ) (a b : X) → i < j → slice_get xs i ≡ Some a → slice_get xs j ≡ Some b
+      → p b ≡ true → p a ≡ true)
+      → (k : ℕ) (x : X) → slice_get xs k ≡ Some x → p x ≡ true → k < prefix_len p xs
+  in_front [] first k x at is = absurd (none-some x at)
+  in_front (y ∷ ys) first zero x at is =
+      let n = chosen_length y ys (subst (λ (z : X). p z ≡ true) (sym (same_Some y x at)) is) in omega (arith, n)
+  in_front (y ∷ ys) first (suc k) x at is =
+      let n = chosen_length y ys (first zero (suc k) y x (omega arith) refl at is) in
+      let more = in_front ys (λ i j a b less. first (suc i) (suc j) a b (omega (arith, less))) k x at is in
+      omega (arith, n, more)
+
+  front_within : (xs : List X) → (k : ℕ) → k < prefix_len p xs → k < length xs
+  front_within [] k below = absurd (omega (arith, below))
+  front_within (y ∷ ys) k below = by (λ j. front_within ys j) (p y) refl k below
+    where
+      by : ((j : ℕ) → j < prefix_len p ys → j < length ys) → (b : Bool) → p y ≡ b → (k : ℕ)
+          → k < prefix_len p (y ∷ ys) → k < length (y ∷ ys)
+      by more true e zero below = omega arith
+      by more true e (suc k) below =
+          let n = chosen_length y ys e in
+          let rest = more k (omega (arith, n, below)) in
+          omega (arith, rest)
+      by more false e k below = absurd (let n = none_length y ys e in omega (arith, n, below))
+
+  pub front_most : (xs : List X) → prefix_len p xs ≤ length xs
+  front_most [] = omega arith
+  front_most (y ∷ ys) = by (front_most ys) (p y) refl
+    where
+      by : prefix_len p ys ≤ length ys → (b : Bool) → p y ≡ b → prefix_len p (y ∷ ys) ≤ length (y ∷ ys)
+      by more true e = let n = chosen_length y ys e in omega (arith, n, more)
+      by more false e = let n = none_length y ys e in omega (arith, n)
+
+-- ---- they are ready
+
+-- the order of two files of which the later one is a source
+source_first : (a b : ReadFile) → reading_cmp a b ≡ Less → b.is_included ≡ false → a.is_included ≡ false
+source_first a b less source = by a.is_included refl
+  where
+    There : Bool → Bool → Type 0
+    There x y = ordering_then (bool_cmp x y) (slice_cmp nat_cmp a.path b.path) ≡ Less
+
+    by : (x : Bool) → a.is_included ≡ x → x ≡ false
+    by false e = refl
+    by true e =
+        let half : There true b.is_included = subst (λ x. There x b.is_included) e less in
+        let all : There true false = subst (λ y. There true y) source half in
+        cc
+
+by_path : (a b : ReadFile) → a.is_included ≡ false → b.is_included ≡ false → reading_cmp a b ≡ Less
     → slice_cmp nat_cmp a.path b.path ≡ Less
 by_path a b first second less =
     let There : Bool → Bool → Type 0 = λ x y. ordering_then (bool_cmp x y) (slice_cmp nat_cmp a.path b.path) ≡ Less in
     let half : There false b.is_included = subst (λ x. There x b.is_included) first less in
     subst (λ y. There false y) second half
 
-mapped : {A B : Type 0} (f : A → B) (xs : List A) (k : ℕ) (x : A) → slice_get xs k ≡ Some x
-    → slice_get (map f xs) k ≡ Some (f x)
-mapped f xs k x at = slice_get-map f xs k ∙ ap (option_map f) at
+module _ (readings : List ReadFile) (tree : AreOfTree readings) (clear : HaveClearNames (linked_files readings)) where
+  abbrev count : ℕ
+  count = prefix_len is_source readings
 
-module _ (custom : CustomOptions) where
-  -- facts of a file's bytes are facts of that text
-  of_text : (number : ℕ) (bytes : List ℕ) (facts : Facts) → AreFactsIn custom number bytes facts → AreOfText bytes facts
-  of_text number bytes facts has =
-      let Of : ℕ → Type 0 = λ n. AreFactsOf n has.lexed has.tree facts in
+  is_below : (number : ℕ) → IsSource (linked_files readings) number → number < count
+  is_below number is =
+      let read = mapped_at linked_file readings number is.file is.numbered in
+      let source : read.0.is_included ≡ false = sym (ap (λ (f : File). f.is_included) read.2) ∙ is.source in
+      in_front is_source readings
+      (λ i j a b less at and passes. not_false a.is_included
+      (source_first a b (tree.rising i j a b less at and) (not_true b.is_included passes)))
+      number read.0 read.1 (not_false read.0.is_included source)
+
+  source_at : (number : ℕ) → number < count
+      → (reading : ReadFile) × (slice_get readings number ≡ Some reading) × (reading.is_included ≡ false)
+  source_at number below =
+      let there = at_number readings number (front_within is_source readings number below) in (
+        there.0,
+        there.1,
+        not_true there.0.is_included (front_passes is_source readings number there.0 there.1 below),
+      )
+
+  is_source_at : (number : ℕ) → number < count → IsSource (linked_files readings) number
+  is_source_at number below =
+      let there = source_at number below in
       record {
-        origin = record {
-          lexed = has.lexed;
-          file = has.tree;
-          custom = custom;
-          is_lexed = has.lexing.is_lexed;
-          derives = has.derives;
-          of_file = subst Of (sym has.of_tree.numbered) has.of_tree;
-        };
-        text_is = has.lexing.of_bytes;
+        file = linked_file there.0;
+        numbered = mapped linked_file readings number there.0 there.1;
+        source = there.2;
       }
 
-  module _ (allows : Seen → Choice → Type 0) (tree : List TreeFile) (readings : List ReadFile)
-      (are : AreReadingsOf custom allows tree readings) where
-    -- the file that a reading is one of
-    record IsReadAt (number : ℕ) (reading : ReadFile) : Type 0 where
-      file : TreeFile
-      numbered : slice_get tree number ≡ Some file
-      is : IsReadingOf custom allows number file reading
+  read_in : (number : ℕ) (reading : ReadFile) → slice_get readings number ≡ Some reading
+      → (reading.is_included ≡ false) → (contents : Result FileContents FileFault) → reading.contents ≡ contents
+      → IsRead readings number
+  read_in number reading at source (Ok contents) is =
+      (contents.text, record { reading = reading; contents = contents; numbered = at; read = is; text_is = refl })
+  read_in number reading at source (Err fault) is =
+      let file = linked_file reading in
+      let numbered = mapped linked_file readings number reading at in
+      absurd (clear.read number (record {
+        file = file;
+        counts = seen (record { file = file; numbered = numbered; source = source }) itself;
+        numbered = numbered;
+        unread = ap facts_in is;
+      }))
 
-    read_at : (number : ℕ) (reading : ReadFile) → slice_get readings number ≡ Some reading → IsReadAt number reading
-    read_at number reading at =
-        let within : number < length tree = rw (sym are.one_each) (slice_get_within readings number reading at) in
-        let there = at_number tree number within in
-        record { file = there.0; numbered = there.1; is = are.each number there.0 reading there.1 at }
+  reads : (number : ℕ) → number < count → IsRead readings number
+  reads number below =
+      let there = source_at number below in read_in number there.0 there.1 there.2 there.0.contents refl
 
-    -- the reading of a file with facts
-    record HasReading (number : ℕ) (facts : Facts) : Type 0 where
-      reading : ReadFile
-      at : slice_get readings number ≡ Some reading
-      known : facts_in reading.contents ≡ Some facts
+  ascends : (lesser number : ℕ) (a b : File) → lesser < number → number < count
+      → slice_get (linked_files readings) lesser ≡ Some a → slice_get (linked_files readings) number ≡ Some b
+      → slice_cmp nat_cmp a.path b.path ≡ Less
+  ascends lesser number a b less below at and =
+      let first = mapped_at linked_file readings lesser a at in
+      let second = mapped_at linked_file readings number b and in
+      let source = not_true second.0.is_included
+      (front_passes is_source readings number second.0 second.1 below) in
+      let up = tree.rising lesser number first.0 second.0 less first.1 second.1 in
+      rw (first.2, second.2) (by_path first.0 second.0 (source_first first.0 second.0 up source) source up)
 
-    reading_of : (number : ℕ) (facts : Facts) → HasFacts (linked_files readings) number facts → HasReading number facts
-    reading_of number facts has =
-        let read = mapped_at linked_file readings number has.file has.numbered in
-        record { reading = read.0; at = read.1; known = sym (ap (λ (f : File). f.facts) read.2) ∙ has.known }
+  good_paths : HaveGoodPaths (linked_files readings)
+  good_paths number file at =
+      let read = mapped_at linked_file readings number file at in
+      rw read.2 (tree.each number read.0 read.1).good
 
-    has_text : (number : ℕ) (text : List ℕ) → HasReadText readings number text
-        → HasText (linked_files readings) number text
-    has_text number text has facts known =
-        let read = read_at number has.reading has.numbered in
-        let Contents : Result FileContents FileFault → Type 0 = HasContents custom allows number read.file in
-        let contents = subst Contents has.read read.is.contents in
-        let of = reading_of number facts known in
-        let Facts_of : ReadFile → Type 0 = λ r. facts_in r.contents ≡ Some facts in
-        let here : facts_in has.reading.contents ≡ Some facts =
-        subst Facts_of (same_Some of.reading has.reading (sym of.at ∙ has.numbered)) of.known in
-        let same : has.contents.facts ≡ facts =
-        same_Some has.contents.facts facts (sym (ap facts_in has.read) ∙ here) in
-        let text_is : read.file.bytes ≡ text = sym contents.0 ∙ has.text_is in
-        let Of : List ℕ → Type 0 = λ bytes. AreOfText bytes facts in
-        subst Of text_is (subst (AreOfText read.file.bytes) same
-        (of_text number read.file.bytes has.contents.facts contents.1.facts_in))
+  whole_each : (number : ℕ) (reading : ReadFile) → slice_get readings number ≡ Some reading
+      → AreWholeIfRead reading.contents
+  whole_each number reading at = (tree.each number reading at).contents
 
-    origin_in : (number : ℕ) (file : TreeFile) (contents : Result FileContents FileFault)
-        → HasContents custom allows number file contents → (facts : Facts) → facts_in contents ≡ Some facts
-        → AreOfSomeFile facts
-    origin_in number file (Ok contents) has facts known =
-        subst AreOfSomeFile (same_Some contents.facts facts known)
-        (of_text number file.bytes contents.facts has.1.facts_in).origin
-    origin_in number file (Err fault) has facts known = absurd (none-some facts known)
-
-    pub have_origins : HaveOrigins (linked_files readings)
-    have_origins number facts known =
-        let of = reading_of number facts known in
-        let read = read_at number of.reading of.at in
-        origin_in number read.file of.reading.contents read.is.contents facts of.known
-
-    choice_in : (number : ℕ) (reading : ReadFile) → slice_get readings number ≡ Some reading
-        → (file : TreeFile) (contents : Result FileContents FileFault) → reading.contents ≡ contents
-        → HasContents custom allows number file contents → (facts : Facts) → facts_in contents ≡ Some facts
-        → (index : ℕ) (declared : Declaration) → slice_get facts.declarations index ≡ Some declared
-        → HasChoice (map choices_of readings) number index
-    choice_in number reading at file (Ok contents) is has facts known index declared numbered =
-        let same : contents.facts ≡ facts = same_Some contents.facts facts known in
-        let In : Facts → Type 0 = λ f. slice_get f.declarations index ≡ Some declared in
-        let listed : slice_get contents.facts.declarations index ≡ Some declared = subst In (sym same) numbered in
-        let may_come : Declaration → Choice → Type 0 = λ declaration choice. allows (seen_of declaration) choice in
-        let chosen = beside may_come contents.facts.declarations contents.choices index declared has.1.chosen listed in (
-          chosen.0,
-          record {
-            of_file = contents.choices;
-            file_is = mapped choices_of readings number reading at ∙ ap (λ c. Some (choices_in c)) is;
-            declaration_is =
-                chosen.1;
-          },
-        )
-    choice_in number reading at file (Err fault) is has facts known index declared numbered =
-        absurd (none-some facts known)
-
-    has_choices : HaveChoices (linked_files readings) (map choices_of readings)
-    has_choices number index facts declared has =
-        let of = reading_of number facts has.has_facts in
-        let read = read_at number of.reading of.at in
-        choice_in number of.reading of.at read.file of.reading.contents refl read.is.contents facts of.known index
-        declared has.numbered
-
-    is_read : (number : ℕ) (reading : ReadFile) → slice_get readings number ≡ Some reading → (file : TreeFile)
-        → file.is_included ≡ false → (contents : Result FileContents FileFault) → reading.contents ≡ contents
-        → HasContents custom allows number file contents → IsRead readings number
-    is_read number reading at file source (Ok contents) is has =
-        (contents.text, record { reading = reading; contents = contents; numbered = at; read = is; text_is = refl })
-    is_read number reading at file source (Err fault) is has = absurd (true≢false (sym has.0 ∙ source))
-
-    module _ (is_tree : IsTree tree) where
-      good_paths : HaveGoodPaths (linked_files readings)
-      good_paths number file at =
-          let of = in_tree custom allows tree readings are number file at in
-          let Good : TreeFile → Type 0 = λ f. IsGoodPath f.path in
-          let good : IsGoodPath of.0.path =
-          subst Good (get_or_from_slice_get tree number of.0 of.0 of.1)
-          (is_tree.good number of.0 (slice_get_within tree number of.0 of.1)) in
-          subst IsGoodPath (sym of.2) good
-
-      module _ (count : ℕ) (counted : IsSourceCount tree count) where
-        there : (number : ℕ) → number < count → number < length tree
-        there number below = omega (arith, below, counted.within)
-
-        is_source : (number : ℕ) → number < count → IsSource (linked_files readings) number
-        is_source number below =
-            let within : number < length readings = rw are.one_each (there number below) in
-            let read = at_number readings number within in
-            let of = read_at number read.0 read.1 in
-            record {
-              file = linked_file read.0;
-              numbered = mapped linked_file readings number read.0 read.1;
-              source = of.is.is_included ∙ (counted.sources number of.file of.numbered).0 below;
-            }
-
-        is_below : (number : ℕ) → IsSource (linked_files readings) number → number < count
-        is_below number is =
-            let read = mapped_at linked_file readings number is.file is.numbered in
-            let of = read_at number read.0 read.1 in
-            let source : of.file.is_included ≡ false =
-            sym of.is.is_included ∙ (sym (ap (λ (f : File). f.is_included) read.2) ∙ is.source) in
-            (counted.sources number of.file of.numbered).1 source
-
-        reads : (number : ℕ) → number < count → IsRead readings number
-        reads number below =
-            let within : number < length readings = rw are.one_each (there number below) in
-            let read = at_number readings number within in
-            let of = read_at number read.0 read.1 in
-            is_read number read.0 read.1 of.file
-            ((counted.sources number of.file of.numbered).0 below) read.0.contents refl of.is.contents
-
-        rises : (lesser number : ℕ) (a b : File) → lesser < number → number < count
-            → slice_get (linked_files readings) lesser ≡ Some a → slice_get (linked_files readings) number ≡ Some b
-            → slice_cmp nat_cmp a.path b.path ≡ Less
-        rises lesser number a b less below at and =
-            let first = in_tree custom allows tree readings are lesser a at in
-            let second = in_tree custom allows tree readings are number b and in
-            let before : lesser < count = omega (arith, less, below) in
-            let up = rising_at file_cmp tree lesser number first.0 second.0 is_tree.rising less first.1 second.1 in
-            rw (first.2, second.2)
-            (by_path first.0 second.0 ((counted.sources lesser first.0 first.1).0 before)
-            ((counted.sources number second.0 second.1).0 below) up)
-
-        pub are_ready : AreReady readings (linked_files readings) (map choices_of readings) count
-        are_ready = record {
-          sources = λ number. (is_source number, is_below number);
-          read = reads;
-          texts = has_text;
-          good = good_paths;
-          rising = rises;
-          choices = has_choices;
-          one_text_each = length-map readings text_of ∙ sym (length-map readings linked_file);
-        }
+  pub are_ready : AreReady readings (linked_files readings) (map choices_of readings) count
+  are_ready = record {
+    sources = λ number. (is_source_at number, is_below number);
+    read = reads;
+    texts = has_text readings whole_each;
+    good = good_paths;
+    rising = ascends;
+    choices = has_choices readings whole_each;
+    one_text_each = length-map readings text_of ∙ sym (length-map readings linked_file);
+  }

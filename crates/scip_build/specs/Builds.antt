@@ -3,11 +3,12 @@ use Rattle.std.specs.Prelude.{◌≡◌, ◌⊎◌, ◌<◌, ℕ, ⊤, List, map
 use Rattle.proto_parse.specs.tree.CustomOptions.{CustomOptions}
 use Rattle.proto_decl.specs.Seen.{Seen}
 use Rattle.index_hooks.specs.declared.choice.Choice.{Choice}
-use Rattle.proto_visibility.specs.Linked.{CanBeLinked}
-use Rattle.scip_document.specs.Conditions.{AllResolve}
+use Rattle.proto_visibility.specs.Linked.{CanBeLinked, HaveClearNames}
 use Rattle.scip_document.specs.Indexes.{IsIndexOf}
 use Rattle.source_tree.specs.Files.{TreeFile}
 use Rattle.scip_build.specs.declared.settings.Settings.{Settings}
+use Rattle.scip_build.specs.declared.faulty.Faulty.{Faulty}
+use Rattle.scip_build.specs.declared.faulty.Faulty.TheVariants.{Refuse}
 use Rattle.scip_build.specs.declared.built.Built.{Built}
 use Rattle.scip_build.specs.declared.fault.BuildFault.{BuildFault}
 use Rattle.scip_build.specs.declared.fault.BuildFault.TheVariants.{Spawn, Memory, File, Duplicate, MissingImport}
@@ -16,40 +17,47 @@ use Rattle.scip_build.specs.Files.{ReadFile}
 use Rattle.scip_build.specs.Readings.{AreReadingsOf, IsFirstFaulty}
 use Rattle.scip_build.specs.Linking.{linked_files, choices_of, MayRefuseReadings}
 use Rattle.scip_build.specs.Documents.{texts_of, IsLeastUnresolved}
+use Rattle.scip_build.specs.Kept.{AreKept, IsWithoutFault}
 
--- The index of a tree, and the choices that it is made by: the files have readings, can be linked, and each use of each
--- source
--- names a type; the index is that of the linked files, their texts, the recorded choices, and the settings.
-pub record IsBuilt (allows : Seen → Choice → Type 0) (settings : Settings) (tree : List TreeFile)
-    (built : Built) : Type 0 where
+-- What is built of files that were read: some are kept, and it is the index of these files, their texts, the recorded
+-- choices, and the settings; of the rest it is told why. Where faults are refused nothing is told: so all files are
+-- kept, they can be linked, and each use of each source names a type.
+pub record IsBuiltOf (all : List ReadFile) (settings : Settings) (built : Built) : Type 0 where
   pub readings : List ReadFile
-  pub read : AreReadingsOf settings.custom_options allows tree readings
-  pub linked : CanBeLinked (linked_files readings)
-  pub resolved : AllResolve (linked_files readings)
+  pub kept : AreKept all readings built.told
+  pub clear : HaveClearNames (linked_files readings)
+  pub refused : settings.faulty ≡ Refuse → IsWithoutFault all readings built.told
   pub choices : built.choices ≡ map choices_of readings
   pub index : IsIndexOf (linked_files readings)
       (texts_of readings) built.choices settings.package settings.encoding settings.project_root built.index
+
+-- The index of a tree, the choices that it is made by, and what is told of files that have no part in it.
+pub record IsBuilt (allows : Seen → Choice → Type 0) (settings : Settings) (tree : List TreeFile)
+    (built : Built) : Type 0 where
+  pub all : List ReadFile
+  pub read : AreReadingsOf settings.faulty settings.custom_options allows tree all
+  pub of_files : IsBuiltOf all settings built
 
 -- this holds of some readings of the tree: so each source could be read
 abbrev pub OfReadings : (custom : CustomOptions) → (allows : Seen → Choice → Type 0) → List TreeFile
     → (List ReadFile → Type 0) → Type 0
 OfReadings custom allows tree Holds =
-    (readings : List ReadFile) × AreReadingsOf custom allows tree readings × Holds readings
+    (readings : List ReadFile) × AreReadingsOf Refuse custom allows tree readings × Holds readings
 
 -- Why a tree has no index: the first source that can't be read; else what the linking of its files refuses; else the
--- first use that names
--- no type. A thread is refused only where one is to be started; of memory nothing is said.
-abbrev pub IsBuildFault : (allows : Seen → Choice → Type 0) → (custom : CustomOptions) → List TreeFile → (workers : ℕ)
-    → BuildFault → Type 0
-IsBuildFault allows custom tree workers Spawn = 1 < workers
-IsBuildFault allows custom tree workers Memory = ⊤
-IsBuildFault allows custom tree workers (File number fault) =
-    IsFirstFaulty custom tree number fault
-    ⊎ OfReadings custom allows tree (λ readings. MayRefuseReadings readings (File number fault))
-IsBuildFault allows custom tree workers (Duplicate first second) =
-    OfReadings custom allows tree (λ readings. MayRefuseReadings readings (Duplicate first second))
-IsBuildFault allows custom tree workers (MissingImport place) =
-    OfReadings custom allows tree (λ readings. MayRefuseReadings readings (MissingImport place))
-IsBuildFault allows custom tree workers (Unresolved place) =
-    OfReadings custom allows tree
+-- first use that names no type; all this only where faults are refused. A thread is refused only where one is to be
+-- started; of memory nothing is said.
+abbrev pub IsBuildFault : (allows : Seen → Choice → Type 0) → Faulty → (custom : CustomOptions) → List TreeFile
+    → (workers : ℕ) → BuildFault → Type 0
+IsBuildFault allows faulty custom tree workers Spawn = 1 < workers
+IsBuildFault allows faulty custom tree workers Memory = ⊤
+IsBuildFault allows faulty custom tree workers (File number fault) =
+    (faulty ≡ Refuse) × (IsFirstFaulty custom tree number fault
+    ⊎ OfReadings custom allows tree (λ readings. MayRefuseReadings readings (File number fault)))
+IsBuildFault allows faulty custom tree workers (Duplicate first second) =
+    (faulty ≡ Refuse) × OfReadings custom allows tree (λ readings. MayRefuseReadings readings (Duplicate first second))
+IsBuildFault allows faulty custom tree workers (MissingImport place) =
+    (faulty ≡ Refuse) × OfReadings custom allows tree (λ readings. MayRefuseReadings readings (MissingImport place))
+IsBuildFault allows faulty custom tree workers (Unresolved place) =
+    (faulty ≡ Refuse) × OfReadings custom allows tree
     (λ readings. CanBeLinked (linked_files readings) × IsLeastUnresolved (linked_files readings) place)

@@ -1,20 +1,28 @@
 -- The documents of sources that were read, and why they aren't made.
-use Rattle.std.specs.Prelude.{◌≡◌, ◌↔◌, ◌<◌, ℕ, ⊤, Result, Ok, Err, Some, List, [], length, map, MatchResult}
+use Rattle.std.specs.Prelude.{◌≡◌, ◌↔◌, ◌<◌, ◌⊎◌, ℕ, ⊤, Result, Ok, Err, Some, List, [], length, map, Contains}
+use Rattle.std.specs.Prelude.{MatchResult}
 use Rattle.std.specs.declared.cmp.Ordering.TheVariants.{Less}
 use Rattle.std.specs.Ordering.{nat_cmp}
 use Rattle.std.specs.Cmp.Lexicographic.{slice_cmp}
 use Rattle.std.specs.List.{slice_get}
 use Rattle.proto_lex.specs.declared.position.Encoding.{Encoding}
+use Rattle.proto_decl.specs.Facts.{Facts}
+use Rattle.proto_decl.specs.declared.type_use.Use.{Use}
+use Rattle.proto_link.specs.Targets.{IsUnresolved}
 use Rattle.proto_visibility.specs.declared.place.FilePlace.{FilePlace}
-use Rattle.proto_visibility.specs.Files.{File, IsSource}
+use Rattle.proto_visibility.specs.Files.{File, HasFacts, IsSource}
 use Rattle.scip_model.specs.declared.records.Document.{Document}
-use Rattle.scip_symbol.specs.Package.{Package}
+use Rattle.scip_document.specs.Packages.{Packages}
 use Rattle.scip_document.specs.Chosen.{Chosen, HaveChoices}
-use Rattle.scip_document.specs.Conditions.{HaveGoodPaths, AllResolve, IsFirstUnresolved}
+use Rattle.scip_document.specs.Conditions.{HaveGoodPaths, IsResolved, AllResolve, IsFirstUnresolved}
 use Rattle.scip_document.specs.Uses.{UsesResolve}
 use Rattle.scip_document.specs.Texts.{HasText}
 use Rattle.scip_document.specs.Indexes.{IsAscendingListOf, IsDocumentOf, document_cmp, HasDocument, HaveDocuments}
 use Rattle.scip_build.specs.declared.settings.Settings.{Settings}
+use Rattle.scip_document.specs.Gaps.{AreGaps}
+use Rattle.scip_document.specs.declared.source_document.SourceDocument.{SourceDocument}
+use Rattle.scip_build.specs.declared.faulty.Faulty.{Faulty}
+use Rattle.scip_build.specs.declared.faulty.Faulty.TheVariants.{Refuse}
 use Rattle.scip_build.specs.declared.fault.FileFault.{FileFault}
 use Rattle.scip_build.specs.declared.fault.BuildFault.{BuildFault}
 use Rattle.scip_build.specs.declared.fault.BuildFault.TheVariants as build
@@ -57,42 +65,64 @@ pub record AreReady (readings : List ReadFile) (files : List File) (chosen : Cho
 
 -- what the second phase works on
 pub record SourceWork : Type 0 where
+  pub faulty : Faulty
   pub readings : List ReadFile
   pub files : List File
   pub chosen : Chosen
   pub settings : Settings
   pub count : ℕ
 
--- the document of the source with this number, of which each use names a type
-pub record IsDocumentAt (readings : List ReadFile) (files : List File) (chosen : Chosen) (id : Package)
-    (encoding : Encoding) (number : ℕ) (document : Document) : Type 0 where
+-- the document of the source with this number, and its uses that name no type; none where such are refused
+pub record IsDocumentAt (faulty : Faulty) (readings : List ReadFile) (files : List File) (chosen : Chosen)
+    (ids : Packages) (encoding : Encoding) (number : ℕ) (made : SourceDocument) : Type 0 where
   pub text : List ℕ
   pub has_text : HasReadText readings number text
-  pub is : IsDocumentOf files chosen id encoding number text document
-  pub resolved : UsesResolve files number
+  pub is : IsDocumentOf files chosen ids encoding number text made.document
+  pub gaps : AreGaps files number made.unresolved
+  pub refused : faulty ≡ Refuse → made.unresolved ≡ []
 
--- why a source has no document: its first use that names no type; of memory nothing is said
-abbrev pub MayRefuseSource : List File → (number : ℕ) → BuildFault → Type 0
-MayRefuseSource files number build.Spawn = ⊥
-MayRefuseSource files number build.Memory = ⊤
-MayRefuseSource files number (build.File other fault) = ⊥
-MayRefuseSource files number (build.Duplicate first second) = ⊥
-MayRefuseSource files number (build.MissingImport place) = ⊥
-MayRefuseSource files number (build.Unresolved place) =
-    (place.file ≡ number) × IsFirstUnresolved files number place.span
+-- why a source has no document: its first use that names no type, where such are refused; of memory nothing is said
+abbrev pub MayRefuseSource : Faulty → List File → (number : ℕ) → BuildFault → Type 0
+MayRefuseSource faulty files number build.Spawn = ⊥
+MayRefuseSource faulty files number build.Memory = ⊤
+MayRefuseSource faulty files number (build.File other fault) = ⊥
+MayRefuseSource faulty files number (build.Duplicate first second) = ⊥
+MayRefuseSource faulty files number (build.MissingImport place) = ⊥
+MayRefuseSource faulty files number (build.Unresolved place) =
+    (faulty ≡ Refuse) × (place.file ≡ number) × IsFirstUnresolved files number place.span
 
 -- what the making of a document gives
-abbrev pub GivesDocument : List ReadFile → List File → Chosen → Package → Encoding → (number : ℕ)
-    → Result Document BuildFault → Type 0
-GivesDocument readings files chosen id encoding number result =
-    MatchResult result (IsDocumentAt readings files chosen id encoding number) (MayRefuseSource files number)
+abbrev pub GivesDocument : Faulty → List ReadFile → List File → Chosen → Packages → Encoding → (number : ℕ)
+    → Result SourceDocument BuildFault → Type 0
+GivesDocument faulty readings files chosen ids encoding number result =
+    MatchResult result (IsDocumentAt faulty readings files chosen ids encoding number)
+    (MayRefuseSource faulty files number)
 
--- The documents of all sources, one of each, by path; each use of the sources names a type.
-pub record AreDocuments (readings : List ReadFile) (files : List File) (chosen : Chosen) (id : Package)
-    (encoding : Encoding) (documents : List Document) : Type 0 where
-  pub resolved : AllResolve files
-  pub list : IsAscendingListOf document_cmp (HasDocument files (texts_of readings) chosen id encoding) documents
-  pub each : HaveDocuments files (texts_of readings) chosen id encoding documents
+-- each use of each source names a type, or none
+abbrev pub AllAreDecided : List File → Type 0
+AllAreDecided files = (source : ℕ) (facts : Facts) (type_use : Use) → IsSource files source
+    → HasFacts files source facts → Contains facts.uses type_use
+    → IsResolved files source type_use ⊎ IsUnresolved files source type_use
+
+-- a use at this place of a source names no type
+pub record IsUnresolvedAt (files : List File) (place : FilePlace) : Type 0 where
+  pub source : IsSource files place.file
+  pub facts : Facts
+  pub known : HasFacts files place.file facts
+  pub type_use : Use
+  pub listed : Contains facts.uses type_use
+  pub stands : type_use.span ≡ place.span
+  pub unresolved : IsUnresolved files place.file type_use
+
+-- The documents of all sources, one of each, by path, and all uses of the sources that name no type; none where such
+-- are refused.
+pub record AreDocuments (faulty : Faulty) (readings : List ReadFile) (files : List File) (chosen : Chosen)
+    (ids : Packages) (encoding : Encoding) (documents : List Document) (gaps : List FilePlace) : Type 0 where
+  pub decided : AllAreDecided files
+  pub unresolved : (place : FilePlace) → Contains gaps place ↔ IsUnresolvedAt files place
+  pub refused : faulty ≡ Refuse → AllResolve files × (gaps ≡ [])
+  pub list : IsAscendingListOf document_cmp (HasDocument files (texts_of readings) chosen ids encoding) documents
+  pub each : HaveDocuments files (texts_of readings) chosen ids encoding documents
 
 -- the first use that names no type, of the first source in which one does
 pub record IsLeastUnresolved (files : List File) (place : FilePlace) : Type 0 where
@@ -100,11 +130,12 @@ pub record IsLeastUnresolved (files : List File) (place : FilePlace) : Type 0 wh
   pub first : IsFirstUnresolved files place.file place.span
   pub before : (lesser : ℕ) → lesser < place.file → IsSource files lesser → UsesResolve files lesser
 
--- Why the documents aren't made. A thread is refused only where one is to be started; of memory nothing is said.
-abbrev pub MayRefuseDocuments : List File → (workers : ℕ) → BuildFault → Type 0
-MayRefuseDocuments files workers build.Spawn = 1 < workers
-MayRefuseDocuments files workers build.Memory = ⊤
-MayRefuseDocuments files workers (build.File other fault) = ⊥
-MayRefuseDocuments files workers (build.Duplicate first second) = ⊥
-MayRefuseDocuments files workers (build.MissingImport place) = ⊥
-MayRefuseDocuments files workers (build.Unresolved place) = IsLeastUnresolved files place
+-- Why the documents aren't made: a use, where such are refused. A thread is refused only where one is to be started; of
+-- memory nothing is said.
+abbrev pub MayRefuseDocuments : Faulty → List File → (workers : ℕ) → BuildFault → Type 0
+MayRefuseDocuments faulty files workers build.Spawn = 1 < workers
+MayRefuseDocuments faulty files workers build.Memory = ⊤
+MayRefuseDocuments faulty files workers (build.File other fault) = ⊥
+MayRefuseDocuments faulty files workers (build.Duplicate first second) = ⊥
+MayRefuseDocuments faulty files workers (build.MissingImport place) = ⊥
+MayRefuseDocuments faulty files workers (build.Unresolved place) = (faulty ≡ Refuse) × IsLeastUnresolved files place

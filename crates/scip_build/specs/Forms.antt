@@ -1,22 +1,30 @@
 -- An index in a form: what is kept of its documents. `Is document out` says that this is kept of a document.
-use Rattle.std.specs.Prelude.{◌≡◌, ℕ, List, Result, MatchResult}
+use Rattle.std.specs.Prelude.{◌≡◌, ℕ, List, map, Result, MatchResult}
 use Rattle.std.specs.List.{AllZip}
 use Rattle.proto_lex.specs.declared.position.Encoding.{Encoding}
 use Rattle.proto_decl.specs.Seen.{Seen}
+use Rattle.proto_visibility.specs.declared.place.FilePlace.{FilePlace}
 use Rattle.proto_visibility.specs.Files.{File}
+use Rattle.proto_visibility.specs.Linked.{HaveClearNames, CanBeLinked}
 use Rattle.index_hooks.specs.declared.choice.Choice.{Choice}
 use Rattle.scip_model.specs.declared.records.Document.{Document}
 use Rattle.scip_model.specs.declared.records.Index.{Index}
-use Rattle.scip_symbol.specs.Package.{Package}
+use Rattle.scip_document.specs.Packages.{Packages}
 use Rattle.scip_document.specs.Chosen.{Chosen}
+use Rattle.scip_document.specs.declared.source_document.SourceDocument.{SourceDocument}
 use Rattle.source_tree.specs.Files.{TreeFile}
 use Rattle.scip_build.specs.declared.settings.Settings.{Settings}
+use Rattle.scip_build.specs.declared.faulty.Faulty.{Faulty}
 use Rattle.scip_build.specs.declared.parts.Parts.{Parts}
+use Rattle.scip_build.specs.declared.made.Made.{Made}
+use Rattle.scip_build.specs.declared.made.MadeDocument.{MadeDocument}
 use Rattle.scip_build.specs.declared.fault.BuildFault.{BuildFault}
 use Rattle.scip_build.specs.Files.{ReadFile}
 use Rattle.scip_build.specs.Documents.{IsDocumentAt, MayRefuseSource, AreDocuments}
-use Rattle.scip_build.specs.Making.{IsMade, IsLinkedAndMade}
-use Rattle.scip_build.specs.Builds.{IsBuilt}
+use Rattle.scip_build.specs.Linking.{linked_files, choices_of}
+use Rattle.scip_build.specs.Made.{gaps_from}
+use Rattle.scip_build.specs.Making.{IsMade}
+use Rattle.scip_build.specs.Builds.{IsBuiltOf, IsBuilt}
 
 module _ {Out : Type 0} (Is : Document → Out → Type 0) where
   -- the parts are those of an index: its metadata, what is kept of each of its documents, in order, and its external
@@ -27,43 +35,58 @@ module _ {Out : Type 0} (Is : Document → Out → Type 0) where
     pub external_symbols : parts.external_symbols ≡ index.external_symbols
 
   -- what the making of a source's document gives, of which this is kept
-  pub record IsKeptAt (readings : List ReadFile) (files : List File) (chosen : Chosen) (id : Package)
-      (encoding : Encoding) (number : ℕ) (out : Out) : Type 0 where
-    pub document : Document
-    pub made : IsDocumentAt readings files chosen id encoding number document
-    pub kept : Is document out
+  pub record IsKeptAt (faulty : Faulty) (readings : List ReadFile) (files : List File) (chosen : Chosen)
+      (ids : Packages)
+      (encoding : Encoding) (number : ℕ) (out : MadeDocument Out) : Type 0 where
+    pub document : SourceDocument
+    pub made : IsDocumentAt faulty readings files chosen ids encoding number document
+    pub kept : Is document.document out.kept
+    pub gaps : out.unresolved ≡ document.unresolved
 
-  abbrev pub GivesKept : List ReadFile → List File → Chosen → Package → Encoding → (number : ℕ) → Result Out BuildFault
-      → Type 0
-  GivesKept readings files chosen id encoding number result =
-      MatchResult result (IsKeptAt readings files chosen id encoding number) (MayRefuseSource files number)
+  abbrev pub GivesKept : Faulty → List ReadFile → List File → Chosen → Packages → Encoding → (number : ℕ)
+      → Result (MadeDocument Out) BuildFault → Type 0
+  GivesKept faulty readings files chosen ids encoding number result =
+      MatchResult result (IsKeptAt faulty readings files chosen ids encoding number)
+      (MayRefuseSource faulty files number)
 
-  -- what is kept of the documents of all sources, in order
-  pub record AreKept (readings : List ReadFile) (files : List File) (chosen : Chosen) (id : Package)
-      (encoding : Encoding) (outs : List Out) : Type 0 where
+  -- what is kept of the documents of all sources, in order, and all uses that name no type
+  pub record AreMade (faulty : Faulty) (readings : List ReadFile) (files : List File) (chosen : Chosen) (ids : Packages)
+      (encoding : Encoding) (outs : List (MadeDocument Out)) : Type 0 where
     pub documents : List Document
-    pub made : AreDocuments readings files chosen id encoding documents
-    pub kept : AllZip Is documents outs
+    pub made : AreDocuments faulty readings files chosen ids encoding documents (gaps_from 0 outs)
+    pub kept : AllZip Is documents (map (λ (out : MadeDocument Out). out.kept) outs)
 
-  -- there is an index, as files that were read make it, and these are its parts
+  -- there is an index, as linked files make it, and these are its parts
   pub record IsMadeInForm (readings : List ReadFile) (files : List File) (chosen : Chosen) (settings : Settings)
-      (parts : Parts Out) : Type 0 where
+      (parts : Parts Out) (gaps : List FilePlace) : Type 0 where
     pub index : Index
-    pub made : IsMade readings files chosen settings index
+    pub made : IsMade readings files chosen settings index gaps
     pub are : ArePartsOf index parts
+
+  -- it is made by the choices for the files that were read
+  pub record IsMadeOf (readings : List ReadFile) (settings : Settings) (made : Made Out) : Type 0 where
+    pub clear : HaveClearNames (linked_files readings)
+    pub choices : made.choices ≡ map choices_of readings
+    pub in_form : IsMadeInForm readings (linked_files readings) made.choices settings made.parts made.gaps
 
   -- the files can be linked, too
-  pub record IsLinkedInForm (readings : List ReadFile) (chosen : Chosen) (settings : Settings)
+  pub record IsLinkedAndMade (readings : List ReadFile) (settings : Settings) (made : Made Out) : Type 0 where
+    pub linked : CanBeLinked (linked_files readings)
+    pub made_of : IsMadeOf readings settings made
+
+  -- there is an index of what is kept of files that were read, made by these choices, this is told of the rest, and
+  -- these are its parts
+  pub record IsBuiltOfInForm (all : List ReadFile) (settings : Settings) (choices : Chosen) (told : List BuildFault)
       (parts : Parts Out) : Type 0 where
     pub index : Index
-    pub made : IsLinkedAndMade readings chosen settings index
+    pub built : IsBuiltOf all settings (record { index = index; choices = choices; told = told })
     pub are : ArePartsOf index parts
 
-  -- there is an index of the tree, made by these choices, and these are its parts
+  -- the same of a tree
   pub record IsBuiltInForm (allows : Seen → Choice → Type 0) (settings : Settings) (tree : List TreeFile)
-      (choices : Chosen) (parts : Parts Out) : Type 0 where
+      (choices : Chosen) (told : List BuildFault) (parts : Parts Out) : Type 0 where
     pub index : Index
-    pub built : IsBuilt allows settings tree (record { index = index; choices = choices })
+    pub built : IsBuilt allows settings tree (record { index = index; choices = choices; told = told })
     pub are : ArePartsOf index parts
 
 -- the index of parts of which the documents are kept as they are

@@ -6,6 +6,8 @@ use Rattle.proto_parse.specs.fault.SyntaxFault.{SyntaxFault}
 use Rattle.proto_decl.specs.Facts.{Facts}
 use Rattle.proto_decl.specs.Seen.{Seen}
 use Rattle.index_hooks.specs.declared.choice.Choice.{Choice}
+use Rattle.scip_build.specs.declared.faulty.Faulty.{Faulty}
+use Rattle.scip_build.specs.declared.faulty.Faulty.TheVariants.{Refuse}
 use Rattle.scip_build.specs.declared.fault.FileFault.{FileFault}
 use Rattle.scip_build.specs.declared.fault.FileFault.TheVariants.{Lex, Syntax}
 use Rattle.scip_build.specs.Parsed.{AreFactsIn, IsUnlexed, IsUnparsed, IsUnreadable}
@@ -51,22 +53,22 @@ OneFirstFaulty =
     (custom : CustomOptions) (files : List TreeFile) (number other : ℕ) (fault another : FileFault)
     → IsFirstFaulty custom files number fault → IsFirstFaulty custom files other another → number ≡ other
 
--- Where there is one, the files have no readings.
+-- Where there is one, the files have no readings, if it is refused.
 abbrev pub NoReadingsWhereFaulty : (allows : Seen → Choice → Type 0) → Type 0
 NoReadingsWhereFaulty allows =
     (custom : CustomOptions) (files : List TreeFile) (readings : List ReadFile) (number : ℕ) (fault : FileFault)
-    → AreReadingsOf custom allows files readings → IsFirstFaulty custom files number fault → ⊥
+    → AreReadingsOf Refuse custom allows files readings → IsFirstFaulty custom files number fault → ⊥
 
 -- Files that were read have paths of their own, as the tree's have, so that they can be handed to the linker.
 abbrev pub ReadingsHaveOwnPaths : (allows : Seen → Choice → Type 0) → Type 0
 ReadingsHaveOwnPaths allows =
-    (custom : CustomOptions) (files : List TreeFile) (readings : List ReadFile)
-    → AreReadingsOf custom allows files readings → HaveOwnPaths files
+    (faulty : Faulty) (custom : CustomOptions) (files : List TreeFile) (readings : List ReadFile)
+    → AreReadingsOf faulty custom allows files readings → HaveOwnPaths files
     → link.HaveOwnPaths (linked_files readings)
 
 -- Files that were read link as one list of files, whatever was chosen.
 abbrev pub OneLinking : (allows others : Seen → Choice → Type 0) → Type 0
 OneLinking allows others =
-    (custom : CustomOptions) (files : List TreeFile) (readings again : List ReadFile)
-    → AreReadingsOf custom allows files readings → AreReadingsOf custom others files again
+    (faulty other : Faulty) (custom : CustomOptions) (files : List TreeFile) (readings again : List ReadFile)
+    → AreReadingsOf faulty custom allows files readings → AreReadingsOf other custom others files again
     → linked_files readings ≡ linked_files again

@@ -8,11 +8,21 @@ pub mod Readings
 pub mod FileFaults
 -- what is linked of files that were read
 pub mod Linking
+-- what holds of files that were read from a tree
+pub mod Ready
 -- the documents of sources that were read
 pub mod Documents
+-- what is kept of a tree, and what is told of the rest
+pub mod Kept
+-- what a use of a kept file names
+pub mod KeptUses
+-- how files are kept, and how it is told
+pub mod Keeping
+pub mod Telling
 -- what is built from a tree, and why nothing is
 pub mod Builds
 -- the same of files that were read
+pub mod Made
 pub mod Making
 -- an index in a form
 pub mod Forms

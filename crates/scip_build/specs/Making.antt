@@ -1,29 +1,27 @@
 -- What is made of files that were read, and why it isn't.
-use Rattle.std.specs.Prelude.{◌<◌, ℕ, ⊤, List}
+use Rattle.std.specs.Prelude.{◌≡◌, ◌↔◌, ◌<◌, ℕ, ⊤, List, [], Contains}
 use Rattle.proto_visibility.specs.Files.{File}
 use Rattle.proto_visibility.specs.Linked.{CanBeLinked}
 use Rattle.scip_model.specs.declared.records.Index.{Index}
 use Rattle.scip_document.specs.Chosen.{Chosen}
 use Rattle.scip_document.specs.Conditions.{AllResolve}
 use Rattle.scip_document.specs.Indexes.{IsIndexOf}
+use Rattle.proto_visibility.specs.declared.place.FilePlace.{FilePlace}
 use Rattle.scip_build.specs.declared.settings.Settings.{Settings}
+use Rattle.scip_build.specs.declared.faulty.Faulty.TheVariants.{Refuse}
 use Rattle.scip_build.specs.declared.fault.BuildFault.{BuildFault}
 use Rattle.scip_build.specs.declared.fault.BuildFault.TheVariants as build
 use Rattle.scip_build.specs.Files.{ReadFile}
 use Rattle.scip_build.specs.Linking.{linked_files, MayRefuseReadings}
-use Rattle.scip_build.specs.Documents.{texts_of, IsLeastUnresolved}
+use Rattle.scip_build.specs.Documents.{texts_of, AllAreDecided, IsUnresolvedAt, IsLeastUnresolved}
 
--- each use of each source names a type, and the index is that of the files
+-- The index is that of the files, and these are the uses of sources that name no type: none where such are refused.
 pub record IsMade (readings : List ReadFile) (files : List File) (chosen : Chosen) (settings : Settings)
-    (index : Index) : Type 0 where
-  pub resolved : AllResolve files
+    (index : Index) (gaps : List FilePlace) : Type 0 where
+  pub decided : AllAreDecided files
+  pub unresolved : (place : FilePlace) → Contains gaps place ↔ IsUnresolvedAt files place
+  pub refused : settings.faulty ≡ Refuse → AllResolve files × (gaps ≡ [])
   pub is : IsIndexOf files (texts_of readings) chosen settings.package settings.encoding settings.project_root index
-
--- the files can be linked, too
-pub record IsLinkedAndMade (readings : List ReadFile) (chosen : Chosen) (settings : Settings)
-    (index : Index) : Type 0 where
-  pub linked : CanBeLinked (linked_files readings)
-  pub made : IsMade readings (linked_files readings) chosen settings index
 
 -- why files that were read make no index
 abbrev pub MayRefuseMaking : List ReadFile → (workers : ℕ) → BuildFault → Type 0
@@ -35,3 +33,12 @@ MayRefuseMaking readings workers (build.Duplicate first second) =
 MayRefuseMaking readings workers (build.MissingImport place) = MayRefuseReadings readings (build.MissingImport place)
 MayRefuseMaking readings workers (build.Unresolved place) =
     CanBeLinked (linked_files readings) × IsLeastUnresolved (linked_files readings) place
+
+-- why what is kept of a tree makes no index
+abbrev pub MayRefuseSkipping : (workers : ℕ) → BuildFault → Type 0
+MayRefuseSkipping workers build.Spawn = 1 < workers
+MayRefuseSkipping workers build.Memory = ⊤
+MayRefuseSkipping workers (build.File number fault) = ⊥
+MayRefuseSkipping workers (build.Duplicate first second) = ⊥
+MayRefuseSkipping workers (build.MissingImport place) = ⊥
+MayRefuseSkipping workers (build.Unresolved place) = ⊥

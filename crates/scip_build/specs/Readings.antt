@@ -1,5 +1,6 @@
 -- What files are read as, and which file is the first that can't be.
-use Rattle.std.specs.Prelude.{◌≡◌, ◌<◌, ℕ, ⊤, true, false, Result, Ok, Err, Some, List, length, MatchResult, IfSome}
+use Rattle.std.specs.Prelude.{◌≡◌, ◌<◌, ℕ, ⊤, Bool, true, false, Result, Ok, Err, Some, List, length, MatchResult}
+use Rattle.std.specs.Prelude.{IfSome}
 use Rattle.std.specs.List.{AllZip, slice_get}
 use Rattle.proto_parse.specs.tree.CustomOptions.{CustomOptions}
 use Rattle.proto_decl.specs.Facts.{Facts}
@@ -7,6 +8,8 @@ use Rattle.proto_decl.specs.Seen.{Seen}
 use Rattle.proto_decl.specs.Declares.{simple_name}
 use Rattle.proto_decl.specs.declared.declaration.Declaration.{Declaration}
 use Rattle.index_hooks.specs.declared.choice.Choice.{Choice}
+use Rattle.scip_build.specs.declared.faulty.Faulty.{Faulty}
+use Rattle.scip_build.specs.declared.faulty.Faulty.TheVariants.{Refuse, Skip}
 use Rattle.scip_build.specs.declared.fault.FileFault.{FileFault}
 use Rattle.scip_build.specs.declared.fault.BuildFault.{BuildFault}
 use Rattle.scip_build.specs.declared.fault.BuildFault.TheVariants.{Spawn, Memory, File, Duplicate, MissingImport}
@@ -42,26 +45,32 @@ abbrev pub AreContentsOf : CustomOptions → (allows : Seen → Choice → Type 
 AreContentsOf custom allows number bytes contents =
     (contents.text ≡ bytes) × IsReadAs custom allows number bytes contents.facts contents.choices
 
--- the contents of a file, or, where it is included, why it has none
-abbrev pub HasContents : CustomOptions → (allows : Seen → Choice → Type 0) → (number : ℕ) → TreeFile
+-- a file may be without contents where it is included, and any may where it isn't refused for it
+abbrev pub may_be_unread : Faulty → (is_included : Bool) → Bool
+may_be_unread Refuse is_included = is_included
+may_be_unread Skip is_included = true
+
+-- the contents of a file, or, where it may be without, why it has none
+abbrev pub HasContents : Faulty → CustomOptions → (allows : Seen → Choice → Type 0) → (number : ℕ) → TreeFile
     → Result FileContents FileFault → Type 0
-HasContents custom allows number file (Ok contents) = AreContentsOf custom allows number file.bytes contents
-HasContents custom allows number file (Err fault) = (file.is_included ≡ true) × IsUnreadable custom file.bytes fault
+HasContents faulty custom allows number file (Ok contents) = AreContentsOf custom allows number file.bytes contents
+HasContents faulty custom allows number file (Err fault) =
+    (may_be_unread faulty file.is_included ≡ true) × IsUnreadable custom file.bytes fault
 
 -- a file after it was read
-pub record IsReadingOf (custom : CustomOptions) (allows : Seen → Choice → Type 0) (number : ℕ) (file : TreeFile)
-    (reading : ReadFile) : Type 0 where
+pub record IsReadingOf (faulty : Faulty) (custom : CustomOptions) (allows : Seen → Choice → Type 0) (number : ℕ)
+    (file : TreeFile) (reading : ReadFile) : Type 0 where
   pub path : reading.path ≡ file.path
   pub is_included : reading.is_included ≡ file.is_included
-  pub contents : HasContents custom allows number file reading.contents
+  pub contents : HasContents faulty custom allows number file reading.contents
 
 -- the files after they were read, each under its number
-pub record AreReadingsOf (custom : CustomOptions) (allows : Seen → Choice → Type 0) (files : List TreeFile)
-    (readings : List ReadFile) : Type 0 where
+pub record AreReadingsOf (faulty : Faulty) (custom : CustomOptions) (allows : Seen → Choice → Type 0)
+    (files : List TreeFile) (readings : List ReadFile) : Type 0 where
   pub one_each : length readings ≡ length files
   pub each : (number : ℕ) (file : TreeFile) (reading : ReadFile) → slice_get files number ≡ Some file
       → slice_get readings number ≡ Some reading
-      → IsReadingOf custom allows number file reading
+      → IsReadingOf faulty custom allows number file reading
 
 -- a source, which can't be read
 pub record IsFaultySource (custom : CustomOptions) (file : TreeFile) (fault : FileFault) : Type 0 where
@@ -82,29 +91,31 @@ pub record IsFirstFaulty (custom : CustomOptions) (files : List TreeFile) (numbe
   pub before : (lesser : ℕ) (other : TreeFile) → lesser < number → slice_get files lesser ≡ Some other
       → IsReadIfSource custom lesser other
 
--- Why the files aren't read. A thread is refused only where one is to be started, that is, for two workers or more; of
--- memory
--- nothing is said.
-abbrev pub MayRefuseFiles : CustomOptions → List TreeFile → (workers : ℕ) → BuildFault → Type 0
-MayRefuseFiles custom files workers Spawn = 1 < workers
-MayRefuseFiles custom files workers Memory = ⊤
-MayRefuseFiles custom files workers (File number fault) = IsFirstFaulty custom files number fault
-MayRefuseFiles custom files workers (Duplicate first second) = ⊥
-MayRefuseFiles custom files workers (MissingImport place) = ⊥
-MayRefuseFiles custom files workers (Unresolved place) = ⊥
+-- Why the files aren't read: a source can't be, and such sources are refused. A thread is refused only where one is to
+-- be started, that is, for two workers or more; of memory nothing is said.
+abbrev pub MayRefuseFiles : Faulty → CustomOptions → List TreeFile → (workers : ℕ) → BuildFault → Type 0
+MayRefuseFiles faulty custom files workers Spawn = 1 < workers
+MayRefuseFiles faulty custom files workers Memory = ⊤
+MayRefuseFiles faulty custom files workers (File number fault) =
+    (faulty ≡ Refuse) × IsFirstFaulty custom files number fault
+MayRefuseFiles faulty custom files workers (Duplicate first second) = ⊥
+MayRefuseFiles faulty custom files workers (MissingImport place) = ⊥
+MayRefuseFiles faulty custom files workers (Unresolved place) = ⊥
 
 -- why the file with this number stops the run: it is a source that can't be read; of memory nothing is said
-abbrev pub MayRefuseReading : CustomOptions → (number : ℕ) → TreeFile → BuildFault → Type 0
-MayRefuseReading custom number file Spawn = ⊥
-MayRefuseReading custom number file Memory = ⊤
-MayRefuseReading custom number file (File other fault) = (other ≡ number) × IsFaultySource custom file fault
-MayRefuseReading custom number file (Duplicate first second) = ⊥
-MayRefuseReading custom number file (MissingImport place) = ⊥
-MayRefuseReading custom number file (Unresolved place) = ⊥
+abbrev pub MayRefuseReading : Faulty → CustomOptions → (number : ℕ) → TreeFile → BuildFault → Type 0
+MayRefuseReading faulty custom number file Spawn = ⊥
+MayRefuseReading faulty custom number file Memory = ⊤
+MayRefuseReading faulty custom number file (File other fault) =
+    (faulty ≡ Refuse) × (other ≡ number) × IsFaultySource custom file fault
+MayRefuseReading faulty custom number file (Duplicate first second) = ⊥
+MayRefuseReading faulty custom number file (MissingImport place) = ⊥
+MayRefuseReading faulty custom number file (Unresolved place) = ⊥
 
 -- what the reading of the file with this number gives
-abbrev pub GivesReading : CustomOptions → (allows : Seen → Choice → Type 0) → List TreeFile → ℕ
+abbrev pub GivesReading : Faulty → CustomOptions → (allows : Seen → Choice → Type 0) → List TreeFile → ℕ
     → Result ReadFile BuildFault → Type 0
-GivesReading custom allows files number result =
+GivesReading faulty custom allows files number result =
     IfSome (slice_get files number)
-    (λ file. MatchResult result (IsReadingOf custom allows number file) (MayRefuseReading custom number file))
+    (λ file. MatchResult result (IsReadingOf faulty custom allows number file)
+    (MayRefuseReading faulty custom number file))

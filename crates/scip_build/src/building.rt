@@ -2,29 +2,38 @@
 
 ghost use Rattle.std.specs.Prelude.{◌≡◌, ◌≤◌, IfOk, IfErr, MatchResult};
 ghost use Rattle.index_pool.specs.declared.workers.TheConstants.{MAX_INPUTS};
-ghost use Rattle.proto_visibility.specs.Files.{HaveOwnPaths};
+ghost use Rattle.proto_visibility.specs.Absences.{AreMissing};
+ghost use Rattle.proto_visibility.specs.Linked.{HaveClearNames};
 ghost use Rattle.scip_document.specs.Indexes.{metadata_of};
+ghost use Rattle.scip_build.specs.declared.faulty.Faulty.TheVariants.{Refuse, Skip};
 ghost use Rattle.scip_build.specs.Linking.{linked_files};
 ghost use Rattle.scip_build.specs.Documents.{AreReady, MayRefuseDocuments};
-ghost use Rattle.scip_build.specs.Making.{MayRefuseMaking};
-ghost use Rattle.scip_build.specs.Forms.{index_of, IsMadeInForm, IsLinkedInForm, IsBuiltInForm};
+ghost use Rattle.scip_build.specs.Ready.{AreOfTree};
+ghost use Rattle.scip_build.specs.Making.{MayRefuseMaking, MayRefuseSkipping};
+ghost use Rattle.scip_build.specs.Forms.{index_of, IsMadeInForm, IsMadeOf, IsLinkedAndMade, IsBuiltOfInForm};
+ghost use Rattle.scip_build.specs.Forms.{IsBuiltInForm};
 ghost use Rattle.scip_build.specs.Builds.{IsBuilt, IsBuildFault};
 
 use crate::built::Built;
 use crate::chosen::chosen_lists;
 use crate::document_form::{AsRecords, DocumentForm};
 use crate::fault::BuildFault;
-use crate::laws::readings_have_own_paths;
+use crate::faulty::Faulty;
+use crate::gaps::{documents_of, gaps_of};
+use crate::keeping::{keep_files, sources_among};
 use crate::linked_sources::LinkedSources;
 use crate::linking::{link, linked_files};
+use crate::made::Made;
 use crate::parts::{BuiltParts, Parts};
 use crate::phase_one::read_files;
 use crate::phase_two::make_documents;
 use crate::reading::Reading;
 use crate::run::Run;
 use crate::settings::Settings;
+use crate::telling::tell;
 use index_hooks::Chooses;
 use index_pool::{Gate, Workers};
+use proto_link::{FilePlace, Linker, kept_files_are_clear};
 use scip_document::{Choices, externals};
 use scip_model::{Document, Index, Metadata, ToolInfo};
 use sequences::{OwnedText, Sequence};
@@ -51,21 +60,25 @@ fn metadata(alloc: Global, project_root: &OwnedText) -> Result<Metadata, AllocEr
     })
 }
 
-/// The parts of the index of linked files: the documents come by path, so none is looked for.
+/// The parts of the index of linked files, and the uses that name no type: the documents come by path, so
+/// none is looked for.
 fn make_parts<R: Threads + Wait, G: Gate, F: DocumentForm + Sync>(
     run: &Run<'_, R, G>,
     sources: &LinkedSources<'_, '_, '_>,
     form: &F,
-) -> Result<Parts<F::Kept>, BuildFault>
+) -> Result<(Parts<F::Kept>, Sequence<FilePlace>), BuildFault>
     requires few { sources.now.count ≤ MAX_INPUTS }
     requires ready { AreReady
         sources.now.readings.now sources.now.linker.now sources.now.choices.now sources.now.count }
     ensures { MatchResult result
-        (IsMadeInForm F.is_kept sources.now.readings.now sources.now.linker.now sources.now.choices.now sources.now.settings.now)
-        (MayRefuseDocuments sources.now.linker.now run.now.workers) }
+        (λ made. IsMadeInForm F.is_kept sources.now.readings.now sources.now.linker.now sources.now.choices.now
+        sources.now.settings.now made.0 made.1)
+        (MayRefuseDocuments sources.now.settings.now.faulty sources.now.linker.now run.now.workers) }
 {
     let settings = sources.settings;
-    let documents = make_documents(run, sources, form)?;
+    let made = make_documents(run, sources, form)?;
+    let gaps = gaps_of(run.alloc, made.as_slice())?;
+    let documents = documents_of(run.alloc, made)?;
     let external_symbols = externals(
         run.alloc,
         sources.linker,
@@ -73,41 +86,136 @@ fn make_parts<R: Threads + Wait, G: Gate, F: DocumentForm + Sync>(
         &settings.package,
     )?;
     let metadata = metadata(run.alloc, &settings.project_root)?;
-    Ok(Parts {
+    let parts = Parts {
         metadata: Some(metadata),
         documents: Sequence::from_vec(documents),
         external_symbols,
+    };
+    Ok((parts, Sequence::from_vec(gaps)))
+}
+
+/// What is made of linked files that were read.
+fn make_linked<R: Threads + Wait, G: Gate, F: DocumentForm + Sync>(
+    run: &Run<'_, R, G>,
+    linker: &Linker<'_>,
+    readings: &[Reading<'_>],
+    settings: &Settings,
+    form: &F,
+) -> Result<Made<F::Kept>, BuildFault>
+    requires files { linker.now ≡ linked_files readings.now }
+    requires tree { AreOfTree readings.now }
+    ensures { MatchResult result
+        (IsMadeOf F.is_kept readings.now settings.now)
+        (MayRefuseDocuments settings.now.faulty (linked_files readings.now) run.now.workers) }
+{
+    linker.linked();
+    let choices = Choices::new(chosen_lists(run.alloc, readings)?);
+    let sources = LinkedSources {
+        alloc: run.alloc,
+        linker,
+        readings,
+        choices: &choices,
+        settings,
+        count: sources_among(readings),
+    };
+    let made = make_parts(run, &sources, form)?;
+    Ok(Made {
+        parts: made.0,
+        choices,
+        gaps: made.1,
     })
 }
 
-/// The parts of the index of files that were read, of which so many are sources.
-fn link_and_make<R: Threads + Wait, G: Gate, F: DocumentForm + Sync>(
+/// What is made of all files that were read, where faults are refused.
+fn make_whole<R: Threads + Wait, G: Gate, F: DocumentForm + Sync>(
     run: &Run<'_, R, G>,
     readings: &[Reading<'_>],
-    choices: &Choices,
     settings: &Settings,
-    count: usize,
     form: &F,
-) -> Result<Parts<F::Kept>, BuildFault>
-    requires few { count ≤ MAX_INPUTS }
-    requires own { HaveOwnPaths (linked_files readings.now) }
-    requires ready { AreReady readings.now (linked_files readings.now) choices.now count }
+) -> Result<Made<F::Kept>, BuildFault>
+    requires tree { AreOfTree readings.now }
+    requires refuse { settings.now.faulty ≡ Refuse }
     ensures { MatchResult result
-        (IsLinkedInForm F.is_kept readings.now choices.now settings.now)
+        (IsLinkedAndMade F.is_kept readings.now settings.now)
         (MayRefuseMaking readings.now run.now.workers) }
 {
-    let alloc = run.alloc;
-    let files = linked_files(alloc, readings)?;
-    let linker = link(alloc, readings, files.as_slice())?;
-    let sources = LinkedSources {
-        alloc,
-        linker: &linker,
-        readings,
-        choices,
-        settings,
-        count,
-    };
-    make_parts(run, &sources, form)
+    let files = linked_files(run.alloc, readings)?;
+    let linker = link(run.alloc, readings, files.as_slice())?;
+    make_linked(run, &linker, readings, settings, form)
+}
+
+/// What is made of the files that are kept, and the imports of them that name no file.
+fn make_kept<R: Threads + Wait, G: Gate, F: DocumentForm + Sync>(
+    run: &Run<'_, R, G>,
+    readings: &[Reading<'_>],
+    settings: &Settings,
+    form: &F,
+) -> Result<(Made<F::Kept>, Vec<FilePlace>), BuildFault>
+    requires tree { AreOfTree readings.now }
+    requires clear { HaveClearNames (linked_files readings.now) }
+    requires skip { settings.now.faulty ≡ Skip }
+    ensures { MatchResult result
+        (λ made. IsMadeOf F.is_kept readings.now settings.now made.0 × AreMissing (linked_files readings.now)
+        made.1.items)
+        (MayRefuseSkipping run.now.workers) }
+{
+    let files = linked_files(run.alloc, readings)?;
+    let linker = Linker::of_kept(run.alloc, files.as_slice())?;
+    let missing = linker.missing_imports(run.alloc)?;
+    let made = make_linked(run, &linker, readings, settings, form)?;
+    Ok((made, missing))
+}
+
+/// The parts of the index of a tree that was read, where faults are refused.
+fn build_whole<'a, R: Threads + Wait, G: Gate, F: DocumentForm + Sync>(
+    run: &Run<'_, R, G>,
+    all: Vec<Reading<'a>>,
+    settings: &Settings,
+    form: &F,
+) -> Result<BuiltParts<'a, F::Kept>, BuildFault>
+    requires tree { AreOfTree all.items }
+    requires refuse { settings.now.faulty ≡ Refuse }
+    ensures { MatchResult result
+        (λ built. IsBuiltOfInForm F.is_kept all.entry.items settings.now built.choices built.told built.parts)
+        (MayRefuseMaking all.entry.items run.now.workers) }
+{
+    let made = make_whole(run, all.as_slice(), settings, form)?;
+    Ok(BuiltParts {
+        parts: made.parts,
+        choices: made.choices,
+        readings: all,
+        told: Sequence::new(run.alloc),
+    })
+}
+
+/// The parts of the index of what is kept of a tree that was read, and what is told of the rest.
+fn build_kept<'a, R: Threads + Wait, G: Gate, F: DocumentForm + Sync>(
+    run: &Run<'_, R, G>,
+    all: Vec<Reading<'a>>,
+    settings: &Settings,
+    form: &F,
+) -> Result<BuiltParts<'a, F::Kept>, BuildFault>
+    requires tree { AreOfTree all.items }
+    requires skip { settings.now.faulty ≡ Skip }
+    ensures { MatchResult result
+        (λ built. IsBuiltOfInForm F.is_kept all.entry.items settings.now built.choices built.told built.parts)
+        (MayRefuseSkipping run.now.workers) }
+{
+    kept_files_are_clear();
+    let kept = keep_files(run.alloc, all)?;
+    let made = make_kept(run, kept.readings.as_slice(), settings, form)?;
+    let told = tell(
+        kept.told,
+        kept.numbers.as_slice(),
+        made.1.as_slice(),
+        made.0.gaps.as_slice(),
+    )?;
+    Ok(BuiltParts {
+        parts: made.0.parts,
+        choices: made.0.choices,
+        readings: kept.readings,
+        told: Sequence::from_vec(told),
+    })
 }
 
 /// Builds the index of a tree's sources, as `build` does, but keeps of each document only what the form
@@ -119,20 +227,17 @@ pub fn build_in_form<'a, R: Threads + Wait, C: Chooses + Sync, G: Gate, F: Docum
     settings: &Settings,
     form: &F,
 ) -> Result<BuiltParts<'a, F::Kept>, BuildFault>
-    ensures built { IfOk result (λ built. IsBuiltInForm F.is_kept (C.allows chooser.now) settings.now tree.now built.choices built.parts) }
-    ensures refused { IfErr result (IsBuildFault (C.allows chooser.now) settings.now.custom_options tree.now run.now.workers) }
+    ensures built { IfOk result (λ built. IsBuiltInForm F.is_kept (C.allows chooser.now) settings.now tree.now
+        built.choices built.told built.parts) }
+    ensures refused { IfErr result (IsBuildFault (C.allows chooser.now) settings.now.faulty settings.now.custom_options
+        tree.now run.now.workers) }
 {
-    readings_have_own_paths(chooser);
     tree.file_count();
-    let readings = read_files(run, tree, chooser, settings.custom_options)?;
-    let choices = Choices::new(chosen_lists(run.alloc, readings.as_slice())?);
-    let count = tree.source_count();
-    let parts = link_and_make(run, readings.as_slice(), &choices, settings, count, form)?;
-    Ok(BuiltParts {
-        parts,
-        choices,
-        readings,
-    })
+    let all = read_files(run, tree, chooser, settings.custom_options, settings.faulty)?;
+    match settings.faulty {
+        Faulty::Refuse => build_whole(run, all, settings, form),
+        Faulty::Skip => build_kept(run, all, settings, form),
+    }
 }
 
 /// The index of parts of which the documents are kept as they are.
@@ -150,10 +255,12 @@ fn index_of(parts: Parts<Document>) -> Index
 /// settings, on so many workers. The gate's calls come round each file as it is read, and then round
 /// each source as its document is made.
 ///
-/// Of the refusals the first is answered: `Spawn`, `Memory`, or the first source that can't be read;
-/// then the first included file that some source sees and that can't be read; then `Duplicate`,
-/// `MissingImport`; then `Spawn`, `Memory`, or the first use of the first source in which one names
-/// no type. A refused growth ends the step that it is in with `Memory`.
+/// Where faults are skipped, the files that have one are left out, and imports and uses that then name
+/// nothing don't occur; what is told beside the index is just these, and `Spawn` and `Memory` alone are
+/// refusals. Else nothing is told, and of the refusals the first is answered: `Spawn`, `Memory`, or the
+/// first source that can't be read; then the first included file that some source sees and that can't be
+/// read; then `Duplicate`, `MissingImport`; then `Spawn`, `Memory`, or the first use of the first source in
+/// which one names no type. A refused growth ends the step that it is in with `Memory`.
 pub fn build<R: Threads + Wait, C: Chooses + Sync, G: Gate>(
     rt: &R,
     alloc: Global,
@@ -164,7 +271,8 @@ pub fn build<R: Threads + Wait, C: Chooses + Sync, G: Gate>(
     gate: &G,
 ) -> Result<Built, BuildFault>
     ensures built { IfOk result (IsBuilt (C.allows chooser.now) settings.now tree.now) }
-    ensures refused { IfErr result (IsBuildFault (C.allows chooser.now) settings.now.custom_options tree.now workers) }
+    ensures refused { IfErr result (IsBuildFault (C.allows chooser.now) settings.now.faulty settings.now.custom_options
+        tree.now workers) }
 {
     let run = Run {
         rt,
@@ -177,5 +285,6 @@ pub fn build<R: Threads + Wait, C: Chooses + Sync, G: Gate>(
     Ok(Built {
         index,
         choices: built.choices,
+        told: built.told,
     })
 }

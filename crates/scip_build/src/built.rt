@@ -1,12 +1,17 @@
 //! What is built from a tree.
 
+use crate::fault::BuildFault;
 use scip_document::Choices;
 use scip_model::Index;
+use sequences::Sequence;
 
 /// The index of a tree, and what was chosen for each declaration of its files.
 #[derive(Debug, Drop)]
 pub struct Built {
     pub index: Index,
-    /// For each file, by its number, the choice for each of its declarations.
+    /// For each file that is kept, by its number among these, the choice for each of its declarations.
     pub choices: Choices,
+    /// What was left out, and what has no target, each by the fault for which it would be refused, in
+    /// order of file and place; nothing where faults are refused.
+    pub told: Sequence<BuildFault>,
 }

@@ -8,6 +8,7 @@ ghost use Rattle.scip_build.specs.Readings.{AreContentsOf, GivesReading, IsReadi
 
 use crate::choosing::choose_each;
 use crate::fault::{BuildFault, FileFault};
+use crate::faulty::Faulty;
 use crate::reading::{Contents, Reading};
 use index_hooks::Chooses;
 use proto_decl::{FileFacts, declare};
@@ -16,13 +17,14 @@ use proto_parse::{CustomOptions, SyntaxFault, parse_with};
 use source_tree::Tree;
 use std::alloc::Global;
 
-/// By what files are read: what chooses for their declarations, and what is done with custom
-/// options.
+/// By what files are read: what chooses for their declarations, and what is done with custom options
+/// and with files that can't be read.
 #[derive(Drop)]
 pub(crate) struct Reader<'c, C> {
     pub(crate) alloc: Global,
     pub(crate) chooser: &'c C,
     pub(crate) custom: CustomOptions,
+    pub(crate) faulty: Faulty,
 }
 
 /// Why the file with this number has no lexing; want of memory is no fault of a file.
@@ -89,8 +91,8 @@ fn contents_of<'a, C: Chooses>(
     })
 }
 
-/// Reads the file with this number, which has this path and these bytes. An included file that
-/// can't be read has its fault in place of contents.
+/// Reads the file with this number, which has this path and these bytes. A file that can't be read, and
+/// isn't refused for it, has its fault in place of contents.
 fn read_parts<'a, C: Chooses>(
     reader: &Reader<'_, C>,
     number: usize,
@@ -99,9 +101,9 @@ fn read_parts<'a, C: Chooses>(
     is_included: bool,
 ) -> Result<Reading<'a>, BuildFault>
     ensures { MatchResult result
-        (IsReadingOf reader.now.custom (C.allows reader.now.chooser.now) number
+        (IsReadingOf reader.now.faulty reader.now.custom (C.allows reader.now.chooser.now) number
         (record { path = path.now; bytes = bytes.now; is_included = is_included }))
-        (MayRefuseReading reader.now.custom number
+        (MayRefuseReading reader.now.faulty reader.now.custom number
         (record { path = path.now; bytes = bytes.now; is_included = is_included })) }
 {
     match contents_of(reader, number, bytes) {
@@ -111,7 +113,7 @@ fn read_parts<'a, C: Chooses>(
             contents: Ok(contents),
         }),
         Err(BuildFault::File(of, fault)) => {
-            if is_included {
+            if reader.faulty.may_be_unread(is_included) {
                 Ok(Reading {
                     path,
                     is_included,
@@ -132,7 +134,8 @@ pub(crate) fn read_file<'a, C: Chooses>(
     tree: &'a Tree,
 ) -> Result<Reading<'a>, BuildFault>
     requires { number < length tree.now }
-    ensures { GivesReading reader.now.custom (C.allows reader.now.chooser.now) tree.now number result }
+    ensures { GivesReading reader.now.faulty reader.now.custom (C.allows reader.now.chooser.now) tree.now number
+        result }
 {
     read_parts(
         reader,

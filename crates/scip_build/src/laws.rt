@@ -1,12 +1,16 @@
 //! Laws: what the definitions say of readings and faults, whatever the code does.
 
 ghost use Rattle.scip_build.specs.BuildLaws.{BuiltHasNoFault, OneBuildFault, FileFaultsAreAlike, OneBuilt};
-ghost use Rattle.scip_build.specs.Laws.{OneListOfFacts, NoFactsWhereUnreadable, LexedWhereUnparsed, FaultsAreAlike, OneFirstFaulty, NoReadingsWhereFaulty, ReadingsHaveOwnPaths, OneLinking};
+ghost use Rattle.scip_build.specs.BuildLaws.{BuiltWhereNothingIsTold};
+ghost use Rattle.scip_build.specs.Kept.{NothingIsToldOfAGoodTree};
+ghost use Rattle.scip_build.specs.KeptUses.{KeptResolvesAlike};
+ghost use Rattle.scip_build.specs.Laws.{OneListOfFacts, NoFactsWhereUnreadable, LexedWhereUnparsed, FaultsAreAlike};
+ghost use Rattle.scip_build.specs.Laws.{OneFirstFaulty, NoReadingsWhereFaulty, ReadingsHaveOwnPaths, OneLinking};
 
 use index_hooks::Chooses;
 use proto_decl::one_list_of_facts;
 use proto_lex::{one_first_fault, one_lexing};
-use proto_link::one_refusal;
+use proto_link::{nothing_is_left_out_of_good_files, one_omission_list, one_refusal};
 use proto_parse::one_tree;
 use scip_document::one_index;
 
@@ -92,12 +96,29 @@ pub fn file_faults_are_alike<C: Chooses, D: Chooses>(chooser: &C, other: &D)
     faults_are_alike();
 }
 
-/// Where for what is seen of a declaration one choice alone may come, a tree has one index and one
-/// list of choices by its settings, whatever the workers. The two choosers may be one.
+/// Nothing is told of a tree just where it wouldn't be refused; and then the same is built where faults
+/// are refused as where they are skipped.
+pub fn nothing_is_left_out_of_a_good_tree<C: Chooses>(chooser: &C)
+    ensures told { NothingIsToldOfAGoodTree }
+    ensures built { BuiltWhereNothingIsTold (C.allows chooser.now) }
+{
+    nothing_is_left_out_of_good_files();
+}
+
+/// A use of a kept file that names nothing of a file that is left out names what it named among all files.
+pub fn kept_resolves_alike()
+    ensures { KeptResolvesAlike }
+{}
+
+/// Where for what is seen of a declaration one choice alone may come, a tree has one index, one list of
+/// choices and one list of what is told by its settings, whatever the workers; and where it has no fault,
+/// the same where faults are skipped. The two choosers may be one.
 pub fn one_built<C: Chooses, D: Chooses>(chooser: &C, other: &D)
     ensures { OneBuilt (C.allows chooser.now) (D.allows other.now) }
 {
     one_list_of_facts_a_file();
     faults_exclude_facts();
+    faults_are_alike();
+    one_omission_list();
     one_index();
 }

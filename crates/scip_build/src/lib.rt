@@ -8,10 +8,14 @@ mod choosing;
 mod chosen;
 mod document_form;
 mod fault;
+mod faulty;
 mod file_reading;
+mod gaps;
+mod keeping;
 mod laws;
 mod linked_sources;
 mod linking;
+mod made;
 mod parts;
 mod phase_one;
 mod phase_two;
@@ -19,16 +23,19 @@ mod reading;
 mod run;
 mod settings;
 mod source_document;
+mod telling;
 
 pub use building::{build, build_in_form};
 pub use built::Built;
 pub use chosen::chosen_lists;
 pub use document_form::{AsRecords, DocumentForm};
 pub use fault::{BuildFault, FileFault};
+pub use faulty::Faulty;
 pub use laws::{
     built_has_no_fault, faults_are_alike, faults_exclude_facts, file_faults_are_alike,
-    one_build_fault, one_built, one_first_faulty, one_linking, one_list_of_facts_a_file,
-    readings_exclude_faults, readings_have_own_paths,
+    kept_resolves_alike, nothing_is_left_out_of_a_good_tree, one_build_fault, one_built,
+    one_first_faulty, one_linking, one_list_of_facts_a_file, readings_exclude_faults,
+    readings_have_own_paths,
 };
 pub use linking::{link, linked_files};
 pub use parts::{BuiltParts, Parts};

@@ -41,7 +41,7 @@ pub fn linked_files<'a>(
 }
 
 /// Why a file has no contents.
-fn fault_at(readings: &[Reading<'_>], number: usize) -> FileFault
+pub(crate) fn fault_at(readings: &[Reading<'_>], number: usize) -> FileFault
     requires unread { IsUnread (linked_files readings.now) number }
     ensures { HasFault readings.now number result }
 {

@@ -1,5 +1,6 @@
 //! The parts of an index.
 
+use crate::fault::BuildFault;
 use crate::reading::Reading;
 use scip_document::Choices;
 use scip_model::{Metadata, SymbolInformation};
@@ -13,13 +14,16 @@ pub struct Parts<T> {
     pub external_symbols: Sequence<SymbolInformation>,
 }
 
-/// The parts of the index of a tree, and what was chosen for each declaration of its files.
+/// The parts of the index of a tree, what was chosen for each declaration of its files, and what was left
+/// out.
 #[derive(Drop)]
 pub struct BuiltParts<'a, T> {
     pub parts: Parts<T>,
-    /// For each file, by its number, the choice for each of its declarations.
+    /// For each file that is kept, by its number among these, the choice for each of its declarations.
     pub choices: Choices,
-    /// What is known of the files. It is of no further use, but letting it go takes time, which a program
-    /// that ends can save.
+    /// What is known of the files that are kept. It is of no further use, but letting it go takes time, which
+    /// a program that ends can save.
     pub readings: Vec<Reading<'a>>,
+    /// What was left out, and what has no target, as `Built` has it.
+    pub told: Sequence<BuildFault>,
 }

@@ -4,6 +4,7 @@ ghost use Rattle.std.specs.Prelude.{MatchResult};
 ghost use Rattle.scip_build.specs.Readings.{AreReadingsOf, MayRefuseFiles};
 
 use crate::fault::BuildFault;
+use crate::faulty::Faulty;
 use crate::file_reading::{Reader, read_file};
 use crate::reading::Reading;
 use crate::run::Run;
@@ -31,7 +32,8 @@ impl<'a, 'c, C: Chooses + Sync> Job for PhaseOne<'a, 'c, C> {
 
     ghost inputs = { λ s. length s.tree.now };
 
-    ghost gives = { λ s number result. GivesReading s.reader.custom (C.allows s.reader.chooser.now) s.tree.now number result };
+    ghost gives = { λ s number result. GivesReading s.reader.faulty s.reader.custom (C.allows s.reader.chooser.now)
+        s.tree.now number result };
 
     fn run(&self, number: usize) -> Result<Reading<'a>, BuildFault> {
         read_file(&self.reader, number, self.tree)
@@ -41,10 +43,10 @@ impl<'a, 'c, C: Chooses + Sync> Job for PhaseOne<'a, 'c, C> {
 /// Reads the files of a tree, by one choice of what is done with custom options, and chooses for
 /// each declaration, on so many workers, with the gate's calls round each file.
 ///
-/// A source that isn't text, or has no lexing or no tree, is refused: `File` names the first of
-/// them, and memory sufficed for every file before it. An included file that has none of these is no
-/// refusal: its reading has the fault. The chooser is asked once about each declaration of a file that
-/// can be read, included or not.
+/// A source that isn't text, or has no lexing or no tree, is refused, if such are: `File` names the first
+/// of them, and memory sufficed for every file before it. An included file that has none of these is no
+/// refusal, and no file is where faulty ones are skipped: its reading has the fault. The chooser is asked
+/// once about each declaration of a file that can be read, included or not.
 ///
 /// `Spawn` comes before `Memory`, and `Memory` before `File`. `Memory` is for what all files share, or
 /// for the least file that stops the run, be it an included one. `Duplicate`, `MissingImport`,
@@ -54,15 +56,17 @@ pub fn read_files<'a, R: Threads + Wait, C: Chooses + Sync, G: Gate>(
     tree: &'a Tree,
     chooser: &C,
     custom: CustomOptions,
+    faulty: Faulty,
 ) -> Result<Vec<Reading<'a>>, BuildFault>
     ensures { MatchResult result
-        (λ readings. AreReadingsOf custom (C.allows chooser.now) tree.now readings.items)
-        (MayRefuseFiles custom tree.now run.now.workers) }
+        (λ readings. AreReadingsOf faulty custom (C.allows chooser.now) tree.now readings.items)
+        (MayRefuseFiles faulty custom tree.now run.now.workers) }
 {
     let reader = Reader {
         alloc: run.alloc,
         chooser,
         custom,
+        faulty,
     };
     let job = PhaseOne { reader, tree };
     match run_phase(

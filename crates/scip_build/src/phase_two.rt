@@ -3,11 +3,12 @@
 ghost use Rattle.std.specs.Prelude.{◌≤◌, MatchResult};
 ghost use Rattle.index_pool.specs.declared.workers.TheConstants.{MAX_INPUTS};
 ghost use Rattle.scip_build.specs.Documents.{AreReady, MayRefuseDocuments};
-ghost use Rattle.scip_build.specs.Forms.{AreKept};
+ghost use Rattle.scip_build.specs.Forms.{AreMade};
 
 use crate::document_form::DocumentForm;
 use crate::fault::BuildFault;
 use crate::linked_sources::LinkedSources;
+use crate::made::MadeDocument;
 use crate::run::Run;
 use crate::source_document::make_document;
 use index_pool::{Gate, Job, PoolFault, run_phase};
@@ -29,6 +30,7 @@ impl<'a, 'b, 'l, 'r, F: DocumentForm + Sync> Model for PhaseTwo<'a, 'b, 'l, 'r, 
     ghost Value = { SourceWork };
 
     ghost view = { λ job. record {
+      faulty = job.sources.now.settings.now.faulty;
       readings = job.sources.now.readings.now;
       files = job.sources.now.linker.now;
       chosen = job.sources.now.choices.now;
@@ -43,38 +45,44 @@ impl<'a, 'b, 'l, 'r, F: DocumentForm + Sync> Model for PhaseTwo<'a, 'b, 'l, 'r, 
 impl<'a, 'b, 'l, 'r, F: DocumentForm + Sync> Job for PhaseTwo<'a, 'b, 'l, 'r, F> {
     ghost use Rattle.scip_build.specs.Forms.{GivesKept};
 
-    type Out = F::Kept;
+    type Out = MadeDocument<F::Kept>;
 
     type Fault = BuildFault;
 
     ghost inputs = { λ work. work.count };
 
     ghost gives = { λ work number result.
-        GivesKept F.is_kept work.readings work.files work.chosen work.settings.package work.settings.encoding number result };
+        GivesKept F.is_kept work.faulty work.readings work.files work.chosen work.settings.package
+        work.settings.encoding number result };
 
-    fn run(&self, number: usize) -> Result<F::Kept, BuildFault> {
-        let document = make_document(self.sources, number)?;
-        Ok(self.form.keep(self.sources.alloc, document)?)
+    fn run(&self, number: usize) -> Result<MadeDocument<F::Kept>, BuildFault> {
+        let made = make_document(self.sources, number)?;
+        let kept = self.form.keep(self.sources.alloc, made.document)?;
+        Ok(MadeDocument {
+            kept,
+            unresolved: made.unresolved,
+        })
     }
 }
 
 /// Makes the documents of the sources, by path, on workers, with the gate's calls round each, and keeps of
-/// each what the form says.
+/// each what the form says, and its uses that name no type.
 ///
 /// Of the refusals `Spawn` comes before `Memory`, and `Memory` before `Unresolved`, which is of the
-/// first source; but where the least source that has no document lacks memory, it is `Memory`.
+/// first source, and comes only where such uses are refused; but where the least source that has no
+/// document lacks memory, it is `Memory`.
 pub(crate) fn make_documents<R: Threads + Wait, G: Gate, F: DocumentForm + Sync>(
     run: &Run<'_, R, G>,
     sources: &LinkedSources<'_, '_, '_>,
     form: &F,
-) -> Result<Vec<F::Kept>, BuildFault>
+) -> Result<Vec<MadeDocument<F::Kept>>, BuildFault>
     requires few { sources.now.count ≤ MAX_INPUTS }
     requires ready { AreReady
         sources.now.readings.now sources.now.linker.now sources.now.choices.now sources.now.count }
     ensures { MatchResult result
-        (λ kept. AreKept F.is_kept sources.now.readings.now sources.now.linker.now sources.now.choices.now
-        sources.now.settings.now.package sources.now.settings.now.encoding kept.items)
-        (MayRefuseDocuments sources.now.linker.now run.now.workers) }
+        (λ made. AreMade F.is_kept sources.now.settings.now.faulty sources.now.readings.now sources.now.linker.now
+        sources.now.choices.now sources.now.settings.now.package sources.now.settings.now.encoding made.items)
+        (MayRefuseDocuments sources.now.settings.now.faulty sources.now.linker.now run.now.workers) }
 {
     one_document_a_source();
     let job = PhaseTwo { sources, form };
@@ -86,7 +94,7 @@ pub(crate) fn make_documents<R: Threads + Wait, G: Gate, F: DocumentForm + Sync>
         run.workers,
         run.gate,
     ) {
-        Ok(kept) => Ok(kept),
+        Ok(made) => Ok(made),
         Err(PoolFault::Spawn) => Err(BuildFault::Spawn),
         Err(PoolFault::Memory) => Err(BuildFault::Memory),
         Err(PoolFault::Job(_, fault)) => Err(fault),

@@ -26,7 +26,8 @@ impl<'a> Model for Contents<'a> {
     ghost view = { λ contents. record { text = contents.text; facts = contents.facts; choices = contents.choices } };
 }
 
-/// A file after it was read: its contents, or, of an included file alone, why it has none.
+/// A file after it was read: its contents, or why it has none; a source is without only where such are
+/// skipped.
 ///
 /// Contracts see its path's bytes, whether it is included, and the contents or the fault.
 #[derive(Drop)]
@@ -43,5 +44,6 @@ impl<'a> Model for Reading<'a> {
 
     ghost Value = { ReadFile };
 
-    ghost view = { λ reading. record { path = reading.path.now; is_included = reading.is_included; contents = reading.contents } };
+    ghost view = { λ reading.
+        record { path = reading.path.now; is_included = reading.is_included; contents = reading.contents } };
 }

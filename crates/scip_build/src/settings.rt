@@ -1,8 +1,9 @@
 //! What a user sets of an index.
 
+use crate::faulty::Faulty;
 use proto_lex::Encoding;
 use proto_parse::CustomOptions;
-use scip_symbol::PackageId;
+use scip_document::FilePackages;
 use sequences::OwnedText;
 
 /// What an index is made by, beside the files and what is chosen for declarations.
@@ -10,10 +11,12 @@ use sequences::OwnedText;
 pub struct Settings {
     /// The URI of the folder below which the paths of the documents stand.
     pub project_root: OwnedText,
-    /// The package that the symbols belong to.
-    pub package: PackageId,
+    /// The packages that the symbols belong to, by their files.
+    pub package: FilePackages,
     /// In which code units the columns of the documents count.
     pub encoding: Encoding,
     /// Whether custom options are refused or read past, in sources and in included files.
     pub custom_options: CustomOptions,
+    /// Whether a tree with faults is refused, or what has one is left out and told.
+    pub faulty: Faulty,
 }

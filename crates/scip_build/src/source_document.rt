@@ -4,16 +4,18 @@ ghost use Rattle.proto_visibility.specs.Files.{IsSource};
 ghost use Rattle.scip_document.specs.Chosen.{HaveChoices};
 ghost use Rattle.scip_document.specs.Conditions.{HaveGoodPaths};
 ghost use Rattle.scip_document.specs.Texts.{HasText};
-ghost use Rattle.std.specs.Prelude.{ℕ, List};
+ghost use Rattle.std.specs.Prelude.{ℕ, List, [], ◌≡◌, Some, MatchOption};
+ghost use Rattle.std.specs.List.{slice_get};
+ghost use Rattle.scip_build.specs.declared.faulty.Faulty.TheVariants.{Refuse};
 ghost use Rattle.scip_build.specs.Documents.{IsRead, HasReadText, GivesDocument};
 
 use crate::fault::BuildFault;
+use crate::faulty::Faulty;
 use crate::linked_sources::LinkedSources;
 use crate::reading::Reading;
-use proto_lex::Text;
-use proto_link::LinkFault;
-use scip_document::{DocumentMaker, document};
-use scip_model::Document;
+use proto_lex::{Span, Text};
+use proto_link::FilePlace;
+use scip_document::{DocumentMaker, SourceDocument, document_and_gaps};
 
 /// The text of a file that was read.
 fn text_at<'a, 'r>(readings: &'a [Reading<'r>], number: usize) -> &'a Text<'r>
@@ -27,19 +29,32 @@ fn text_at<'a, 'r>(readings: &'a [Reading<'r>], number: usize) -> &'a Text<'r>
     }
 }
 
-/// The document of a source that was read. `Unresolved` at its first use that names no type.
+/// The first of the uses that name no type, where such are refused.
+fn first_refused(faulty: Faulty, unresolved: &[Span]) -> Option<Span>
+    ensures { MatchOption result
+        (faulty ≡ Refuse → unresolved.now ≡ [])
+        (λ span. (faulty ≡ Refuse) × (slice_get unresolved.now 0 ≡ Some span)) }
+{
+    match faulty {
+        Faulty::Refuse => unresolved.get(0).copied(),
+        Faulty::Skip => None,
+    }
+}
+
+/// The document of a source that was read, and its uses that name no type; `Unresolved` at the first of
+/// them, where such are refused.
 pub(crate) fn make_document(
     sources: &LinkedSources<'_, '_, '_>,
     number: usize,
-) -> Result<Document, BuildFault>
+) -> Result<SourceDocument, BuildFault>
     requires source { IsSource sources.now.linker.now number }
     requires read { IsRead sources.now.readings.now number }
     requires texts { (text : List ℕ) → HasReadText sources.now.readings.now number text
         → HasText sources.now.linker.now number text }
     requires good { HaveGoodPaths sources.now.linker.now }
     requires choices { HaveChoices sources.now.linker.now sources.now.choices.now }
-    ensures { GivesDocument sources.now.readings.now sources.now.linker.now sources.now.choices.now
-        sources.now.settings.now.package sources.now.settings.now.encoding number result }
+    ensures { GivesDocument sources.now.settings.now.faulty sources.now.readings.now sources.now.linker.now
+        sources.now.choices.now sources.now.settings.now.package sources.now.settings.now.encoding number result }
 {
     let text = text_at(sources.readings, number);
     let maker = DocumentMaker {
@@ -51,10 +66,12 @@ pub(crate) fn make_document(
         source: number,
         text,
     };
-    match document(&maker) {
-        Ok(made) => Ok(made),
-        Err(LinkFault::Unresolved(place)) => Err(BuildFault::Unresolved(place)),
-        Err(LinkFault::Memory) => Err(BuildFault::Memory),
-        Err(_) => unreachable!(),
+    let made = match document_and_gaps(&maker) {
+        Ok(made) => made,
+        Err(_) => return Err(BuildFault::Memory),
+    };
+    match first_refused(sources.settings.faulty, made.unresolved.as_slice()) {
+        None => Ok(made),
+        Some(span) => Err(BuildFault::Unresolved(FilePlace { file: number, span })),
     }
 }

@@ -5,8 +5,9 @@ use index_hooks::{Chooses, Registry};
 use index_pool::{Gate, NoGate, Workers};
 use proto_lex::Encoding;
 use proto_parse::CustomOptions;
-use scip_build::{BuildFault, Settings, build};
-use scip_model::{Document, Index, Occurrence};
+use scip_build::{BuildFault, Built, Faulty, Settings, build};
+use scip_document::FilePackages;
+use scip_model::{Document, Occurrence};
 use scip_symbol::PackageId;
 use sequences::OwnedText;
 use source_tree::Tree;
@@ -37,9 +38,13 @@ fn push_document(text: &mut String, document: &Document) -> Result<(), AllocErro
     Ok(())
 }
 
-fn listing_of(alloc: Global, index: &Index) -> Result<String, AllocError> {
+/// A line for each fault that is told, and then the documents.
+fn listing_of(alloc: Global, built: &Built) -> Result<String, AllocError> {
     let mut text = String::new(alloc);
-    for document in index.documents.as_slice() {
+    for fault in built.told.as_slice() {
+        writeln!(text, "{fault:?}")?;
+    }
+    for document in built.index.documents.as_slice() {
         push_document(&mut text, document)?;
     }
     Ok(text)
@@ -48,18 +53,25 @@ fn listing_of(alloc: Global, index: &Index) -> Result<String, AllocError> {
 /// A tree, and the settings that it is built with.
 #[derive(Drop)]
 pub(crate) struct Site {
-    tree: Tree,
-    settings: Settings,
+    pub(crate) tree: Tree,
+    pub(crate) settings: Settings,
 }
 
-/// The tree of files, with plain settings.
-pub(crate) fn site_of(rt: &impl Abort, alloc: Global, files: &str) -> Result<Site, AllocError> {
+/// The tree of files, with plain settings, and with this done where it has faults.
+pub(crate) fn site_of(
+    rt: &impl Abort,
+    alloc: Global,
+    files: &str,
+    faulty: Faulty,
+) -> Result<Site, AllocError> {
     let parts = [String::new(alloc), String::new(alloc), String::new(alloc)];
+    let id = PackageId::new(parts).ok().expect(rt, "good parts");
     let settings = Settings {
         project_root: OwnedText::copy_of(alloc, "file:///")?,
-        package: PackageId::new(parts).ok().expect(rt, "good parts"),
+        package: FilePackages::of_run(alloc, id),
         encoding: Encoding::Utf8,
         custom_options: CustomOptions::Refuse,
+        faulty,
     };
     let tree = tree_of(rt, alloc, files)?;
     Ok(Site { tree, settings })
@@ -77,7 +89,7 @@ fn told<R: Threads + Wait, C: Chooses + Sync, G: Gate>(
 ) -> Result<String, AllocError> {
     let (tree, settings) = (&site.tree, &site.settings);
     match build(rt, alloc, tree, chooser, workers, settings, gate) {
-        Ok(built) => listing_of(alloc, &built.index),
+        Ok(built) => listing_of(alloc, &built),
         Err(BuildFault::Memory) | Err(BuildFault::Spawn) => Err(AllocError),
         Err(fault) => format!(in alloc; "{fault:?}"),
     }
@@ -99,50 +111,53 @@ pub(crate) fn is_told<R: Threads + Wait, C: Chooses + Sync, G: Gate>(
     }
 }
 
-/// Files, as `tree_of` takes them, and what is built of them, or why nothing is.
+/// What is done with faults, files, as `tree_of` takes them, and what is built of them, or why nothing is.
 struct Row {
+    faulty: Faulty,
     files: &'static str,
     due: &'static str,
 }
 
-// The second row reads: `google.protobuf.Timestamp`, at 81 to 106 of `a.proto`, names no type, since in
-// the package `acme` its `google` is `acme.google`.
-static ROWS: [Row; 3] = [
+// The third row reads: since `a.proto` can't be read, the import of it at 26 to 35 of `b.proto`, and the use at
+// 49 to 50, have no target, and `b.proto` alone has a document.
+static ROWS: [Row; 4] = [
     Row {
-        files: "t.proto\nsyntax = \"proto3\";\npackage google.protobuf;\nmessage Timestamp {}\n|\
-b.proto\nsyntax = \"proto3\";\npackage acme.google;\n|\
-a.proto\nsyntax = \"proto3\";\npackage acme;\nimport \"b.proto\";\nimport \"t.proto\";\nmessage M { .google.protobuf.Timestamp t = 1; }\n",
-        due: "a.proto
-0 0 0 0 1 `a.proto`/
-1 8 1 12 1 acme/
-2 7 2 16 2 `b.proto`/
-3 7 3 16 2 `t.proto`/
-4 8 4 9 1 acme/M#
-4 13 4 19 0 google/
-4 20 4 28 0 google/protobuf/
-4 29 4 38 0 google/protobuf/Timestamp#
-4 39 4 40 1 acme/M#t.
-b.proto
-0 0 0 0 1 `b.proto`/
-1 8 1 12 1 acme/
-1 13 1 19 1 acme/google/
-t.proto
-0 0 0 0 1 `t.proto`/
-1 8 1 14 1 google/
-1 15 1 23 1 google/protobuf/
-2 8 2 17 1 google/protobuf/Timestamp#
-",
-    },
-    Row {
-        files: "a.proto\nsyntax = \"proto3\";\npackage acme;\nimport \"b.proto\";\nimport \"t.proto\";\nmessage M { google.protobuf.Timestamp t = 1; }\n|\
-b.proto\nsyntax = \"proto3\";\npackage acme.google;\n|\
-t.proto\nsyntax = \"proto3\";\npackage google.protobuf;\nmessage Timestamp {}\n",
-        due: "Unresolved(FilePlace { file: 0, span: Span { start: 81, end: 106 } })",
-    },
-    Row {
+        faulty: Faulty::Refuse,
         files: "a.proto\nsyntax = \"proto3\";\nmessage {}\n|\
 b.proto\n@",
         due: "File(0, Syntax(Grammar(27)))",
+    },
+    Row {
+        faulty: Faulty::Skip,
+        files: "a.proto\n@",
+        due: "File(0, Lex(BadByte(0)))\n",
+    },
+    Row {
+        faulty: Faulty::Skip,
+        files: "a.proto\n@|\
+b.proto\nsyntax = \"proto3\";\nimport \"a.proto\";\nmessage B { A a = 1; B b = 2; }\n",
+        due: "File(0, Lex(BadByte(0)))
+MissingImport(FilePlace { file: 1, span: Span { start: 26, end: 35 } })
+Unresolved(FilePlace { file: 1, span: Span { start: 49, end: 50 } })
+b.proto
+0 0 0 0 1 `b.proto`/
+2 8 2 9 1 B#
+2 14 2 15 1 B#a.
+2 21 2 22 0 B#
+2 23 2 24 1 B#b.
+",
+    },
+    Row {
+        faulty: Faulty::Skip,
+        files: "a.proto\nsyntax = \"proto3\";\nmessage M {}\n|\
+b.proto\nsyntax = \"proto3\";\nmessage M {}\n|\
+c.proto\nsyntax = \"proto3\";\nmessage M {}\n",
+        due: "Duplicate(FilePlace { file: 0, span: Span { start: 27, end: 28 } }, FilePlace { file: 1, span: Span { start: 27, end: 28 } })
+Duplicate(FilePlace { file: 0, span: Span { start: 27, end: 28 } }, FilePlace { file: 2, span: Span { start: 27, end: 28 } })
+a.proto
+0 0 0 0 1 `a.proto`/
+1 8 1 9 1 M#
+",
     },
 ];
 
@@ -154,7 +169,7 @@ fn see_row<R: Threads + Wait + Abort>(
     registry: &Registry,
     row: &Row,
 ) -> Result<(), AllocError> {
-    let site = site_of(rt, alloc, row.files)?;
+    let site = site_of(rt, alloc, row.files, row.faulty)?;
     for count in [1, 2, 4, 16] {
         let workers = workers(rt, count);
         let is_so = is_told(rt, alloc, &site, registry, workers, &NoGate, row.due)

@@ -5,6 +5,7 @@ use crate::built::{Site, is_told, site_of};
 use crate::calls::{see, workers};
 use index_hooks::Registry;
 use index_pool::{Gate, Workers};
+use scip_build::Faulty;
 use std::alloc::{AllocError, Global};
 use std::process::Abort;
 use std::sync::Wait;
@@ -99,7 +100,7 @@ fn see_met<R: Threads + Wait + Clock + Sync + Abort>(
     registry: &Registry,
 ) -> Result<(), AllocError> {
     let two = workers(rt, 2);
-    let site = site_of(rt, alloc, EACH_OTHER)?;
+    let site = site_of(rt, alloc, EACH_OTHER, Faulty::Refuse)?;
     let met = is_met(rt, alloc, &site, registry, two) || is_met(rt, alloc, &site, registry, two);
     see(rt, met, "two met");
     Ok(())

@@ -6,6 +6,7 @@ use crate::calls::{see, workers};
 use index_hooks::{AnyAnswer, Filter, FilterCallback, KindIn, Kinds, Registry};
 use index_pool::{NoGate, Workers};
 use proto_decl::{DeclView, DeclarationKind};
+use scip_build::Faulty;
 use std::alloc::{AllocError, Global};
 use std::process::Abort;
 use std::sync::Wait;
@@ -91,7 +92,7 @@ fn see_kinds<R: Threads + Wait + Abort>(
     alloc: Global,
     registry: &Registry,
 ) -> Result<(), AllocError> {
-    let site = site_of(rt, alloc, ENUM)?;
+    let site = site_of(rt, alloc, ENUM, Faulty::Refuse)?;
     see_site(rt, alloc, &site, registry);
     Ok(())
 }
@@ -130,7 +131,7 @@ fn are_second_ones<R: Threads + Wait + Abort>(
     alloc: Global,
     registry: &Registry,
 ) -> Result<bool, AllocError> {
-    let site = site_of(rt, alloc, SEVEN)?;
+    let site = site_of(rt, alloc, SEVEN, Faulty::Refuse)?;
     Ok(asked_for(rt, alloc, &site, registry, workers(rt, 1), SECOND_ONES) == Some(7))
 }
 

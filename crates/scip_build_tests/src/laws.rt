@@ -3,8 +3,9 @@
 use index_hooks::Registry;
 use scip_build::{
     built_has_no_fault, faults_are_alike, faults_exclude_facts, file_faults_are_alike,
-    one_build_fault, one_built, one_first_faulty, one_linking, one_list_of_facts_a_file,
-    readings_exclude_faults, readings_have_own_paths,
+    kept_resolves_alike, nothing_is_left_out_of_a_good_tree, one_build_fault, one_built,
+    one_first_faulty, one_linking, one_list_of_facts_a_file, readings_exclude_faults,
+    readings_have_own_paths,
 };
 
 #[test]
@@ -14,6 +15,8 @@ fn laws_can_be_told(rt: HostRuntime) {
     faults_are_alike();
     faults_exclude_facts();
     file_faults_are_alike(&registry, &registry);
+    kept_resolves_alike();
+    nothing_is_left_out_of_a_good_tree(&registry);
     one_build_fault(&registry, &registry);
     one_built(&registry, &registry);
     one_first_faulty();

@@ -11,7 +11,7 @@ use proto_lex::LexFault;
 use proto_link::{LinkFile, have_own_paths};
 use proto_parse::CustomOptions;
 use scip_build::{
-    BuildFault, FileFault, Reading, Run, chosen_lists, link, linked_files, read_files,
+    BuildFault, Faulty, FileFault, Reading, Run, chosen_lists, link, linked_files, read_files,
 };
 use source_tree::Tree;
 use std::alloc::{AllocError, Global};
@@ -81,7 +81,7 @@ fn are_read_once<R: Threads + Wait>(
         workers,
         gate,
     };
-    match read_files(&run, tree, &chooser, CustomOptions::Refuse) {
+    match read_files(&run, tree, &chooser, CustomOptions::Refuse, Faulty::Refuse) {
         Ok(readings) => Ok(are_taken(alloc, &readings)? && chooser.count() == 6),
         Err(BuildFault::Memory) | Err(BuildFault::Spawn) => Err(AllocError),
         Err(_) => Ok(false),
@@ -130,8 +130,41 @@ fn is_unasked<R: Threads + Wait>(
         gate,
     };
     let fault = FileFault::Lex(LexFault::BadByte(34));
-    let answer = read_files(&run, tree, &chooser, CustomOptions::Refuse).err();
+    let answer = read_files(&run, tree, &chooser, CustomOptions::Refuse, Faulty::Refuse).err();
     answer == Some(BuildFault::File(0, fault)) && chooser.count() == 0
+}
+
+/// Whether the only reading has this fault.
+fn is_reading_of(readings: &[Reading<'_>], fault: FileFault) -> bool {
+    match readings {
+        [reading] => match &reading.contents {
+            Err(its) => *its == fault && !reading.is_included,
+            Ok(_) => false,
+        },
+        _ => false,
+    }
+}
+
+/// Whether the same file has its fault as a reading where faulty ones are skipped, with nobody asked.
+fn is_skipped<R: Threads + Wait>(
+    rt: &R,
+    alloc: Global,
+    tree: &Tree,
+    registry: &Registry,
+    workers: Workers,
+) -> bool {
+    let (chooser, gate) = (Asking::new(registry), &NoGate);
+    let run = Run {
+        rt,
+        alloc,
+        workers,
+        gate,
+    };
+    let fault = FileFault::Lex(LexFault::BadByte(34));
+    match read_files(&run, tree, &chooser, CustomOptions::Refuse, Faulty::Skip) {
+        Ok(readings) => is_reading_of(readings.as_slice(), fault) && chooser.count() == 0,
+        Err(_) => false,
+    }
 }
 
 #[test]
@@ -146,5 +179,8 @@ fn a_file_is_lexed_whole_before_anybody_is_asked(rt: HostRuntime) -> Result<(), 
     let is = is_unasked(&rt, rt.alloc(), &tree, &registry, one)
         || is_unasked(&rt, rt.alloc(), &tree, &registry, one);
     see(&rt, is, "the fault of the lexing, and nobody asked");
+    let is = is_skipped(&rt, rt.alloc(), &tree, &registry, one)
+        || is_skipped(&rt, rt.alloc(), &tree, &registry, one);
+    see(&rt, is, "a reading with the fault, and nobody asked");
     Ok(())
 }

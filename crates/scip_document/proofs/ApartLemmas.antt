@@ -1,12 +1,12 @@
 -- In files that can be linked a symbol's text is that of one entity.
-use Rattle.std.proofs.Common.{◌≡◌, ◌≢◌, ◌∙◌, inl, inr, ℕ, Some, List, [], ◌∷◌, ◌++◌, sym, ap, subst}
-use Rattle.std.specs.Prelude.{All, Contains}
+use Rattle.std.proofs.Common.{◌≡◌, ◌∙◌, inl, inr, ℕ, Some, List, [], ◌∷◌, ◌++◌, sym, ap, subst}
+use Rattle.std.specs.Prelude.{Contains}
 use Rattle.std.specs.List.{slice_get}
 use Rattle.std.proofs.lemmas.List.Elements.{All-nil, All-cons, All-contains, Contains-append_cases}
 use Rattle.std.proofs.lemmas.Option.{same_Some, slice_get-get_or}
 use Rattle.proto_decl.specs.Names.{dotted}
-use Rattle.proto_decl.specs.Facts.{Facts, AreOfSomeFile}
-use Rattle.proto_decl.specs.Ancestors.{names_of, component_names, AreNamed, AreHeld}
+use Rattle.proto_decl.specs.Facts.{Facts}
+use Rattle.proto_decl.specs.Ancestors.{names_of, component_names, AreHeld}
 use Rattle.proto_decl.specs.declared.declaration.Declaration.{Declaration}
 use Rattle.proto_visibility.specs.Files.{File, HasFacts, HaveOrigins}
 use Rattle.proto_visibility.specs.Sees.{Counts}
@@ -15,12 +15,11 @@ use Rattle.proto_link.specs.Laws.{OneDeclarationAName}
 use Rattle.proto_visibility.proofs.FactLemmas.{one_list_of_facts}
 use Rattle.proto_visibility.proofs.FirstLemmas.{contained}
 use Rattle.scip_symbol.specs.Package.{Package, IsPackage}
-use Rattle.scip_symbol.specs.Entities.{Entity, OfFile, OfPackage, OfDeclaration, IsEntity, symbol_in}
-use Rattle.scip_symbol.specs.SymbolText.{symbol_text}
-use Rattle.scip_symbol.specs.OneEntity.{Declaration as Way, IsWithoutClash, declaration_in, declarations_of}
-use Rattle.scip_symbol.specs.OneEntity.{AreWithoutClash, IsAmong}
+use Rattle.scip_symbol.specs.Entities.{Entity, OfFile, OfPackage, OfDeclaration, IsEntity}
+use Rattle.scip_symbol.specs.OneEntity.{declaration_in, declarations_of, AreWithoutClash, IsAmong}
 use Rattle.scip_symbol.proofs.ClashLemmas.{put}
-pub use Rattle.scip_document.specs.Tables.KnownFacts.{AreIdentifiers, SymbolsNameOne, WithoutClash}
+pub use Rattle.scip_document.specs.Laws.{SymbolsNameOne}
+pub use Rattle.scip_document.specs.Tables.KnownFacts.{AreIdentifiers, WithoutClash}
 use Rattle.scip_document.specs.Named.{text_of, declaration_at}
 use Rattle.scip_document.proofs.EntityLemmas.{declaration-is}
 use Rattle.scip_document.proofs.EntryLemmas.{alone-in, first-in, behind-in}
@@ -35,7 +34,7 @@ find xs x there = (there.0, slice_get-get_or xs there.0 x there.1 ∙ ap Some th
 
 module _ (files : List File) (origins : HaveOrigins files) (clear : NoClash files) (one_name : OneDeclarationAName)
     (spelled : AreIdentifiers)
-    (symbols : SymbolsNameOne) (unclashed : WithoutClash) (id : Package) (good : IsPackage id) where
+    (symbols : SymbolsNameOne) (unclashed : WithoutClash) where
   -- a full name is that of one declaration
   one-declaration : (number other : ℕ) (facts others : Facts) (i j : ℕ) (d e : Declaration)
       → AreCounted files number facts → AreCounted files other others
@@ -85,23 +84,23 @@ module _ (files : List File) (origins : HaveOrigins files) (clear : NoClash file
           same-declaration x.0 y.0 facts others i.0 j.0 d e x.1.known y.1.known one.0 one.1 i.1 j.1;
     }
 
-    -- one text, one entity
-    pub one-text : (entity other : Entity) → IsEntity entity → IsEntity other
-        → IsAmong (declarations_of (f ∷ (g ∷ []))) entity → IsAmong (declarations_of (f ∷ (g ∷ []))) other
-        → text_of id entity ≡ text_of id other → entity ≡ other
+    -- one text, one entity, in whatever packages
+    pub one-text : (id its_id : Package) → IsPackage id → IsPackage its_id → (entity other : Entity) → IsEntity entity
+        → IsEntity other → IsAmong (declarations_of (f ∷ (g ∷ []))) entity
+        → IsAmong (declarations_of (f ∷ (g ∷ []))) other → text_of id entity ≡ text_of its_id other → entity ≡ other
     unfolding text_of
-    one-text entity other is its among also same =
-        symbols id (declarations_of (f ∷ (g ∷ []))) good
+    one-text id its_id good fine entity other is its among also same =
+        symbols id its_id (declarations_of (f ∷ (g ∷ []))) good fine
         (unclashed (f ∷ (g ∷ [])) apart) entity other is its among also same
 
     -- so a declaration's text is that of one declaration
-    pub one-declared : (i j : ℕ) (d e : Declaration) → slice_get f.declarations i ≡ Some d
-        → slice_get g.declarations j ≡ Some e
-        → text_of id (declaration_at f d) ≡ text_of id (declaration_at g e) → (m ≡ n) × (i ≡ j)
-    one-declared i j d e at there same =
+    pub one-declared : (id its_id : Package) → IsPackage id → IsPackage its_id → (i j : ℕ) (d e : Declaration)
+        → slice_get f.declarations i ≡ Some d → slice_get g.declarations j ≡ Some e
+        → text_of id (declaration_at f d) ≡ text_of its_id (declaration_at g e) → (m ≡ n) × (i ≡ j)
+    one-declared id its_id good fine i j d e at there same =
         let listed = contained f.declarations i d at in
         let its = contained g.declarations j e there in
-        let entity = one-text (declaration_at f d) (declaration_at g e)
+        let entity = one-text id its_id good fine (declaration_at f d) (declaration_at g e)
         (declaration-is f d (spelled.named f (origins m f a.known)) (spelled.paths f (origins m f a.known)) listed)
         (declaration-is g e (spelled.named g (origins n g b.known)) (spelled.paths g (origins n g b.known)) its)
         (put (f ∷ (g ∷ [])) f d (first-in f (g ∷ [])) listed)

@@ -23,6 +23,7 @@ use Rattle.proto_visibility.specs.Files.{File, HasFacts}
 use Rattle.proto_link.specs.Targets.{IsTarget}
 use Rattle.proto_link.specs.declared.target.Target.{Target}
 use Rattle.proto_visibility.specs.declared.entities.Entity.{Entity}
+use Rattle.scip_document.specs.Packages.{Packages, package_of_file, package_of_part}
 use Rattle.scip_document.specs.Chosen.{Chosen}
 use Rattle.scip_document.specs.Gaps.{IsFound}
 use Rattle.scip_document.specs.Occurs.{Occurs}
@@ -61,7 +62,7 @@ single : {A : Type 0} (f : A → Span) (xs : List A) → flat_map (λ x. f x ∷
 single f [] = refl
 single f (x ∷ xs) = ap (λ ys. f x ∷ ys) (single f xs)
 
-module _ (id : Package) (encoding : Encoding) (text : List ℕ) where
+module _ (ids : Packages) (encoding : Encoding) (text : List ℕ) where
   abbrev Stands : List Span → List Occurrence → Type 0
   Stands spans os = StandAt encoding text spans os
 
@@ -72,9 +73,9 @@ module _ (id : Package) (encoding : Encoding) (text : List ℕ) where
       subst (λ (spans : List Span). Stands spans (each_from gives 0 xs)) (single f xs)
       (each_stand encoding text gives (λ x. f x ∷ []) stands 0 xs)
 
-  package_stands : (facts : Facts)
+  package_stands : (id : Package) (facts : Facts)
       → Stands (component_spans facts.package_name) (each_from (at_package id encoding text facts) 0 facts.package_name)
-  package_stands facts = each_single (at_package id encoding text facts) (λ (component : Component). component.span)
+  package_stands id facts = each_single (at_package id encoding text facts) (λ (component : Component). component.span)
       (λ index x. stands_here refl stands_none) facts.package_name
 
   stands_if : (b : Bool) (span : Span) (os : List Occurrence) → Stands (span ∷ []) os
@@ -84,15 +85,15 @@ module _ (id : Package) (encoding : Encoding) (text : List ℕ) where
 
   imports_stand : (files : List File) (imports : List Imported)
       → Stands (map (λ (imported : Imported). imported.span) imports)
-      (each_from (at_import id encoding text files) 0 imports)
+      (each_from (at_import ids encoding text files) 0 imports)
   imports_stand files imports =
-      each_single (at_import id encoding text files) (λ (imported : Imported). imported.span)
+      each_single (at_import ids encoding text files) (λ (imported : Imported). imported.span)
       (λ index x. stands_if (has_path files x.path) x.span _ (stands_here refl stands_none)) imports
 
-  names_stand : (chosen : Chosen) (source : ℕ) (facts : Facts)
+  names_stand : (id : Package) (chosen : Chosen) (source : ℕ) (facts : Facts)
       → Stands (name_spans facts.declarations)
       (each_from (at_declaration id encoding text chosen source facts) 0 facts.declarations)
-  names_stand chosen source facts =
+  names_stand id chosen source facts =
       each_single (at_declaration id encoding text chosen source facts)
       (λ (declaration : Declaration). declaration.name)
       (λ index x. stands_if (keeps chosen source index) x.name _ (stands_here refl stands_none)) facts.declarations
@@ -101,27 +102,29 @@ module _ (id : Package) (encoding : Encoding) (text : List ℕ) where
   skip_all [] = stands_none
   skip_all (span ∷ spans) = stands_skip (skip_all spans)
 
-  entity_stands : (span : Span) (e : Option symbols.Entity) → Stands (span ∷ []) (at_entity id encoding text span e)
-  entity_stands span None = stands_skip stands_none
-  entity_stands span (Some entity) = stands_here refl stands_none
+  entity_stands : (id : Package) (span : Span) (e : Option symbols.Entity)
+      → Stands (span ∷ []) (at_entity id encoding text span e)
+  entity_stands id span None = stands_skip stands_none
+  entity_stands id span (Some entity) = stands_here refl stands_none
 
   part_stands : (files : List File) (chosen : Chosen) (name : List ℕ) (span : Span) (part : Option Entity)
-      → Stands (span ∷ []) (at_part id encoding text files chosen name span part)
+      → Stands (span ∷ []) (at_part ids encoding text files chosen name span part)
   part_stands files chosen name span None = stands_skip stands_none
   part_stands files chosen name span (Some part) =
-      stands_if (is_shown chosen part) span _ (entity_stands span (entity_of files name part))
+      stands_if (is_shown chosen part) span _
+      (entity_stands (package_of_part files ids part) span (entity_of files name part))
 
   target_stands : (files : List File) (chosen : Chosen) (target : Option Target) (type_use : Use)
-      → Stands (component_spans type_use.components) (at_target id encoding text files chosen target type_use)
+      → Stands (component_spans type_use.components) (at_target ids encoding text files chosen target type_use)
   target_stands files chosen None type_use = skip_all (component_spans type_use.components)
   target_stands files chosen (Some target) type_use =
-      each_single (at_component id encoding text files chosen target) (λ (component : Component). component.span)
+      each_single (at_component ids encoding text files chosen target) (λ (component : Component). component.span)
       (λ index x. part_stands files chosen target.name x.span (slice_get target.parts index)) type_use.components
 
   uses_stand : (files : List File) (chosen : Chosen) (found : List (Option Target)) (uses : List Use)
-      → Stands (use_spans uses) (each_from (at_use id encoding text files chosen found) 0 uses)
+      → Stands (use_spans uses) (each_from (at_use ids encoding text files chosen found) 0 uses)
   uses_stand files chosen found uses =
-      each_stand encoding text (at_use id encoding text files chosen found)
+      each_stand encoding text (at_use ids encoding text files chosen found)
       (λ (used : Use). component_spans used.components)
       (λ index x. target_stands files chosen (found_at (slice_get found index)) x) 0 uses
 
@@ -138,29 +141,33 @@ module _ (id : Package) (encoding : Encoding) (text : List ℕ) where
       (one_target : (type_use : Use) (a b : Target) → IsTarget files source type_use a
       → IsTarget files source type_use b → a ≡ b) where
     abbrev Wanted : Occurrence → Type 0
-    Wanted o = Occurs files chosen id encoding source text o
+    Wanted o = Occurs files chosen ids encoding source text o
+
+    -- the package of the source
+    abbrev id : Package
+    id = package_of_file files ids source
 
     abbrev own_list : List Occurrence
     own_list = own_occurrence id file.path ∷ []
 
     abbrev import_list : List Occurrence
-    import_list = each_from (at_import id encoding text files) 0 facts.imports
+    import_list = each_from (at_import ids encoding text files) 0 facts.imports
 
     abbrev package_list : List Occurrence
-    package_list = each_from (at_package id encoding text facts) 0 facts.package_name
+    package_list = each_from (at_package ids.run encoding text facts) 0 facts.package_name
 
     abbrev name_list : List Occurrence
     name_list = each_from (at_declaration id encoding text chosen source facts) 0 facts.declarations
 
     abbrev use_list : List Occurrence
-    use_list = each_from (at_use id encoding text files chosen found) 0 facts.uses
+    use_list = each_from (at_use ids encoding text files chosen found) 0 facts.uses
 
     abbrev Merges : (first second both : List Occurrence) → Type 0
     Merges first second both = AreUntied occurrence_cmp first second → IsMerged occurrence_cmp first second both
 
     listed : (o : Occurrence)
-        → InLists files chosen id encoding source text file at facts known found are_found one_target o → Wanted o
-    listed o h = lists_occur files chosen id encoding source text file at facts known found are_found one_target o h
+        → InLists files chosen ids encoding source text file at facts known found are_found one_target o → Wanted o
+    listed o h = lists_occur files chosen ids encoding source text file at facts known found are_found one_target o h
 
     -- of what occurs, only what is equal is tied
     module _ (untied : (x y : Occurrence) → Wanted x → Wanted y → occurrence_cmp x y ≡ Equal → x ≡ y) where
@@ -197,7 +204,7 @@ module _ (id : Package) (encoding : Encoding) (text : List ℕ) where
               λ wanted. (fourth.all x).1
                   (either (λ l. inl ((third.all x).1
                   (either (λ k. inl ((second.all x).1 (either (λ j. inl ((first.all x).1 j)) inr k))) inr l))) inr
-                  (occurs_listed files chosen id encoding source text file at facts known found are_found one_target x
+                  (occurs_listed files chosen ids encoding source text file at facts known found are_found one_target x
                   wanted)),
             );
             ascends =
@@ -205,9 +212,9 @@ module _ (id : Package) (encoding : Encoding) (text : List ℕ) where
                 (map (λ (imported : Imported). imported.span) facts.imports) import_list imports stands.imports
                 (imports_stand files facts.imports) in
                 let by_package = ascends encoding text rise 0 (component_spans facts.package_name) package_list
-                (package_order facts package_name) stands.package_name (package_stands facts) in
+                (package_order facts package_name) stands.package_name (package_stands ids.run facts) in
                 let by_names = ascends encoding text rise 0 (name_spans facts.declarations) name_list names stands.names
-                (names_stand chosen source facts) in
+                (names_stand id chosen source facts) in
                 let by_uses = ascends encoding text rise 0 (use_spans facts.uses) use_list uses stands.uses
                 (uses_stand files chosen found facts.uses) in
                 fourth.ascends (third.ascends

@@ -23,7 +23,8 @@ use Rattle.proto_visibility.specs.declared.entities.Entity.TheVariants as link
 use Rattle.proto_visibility.proofs.FactLemmas.{one_list_of_facts}
 use Rattle.proto_visibility.proofs.FirstLemmas.{contained}
 use Rattle.scip_model.specs.declared.records.SymbolInformation.{SymbolInformation}
-use Rattle.scip_symbol.specs.Package.{Package, IsPackage}
+use Rattle.scip_symbol.specs.Package.{Package}
+use Rattle.scip_document.specs.Packages.{Packages, ArePackages, package_of_file}
 use Rattle.scip_document.specs.Chosen.{Chosen, HaveChoices, HasChoice, IsChosen}
 use Rattle.scip_document.specs.Named.{HasDeclaration, declaration_at}
 use Rattle.scip_document.specs.Entries.{declaration_entry, IsKeptEntry, HasExternal}
@@ -31,6 +32,7 @@ use Rattle.scip_document.specs.Tables.ExternalLists.{Pair, pair_cmp, Adds, IsEnt
 use Rattle.scip_document.specs.Tables.ExternalLists.{NoneIncluded}
 use Rattle.scip_document.specs.Indexes.{info_cmp, AreExternals}
 use Rattle.scip_document.proofs.EntryLemmas.{nothing-in, alone-in, first-in, behind-in, at-index}
+use Rattle.scip_document.proofs.PackageLemmas.{file_good}
 use Rattle.scip_document.proofs.PairLemmas.{pairs_total}
 use Rattle.scip_document.proofs.SortLemmas.{ascending-list, distinct-cons, not-below}
 use Rattle.scip_document.proofs.SourceEntryLemmas.{infos_total, differ}
@@ -122,10 +124,10 @@ one-choice chosen file index a b x y =
     let lists : x.of_file ≡ y.of_file = same_Some x.of_file y.of_file (sym x.file_is ∙ y.file_is) in
     same_Some a b (sym x.declaration_is ∙ (ap (λ (l : List Choice). slice_get l index) lists ∙ y.declaration_is))
 
-module _ (files : List File) (chosen : Chosen) (id : Package) where
+module _ (files : List File) (chosen : Chosen) (ids : Packages) where
   pub kept-entry : (count : ℕ) (x : Pair) (facts : Facts) (entry : SymbolInformation) → IsExternal files chosen count x
-      → HasFacts files x.0 facts → IsEntryAt chosen id facts x.0 x.1 entry
-      → IsKeptEntry files chosen id x.0 x.1 entry
+      → HasFacts files x.0 facts → IsEntryAt chosen (package_of_file files ids x.0) facts x.0 x.1 entry
+      → IsKeptEntry files chosen ids x.0 x.1 entry
   kept-entry count x facts entry is known made =
       let kept = is.of_source.of_uses.is.of_parts.is.kept in
       record {
@@ -139,14 +141,15 @@ module _ (files : List File) (chosen : Chosen) (id : Package) where
         is = made.is;
       }
 
-  one-entry : (file index : ℕ) (x y : SymbolInformation) → IsKeptEntry files chosen id file index x
-      → IsKeptEntry files chosen id file index y → x ≡ y
+  one-entry : (file index : ℕ) (x y : SymbolInformation) → IsKeptEntry files chosen ids file index x
+      → IsKeptEntry files chosen ids file index y → x ≡ y
   one-entry file index x y a b =
       let facts : a.facts ≡ b.facts = one_list_of_facts files file a.facts b.facts a.has.has_facts b.has.has_facts in
       let declaration : a.declaration ≡ b.declaration =
       same_Some a.declaration b.declaration
       (sym a.has.numbered ∙ (ap (λ (f : Facts). slice_get f.declarations index) facts ∙ b.has.numbered)) in
       let choice : a.choice ≡ b.choice = one-choice chosen file index a.choice b.choice a.is_chosen b.is_chosen in
+      let id : Package = package_of_file files ids file in
       a.is
       ∙ (ap (λ (f : Facts). declaration_entry id f a.declaration a.choice) facts
       ∙ (ap (λ (d : Declaration). declaration_entry id b.facts d a.choice) declaration
@@ -157,7 +160,7 @@ module _ (files : List File) (chosen : Chosen) (id : Package) where
   pair-of : ℕ → ℕ → Pair
   pair-of file index = (file, index)
 
-  external-pair : (entry : SymbolInformation) (has : HasExternal files chosen id entry)
+  external-pair : (entry : SymbolInformation) (has : HasExternal files chosen ids entry)
       → IsExternal files chosen (length files) (has.number, has.index)
   external-pair entry has =
       let names = has.names in
@@ -197,7 +200,7 @@ module _ (files : List File) (chosen : Chosen) (id : Package) where
       }
 
   pair-external : (count : ℕ) (x : Pair) (entry : SymbolInformation) → IsExternal files chosen count x
-      → IsKeptEntry files chosen id x.0 x.1 entry → HasExternal files chosen id entry
+      → IsKeptEntry files chosen ids x.0 x.1 entry → HasExternal files chosen ids entry
   pair-external count x entry is kept =
       let source = is.of_source in
       let used = source.of_uses in
@@ -231,14 +234,14 @@ module _ (files : List File) (chosen : Chosen) (id : Package) where
       }
 
   -- where no file is included there are none
-  pub none-external : NoneIncluded files (length files) → AreExternals files chosen id []
+  pub none-external : NoneIncluded files (length files) → AreExternals files chosen ids []
   unfolding IsStrictlySortedBy
   none-external none = record {
     exact = λ x. (λ there. absurd (nothing-in x there), λ has. absurd (unlike x has));
     ascends = tt;
   }
     where
-      unlike : (x : SymbolInformation) → HasExternal files chosen id x → ⊥
+      unlike : (x : SymbolInformation) → HasExternal files chosen ids x → ⊥
       unlike x has =
           let not = none has.number (slice_get_within files has.number has.file has.numbered) in
           false≢true (not.2 ∙ (ap (λ (f : File). f.is_included) (same_Some not.0 has.file (sym not.1 ∙ has.numbered))
@@ -276,21 +279,23 @@ none-tie = tt
 
 module _ (files : List File) (origins : HaveOrigins files) (clear : NoClash files) (one_name : OneDeclarationAName)
     (spelled : AreIdentifiers)
-    (symbols : SymbolsNameOne) (unclashed : WithoutClash) (id : Package) (good : IsPackage id) (chosen : Chosen) where
+    (symbols : SymbolsNameOne) (unclashed : WithoutClash) (ids : Packages) (good : ArePackages ids)
+    (chosen : Chosen) where
   -- declarations that differ have entries of different symbols
   symbols-differ : (p q : Pair) (x y : SymbolInformation) → IsThere files p.0 p.1 → IsThere files q.0 q.1
-      → IsEntryOf files chosen id p x → IsEntryOf files chosen id q y
+      → IsEntryOf files chosen ids p x → IsEntryOf files chosen ids q y
       → x.symbol ≡ y.symbol → (p.0 ≡ q.0) × (p.1 ≡ q.1)
   symbols-differ p q x y there its a b same =
-      one-declared files origins clear one_name spelled symbols unclashed id good p.0 q.0 a.facts b.facts
+      one-declared files origins clear one_name spelled symbols unclashed p.0 q.0 a.facts b.facts
       (record { counts = there.counts; known = a.has.has_facts })
-      (record { counts = its.counts; known = b.has.has_facts })
+      (record { counts = its.counts; known = b.has.has_facts }) (package_of_file files ids p.0)
+      (package_of_file files ids q.0) (file_good files ids p.0 good) (file_good files ids q.0 good)
       p.1 q.1 a.declaration b.declaration a.has.numbered b.has.numbered
       (sym (ap (λ (i : SymbolInformation). i.symbol) a.is) ∙ (same ∙ ap (λ (i : SymbolInformation). i.symbol) b.is))
 
   made-distinct : (pairs : List Pair) (made : List SymbolInformation)
       → ((x : Pair) → Contains pairs x → IsThere files x.0 x.1) → IsStrictlySortedBy pair_cmp pairs
-      → AllZip (IsEntryOf files chosen id) pairs made → IsDistinct (eq_by_cmp info_cmp) made
+      → AllZip (IsEntryOf files chosen ids) pairs made → IsDistinct (eq_by_cmp info_cmp) made
   unfolding IsStrictlySortedBy
   made-distinct [] [] there up all = none-tie
   made-distinct [] (y ∷ ys) there up all = absurd all
@@ -298,7 +303,7 @@ module _ (files : List File) (origins : HaveOrigins files) (clear : NoClash file
   made-distinct (p ∷ ps) (x ∷ xs) there up all =
       distinct-cons (eq_by_cmp info_cmp) x xs
       (λ y listed.
-      let other = zip-from (IsEntryOf files chosen id) ps xs all.1 y listed in
+      let other = zip-from (IsEntryOf files chosen ids) ps xs all.1 y listed in
       let less = All-contains (λ (q : Pair). pair_cmp p q ≡ Less) ps other.0
       (All-from_recursion (λ (q : Pair). pair_cmp p q ≡ Less) ps up.0) other.1 in
       differ x y (λ same.
@@ -310,19 +315,19 @@ module _ (files : List File) (origins : HaveOrigins files) (clear : NoClash file
   -- the entries of all, in order
   pub external-list : (pairs : List Pair) → ((x : Pair) → Contains pairs x ↔ IsExternal files chosen (length files) x)
       → IsStrictlySortedBy pair_cmp pairs
-      → (made list : List SymbolInformation) → AllZip (IsEntryOf files chosen id) pairs made → IsPermutation made list
-      → IsSorted info_cmp list → AreExternals files chosen id list
+      → (made list : List SymbolInformation) → AllZip (IsEntryOf files chosen ids) pairs made → IsPermutation made list
+      → IsSorted info_cmp list → AreExternals files chosen ids list
   external-list pairs exact up made list all moved sorted =
-      ascending-list infos_total (HasExternal files chosen id) made list
+      ascending-list infos_total (HasExternal files chosen ids) made list
       (λ x. (
         λ there. (
-            let of = zip-from (IsEntryOf files chosen id) pairs made all x there in
-            pair-external files chosen id (length files) of.0 x ((exact of.0).0 of.1) of.2),
+            let of = zip-from (IsEntryOf files chosen ids) pairs made all x there in
+            pair-external files chosen ids (length files) of.0 x ((exact of.0).0 of.1) of.2),
         λ has. (
             let p : Pair = (has.number, has.index) in
-            let of = zip-to (IsEntryOf files chosen id) pairs made all p
-            ((exact p).1 (external-pair files chosen id x has)) in
-            subst (Contains made) (one-entry files chosen id has.number has.index of.0 x of.2 has.kept) of.1),
+            let of = zip-to (IsEntryOf files chosen ids) pairs made all p
+            ((exact p).1 (external-pair files chosen ids x has)) in
+            subst (Contains made) (one-entry files chosen ids has.number has.index of.0 x of.2 has.kept) of.1),
       ))
       (made-distinct pairs made (λ x there. external-there files chosen (length files) x ((exact x).0 there)) up all)
       moved sorted

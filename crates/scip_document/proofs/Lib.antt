@@ -10,6 +10,9 @@ pub mod GapLemmas
 pub mod TargetLemmas
 pub mod NameableLemmas
 pub mod ConditionLemmas
+-- Packages of files
+pub mod PackageLemmas
+pub mod MeetLemmas
 -- Entities of facts
 pub mod EntityLemmas
 -- Lists of entries

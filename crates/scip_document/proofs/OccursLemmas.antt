@@ -20,6 +20,7 @@ use Rattle.proto_link.specs.Targets.{IsTarget}
 use Rattle.proto_link.specs.declared.target.Target.{Target}
 use Rattle.proto_visibility.specs.declared.entities.Entity.{Entity}
 use Rattle.proto_visibility.specs.declared.entities.Entity.TheVariants as link
+use Rattle.scip_document.specs.Packages.{Packages, package_of_path, package_of_file, package_of_part}
 use Rattle.scip_document.specs.Chosen.{Chosen, IsKept}
 use Rattle.scip_document.specs.Gaps.{IsFound}
 use Rattle.scip_document.specs.Named.{IsDeclaredAs, IsNamedAs, NamesIn, package_at, declaration_at}
@@ -160,9 +161,13 @@ named_to files name (link.Package count) entity is = ap Some (sym is)
 named_to files name (link.Declared file index) entity is =
     declared_is files file index is.facts is.declaration is.has.has_facts is.has.numbered ∙ ap Some (sym is.is)
 
-module _ (files : List File) (chosen : Chosen) (id : Package) (encoding : Encoding) (source : ℕ) (text : List ℕ) where
+module _ (files : List File) (chosen : Chosen) (ids : Packages) (encoding : Encoding) (source : ℕ) (text : List ℕ) where
   abbrev Wanted : Occurrence → Type 0
-  Wanted o = Occurs files chosen id encoding source text o
+  Wanted o = Occurs files chosen ids encoding source text o
+
+  -- the package of the source
+  abbrev id : Package
+  id = package_of_file files ids source
 
   module _ (file : File) (at : slice_get files source ≡ Some file) (facts : Facts) (known : HasFacts files source facts)
       (found : List (Option Target))
@@ -172,20 +177,21 @@ module _ (files : List File) (chosen : Chosen) (id : Package) (encoding : Encodi
     own_occurs : (o : Occurrence) → Contains (own_occurrence id file.path ∷ []) o → Wanted o
     own_occurs o h = subst Wanted (only (own_occurrence id file.path) o h) (of_file at)
 
-    imports_occur : (o : Occurrence) → Contains (each_from (at_import id encoding text files) 0 facts.imports) o
+    imports_occur : (o : Occurrence) → Contains (each_from (at_import ids encoding text files) 0 facts.imports) o
         → Wanted o
     imports_occur o h =
-        let g = given_at (at_import id encoding text files) facts.imports o h in
+        let g = given_at (at_import ids encoding text files) facts.imports o h in
         let there = if_so (has_path files g.item.path)
-        (occurrence_over encoding text id g.item.span (OfFile g.item.path) import_role ∷ []) o g.given in
+        (occurrence_over encoding text (package_of_path ids g.item.path) g.item.span (OfFile g.item.path)
+        import_role ∷ []) o g.given in
         subst Wanted (only _ o there.1)
         (of_import {imported = g.item} known (is_listed facts.imports g.at g.item g.item_is)
         (path_from files g.item.path there.0))
 
-    packages_occur : (o : Occurrence) → Contains (each_from (at_package id encoding text facts) 0 facts.package_name) o
-        → Wanted o
+    packages_occur : (o : Occurrence)
+        → Contains (each_from (at_package ids.run encoding text facts) 0 facts.package_name) o → Wanted o
     packages_occur o h =
-        let g = given_at (at_package id encoding text facts) facts.package_name o h in
+        let g = given_at (at_package ids.run encoding text facts) facts.package_name o h in
         subst Wanted (only _ o g.given) (of_package g.at {component = g.item} known g.item_is)
 
     declared_occur : (o : Occurrence)
@@ -204,7 +210,7 @@ module _ (files : List File) (chosen : Chosen) (id : Package) (encoding : Encodi
         → slice_get type_use.components index ≡ Some component → slice_get target.parts index ≡ Some part
         → is_shown chosen part ≡ true
         → (e : Option symbols.Entity) → entity_of files target.name part ≡ e
-        → Contains (at_entity id encoding text component.span e) o → Wanted o
+        → Contains (at_entity (package_of_part files ids part) encoding text component.span e) o → Wanted o
     entity_occurs o type_use target index component part listed is c p shown None e h = absurd (not_in_none o h)
     entity_occurs o type_use target index component part listed is c p shown (Some entity) e h =
         subst Wanted (only _ o h) (of_component {component = component} {part = part} {entity = entity}
@@ -225,39 +231,40 @@ module _ (files : List File) (chosen : Chosen) (id : Package) (encoding : Encodi
         → Contains facts.uses type_use → IsTarget files source type_use target
         → slice_get type_use.components index ≡ Some component → (part : Option Entity)
         → slice_get target.parts index ≡ part
-        → Contains (at_part id encoding text files chosen target.name component.span part) o → Wanted o
+        → Contains (at_part ids encoding text files chosen target.name component.span part) o → Wanted o
     part_occurs o type_use target index component listed is c None p h = absurd (not_in_none o h)
     part_occurs o type_use target index component listed is c (Some part) p h =
         let shown = if_so (is_shown chosen part)
-        (at_entity id encoding text component.span (entity_of files target.name part)) o h in
+        (at_entity (package_of_part files ids part) encoding text component.span
+        (entity_of files target.name part)) o h in
         entity_occurs o type_use target index component part listed is c p shown.0
         (entity_of files target.name part) refl shown.1
 
     found_occurs : (o : Occurrence) (type_use : Use) → Contains facts.uses type_use → (its : Option Target)
         → IsFound files source type_use its
-        → Contains (at_target id encoding text files chosen its type_use) o → Wanted o
+        → Contains (at_target ids encoding text files chosen its type_use) o → Wanted o
     found_occurs o type_use listed None is h = absurd (not_in_none o h)
     found_occurs o type_use listed (Some target) is h =
-        let k = given_at (at_component id encoding text files chosen target) type_use.components o h in
+        let k = given_at (at_component ids encoding text files chosen target) type_use.components o h in
         part_occurs o type_use target k.at k.item listed is k.item_is (slice_get target.parts k.at) refl k.given
 
-    uses_occur : (o : Occurrence) → Contains (each_from (at_use id encoding text files chosen found) 0 facts.uses) o
+    uses_occur : (o : Occurrence) → Contains (each_from (at_use ids encoding text files chosen found) 0 facts.uses) o
         → Wanted o
     uses_occur o h =
-        let g = given_at (at_use id encoding text files chosen found) facts.uses o h in
+        let g = given_at (at_use ids encoding text files chosen found) facts.uses o h in
         let t = zip_at (IsFound files source) facts.uses found are_found g.at g.item g.item_is in
         let within = subst (λ (its : Option (Option Target)). Contains
-        (at_target id encoding text files chosen (found_at its) g.item) o) t.1 g.given in
+        (at_target ids encoding text files chosen (found_at its) g.item) o) t.1 g.given in
         found_occurs o g.item (is_listed facts.uses g.at g.item g.item_is) t.0 t.2 within
 
     -- in one of the lists
     abbrev pub InLists : Occurrence → Type 0
     InLists o =
         (((Contains (own_occurrence id file.path ∷ []) o
-        ⊎ Contains (each_from (at_import id encoding text files) 0 facts.imports) o)
-        ⊎ Contains (each_from (at_package id encoding text facts) 0 facts.package_name) o)
+        ⊎ Contains (each_from (at_import ids encoding text files) 0 facts.imports) o)
+        ⊎ Contains (each_from (at_package ids.run encoding text facts) 0 facts.package_name) o)
         ⊎ Contains (each_from (at_declaration id encoding text chosen source facts) 0 facts.declarations) o)
-        ⊎ Contains (each_from (at_use id encoding text files chosen found) 0 facts.uses) o
+        ⊎ Contains (each_from (at_use ids encoding text files chosen found) 0 facts.uses) o
 
     pub lists_occur : (o : Occurrence) → InLists o → Wanted o
     lists_occur o h = either
@@ -274,26 +281,27 @@ module _ (files : List File) (chosen : Chosen) (id : Package) (encoding : Encodi
 
     component_listed : (component : Component) (part : Entity) (entity : symbols.Entity)
         → NamesIn files source component part entity → IsShown chosen part
-        → Contains (each_from (at_use id encoding text files chosen found) 0 facts.uses)
-        (occurrence_over encoding text id component.span entity no_role)
+        → Contains (each_from (at_use ids encoding text files chosen found) 0 facts.uses)
+        (occurrence_over encoding text (package_of_part files ids part) component.span entity no_role)
     component_listed component part entity names shown =
-        let o = occurrence_over encoding text id component.span entity no_role in
+        let o = occurrence_over encoding text (package_of_part files ids part) component.span entity no_role in
         let used = subst (λ (f : Facts). Contains f.uses names.type_use)
         (same_facts files source names.facts facts names.has_facts known) names.listed in
         let k = contains_at facts.uses names.type_use used in
         let t = zip_at (IsFound files source) facts.uses found are_found k.0 names.type_use k.1 in
         let there = ap found_at t.1 ∙ is_found names.type_use names.target names.is_target t.0 t.2 in
         let entity_there : Contains
-        (at_entity id encoding text component.span (entity_of files names.target.name part)) o =
+        (at_entity (package_of_part files ids part) encoding text component.span
+        (entity_of files names.target.name part)) o =
         rw (named_to files names.target.name part entity names.entity_is) (here o) in
         let part_there : Contains
-        (at_part id encoding text files chosen names.target.name component.span
+        (at_part ids encoding text files chosen names.target.name component.span
         (slice_get names.target.parts names.index)) o =
         rw names.part_is (so (is_shown chosen part) _ o (shown_to chosen part shown) entity_there) in
-        let inside = gives_at (at_component id encoding text files chosen names.target) names.type_use.components o
+        let inside = gives_at (at_component ids encoding text files chosen names.target) names.type_use.components o
         names.index component names.component_is part_there in
-        gives_at (at_use id encoding text files chosen found) facts.uses o k.0 names.type_use k.1
-        (subst (λ (its : Option Target). Contains (at_target id encoding text files chosen its names.type_use) o)
+        gives_at (at_use ids encoding text files chosen found) facts.uses o k.0 names.type_use k.1
+        (subst (λ (its : Option Target). Contains (at_target ids encoding text files chosen its names.type_use) o)
         (sym there) inside)
 
     pub occurs_listed : (o : Occurrence) → Wanted o → InLists o
@@ -305,13 +313,13 @@ module _ (files : List File) (chosen : Chosen) (id : Package) (encoding : Encodi
         let k = contains_at facts.imports imported
         (subst (λ (f : Facts). Contains f.imports imported) (same_facts files source other facts has known) listed)
         in
-        inl (inl (inl (inr (gives_at (at_import id encoding text files) facts.imports _ k.0 imported k.1
+        inl (inl (inl (inr (gives_at (at_import ids encoding text files) facts.imports _ k.0 imported k.1
         (so (has_path files imported.path) _ _ (path_to files imported.path there) (here _))))))
     occurs_listed _ (of_package {facts = other} index {component = component} has e) =
         let same = same_facts files source other facts has known in
         let there = ap (λ (f : Facts). slice_get f.package_name index) (sym same) ∙ e in
-        inl (inl (inr (gives_at (at_package id encoding text facts) facts.package_name _ index component there
-        (at_head _ _ [] (ap (λ (f : Facts). occurrence_over encoding text id component.span
+        inl (inl (inr (gives_at (at_package ids.run encoding text facts) facts.package_name _ index component there
+        (at_head _ _ [] (ap (λ (f : Facts). occurrence_over encoding text ids.run component.span
         (package_at f (index + 1)) definition_role) (sym same))))))
     occurs_listed _ (of_declaration {facts = other} index {declared = declared} has kept) =
         let same = same_facts files source other facts has.has_facts known in

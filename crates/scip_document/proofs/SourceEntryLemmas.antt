@@ -32,6 +32,7 @@ use Rattle.scip_symbol.specs.Entities.{Entity, OfFile, OfPackage, OfDeclaration,
 use Rattle.scip_symbol.specs.OneEntity.{IsAmong, declarations_of}
 use Rattle.scip_symbol.proofs.ClashLemmas.{put}
 use Rattle.proto_visibility.proofs.FirstLemmas.{contained}
+use Rattle.scip_document.specs.Packages.{Packages, package_of_file}
 use Rattle.scip_document.specs.Chosen.{Chosen}
 use Rattle.scip_document.specs.Named.{text_of, package_at, declaration_at}
 use Rattle.scip_document.specs.Entries.{file_entry, package_entry, declaration_entry, HasEntry}
@@ -90,8 +91,8 @@ size-of (OfDeclaration components way) = 0
 
 module _ (files : List File) (origins : HaveOrigins files) (clear : NoClash files) (one_name : OneDeclarationAName)
     (spelled : AreIdentifiers)
-    (symbols : SymbolsNameOne) (unclashed : WithoutClash) (id : Package) (good : IsPackage id) (source : ℕ)
-    (file : File) (facts : Facts)
+    (symbols : SymbolsNameOne) (unclashed : WithoutClash) (id run : Package) (good : IsPackage id)
+    (fine : IsPackage run) (source : ℕ) (file : File) (facts : Facts)
     (numbered : slice_get files source ≡ Some file) (counted : AreCounted files source facts)
     (path : IsGoodPath file.path) where
   package-entity : (index : ℕ) → index < length facts.package_name → IsEntity (package_at facts (index + 1))
@@ -104,30 +105,32 @@ module _ (files : List File) (origins : HaveOrigins files) (clear : NoClash file
       declaration-is facts d (spelled.named facts (origins source facts counted.known))
       (spelled.paths facts (origins source facts counted.known)) listed
 
-  same-text : (a b : Entity) → IsEntity a → IsEntity b → IsAmong (declarations_of (facts ∷ (facts ∷ []))) a
-      → IsAmong (declarations_of (facts ∷ (facts ∷ []))) b → text_of id a ≡ text_of id b → a ≡ b
-  same-text = one-text files origins clear one_name spelled symbols unclashed id good source source facts facts counted
-      counted
+  same-text : (p q : Package) → IsPackage p → IsPackage q → (a b : Entity) → IsEntity a → IsEntity b
+      → IsAmong (declarations_of (facts ∷ (facts ∷ []))) a
+      → IsAmong (declarations_of (facts ∷ (facts ∷ []))) b → text_of p a ≡ text_of q b → a ≡ b
+  same-text = one-text files origins clear one_name spelled symbols unclashed source source facts facts counted counted
 
   among : (d : Declaration) → Contains facts.declarations d
       → IsAmong (declarations_of (facts ∷ (facts ∷ []))) (declaration_at facts d)
   among d listed = put (facts ∷ (facts ∷ [])) facts d (first-in facts (facts ∷ [])) listed
 
   file-package : (index : ℕ) → index < length facts.package_name
-      → text_of id (OfFile file.path) ≢ text_of id (package_at facts (index + 1))
+      → text_of id (OfFile file.path) ≢ text_of run (package_at facts (index + 1))
   file-package index within same = let one =
-      same-text (OfFile file.path) (package_at facts (index + 1)) path (package-entity index within) tt tt same in cc
+      same-text id run good fine (OfFile file.path) (package_at facts (index + 1)) path (package-entity index within)
+      tt tt same in cc
 
   file-declaration : (d : Declaration) → Contains facts.declarations d
       → text_of id (OfFile file.path) ≢ text_of id (declaration_at facts d)
   file-declaration d listed same = let one =
-      same-text (OfFile file.path) (declaration_at facts d) path (declaration-entity d listed) tt (among d listed) same
-      in cc
+      same-text id id good good (OfFile file.path) (declaration_at facts d) path (declaration-entity d listed) tt
+      (among d listed) same in cc
 
   package-declaration : (index : ℕ) (d : Declaration) → index < length facts.package_name
-      → Contains facts.declarations d → text_of id (package_at facts (index + 1)) ≢ text_of id (declaration_at facts d)
+      → Contains facts.declarations d → text_of run (package_at facts (index + 1)) ≢ text_of id (declaration_at facts d)
   package-declaration index d within listed same =
-      let one = same-text (package_at facts (index + 1)) (declaration_at facts d) (package-entity index within)
+      let one = same-text run id fine good (package_at facts (index + 1)) (declaration_at facts d)
+      (package-entity index within)
       (declaration-entity d listed) tt (among d listed) same in cc
 
   package-size : (index : ℕ) → index < length facts.package_name → size-of (package_at facts (index + 1)) ≡ index + 1
@@ -138,9 +141,9 @@ module _ (files : List File) (origins : HaveOrigins files) (clear : NoClash file
       ∙ length-take-le (index + 1) facts.package_name (omega (arith, within))
 
   package-package : (i j : ℕ) → i < j → j < length facts.package_name
-      → text_of id (package_at facts (i + 1)) ≢ text_of id (package_at facts (j + 1))
+      → text_of run (package_at facts (i + 1)) ≢ text_of run (package_at facts (j + 1))
   package-package i j less within same =
-      let one = same-text (package_at facts (i + 1)) (package_at facts (j + 1))
+      let one = same-text run run fine fine (package_at facts (i + 1)) (package_at facts (j + 1))
       (package-entity i (omega (arith, less, within))) (package-entity j within) tt tt same in
       omega (arith, less, ap size-of one, package-size i (omega (arith, less, within)), package-size j within)
 
@@ -148,27 +151,27 @@ module _ (files : List File) (origins : HaveOrigins files) (clear : NoClash file
       → slice_get facts.declarations j ≡ Some e
       → text_of id (declaration_at facts d) ≢ text_of id (declaration_at facts e)
   declaration-declaration i j d e less at there same =
-      let one = one-declared files origins clear one_name spelled symbols unclashed id good source source facts facts
-      counted counted i j d e at there same in
+      let one = one-declared files origins clear one_name spelled symbols unclashed source source facts facts counted
+      counted id id good good i j d e at there same in
       omega (arith, less, one.1)
 
   packages-distinct : (count : ℕ) → count ≤ length facts.package_name
-      → IsDistinct (eq_by_cmp info_cmp) (package_entries_up_to id facts count)
+      → IsDistinct (eq_by_cmp info_cmp) (package_entries_up_to run facts count)
   packages-distinct count most =
-      let entry = λ (i : ℕ). package_entry id facts (i + 1) in
+      let entry = λ (i : ℕ). package_entry run facts (i + 1) in
       let size = length-map-range_with_len entry 0 count in
-      IsDistinct-from_apart (eq_by_cmp info_cmp) (package_entries_up_to id facts count) (λ i j d less within.
+      IsDistinct-from_apart (eq_by_cmp info_cmp) (package_entries_up_to run facts count) (λ i j d less within.
       let inside : j < count = omega (arith, within, size) in
-      let first : get_or (package_entries_up_to id facts count) i d ≡ entry i =
+      let first : get_or (package_entries_up_to run facts count) i d ≡ entry i =
       get_or-map-range_with_len entry 0 count i i d (omega (arith, less, inside)) (omega arith) in
-      let second : get_or (package_entries_up_to id facts count) j d ≡ entry j =
+      let second : get_or (package_entries_up_to run facts count) j d ≡ entry j =
       get_or-map-range_with_len entry 0 count j j d inside (omega arith) in
       let apart : eq_by_cmp info_cmp (entry i) (entry j) ≡ false =
       differ (entry i) (entry j) (package-package i j less (omega (arith, inside, most))) in
       rw (first, second) apart)
 
   packages : List SymbolInformation
-  packages = package_entries id facts
+  packages = package_entries run facts
 
   module _ (cs : List Choice) where
     kept-text : (y : SymbolInformation) → Contains (kept_entries id facts facts.declarations cs) y
@@ -180,104 +183,102 @@ module _ (files : List File) (origins : HaveOrigins files) (clear : NoClash file
           ap (λ (i : SymbolInformation). i.symbol) of.is,
         )
 
-    pub distinct : IsDistinct (eq_by_cmp info_cmp) (source_entries id file.path facts cs)
+    pub distinct : IsDistinct (eq_by_cmp info_cmp) (source_entries id run file.path facts cs)
     distinct =
         distinct-cons (eq_by_cmp info_cmp) (file_entry id file.path)
-        (package_entries id facts ++ kept_entries id facts facts.declarations cs)
-        (λ y there. elim (Contains-append_cases (package_entries id facts)
+        (package_entries run facts ++ kept_entries id facts facts.declarations cs)
+        (λ y there. elim (Contains-append_cases (package_entries run facts)
         (kept_entries id facts facts.declarations cs) y there) [
           | inl package_of ↦ (
-              let of = in-packages id facts (length facts.package_name) y package_of in
+              let of = in-packages run facts (length facts.package_name) y package_of in
               differ (file_entry id file.path) y
               (λ same. file-package of.0 of.1 (same ∙ ap (λ (i : SymbolInformation). i.symbol) of.2)))
           | inr kept ↦ (
               let of = kept-text y kept in
               differ (file_entry id file.path) y (λ same. file-declaration of.0 of.1 (same ∙ of.2)))
         ])
-        (distinct-append (eq_by_cmp info_cmp) (package_entries id facts) (kept_entries id facts facts.declarations cs)
+        (distinct-append (eq_by_cmp info_cmp) (package_entries run facts) (kept_entries id facts facts.declarations cs)
         (packages-distinct (length facts.package_name) (omega arith))
         (kept-distinct id facts facts.declarations cs declaration-declaration)
         (λ x y first second.
-        let of = in-packages id facts (length facts.package_name) x first in
+        let of = in-packages run facts (length facts.package_name) x first in
         let its = kept-text y second in
         differ x y (λ same. package-declaration of.0 its.0 of.1 its.1
         (sym (ap (λ (i : SymbolInformation). i.symbol) of.2) ∙ (same ∙ its.2)))))
 
-  -- ---- what the list has
+-- ---- what the list has
 
-  module _ (chosen : Chosen) where
-    listed-is : (x : SymbolInformation) → Contains (source_entries id file.path facts (choices_for chosen source)) x
-        → HasEntry files chosen id source x
-    listed-is x there = elim
-        (Contains-append_cases (file_entry id file.path ∷ [])
-        (package_entries id facts ++ kept_entries id facts facts.declarations (choices_for chosen source)) x there) [
-          | inl file_is ↦ subst (HasEntry files chosen id source) (alone-in (file_entry id file.path) x file_is)
-              (of_file {file = file} numbered)
-          | inr others ↦ elim (Contains-append_cases (package_entries id facts)
-              (kept_entries id facts facts.declarations (choices_for chosen source)) x others) [
-                | inl package_of ↦ (
-                    let of = in-packages id facts (length facts.package_name) x package_of in
-                    let component = at-index facts.package_name of.0 of.1 in
-                    subst (HasEntry files chosen id source) (sym of.2)
-                    (of_package {facts = facts} of.0 {component = component.0} counted.known component.1))
-                | inr kept ↦ (
-                    let of = in-kept id facts facts.declarations (choices_for chosen source) x kept in
-                    of_declaration of.index (record {
-                      facts = facts;
-                      declaration = of.declared;
-                      choice = of.choice;
-                      has = record { has_facts = counted.known; numbered = of.stands };
-                      is_chosen = is-chosen chosen source of.index of.choice of.chosen;
-                      keeps = of.keeps;
-                      is = of.is;
-                    }))
-              ]
+module _ (files : List File) (chosen : Chosen) (ids : Packages) (source : ℕ) (file : File) (facts : Facts)
+    (numbered : slice_get files source ≡ Some file) (counted : AreCounted files source facts) where
+  -- the package of the source
+  abbrev id : Package
+  id = package_of_file files ids source
+
+  abbrev entries : List SymbolInformation
+  entries = source_entries id ids.run file.path facts (choices_for chosen source)
+
+  abbrev kept-list : List SymbolInformation
+  kept-list = kept_entries id facts facts.declarations (choices_for chosen source)
+
+  listed-is : (x : SymbolInformation) → Contains entries x → HasEntry files chosen ids source x
+  listed-is x there = elim
+      (Contains-append_cases (file_entry id file.path ∷ []) (package_entries ids.run facts ++ kept-list) x there) [
+        | inl file_is ↦ subst (HasEntry files chosen ids source) (alone-in (file_entry id file.path) x file_is)
+            (of_file {file = file} numbered)
+        | inr others ↦ elim (Contains-append_cases (package_entries ids.run facts) kept-list x others) [
+          | inl package_of ↦ (
+              let of = in-packages ids.run facts (length facts.package_name) x package_of in
+              let component = at-index facts.package_name of.0 of.1 in
+              subst (HasEntry files chosen ids source) (sym of.2)
+              (of_package {facts = facts} of.0 {component = component.0} counted.known component.1))
+          | inr kept ↦ (
+              let of = in-kept id facts facts.declarations (choices_for chosen source) x kept in
+              of_declaration of.index (record {
+                facts = facts;
+                declaration = of.declared;
+                choice = of.choice;
+                has = record { has_facts = counted.known; numbered = of.stands };
+                is_chosen = is-chosen chosen source of.index of.choice of.chosen;
+                keeps = of.keeps;
+                is = of.is;
+              }))
         ]
+      ]
 
-    is-listed : {x : SymbolInformation} → HasEntry files chosen id source x
-        → Contains (source_entries id file.path facts (choices_for chosen source)) x
-    is-listed (of_file {file = other} at) =
-        subst (λ (f : File). Contains (source_entries id file.path facts (choices_for chosen source))
-        (file_entry id f.path)) (same_Some file other (sym numbered ∙ at))
-        (first-in (file_entry id file.path)
-        (package_entries id facts ++ kept_entries id facts facts.declarations (choices_for chosen source)))
-    is-listed (of_package {facts = others} index known at) =
-        let same : facts ≡ others = one_list_of_facts files source facts others counted.known known in
-        let within : index < length facts.package_name =
-        subst (λ (f : Facts). index < length f.package_name) (sym same)
-        (slice_get_within others.package_name index _ at) in
-        subst (λ (f : Facts). Contains (source_entries id file.path facts (choices_for chosen source))
-        (package_entry id f (index + 1))) same
-        (behind-in (file_entry id file.path)
-        (package_entries id facts ++ kept_entries id facts facts.declarations (choices_for chosen source))
-        (package_entry id facts (index + 1))
-        (Contains-append_left (package_entries id facts)
-        (kept_entries id facts facts.declarations (choices_for chosen source)) (package_entry id facts (index + 1))
-        (package-in id facts (length facts.package_name) index within)))
-    is-listed (of_declaration index {entry = x} kept) =
-        let same : kept.facts ≡ facts =
-        one_list_of_facts files source kept.facts facts kept.has.has_facts counted.known in
-        let at : slice_get facts.declarations index ≡ Some kept.declaration =
-        subst (λ (f : Facts). slice_get f.declarations index ≡ Some kept.declaration) same kept.has.numbered in
-        let is : x ≡ declaration_entry id facts kept.declaration kept.choice =
-        kept.is ∙ ap (λ (f : Facts). declaration_entry id f kept.declaration kept.choice) same in
-        subst (Contains (source_entries id file.path facts (choices_for chosen source))) (sym is)
-        (behind-in (file_entry id file.path)
-        (package_entries id facts ++ kept_entries id facts facts.declarations (choices_for chosen source))
-        (declaration_entry id facts kept.declaration kept.choice)
-        (Contains-append_right (package_entries id facts)
-        (kept_entries id facts facts.declarations (choices_for chosen source))
-        (declaration_entry id facts kept.declaration kept.choice)
-        (kept-in id facts facts.declarations (choices_for chosen source) index kept.declaration kept.choice at
-        (chosen-for chosen source index kept.choice kept.is_chosen) kept.keeps)))
+  is-listed : {x : SymbolInformation} → HasEntry files chosen ids source x → Contains entries x
+  is-listed (of_file {file = other} at) =
+      subst (λ (f : File). Contains entries (file_entry id f.path)) (same_Some file other (sym numbered ∙ at))
+      (first-in (file_entry id file.path) (package_entries ids.run facts ++ kept-list))
+  is-listed (of_package {facts = others} index known at) =
+      let same : facts ≡ others = one_list_of_facts files source facts others counted.known known in
+      let within : index < length facts.package_name =
+      subst (λ (f : Facts). index < length f.package_name) (sym same)
+      (slice_get_within others.package_name index _ at) in
+      subst (λ (f : Facts). Contains entries (package_entry ids.run f (index + 1))) same
+      (behind-in (file_entry id file.path) (package_entries ids.run facts ++ kept-list)
+      (package_entry ids.run facts (index + 1))
+      (Contains-append_left (package_entries ids.run facts) kept-list (package_entry ids.run facts (index + 1))
+      (package-in ids.run facts (length facts.package_name) index within)))
+  is-listed (of_declaration index {entry = x} kept) =
+      let same : kept.facts ≡ facts =
+      one_list_of_facts files source kept.facts facts kept.has.has_facts counted.known in
+      let at : slice_get facts.declarations index ≡ Some kept.declaration =
+      subst (λ (f : Facts). slice_get f.declarations index ≡ Some kept.declaration) same kept.has.numbered in
+      let is : x ≡ declaration_entry id facts kept.declaration kept.choice =
+      kept.is ∙ ap (λ (f : Facts). declaration_entry id f kept.declaration kept.choice) same in
+      subst (Contains entries) (sym is)
+      (behind-in (file_entry id file.path) (package_entries ids.run facts ++ kept-list)
+      (declaration_entry id facts kept.declaration kept.choice)
+      (Contains-append_right (package_entries ids.run facts) kept-list
+      (declaration_entry id facts kept.declaration kept.choice)
+      (kept-in id facts facts.declarations (choices_for chosen source) index kept.declaration kept.choice at
+      (chosen-for chosen source index kept.choice kept.is_chosen) kept.keeps)))
 
-    -- sorted, it is the list of them
-    pub source-list : (made list : List SymbolInformation)
-        → made ≡ source_entries id file.path facts (choices_for chosen source) → IsPermutation made list
-        → IsSorted info_cmp list
-        → IsAscendingListOf info_cmp (HasEntry files chosen id source) list
-    source-list made list is moved up =
-        ascending-list infos_total (HasEntry files chosen id source)
-        (source_entries id file.path facts (choices_for chosen source)) list
-        (λ x. (listed-is x, λ has. is-listed has)) (distinct (choices_for chosen source))
-        (subst (λ (l : List SymbolInformation). IsPermutation l list) is moved) up
+  -- sorted, it is the list of them, where no two have one symbol
+  pub source-list : IsDistinct (eq_by_cmp info_cmp) entries → (made list : List SymbolInformation) → made ≡ entries
+      → IsPermutation made list → IsSorted info_cmp list
+      → IsAscendingListOf info_cmp (HasEntry files chosen ids source) list
+  source-list apart made list is moved up =
+      ascending-list infos_total (HasEntry files chosen ids source) entries list
+      (λ x. (listed-is x, λ has. is-listed has)) apart
+      (subst (λ (l : List SymbolInformation). IsPermutation l list) is moved) up

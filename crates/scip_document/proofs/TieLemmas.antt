@@ -18,8 +18,8 @@ use Rattle.proto_decl.specs.declared.imported.Imported.{Imported}
 use Rattle.proto_decl.specs.declared.declaration.Declaration.{Declaration}
 use Rattle.proto_decl.specs.declared.type_use.Component.{Component}
 use Rattle.proto_decl.specs.declared.type_use.Use.{Use}
-use Rattle.scip_symbol.specs.Package.{Package}
 use Rattle.proto_visibility.specs.Files.{File, HasFacts}
+use Rattle.scip_document.specs.Packages.{Packages}
 use Rattle.scip_document.specs.Chosen.{Chosen}
 use Rattle.scip_document.specs.Occurs.{Occurs, range_over, start_of_text, no_role, definition_role, import_role}
 use Rattle.scip_document.specs.Occurs.Occurs.{of_file, of_import, of_package, of_declaration, of_component}
@@ -151,9 +151,9 @@ module _ (rise : CharactersRise) (encoding : Encoding) (text : List ℕ) where
     one_role o p (at_use u h e r) (at_name n k f s) same = absurd (use_name u n h k (sym e ∙ (same ∙ f)))
     one_role o p (at_use u h e r) (at_use v k f s) same = r ∙ sym s
 
-    module _ (files : List File) (chosen : Chosen) (id : Package) (source : ℕ)
+    module _ (files : List File) (chosen : Chosen) (ids : Packages) (source : ℕ)
         (known : HasFacts files source facts) where
-      stands : (o : Occurrence) → Occurs files chosen id encoding source text o → Stands o
+      stands : (o : Occurrence) → Occurs files chosen ids encoding source text o → Stands o
       stands _ (of_file there) = at_start refl refl
       stands _ (of_import {facts = other} {imported = imported} has listed there) =
           at_import imported (subst (λ (f : Facts). Contains f.imports imported)
@@ -180,16 +180,16 @@ module _ (rise : CharactersRise) (encoding : Encoding) (text : List ℕ) where
           (mapped (λ (c : Component). c.span) names.type_use.components component
           (is_listed names.type_use.components names.index component names.component_is))) refl refl
 
-      pub roles_by_range : (o p : Occurrence) → Occurs files chosen id encoding source text o
-          → Occurs files chosen id encoding source text p → o.range ≡ p.range → o.symbol_roles ≡ p.symbol_roles
+      pub roles_by_range : (o p : Occurrence) → Occurs files chosen ids encoding source text o
+          → Occurs files chosen ids encoding source text p → o.range ≡ p.range → o.symbol_roles ≡ p.symbol_roles
       roles_by_range o p first second same = one_role o p (stands o first) (stands p second) same
 
 -- an occurrence is the file's own, or the file's facts are known
-module _ (files : List File) (chosen : Chosen) (id : Package) (encoding : Encoding) (source : ℕ) (text : List ℕ) where
+module _ (files : List File) (chosen : Chosen) (ids : Packages) (encoding : Encoding) (source : ℕ) (text : List ℕ) where
   abbrev IsKnown : Type 0
   IsKnown = (facts : Facts) × HasFacts files source facts
 
-  own_or_known : (o : Occurrence) → Occurs files chosen id encoding source text o
+  own_or_known : (o : Occurrence) → Occurs files chosen ids encoding source text o
       → (o.symbol_roles ≡ definition_role) ⊎ IsKnown
   own_or_known _ (of_file there) = inl refl
   own_or_known _ (of_import {facts = facts} has listed there) = inr (facts, has)
@@ -199,12 +199,12 @@ module _ (files : List File) (chosen : Chosen) (id : Package) (encoding : Encodi
 
   pub no_ties : (rise : CharactersRise)
       → ((facts : Facts) → HasFacts files source facts → StandInText text facts × StandApart facts)
-      → (o p : Occurrence) → Occurs files chosen id encoding source text o
-      → Occurs files chosen id encoding source text p → o.range ≡ p.range → o.symbol ≡ p.symbol → o ≡ p
+      → (o p : Occurrence) → Occurs files chosen ids encoding source text o
+      → Occurs files chosen ids encoding source text p → o.range ≡ p.range → o.symbol ≡ p.symbol → o ≡ p
   no_ties rise places o p first second ranges symbols =
       let by_facts : IsKnown → o.symbol_roles ≡ p.symbol_roles = λ known.
       let at = places known.0 known.1 in
-      roles_by_range rise encoding text known.0 at.0 at.1 files chosen id source known.1 o p first second ranges in
+      roles_by_range rise encoding text known.0 at.0 at.1 files chosen ids source known.1 o p first second ranges in
       let roles : o.symbol_roles ≡ p.symbol_roles =
       either (λ own. either (λ other. own ∙ sym other) by_facts (own_or_known p second)) by_facts
       (own_or_known o first) in

@@ -15,6 +15,7 @@ use Rattle.scip_symbol.specs.Entities as symbols
 use Rattle.scip_symbol.specs.Package.{Package}
 use Rattle.proto_visibility.specs.Files.{File, HasFacts, IsSource}
 use Rattle.proto_visibility.specs.declared.entities.Entity.TheVariants as link
+use Rattle.scip_document.specs.Packages.{Packages, package_of_file}
 use Rattle.scip_document.specs.Chosen.{Chosen, IsChosen}
 use Rattle.scip_document.specs.Documentation.{documentation_of}
 use Rattle.scip_document.specs.Named.{HasDeclaration, NamesIn, text_of, package_at, declaration_at}
@@ -40,7 +41,7 @@ declaration_entry id facts declared choice = record {
 }
 
 -- the entry of a declaration that is kept, by its file's number and its own
-pub record IsKeptEntry (files : List File) (chosen : Chosen) (id : Package) (file index : ℕ)
+pub record IsKeptEntry (files : List File) (chosen : Chosen) (ids : Packages) (file index : ℕ)
     (entry : SymbolInformation) : Type 0 where
   pub facts : Facts
   pub declaration : Declaration
@@ -48,22 +49,22 @@ pub record IsKeptEntry (files : List File) (chosen : Chosen) (id : Package) (fil
   pub has : HasDeclaration files file index facts declaration
   pub is_chosen : IsChosen chosen file index choice
   pub keeps : choice.keep ≡ true
-  pub is : entry ≡ declaration_entry id facts declaration choice
+  pub is : entry ≡ declaration_entry (package_of_file files ids file) facts declaration choice
 
 -- The entries of a source: the file, each component of its package's name, and each declaration that is kept.
-pub data HasEntry (files : List File) (chosen : Chosen) (id : Package) (source : ℕ) : SymbolInformation → Type 0 where
+pub data HasEntry (files : List File) (chosen : Chosen) (ids : Packages) (source : ℕ) : SymbolInformation → Type 0 where
   of_file : {file : File} → slice_get files source ≡ Some file
-      → HasEntry files chosen id source (file_entry id file.path)
+      → HasEntry files chosen ids source (file_entry (package_of_file files ids source) file.path)
   of_package : {facts : Facts} (index : ℕ) {component : Component} → HasFacts files source facts
       → slice_get facts.package_name index ≡ Some component
-      → HasEntry files chosen id source (package_entry id facts (index + 1))
-  of_declaration : (index : ℕ) {entry : SymbolInformation} → IsKeptEntry files chosen id source index entry
-      → HasEntry files chosen id source entry
+      → HasEntry files chosen ids source (package_entry ids.run facts (index + 1))
+  of_declaration : (index : ℕ) {entry : SymbolInformation} → IsKeptEntry files chosen ids source index entry
+      → HasEntry files chosen ids source entry
 
 -- The external entries (`scip.proto`, Index.external_symbols): each declaration of an included file that is kept, and
 -- that a component
 -- of a use in a source names.
-pub record HasExternal (files : List File) (chosen : Chosen) (id : Package) (entry : SymbolInformation) : Type 0 where
+pub record HasExternal (files : List File) (chosen : Chosen) (ids : Packages) (entry : SymbolInformation) : Type 0 where
   pub source : ℕ
   pub is_source : IsSource files source
   pub component : Component
@@ -74,4 +75,4 @@ pub record HasExternal (files : List File) (chosen : Chosen) (id : Package) (ent
   pub file : File
   pub numbered : slice_get files number ≡ Some file
   pub included : file.is_included ≡ true
-  pub kept : IsKeptEntry files chosen id number index entry
+  pub kept : IsKeptEntry files chosen ids number index entry

@@ -1,3 +1,5 @@
+-- which package a file's symbols belong to
+pub mod Packages
 -- the entities that have symbols, what was chosen for declarations, and what documents them
 pub mod Named
 pub mod Chosen

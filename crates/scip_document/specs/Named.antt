@@ -23,7 +23,7 @@ pub record HasDeclaration (files : List File) (file index : ℕ) (facts : Facts)
   pub has_facts : HasFacts files file facts
   pub numbered : slice_get facts.declarations index ≡ Some declaration
 
--- the text of an entity's symbol, in the package that the settings name (`scip.proto`, Symbol)
+-- the text of an entity's symbol, in a package (`scip.proto`, Symbol)
 unfoldable pub text_of : Package → symbols.Entity → List ℕ
 text_of id entity = symbol_text (symbol_in id entity)
 

@@ -18,6 +18,7 @@ use Rattle.scip_symbol.specs.Package.{Package}
 use Rattle.proto_visibility.specs.Files.{File, HasFacts, HasPath}
 use Rattle.proto_visibility.specs.declared.entities.Entity.{Entity}
 use Rattle.proto_visibility.specs.declared.entities.Entity.TheVariants as link
+use Rattle.scip_document.specs.Packages.{Packages, package_of_path, package_of_file, package_of_part}
 use Rattle.scip_document.specs.Chosen.{Chosen, IsKept}
 use Rattle.scip_document.specs.Named.{HasDeclaration, NamesIn, text_of, package_at, declaration_at}
 
@@ -54,28 +55,35 @@ occurrence_over encoding text id span entity roles =
     record { range = range_over encoding text span; symbol = text_of id entity; symbol_roles = roles }
 
 -- What occurs in the document of a source, which has this text.
-pub data Occurs (files : List File) (chosen : Chosen) (id : Package) (encoding : Encoding) (source : ℕ)
+pub data Occurs (files : List File) (chosen : Chosen) (ids : Packages) (encoding : Encoding) (source : ℕ)
     (text : List ℕ) : Occurrence → Type 0 where
   -- the file itself
   of_file : {file : File} → slice_get files source ≡ Some file
-      → Occurs files chosen id encoding source text
-      (record { range = start_of_text; symbol = text_of id (OfFile file.path); symbol_roles = definition_role })
+      → Occurs files chosen ids encoding source text
+      (record {
+        range = start_of_text;
+        symbol = text_of (package_of_file files ids source) (OfFile file.path);
+        symbol_roles = definition_role;
+      })
   -- each file that it imports, over the literals, where it is there
   of_import : {facts : Facts} {imported : Imported} → HasFacts files source facts → Contains facts.imports imported
       → HasPath files imported.path
-      → Occurs files chosen id encoding source text
-      (occurrence_over encoding text id imported.span (OfFile imported.path) import_role)
+      → Occurs files chosen ids encoding source text
+      (occurrence_over encoding text (package_of_path ids imported.path) imported.span (OfFile imported.path)
+      import_role)
   -- each component of its package's name: the package up to it
   of_package : {facts : Facts} (index : ℕ) {component : Component} → HasFacts files source facts
       → slice_get facts.package_name index ≡ Some component
-      → Occurs files chosen id encoding source text
-      (occurrence_over encoding text id component.span (package_at facts (index + 1)) definition_role)
+      → Occurs files chosen ids encoding source text
+      (occurrence_over encoding text ids.run component.span (package_at facts (index + 1)) definition_role)
   -- each declaration that is kept, over its name
   of_declaration : {facts : Facts} (index : ℕ) {declared : Declaration}
       → HasDeclaration files source index facts declared → IsKept chosen source index
-      → Occurs files chosen id encoding source text
-      (occurrence_over encoding text id declared.name (declaration_at facts declared) definition_role)
+      → Occurs files chosen ids encoding source text
+      (occurrence_over encoding text (package_of_file files ids source) declared.name (declaration_at facts declared)
+      definition_role)
   -- each component of a use that names a package, or a declaration that is kept
   of_component : {component : Component} {part : Entity} {entity : symbols.Entity}
       → NamesIn files source component part entity → IsShown chosen part
-      → Occurs files chosen id encoding source text (occurrence_over encoding text id component.span entity no_role)
+      → Occurs files chosen ids encoding source text
+      (occurrence_over encoding text (package_of_part files ids part) component.span entity no_role)

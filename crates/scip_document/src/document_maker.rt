@@ -1,9 +1,9 @@
 //! What a document is made from.
 
 use crate::choices::Choices;
+use crate::packages::FilePackages;
 use proto_lex::{Encoding, Text};
 use proto_link::Linker;
-use scip_symbol::PackageId;
 use std::alloc::Global;
 
 /// What the document of a source is made from.
@@ -15,8 +15,8 @@ pub struct DocumentMaker<'a, 'l, 't> {
     pub linker: &'a Linker<'l>,
     /// What was chosen for each declaration of the files.
     pub choices: &'a Choices,
-    /// The package that the symbols belong to.
-    pub package: &'a PackageId,
+    /// The packages that the symbols belong to, by their files.
+    pub package: &'a FilePackages,
     /// In which code units columns count.
     pub encoding: Encoding,
     /// The number of the source.

@@ -15,6 +15,7 @@ ghost use Rattle.scip_document.specs.Indexes.{info_cmp, IsAscendingListOf};
 use crate::document_maker::DocumentMaker;
 use crate::documentation::documentation_of;
 use crate::known_facts::symbols_stand_apart;
+use crate::packages::package_of_file;
 use crate::symbol_texts::{declaration_text, file_text, package_text};
 use index_hooks::Choice;
 use proto_decl::{Component, Declaration, FileFacts};
@@ -146,45 +147,40 @@ fn push_if_kept(
 fn push_declarations(
     entries: &mut Vec<SymbolInformation>,
     maker: &DocumentMaker<'_, '_, '_>,
+    id: &PackageId,
     facts: &FileFacts,
 ) -> Result<(), AllocError>
     requires { (index : ℕ) → index < length facts.now.declarations
         → HasChoice maker.now.choices.now maker.now.source index }
     ensures { OnOk result (entries.new.items ≡ entries.old.items
-        ++ kept_entries maker.now.package.now facts.now facts.now.declarations
+        ++ kept_entries id.now facts.now facts.now.declarations
         (choices_for maker.now.choices.now maker.now.source)) }
 {
     for (index, declaration) in facts.declarations().iter().enumerate() {
         let choice = maker.choices.of(maker.source, index);
-        push_if_kept(
-            maker.alloc,
-            entries,
-            maker.package,
-            facts,
-            declaration,
-            choice,
-        )?;
+        push_if_kept(maker.alloc, entries, id, facts, declaration, choice)?;
     }
     Ok(())
 }
 
-// Those of the source, by kind.
+// Those of the source, by kind; it belongs to this package.
 fn listed_entries(
     maker: &DocumentMaker<'_, '_, '_>,
+    id: &PackageId,
     path: &str,
     facts: &FileFacts,
 ) -> Result<Vec<SymbolInformation>, AllocError>
     requires path { IsGoodPath path.now }
     requires choices { (index : ℕ) → index < length facts.now.declarations
         → HasChoice maker.now.choices.now maker.now.source index }
-    ensures { IfOk result (λ entries. entries.items ≡ source_entries maker.now.package.now path.now facts.now
-        (choices_for maker.now.choices.now maker.now.source)) }
+    ensures { IfOk result (λ entries. entries.items ≡ source_entries id.now maker.now.package.now.run path.now
+        facts.now (choices_for maker.now.choices.now maker.now.source)) }
 {
     let mut entries = Vec::new(maker.alloc);
-    let first = file_entry(maker.alloc, maker.package, path)?;
+    let first = file_entry(maker.alloc, id, path)?;
     entries.push(first)?;
-    push_packages(maker.alloc, &mut entries, maker.package, facts)?;
-    push_declarations(&mut entries, maker, facts)?;
+    push_packages(maker.alloc, &mut entries, maker.package.run(), facts)?;
+    push_declarations(&mut entries, maker, id, facts)?;
     Ok(entries)
 }
 
@@ -208,7 +204,8 @@ pub(crate) fn entries(
     symbols_stand_apart(maker.linker, maker.package);
     let path = maker.linker.path_of(maker.source);
     let facts = maker.linker.facts_of(maker.source).unwrap();
-    let mut entries = listed_entries(maker, path, facts)?;
+    let id = package_of_file(maker.linker, maker.package, maker.source);
+    let mut entries = listed_entries(maker, id, path, facts)?;
     entries.sort_by(|a, b| compare_symbols(a, b))?;
     Ok(Sequence::from_vec(entries))
 }

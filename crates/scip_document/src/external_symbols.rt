@@ -15,6 +15,7 @@ ghost use Rattle.scip_document.specs.Indexes.{AreExternals};
 use crate::choices::Choices;
 use crate::entries::{compare_symbols, declaration_entry};
 use crate::known_facts::symbols_stand_apart;
+use crate::packages::{FilePackages, package_of_file};
 use proto_decl::{FileFacts, Use};
 use proto_link::{Entity, LinkFault, Linker, one_target_a_use};
 use scip_model::SymbolInformation;
@@ -190,14 +191,15 @@ fn entry_of(
     alloc: Global,
     linker: &Linker<'_>,
     choices: &Choices,
-    id: &PackageId,
+    packages: &FilePackages,
     pair: (usize, usize),
 ) -> Result<SymbolInformation, AllocError>
     requires choices { HaveChoices linker.now choices.now }
     requires named { IsExternal linker.now choices.now (length linker.now) pair }
-    ensures { IfOk result (IsKeptEntry linker.now choices.now id.now pair.0 pair.1) }
+    ensures { IfOk result (IsKeptEntry linker.now choices.now packages.now pair.0 pair.1) }
 {
     let facts = linker.facts_of(pair.0).unwrap();
+    let id = package_of_file(linker, packages, pair.0);
     external_entry(alloc, id, choices, facts, pair.0, pair.1)
 }
 
@@ -206,16 +208,16 @@ fn external_entries(
     alloc: Global,
     linker: &Linker<'_>,
     choices: &Choices,
-    id: &PackageId,
+    packages: &FilePackages,
     pairs: &[(usize, usize)],
 ) -> Result<Vec<SymbolInformation>, AllocError>
     requires choices { HaveChoices linker.now choices.now }
     requires named { All (IsExternal linker.now choices.now (length linker.now)) pairs.now }
-    ensures { IfOk result (λ entries. AllZip (IsEntryOf linker.now choices.now id.now) pairs.now entries.items) }
+    ensures { IfOk result (λ entries. AllZip (IsEntryOf linker.now choices.now packages.now) pairs.now entries.items) }
 {
     let mut entries = Vec::new(alloc);
     for pair in pairs {
-        let entry = entry_of(alloc, linker, choices, id, *pair)?;
+        let entry = entry_of(alloc, linker, choices, packages, *pair)?;
         entries.push(entry)?;
     }
     Ok(entries)
@@ -242,18 +244,18 @@ pub fn externals(
     alloc: Global,
     linker: &Linker<'_>,
     choices: &Choices,
-    id: &PackageId,
+    packages: &FilePackages,
 ) -> Result<Sequence<SymbolInformation>, AllocError>
     requires choices { HaveChoices linker.now choices.now }
-    ensures { IfOk result (AreExternals linker.now choices.now id.now) }
+    ensures { IfOk result (AreExternals linker.now choices.now packages.now) }
 {
     if !has_included(linker) {
         return Ok(Sequence::new(alloc));
     }
-    symbols_stand_apart(linker, id);
+    symbols_stand_apart(linker, packages);
     let named = named_externals(alloc, linker, choices)?;
     let once = without_doubles(named)?;
-    let mut entries = external_entries(alloc, linker, choices, id, once.as_slice())?;
+    let mut entries = external_entries(alloc, linker, choices, packages, once.as_slice())?;
     entries.sort_by(|a, b| compare_symbols(a, b))?;
     Ok(Sequence::from_vec(entries))
 }

@@ -5,15 +5,16 @@ ghost use Rattle.proto_lex.specs.PositionLaws.{CharactersRise};
 ghost use Rattle.proto_visibility.specs.Files.{HaveOrigins};
 ghost use Rattle.proto_visibility.specs.Linked.{HaveClearNames};
 ghost use Rattle.proto_link.specs.Laws.{OneDeclarationAName, OneTargetAUse};
-ghost use Rattle.scip_symbol.specs.Package.{IsPackage};
-ghost use Rattle.scip_document.specs.Laws.{NoTies};
-ghost use Rattle.scip_document.specs.Tables.KnownFacts.{AreIdentifiers, InOrder, SymbolsNameOne, WithoutClash};
+ghost use Rattle.scip_document.specs.Laws.{NoTies, SymbolsNameOne};
+ghost use Rattle.scip_document.specs.Packages.{ArePackages};
+ghost use Rattle.scip_document.specs.Tables.KnownFacts.{AreIdentifiers, InOrder, WithoutClash};
 
-use crate::laws::no_two_occurrences_tie;
+use crate::laws::{no_two_occurrences_tie, symbols_name_one_entity_in_packages};
+use crate::packages::FilePackages;
 use proto_decl::{facts_in_order, facts_stand_in_text, names_are_identifiers};
 use proto_lex::positions_rise;
 use proto_link::{Linker, one_declaration_a_name, one_target_a_use};
-use scip_symbol::{PackageId, files_are_without_clash, symbols_name_one_entity};
+use scip_symbol::files_are_without_clash;
 
 /// The places of facts are in order and in the text, a use has one target, and no two occurrences
 /// of a document tie.
@@ -37,19 +38,19 @@ pub(crate) fn facts_occur_in_order(linker: &Linker<'_>)
 }
 
 /// The symbols of linked files are those of one entity each.
-pub(crate) fn symbols_stand_apart(linker: &Linker<'_>, id: &PackageId)
+pub(crate) fn symbols_stand_apart(linker: &Linker<'_>, packages: &FilePackages)
     ensures clear { HaveClearNames linker.now }
     ensures origins { HaveOrigins linker.now }
     ensures declarations { OneDeclarationAName }
     ensures spelled { AreIdentifiers }
     ensures symbols { SymbolsNameOne }
     ensures unclashed { WithoutClash }
-    ensures package { IsPackage id.now }
+    ensures packages { ArePackages packages.now }
 {
     linker.linked();
     one_declaration_a_name();
     names_are_identifiers();
-    symbols_name_one_entity();
+    symbols_name_one_entity_in_packages();
     files_are_without_clash();
-    id.manager();
+    packages.run();
 }

@@ -1,10 +1,12 @@
 //! Laws of documents and indexes, each the contract of an empty function.
 
 ghost use Rattle.scip_document.specs.Laws.{NoTies, OneDocument, OneListOfExternals, OneIndex};
+ghost use Rattle.scip_document.specs.Laws.{SymbolsNameOne, SymbolsMeet};
 ghost use Rattle.scip_document.specs.Pieces.{OneMergeRefusal, OneMergedList};
 
 use proto_decl::{facts_stand_apart, facts_stand_in_text};
 use proto_lex::positions_rise;
+use scip_symbol::{symbols_have_spellings, symbols_name_one_entity, text_spells_one_symbol};
 
 /// Pieces are refused for one reason, unless memory is refused.
 pub fn one_merge_refusal()
@@ -36,3 +38,20 @@ pub fn no_two_occurrences_tie()
     facts_stand_in_text();
     positions_rise();
 }
+
+/// In facts without a clash, entities with one symbol's text are one entity, whatever packages the two
+/// belong to.
+pub fn symbols_name_one_entity_in_packages()
+    ensures { SymbolsNameOne }
+{
+    symbols_name_one_entity();
+    symbols_have_spellings();
+    text_spells_one_symbol();
+}
+
+/// A file that two trees have, with the same facts and in one package, has one symbol in both, and so has
+/// each of its declarations: where it is defined in the one, where the other names it, and in the entry
+/// that the other has for it.
+pub fn symbols_meet()
+    ensures { SymbolsMeet }
+{}

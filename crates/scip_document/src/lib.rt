@@ -12,6 +12,7 @@ mod merge_fault;
 mod merging;
 mod occurrence_order;
 mod occurrences;
+mod packages;
 mod pieces;
 mod source_document;
 mod symbol_texts;
@@ -23,7 +24,9 @@ pub use document_maker::DocumentMaker;
 pub use external_symbols::externals;
 pub use laws::{
     no_two_occurrences_tie, one_document_a_source, one_index, one_merge_refusal, one_merged_list,
+    symbols_meet, symbols_name_one_entity_in_packages,
 };
 pub use merge_fault::{MergeFault, Unmerged};
+pub use packages::{FilePackages, RootPackage};
 pub use pieces::merge;
 pub use source_document::{SourceDocument, document, document_and_gaps};

@@ -97,7 +97,8 @@ fn add_import(
         ++ at_import maker.now.package.now maker.now.encoding maker.now.text.now maker.now.linker.now 0 imported.now) }
 {
     if has_file(maker.linker, imported) {
-        let symbol = file_text(maker.alloc, maker.package, imported.path.as_str())?;
+        let path = imported.path.as_str();
+        let symbol = file_text(maker.alloc, maker.package.of_path(path), path)?;
         list.push(occurrence_over(maker, imported.span, symbol, IMPORT))?;
     }
     Ok(())
@@ -129,12 +130,12 @@ pub(crate) fn package_occurrences(
     requires { All (λ (component : Component). IsPart maker.now.text.now component.span) facts.now.package_name }
     ensures { IfOk result (λ list.
         list.items ≡ each_from
-        (at_package maker.now.package.now maker.now.encoding maker.now.text.now facts.now)
+        (at_package maker.now.package.now.run maker.now.encoding maker.now.text.now facts.now)
         0 facts.now.package_name) }
 {
     let mut list = Vec::new(maker.alloc);
     for (index, component) in facts.package_name().iter().enumerate() {
-        let symbol = package_text(maker.alloc, maker.package, facts, index + 1)?;
+        let symbol = package_text(maker.alloc, maker.package.run(), facts, index + 1)?;
         list.push(occurrence_over(maker, component.span, symbol, DEFINITION))?;
     }
     Ok(list)
@@ -144,6 +145,7 @@ pub(crate) fn package_occurrences(
 fn add_declaration(
     list: &mut Vec<Occurrence>,
     maker: &DocumentMaker<'_, '_, '_>,
+    id: &PackageId,
     facts: &FileFacts,
     index: usize,
     declaration: &Declaration,
@@ -152,32 +154,33 @@ fn add_declaration(
     requires chosen { HasChoice maker.now.choices.now maker.now.source index }
     requires listed { Contains facts.now.declarations declaration.now }
     ensures { OnOk result (list.new.items ≡ list.old.items
-        ++ at_declaration maker.now.package.now maker.now.encoding maker.now.text.now
+        ++ at_declaration id.now maker.now.encoding maker.now.text.now
         maker.now.choices.now maker.now.source facts.now index declaration.now) }
 {
     if maker.choices.of(maker.source, index).keep {
-        let symbol = declaration_text(maker.alloc, maker.package, facts, declaration)?;
+        let symbol = declaration_text(maker.alloc, id, facts, declaration)?;
         list.push(occurrence_over(maker, declaration.name, symbol, DEFINITION))?;
     }
     Ok(())
 }
 
-/// Each declaration that is kept, over its name.
+/// Each declaration that is kept, over its name; all belong to one package.
 pub(crate) fn declaration_occurrences(
     maker: &DocumentMaker<'_, '_, '_>,
+    id: &PackageId,
     facts: &FileFacts,
 ) -> Result<Vec<Occurrence>, AllocError>
     requires parts { All (λ (declared : Declaration). IsPart maker.now.text.now declared.name) facts.now.declarations }
     requires chosen { (index : ℕ) → index < length facts.now.declarations
         → HasChoice maker.now.choices.now maker.now.source index }
     ensures { IfOk result (λ list. list.items ≡ each_from
-        (at_declaration maker.now.package.now maker.now.encoding maker.now.text.now
+        (at_declaration id.now maker.now.encoding maker.now.text.now
         maker.now.choices.now maker.now.source facts.now)
         0 facts.now.declarations) }
 {
     let mut list = Vec::new(maker.alloc);
     for (index, declaration) in facts.declarations().iter().enumerate() {
-        add_declaration(&mut list, maker, facts, index, declaration)?;
+        add_declaration(&mut list, maker, id, facts, index, declaration)?;
     }
     Ok(list)
 }

@@ -22,6 +22,7 @@ use crate::merging::merged;
 use crate::occurrences::{
     declaration_occurrences, file_occurrence, import_occurrences, package_occurrences,
 };
+use crate::packages::package_of_file;
 use crate::targets::{find_targets, unresolved_uses};
 use crate::use_occurrences::use_occurrences;
 use proto_decl::FileFacts;
@@ -70,10 +71,11 @@ fn occurrences(
 {
     facts_occur_in_order(maker.linker);
     let alloc = maker.alloc;
-    let own = own_occurrences(alloc, maker.package, maker.linker.path_of(maker.source))?;
+    let id = package_of_file(maker.linker, maker.package, maker.source);
+    let own = own_occurrences(alloc, id, maker.linker.path_of(maker.source))?;
     let imports = import_occurrences(maker, facts.imports())?;
     let packages = package_occurrences(maker, facts)?;
-    let names = declaration_occurrences(maker, facts)?;
+    let names = declaration_occurrences(maker, id, facts)?;
     let uses = use_occurrences(maker, found, facts.uses())?;
     let with_imports = merged(alloc, own, imports)?;
     let with_packages = merged(alloc, with_imports, packages)?;

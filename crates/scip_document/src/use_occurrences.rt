@@ -15,12 +15,14 @@ ghost use Rattle.proto_link.specs.declared.target.Target.{Target};
 ghost use Rattle.proto_visibility.specs.declared.entities.Entity.{Entity};
 ghost use Rattle.scip_symbol.specs.Entities.{OfPackage, IsEntity};
 ghost use Rattle.scip_document.specs.Chosen.{HaveChoices};
+ghost use Rattle.scip_document.specs.Packages.{package_of_file, package_of_part};
 ghost use Rattle.scip_document.specs.Named.{HasDeclaration, text_of};
 ghost use Rattle.scip_document.specs.Tables.Listing.{each_from, declared_by, entity_of, is_shown, IsNameable, AreNameable};
 ghost use Rattle.scip_document.specs.Tables.Listing.{at_part, at_component, at_target, at_use};
 
 use crate::document_maker::DocumentMaker;
 use crate::occurrences::occurrence_over;
+use crate::packages::package_of_file;
 use crate::symbol_texts::declaration_text;
 use proto_decl::{Component, Declaration, FileFacts, Use};
 use proto_lex::Span;
@@ -86,11 +88,13 @@ fn declared_text(
     requires { (facts : Facts) × (declared : Declaration)
         × HasDeclaration maker.now.linker.now file index facts declared }
     ensures { IfOk result (λ text.
-        option_map (text_of maker.now.package.now) (declared_by maker.now.linker.now file index) ≡ Some text) }
+        option_map (text_of (package_of_file maker.now.linker.now maker.now.package.now file))
+        (declared_by maker.now.linker.now file index) ≡ Some text) }
 {
     let facts = maker.linker.facts_of(file).unwrap();
     let declaration = declaration_of(facts, index);
-    declaration_text(maker.alloc, maker.package, facts, declaration)
+    let id = package_of_file(maker.linker, maker.package, file);
+    declaration_text(maker.alloc, id, facts, declaration)
 }
 
 /// The symbol's text of what a part of a full name names.
@@ -101,10 +105,11 @@ fn entity_text(
 ) -> Result<OwnedText, AllocError>
     requires { IsNameable maker.now.linker.now name.now part }
     ensures { IfOk result (λ text.
-        option_map (text_of maker.now.package.now) (entity_of maker.now.linker.now name.now part) ≡ Some text) }
+        option_map (text_of (package_of_part maker.now.linker.now maker.now.package.now part))
+        (entity_of maker.now.linker.now name.now part) ≡ Some text) }
 {
     match part {
-        Entity::Package(count) => named_package_text(maker.alloc, maker.package, name, count),
+        Entity::Package(count) => named_package_text(maker.alloc, maker.package.run(), name, count),
         Entity::Declared(file, index) => declared_text(maker, file, index),
     }
 }

@@ -12,8 +12,7 @@ use crate::listed::Listing;
 use crate::reading::Reading;
 use proto_lex::Encoding;
 use proto_link::{LinkFault, LinkFile, Linker, have_own_paths};
-use scip_document::{Choices, DocumentMaker, document, externals};
-use scip_symbol::PackageId;
+use scip_document::{Choices, DocumentMaker, FilePackages, document, externals};
 use std::alloc::{AllocError, Global};
 
 fn linked_file<'a>(reading: &'a Reading<'_>) -> LinkFile<'a>
@@ -81,7 +80,7 @@ fn add_file(
     linker: &Linker<'_>,
     readings: &[Reading<'_>],
     choices: &Choices,
-    package: &PackageId,
+    package: &FilePackages,
     file: usize,
 ) -> Result<bool, AllocError>
     requires within { file < length linker.now }
@@ -118,7 +117,7 @@ fn add_files(
     linker: &Linker<'_>,
     readings: &[Reading<'_>],
     choices: &Choices,
-    package: &PackageId,
+    package: &FilePackages,
 ) -> Result<bool, AllocError>
     requires files { linker.now ≡ linked_files readings.now }
     requires fine { All IsFine readings.now }
@@ -140,7 +139,7 @@ pub(crate) fn add_all(
     linker: &Linker<'_>,
     readings: &[Reading<'_>],
     choices: &Choices,
-    package: &PackageId,
+    package: &FilePackages,
 ) -> Result<(), AllocError>
     requires files { linker.now ≡ linked_files readings.now }
     requires fine { All IsFine readings.now }

@@ -26,10 +26,10 @@ kept_entries id facts (declared ∷ others) [] = []
 kept_entries id facts (declared ∷ others) (choice ∷ choices) =
     entry_if_kept id facts declared choice ++ kept_entries id facts others choices
 
--- the file's, its packages', and its declarations'
-abbrev pub source_entries : Package → (path : List ℕ) → Facts → List Choice → List SymbolInformation
-source_entries id path facts choices =
-    file_entry id path ∷ (package_entries id facts ++ kept_entries id facts facts.declarations choices)
+-- the file's, its packages', which belong to the run, and its declarations'
+abbrev pub source_entries : (id run : Package) → (path : List ℕ) → Facts → List Choice → List SymbolInformation
+source_entries id run path facts choices =
+    file_entry id path ∷ (package_entries run facts ++ kept_entries id facts facts.declarations choices)
 
 -- the choices for a file's declarations
 abbrev pub choices_for : Chosen → (file : ℕ) → List Choice

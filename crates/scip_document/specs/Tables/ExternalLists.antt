@@ -15,6 +15,7 @@ use Rattle.proto_link.specs.Targets.{IsTarget}
 use Rattle.proto_visibility.specs.declared.entities.Entity.{Entity}
 use Rattle.proto_visibility.specs.declared.entities.Entity.TheVariants as link
 use Rattle.proto_link.specs.declared.target.Target.{Target}
+use Rattle.scip_document.specs.Packages.{Packages}
 use Rattle.scip_document.specs.Chosen.{Chosen, HasChoice, IsChosen, IsKept}
 use Rattle.scip_document.specs.Entries.{declaration_entry, IsKeptEntry}
 
@@ -78,8 +79,8 @@ pub record IsEntryAt (chosen : Chosen) (id : Package) (facts : Facts) (file inde
   pub is : entry ≡ declaration_entry id facts declaration choice
 
 -- the entry of a declaration that is kept
-abbrev pub IsEntryOf : List File → Chosen → Package → Pair → SymbolInformation → Type 0
-IsEntryOf files chosen id x = IsKeptEntry files chosen id x.0 x.1
+abbrev pub IsEntryOf : List File → Chosen → Packages → Pair → SymbolInformation → Type 0
+IsEntryOf files chosen ids x = IsKeptEntry files chosen ids x.0 x.1
 
 -- some file is included
 abbrev pub HasIncluded : List File → Type 0

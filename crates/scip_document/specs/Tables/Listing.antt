@@ -21,6 +21,7 @@ use Rattle.proto_visibility.specs.Files.{File}
 use Rattle.proto_link.specs.declared.target.Target.{Target}
 use Rattle.proto_visibility.specs.declared.entities.Entity.{Entity}
 use Rattle.proto_visibility.specs.declared.entities.Entity.TheVariants as link
+use Rattle.scip_document.specs.Packages.{Packages, package_of_path, package_of_part}
 use Rattle.scip_document.specs.Chosen.{Chosen}
 use Rattle.scip_document.specs.Named.{HasDeclaration, text_of, package_at, declaration_at}
 use Rattle.scip_document.specs.Occurs.{occurrence_over, start_of_text, no_role, definition_role, import_role}
@@ -88,12 +89,8 @@ abbrev pub own_occurrence : Package → (path : List ℕ) → Occurrence
 own_occurrence id path =
     record { range = start_of_text; symbol = text_of id (OfFile path); symbol_roles = definition_role }
 
+-- with the package of what occurs
 module _ (id : Package) (encoding : Encoding) (text : List ℕ) where
-  abbrev pub at_import : List File → ℕ → Imported → List Occurrence
-  at_import files index imported =
-      if has_path files imported.path then occurrence_over encoding text id imported.span
-      (OfFile imported.path) import_role ∷ [] else []
-
   abbrev pub at_package : Facts → ℕ → Component → List Occurrence
   at_package facts index component =
       occurrence_over encoding text id component.span (package_at facts (index + 1)) definition_role ∷ []
@@ -107,10 +104,19 @@ module _ (id : Package) (encoding : Encoding) (text : List ℕ) where
   at_entity span None = []
   at_entity span (Some entity) = occurrence_over encoding text id span entity no_role ∷ []
 
+-- with that of the file that is named
+module _ (ids : Packages) (encoding : Encoding) (text : List ℕ) where
+  abbrev pub at_import : List File → ℕ → Imported → List Occurrence
+  at_import files index imported =
+      if has_path files imported.path then occurrence_over encoding text (package_of_path ids imported.path)
+      imported.span (OfFile imported.path) import_role ∷ [] else []
+
   module _ (files : List File) (chosen : Chosen) where
     abbrev pub at_part : (name : List ℕ) → Span → Option Entity → List Occurrence
     at_part name span None = []
-    at_part name span (Some part) = if is_shown chosen part then at_entity span (entity_of files name part) else []
+    at_part name span (Some part) =
+        if is_shown chosen part then at_entity (package_of_part files ids part) encoding text span
+        (entity_of files name part) else []
 
     abbrev pub at_component : Target → ℕ → Component → List Occurrence
     at_component target index component = at_part target.name component.span (slice_get target.parts index)

@@ -1,25 +1,23 @@
-use Rattle.std.proofs.Common.{◌≡◌, rules, [], true}
+use Rattle.std.proofs.Common.{◌∙◌, ap}
 use Rattle.std.proofs.lemmas.Result.{IfOk-weaker}
-use Rattle.std.specs.Prelude.{codes}
-use Rattle.clap.specs.Words.{App, app_of, new_app}
-use Rattle.command_line.proofs.RuleLemmas.{entered}
+use Rattle.clap.specs.Words.{App, with_subcommand}
+use Rattle.command_line.specs.Program.{dump_line, index_line, query_line, shell_line, snapshot_line}
 use Rattle.command_line.proofs.program.program.Goals as goal
-
-abbrev plain : App
-plain = record {
-  top = record (new_app (codes "protoscip")).top { has_version = true; subcommand_required = true };
-  subs = [];
-}
 
 pub returns : goal.returns
 returns c =
-    let start : app_of c.subcommand_required.result ≡ plain = search rules in
-    IfOk-weaker c.subcommand-4.result _ _ (λ d adds.
-    entered _ _ _ adds c.in_ok-dump_program.ensures.local
-    (entered _ _ _ c.in_ok-subcommand-3.ensures c.in_ok-query_program.ensures.local
-    (entered _ _ _ c.in_ok-subcommand-2.ensures c.in_ok-shell_program.ensures.local
-    (entered _ _ _ c.in_ok-subcommand.ensures c.in_ok-index_program.ensures.local start
-    c.in_ok-index_program.ensures.line)
-    c.in_ok-shell_program.ensures.line)
-    c.in_ok-query_program.ensures.line)
-    c.in_ok-dump_program.ensures.line) c.subcommand-4.ensures
+    let lists = c.args.lists in
+    let dump = dump_line lists in
+    let index = index_line lists in
+    let shell = shell_line lists in
+    IfOk-weaker c.with_program-5.result _ _ (λ d is.
+    is ∙ ap (λ (a : App). with_subcommand a dump)
+    (c.in_ok-showing.ensures snapshot_line c.snapshot_program.ensures.line c.snapshot_program.ensures.local
+    ∙ ap (λ (a : App). with_subcommand a snapshot_line)
+    (c.in_ok-querying.ensures query_line c.query_program.ensures.line c.query_program.ensures.local
+    ∙ ap (λ (a : App). with_subcommand a query_line)
+    (c.in_ok-serving.ensures shell c.shell_program.ensures.line c.shell_program.ensures.local
+    ∙ ap (λ (a : App). with_subcommand a shell)
+    (c.in_ok-indexing.ensures index c.index_program.ensures.line c.index_program.ensures.local
+    ∙ ap (λ (a : App). with_subcommand a index) c.no_program.ensures)))))
+    (c.with_program-5.ensures dump c.dump_program.ensures.line c.dump_program.ensures.local)

@@ -3,17 +3,18 @@ use Rattle.std.proofs.Common.{refl, ℕ, List, Option, Result}
 use Rattle.proto_decl.specs.Seen.{Seen}
 use Rattle.index_hooks.specs.declared.choice.Choice.{Choice}
 use Rattle.index_hooks.specs.declared.choice.DocChoice.{DocChoice}
-use Rattle.scip_document.specs.Chosen.{Chosen}
-use Rattle.scip_build.specs.declared.parts.BuiltParts.{BuiltParts}
 use Rattle.scip_build.specs.declared.settings.Settings.{Settings}
 use Rattle.programs.specs.Choices.{IsChosenBy}
+use Rattle.programs.specs.Messages.{SaysOfSuccess}
 use Rattle.programs.specs.StartExplanations.{told as start_told}
 use Rattle.programs.specs.TreeRuns.{not_started, over_tree}
 use Rattle.programs.proofs.MessageLemmas.{told}
 use Rattle.programs.proofs.MoveLemmas.{moved4}
 use Rattle.programs.proofs.TreeRunLemmas.{part_of, holds_of_part, ends_alike}
-use Rattle.protoscip.specs.Indexes.{Indexes}
+use Rattle.protoscip.specs.Indexes.{Indexes, recorded_of}
 use Rattle.protoscip.specs.declared.fault.Fault.{Fault}
+use Rattle.protoscip.specs.declared.indexing.KeptIndex.{KeptIndex}
+use Rattle.protoscip.specs.declared.recorded.Recorded.{Recorded}
 use Rattle.programs.proofs.indexing.index.Goals as goal
 
 pub returns-in-Err : goal.returns-in-Err
@@ -28,16 +29,18 @@ pub returns : goal.returns
 returns g c =
     let run = c.in-Ok.start in
     let kept = c.index_and_keep-done.result in
-    let choices : BuiltParts (List ℕ) → Chosen = λ built. built.choices in
-    let done = part_of choices kept in
-    let Indexed : (Seen → Choice → Type 0) → Settings → ℕ → Result Chosen Fault → Type 0 = λ allows settings workers d.
+    let recorded : KeptIndex → Recorded = λ index. recorded_of index.built.choices index.built.told in
+    let done = part_of recorded kept in
+    let Indexed : (Seen → Choice → Type 0) → Settings → ℕ → Result Recorded Fault → Type 0 =
+    λ allows settings workers d.
     Indexes g.W.Sink.contents g.W.Sink.failures allows settings run.tree workers c.args.out.now
     c.index_and_keep-done.new.out d in
     let By : Option (List ℕ) → Option DocChoice → Settings → ℕ → Type 0 =
     λ only doc settings workers. Indexed (IsChosenBy only doc) settings workers done in
-    let indexed = holds_of_part choices (Indexed _ run.settings run.workers) kept c.index_and_keep-done.ensures.indexed
+    let indexed = holds_of_part recorded (Indexed _ run.settings run.workers) kept c.index_and_keep-done.ensures.indexed
     in
-    over_tree run.tree done c.in-Ok.ensures.named c.in-Ok.ensures.tree
+    over_tree run.tree run.settings.package done c.in-Ok.ensures.named c.in-Ok.ensures.folders
     (moved4 By c.in-Ok.ensures.only c.in-Ok.ensures.doc c.in-Ok.ensures.settings c.in-Ok.ensures.workers indexed)
-    (ends_alike choices g.M.Sink.contents g.M.Sink.failures c.args.options.now.explain run.tree kept c.args.messages.now
-    c.end-status.new.messages c.end-status.result c.end-status.ensures)
+    (ends_alike recorded (λ r. r.told) g.M.Sink.contents g.M.Sink.failures
+    (SaysOfSuccess g.M.Sink.contents g.M.Sink.failures) c.args.options.now.explain run.tree kept
+    c.args.messages.now c.end-status.new.messages c.end-status.result c.end-status.ensures)

@@ -2,11 +2,13 @@ use Rattle.std.specs.String.{string_bytes}
 use Rattle.std.proofs.Common.{◌≡◌, refl, subst, sym}
 use Rattle.std.specs.Prelude.{IfOk, IfSome, Result}
 use Rattle.std.specs.declared.alloc.AllocError.{AllocError}
-use Rattle.command_line.specs.Requests.{index_options, shell_options}
+use Rattle.scip_snapshot.specs.Showing.{maker, writer as stream}
+use Rattle.command_line.specs.Requests.{index_options, shell_options, snapshot_options}
 use Rattle.command_line.specs.declared.request.Request.{Request}
 use Rattle.programs.specs.Indexing.{Indexed}
 use Rattle.programs.specs.Messages.{memory_line}
 use Rattle.programs.specs.Serving.{Served}
+use Rattle.programs.specs.Snapshotting.{RunsSnapshot}
 use Rattle.programs.specs.Streams.{reader, writer}
 use Rattle.programs.proofs.MessageLemmas.{told}
 use Rattle.programs.proofs.running.run.Goals as goal
@@ -31,6 +33,17 @@ returns-in-Shell-clause-served g c =
     × (c.args.file.now ≡ c.args.file.now)) in
     subst (λ (asked : Result Request AllocError). IfOk asked Here) (sym c.in-Ok.is)
     (subst Here (sym c.in-Shell.is) (c.shell.ensures, refl))
+
+pub returns-in-Snapshot-clause-snapshotted : goal.returns-in-Snapshot-clause-snapshotted
+returns-in-Snapshot-clause-snapshotted g c =
+    let Here : Request → Type 0 = λ request. IfSome (snapshot_options request) (λ options.
+    RunsSnapshot (g.F.ReadFiles.gives c.args.host.now.files.now) options
+    (stream g.W.Sink.contents g.W.Sink.failures c.args.out.now c.snapshot.new.out)
+    (maker g.O.MakeFiles.made c.args.file.now c.snapshot.new.made)
+    (stream g.M.Sink.contents g.M.Sink.failures c.args.messages.now c.snapshot.new.messages) c.snapshot.result
+    × (c.args.input.now ≡ c.args.input.now)) in
+    subst (λ (asked : Result Request AllocError). IfOk asked Here) (sym c.in-Ok.is)
+    (subst Here (sym c.in-Snapshot.is) (c.snapshot.ensures, refl))
 
 pub returns-in-Err-clause-unknown : goal.returns-in-Err-clause-unknown
 returns-in-Err-clause-unknown g c =

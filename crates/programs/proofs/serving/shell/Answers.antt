@@ -26,6 +26,6 @@ returns g c =
     (IsChosenBy only doc) settings run.tree workers
     c.args.commands.now c.session-done.new.commands c.args.answers.now c.session-done.new.answers c.session-done.result
     in
-    over_tree run.tree c.session-done.result c.in-Ok.ensures.named c.in-Ok.ensures.tree
+    over_tree run.tree run.settings.package c.session-done.result c.in-Ok.ensures.named c.in-Ok.ensures.folders
     (moved4 By c.in-Ok.ensures.only c.in-Ok.ensures.doc c.in-Ok.ensures.settings c.in-Ok.ensures.workers
     c.session-done.ensures.served) c.end.ensures

@@ -12,5 +12,6 @@ returns c =
     on_ok_weaker c.push_excerpt.result (λ h.
     four_parts (string_bytes c.args.out.now) (string_bytes c.push_str.new.self) (string_bytes c.push_place.new.out)
     (string_bytes c.push_str-2.new.self) (string_bytes c.push_excerpt.new.out)
-    (codes "\n") (place_text c.args.file.path.now text c.args.at) c.args.sentence.now (excerpt text c.args.at c.args.len)
+    (codes "\n") (place_text c.args.file.path.now text c.args.at) c.args.sentence.now
+    (excerpt text c.args.at c.args.len)
     c.in_ok-push_str.ensures.bytes c.in_ok-push_place.ensures c.in_ok-push_str-2.ensures.bytes h) c.push_excerpt.ensures

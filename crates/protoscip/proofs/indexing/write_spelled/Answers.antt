@@ -1,6 +1,6 @@
 use Rattle.std.proofs.Common.{◌≡◌, ◌∙◌, ◌↔◌, ℕ, ◌<◌, List, length, ap, subst}
 use Rattle.std.proofs.lemmas.Result.{err_from_is_err_and}
-use Rattle.scip_wire.specs.Spelling.{joined_pieces, spelling_of, max_index_len}
+use Rattle.scip_wire.specs.Spelling.{joined_pieces, max_index_len}
 use Rattle.scip_wire.specs.Writing.{Leaves}
 use Rattle.scip_wire.specs.declared.write_fault.WriteFault.TheVariants as writing
 use Rattle.streams.specs.WholeWrites.{IsWritten}

@@ -10,6 +10,6 @@ returns c =
       simple = c.scopes_are_known.ensures.package_name;
       one_name = c.one_declaration_a_name.ensures.declarations;
       unclashed = c.files_are_without_clash.ensures;
-      symbols = c.symbols_name_one_entity.ensures;
+      symbols = c.symbols_name_one_entity_in_packages.ensures;
       targets = c.each_use_has_a_target.ensures;
     }

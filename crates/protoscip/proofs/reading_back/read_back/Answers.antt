@@ -1,4 +1,4 @@
-use Rattle.std.proofs.Common.{◌≡◌, ◌∙◌, ℕ, List, sym, subst}
+use Rattle.std.proofs.Common.{◌∙◌, ℕ, List, sym, subst}
 use Rattle.scip_wire.specs.Decodes.{Decodes}
 use Rattle.protoscip.proofs.IndexingLemmas.{spelled_unless}
 use Rattle.protoscip.proofs.reading_back.read_back.Goals as goal

@@ -1,5 +1,6 @@
 use Rattle.std.proofs.lemmas.Result.{err_from_is_err_and}
-use Rattle.protoscip.proofs.FileLemmas.{files_of_build}
+use Rattle.protoscip.specs.Indexes.{recorded_of}
+use Rattle.protoscip.proofs.FileLemmas.{files_of_build, files_of_built}
 use Rattle.protoscip.proofs.NavigableLemmas.{answers}
 use Rattle.protoscip.proofs.SessionLemmas.{unserved, all_served, no_files}
 use Rattle.protoscip.proofs.sessions.session.Goals as goal
@@ -10,7 +11,8 @@ pub returns-in_err-index-clause-files : goal.returns-in_err-index-clause-files
 returns-in_err-index-clause-files g c =
     let p = err_from_is_err_and c.from_residual.result c.from_residual.ensures.1 in
     rw (p.1, p.2) (files_of_build
-    (g.C.Chooses.allows c.args.chooser.now) c.args.settings.now.custom_options c.args.tree.now c.args.workers
+    (g.C.Chooses.allows c.args.chooser.now) c.args.settings.now.faulty c.args.settings.now.custom_options
+    c.args.tree.now c.args.workers
     c.in_err-index.field-0.0 c.in_err-index.ensures.refused)
 
 -- where the conversation stops
@@ -43,6 +45,12 @@ pub returns-clause-navigable : goal.returns-clause-navigable
 returns-clause-navigable g c =
     answers (g.C.Chooses.allows c.args.chooser.now) c.args.settings.now c.args.tree.now c.headline_of_tree.ensures
     g.F.Feed.remaining g.F.Feed.failures g.F.Feed.reads g.F.Feed.ends g.W.Sink.contents g.W.Sink.failures
-    c.args.workers c.in_ok-index.field-0.choices c.args.commands.now c.converse.new.commands c.args.answers.now
+    c.args.workers (recorded_of c.in_ok-index.field-0.choices c.in_ok-index.field-0.told) c.args.commands.now
+    c.converse.new.commands c.args.answers.now
     c.converse.new.answers
     (returns-clause-served g c)
+
+pub returns-clause-told : goal.returns-clause-told
+returns-clause-told g c =
+    files_of_built (g.C.Chooses.allows c.args.chooser.now) c.args.settings.now c.args.tree.now c.in_ok-index.field-0
+    c.in_ok-index.ensures.built

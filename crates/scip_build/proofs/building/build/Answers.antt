@@ -10,5 +10,5 @@ returns-clause-built g c =
     let of = c.in_ok-built.ensures.built in
     let Of : Index → Type 0 =
     λ index. IsBuilt (g.C.Chooses.allows c.args.chooser.now) c.args.settings.now c.args.tree.now
-    (record { index = index; choices = built.choices }) in
+    (record { index = index; choices = built.choices; told = built.told }) in
     subst Of (sym (c.index_of-index.ensures ∙ whole of.index built.parts of.are)) of.built

@@ -1,6 +1,8 @@
+use Rattle.std.proofs.Common.{refl}
+use Rattle.scip_build.specs.declared.faulty.Faulty.TheVariants.{Refuse}
 use Rattle.scip_build.proofs.ReadingLemmas.{no_readings_where_faulty}
 use Rattle.scip_build.proofs.laws.readings_exclude_faults.Goals as goal
 
 pub returns : goal.returns
-returns g c = λ custom files readings number fault. no_readings_where_faulty custom
-    (g.C.Chooses.allows c.args.chooser.now) files c.faults_exclude_facts.ensures.facts readings number fault
+returns g c = λ custom files readings number fault. no_readings_where_faulty Refuse custom
+    (g.C.Chooses.allows c.args.chooser.now) files refl c.faults_exclude_facts.ensures.facts readings number fault

@@ -10,7 +10,7 @@ use Rattle.scip_document.proofs.entries.push_declarations.Goals as goal
 
 pub loop-index-preserved : goal.loop-index-preserved
 loop-index-preserved c =
-    let id = c.args.maker.now.package.now in
+    let id = c.args.id.now in
     let facts = c.args.facts.now in
     let index = c.loop-index.index in
     let old = c.args.entries.now.items in

@@ -6,5 +6,5 @@ use Rattle.scip_document.proofs.entries.push_declarations.Given as goal
 abbrev pub invariant-loop-index : goal.invariant-loop-index
 invariant-loop-index l =
     l.entries.items ≡ l.fn.entries.items
-    ++ kept_entries l.maker.package.now l.facts (take l.index l.facts.declarations)
+    ++ kept_entries l.id l.facts (take l.index l.facts.declarations)
     (choices_for l.maker.choices.now l.maker.source)

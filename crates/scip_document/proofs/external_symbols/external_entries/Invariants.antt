@@ -5,4 +5,4 @@ use Rattle.scip_document.proofs.external_symbols.external_entries.Given as goal
 
 -- one for each so far
 abbrev pub invariant-loop-pair : goal.invariant-loop-pair
-invariant-loop-pair l = AllZip (IsEntryOf l.linker l.choices l.id) (take l.pair-index l.pairs) l.entries.items
+invariant-loop-pair l = AllZip (IsEntryOf l.linker l.choices l.packages) (take l.pair-index l.pairs) l.entries.items

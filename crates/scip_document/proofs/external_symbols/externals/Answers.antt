@@ -20,23 +20,24 @@ external_entries-requires-clause-named c =
 
 pub returns-then-not-has_included : goal.returns-then-not-has_included
 returns-then-not-has_included c =
-    rw c.new.ensures (none-external c.args.linker.now c.args.choices.now c.args.id.now c.if-not-has_included.ensures)
+    rw c.new.ensures
+    (none-external c.args.linker.now c.args.choices.now c.args.packages.now c.if-not-has_included.ensures)
 
 pub returns : goal.returns
 returns c =
     let files = c.args.linker.now in
     let chosen = c.args.choices.now in
-    let id = c.args.id.now in
+    let ids = c.args.packages.now in
     let once = c.in_ok-once.once.items in
     let exact = all-added (IsExternal files chosen (length files)) c.in_ok-named.named.items once c.in_ok-named.ensures
     c.in_ok-once.ensures.same in
     rw c.from_vec.ensures
     (external-list files c.symbols_stand_apart.ensures.origins c.symbols_stand_apart.ensures.clear.clear
     c.symbols_stand_apart.ensures.declarations c.symbols_stand_apart.ensures.spelled
-    c.symbols_stand_apart.ensures.symbols c.symbols_stand_apart.ensures.unclashed id
-    c.symbols_stand_apart.ensures.package chosen once exact c.in_ok-once.ensures.rising
+    c.symbols_stand_apart.ensures.symbols c.symbols_stand_apart.ensures.unclashed ids
+    c.symbols_stand_apart.ensures.packages chosen once exact c.in_ok-once.ensures.rising
     c.in_ok-entries.entries.items c.sort_by.new.self.items
-    (subst (λ (pairs : List Pair). AllZip (IsEntryOf files chosen id) pairs c.in_ok-entries.entries.items)
+    (subst (λ (pairs : List Pair). AllZip (IsEntryOf files chosen ids) pairs c.in_ok-entries.entries.items)
     c.as_slice.ensures.value c.in_ok-entries.ensures)
     c.in_ok-sort_by.ensures.permutation
     (c.in_ok-sort_by.ensures.sorted (λ x y. is_lt (info_cmp x y)) infos_rank

@@ -3,8 +3,8 @@ use Rattle.scip_document.proofs.TieLemmas.{no_ties}
 use Rattle.scip_document.proofs.laws.no_two_occurrences_tie.Goals as goal
 
 pub returns : goal.returns
-returns c = λ files chosen id encoding source text has.
-    no_ties files chosen id encoding source text c.positions_rise.ensures.characters
+returns c = λ files chosen ids encoding source text has.
+    no_ties files chosen ids encoding source text c.positions_rise.ensures.characters
     (λ facts known. (
       stand_there text facts (has facts known) c.facts_stand_in_text.ensures,
       c.facts_stand_apart.ensures facts (has facts known).origin,

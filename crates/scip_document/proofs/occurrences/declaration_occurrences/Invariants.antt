@@ -5,7 +5,7 @@ use Rattle.scip_document.proofs.occurrences.declaration_occurrences.Given as goa
 abbrev pub invariant-loop-index : goal.invariant-loop-index
 invariant-loop-index l =
     l.list.items ++ each_from
-    (at_declaration l.maker.package.now l.maker.encoding l.maker.text.now l.maker.choices.now l.maker.source
+    (at_declaration l.id l.maker.encoding l.maker.text.now l.maker.choices.now l.maker.source
     l.facts) l.index (drop l.index l.declaration-items)
-    ≡ each_from (at_declaration l.maker.package.now l.maker.encoding l.maker.text.now l.maker.choices.now l.maker.source
+    ≡ each_from (at_declaration l.id l.maker.encoding l.maker.text.now l.maker.choices.now l.maker.source
     l.facts) 0 l.declaration-items

@@ -4,6 +4,6 @@ use Rattle.scip_document.proofs.occurrences.package_occurrences.Given as goal
 
 abbrev pub invariant-loop-index : goal.invariant-loop-index
 invariant-loop-index l =
-    l.list.items ++ each_from (at_package l.maker.package.now l.maker.encoding l.maker.text.now l.facts) l.index
+    l.list.items ++ each_from (at_package l.maker.package.now.run l.maker.encoding l.maker.text.now l.facts) l.index
     (drop l.index l.component-items)
-    ≡ each_from (at_package l.maker.package.now l.maker.encoding l.maker.text.now l.facts) 0 l.component-items
+    ≡ each_from (at_package l.maker.package.now.run l.maker.encoding l.maker.text.now l.facts) 0 l.component-items

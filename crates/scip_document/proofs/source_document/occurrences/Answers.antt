@@ -1,12 +1,14 @@
 use Rattle.std.proofs.Common.{◌≡◌, ◌∙◌, ap, sym, subst, refl, List, ℕ, [], ◌∷◌}
 use Rattle.std.specs.List.{All, AllZip}
+use Rattle.std.proofs.lemmas.Option.{slice_get_within}
 use Rattle.proto_lex.specs.Lexed.{IsPart}
 use Rattle.proto_decl.specs.declared.imported.Imported.{Imported}
 use Rattle.proto_decl.specs.declared.declaration.Declaration.{Declaration}
 use Rattle.proto_decl.specs.declared.type_use.Component.{Component}
 use Rattle.proto_decl.specs.declared.type_use.Use.{Use}
 use Rattle.scip_symbol.specs.Path.{IsGoodPath}
-use Rattle.scip_document.specs.Tables.Listing.{own_occurrence, each_from, at_import, at_use}
+use Rattle.scip_symbol.specs.Package.{Package}
+use Rattle.scip_document.specs.Tables.Listing.{own_occurrence, each_from, at_import, at_declaration, at_use}
 use Rattle.scip_document.proofs.TargetLemmas.{zip_length}
 use Rattle.scip_document.proofs.NameableLemmas.{found_nameable}
 use Rattle.scip_document.proofs.ConditionLemmas.{all_of_map, uses_stand_there, stand_there, choices_there, merged_of}
@@ -20,6 +22,11 @@ use Rattle.scip_model.specs.declared.records.Occurrence.{Occurrence}
 use Rattle.std.specs.declared.cmp.Ordering.TheVariants.{Equal}
 use Rattle.scip_document.specs.Gaps.{IsFound}
 use Rattle.scip_document.proofs.source_document.occurrences.Goals as goal
+
+pub package_of_file-id-requires : goal.package_of_file-id-requires
+package_of_file-id-requires c =
+    let source = c.requires.source in
+    slice_get_within c.args.maker.now.linker.now c.args.maker.now.source source.file source.numbered
 
 pub own_occurrences-requires : goal.own_occurrences-requires
 own_occurrences-requires c = let path = c.path_of.ensures in
@@ -79,7 +86,8 @@ pub returns : goal.returns
 returns c =
     let files = c.args.maker.now.linker.now in
     let chosen = c.args.maker.now.choices.now in
-    let id = c.args.maker.now.package.now in
+    let ids = c.args.maker.now.package.now in
+    let id = c.package_of_file-id.result.now in
     let encoding = c.args.maker.now.encoding in
     let source = c.args.maker.now.source in
     let text = c.args.maker.now.text.now in
@@ -87,17 +95,22 @@ returns c =
     let found = c.args.found.now in
     let path = c.path_of.ensures in
     let origin = c.requires.text.origin in
-    let own = c.in_ok-own.ensures ∙ ap (λ (p : List ℕ). own_occurrence id p ∷ []) (sym path.2) in
+    let own = c.in_ok-own.ensures
+    ∙ (ap (λ (p : List ℕ). own_occurrence id p ∷ []) (sym path.2)
+    ∙ ap (λ (p : Package). own_occurrence p path.0.path ∷ []) c.package_of_file-id.ensures) in
+    let names = c.in_ok-names.ensures
+    ∙ ap (λ (p : Package). each_from (at_declaration p encoding text chosen source facts) 0 facts.declarations)
+    c.package_of_file-id.ensures in
     let imports = c.in_ok-imports.ensures
-    ∙ ap (λ (xs : List Imported). each_from (at_import id encoding text files) 0 xs) c.imports.ensures in
-    let untied : (x y : Occurrence) → Occurs files chosen id encoding source text x
-    → Occurs files chosen id encoding source text y → occurrence_cmp x y ≡ Equal → x ≡ y =
-    λ x y first second e. c.facts_occur_in_order.ensures.untied files chosen id encoding source text
+    ∙ ap (λ (xs : List Imported). each_from (at_import ids encoding text files) 0 xs) c.imports.ensures in
+    let untied : (x y : Occurrence) → Occurs files chosen ids encoding source text x
+    → Occurs files chosen ids encoding source text y → occurrence_cmp x y ≡ Equal → x ≡ y =
+    λ x y first second e. c.facts_occur_in_order.ensures.untied files chosen ids encoding source text
     (λ other known. subst (AreOfText text) (same_facts files source facts other c.requires.known known) c.requires.text)
     x y first second (tied x y e).0 (tied x y e).1 in
     let uses = c.in_ok-uses.ensures
-    ∙ ap (λ (xs : List Use). each_from (at_use id encoding text files chosen found) 0 xs) c.uses.ensures in
-    merged_lists id encoding text c.facts_occur_in_order.ensures.characters files chosen source path.0 path.1 facts
+    ∙ ap (λ (xs : List Use). each_from (at_use ids encoding text files chosen found) 0 xs) c.uses.ensures in
+    merged_lists ids encoding text c.facts_occur_in_order.ensures.characters files chosen source path.0 path.1 facts
     c.requires.known
     (stand_there text facts c.requires.text c.facts_occur_in_order.ensures.placed)
     (c.facts_occur_in_order.ensures.order.names facts origin)
@@ -110,5 +123,5 @@ returns c =
     c.in_ok-with_names.with_names.items c.in_ok-list.list.items
     (merged_of own imports c.in_ok-with_imports.ensures)
     (merged_of refl c.in_ok-packages.ensures c.in_ok-with_packages.ensures)
-    (merged_of refl c.in_ok-names.ensures c.in_ok-with_names.ensures)
+    (merged_of refl names c.in_ok-with_names.ensures)
     (merged_of refl uses c.in_ok-list.ensures)

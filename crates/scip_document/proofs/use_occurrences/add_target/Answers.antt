@@ -8,7 +8,7 @@ use Rattle.scip_document.proofs.use_occurrences.add_target.Goals as goal
 
 pub loop-index-preserved : goal.loop-index-preserved
 loop-index-preserved c =
-    let id = c.args.maker.now.package.now in
+    let ids = c.args.maker.now.package.now in
     let encoding = c.args.maker.now.encoding in
     let text = c.args.maker.now.text.now in
     let files = c.args.maker.now.linker.now in
@@ -21,10 +21,10 @@ loop-index-preserved c =
     let there : slice_get xs index ≡ Some component =
     slice_get_read xs (length xs) index component refl c.loop-index-test.true c.component-item.is in
     let added = c.in_ok-add_part.ensures
-    ∙ (ap (λ (name : List ℕ). old ++ at_part id encoding text files chosen name component.span c.part_of-part.result)
+    ∙ (ap (λ (name : List ℕ). old ++ at_part ids encoding text files chosen name component.span c.part_of-part.result)
     c.as_str-name.ensures
-    ∙ ap (λ (part : Option Entity). old ++ at_part id encoding text files chosen target.name component.span part)
+    ∙ ap (λ (part : Option Entity). old ++ at_part ids encoding text files chosen target.name component.span part)
     c.part_of-part.ensures) in
-    each_added (at_component id encoding text files chosen target) xs index component old c.add_part.new.list.items
-    (c.args.list.now.items ++ each_from (at_component id encoding text files chosen target) 0 xs) there added
+    each_added (at_component ids encoding text files chosen target) xs index component old c.add_part.new.list.items
+    (c.args.list.now.items ++ each_from (at_component ids encoding text files chosen target) 0 xs) there added
     c.loop-index.invariant

@@ -8,7 +8,7 @@ use Rattle.scip_document.proofs.use_occurrences.use_occurrences.Goals as goal
 
 pub loop-index-preserved : goal.loop-index-preserved
 loop-index-preserved c =
-    let id = c.args.maker.now.package.now in
+    let ids = c.args.maker.now.package.now in
     let encoding = c.args.maker.now.encoding in
     let text = c.args.maker.now.text.now in
     let files = c.args.maker.now.linker.now in
@@ -25,10 +25,10 @@ loop-index-preserved c =
     let known : slice_get found index ≡ Some its =
     slice_get_read found (length found) index its refl within c.index-found-index.is in
     let added = c.in_ok-add_found.ensures
-    ∙ ap (λ (o : Option (Option Target)). old ++ at_target id encoding text files chosen (found_at o) type_use)
+    ∙ ap (λ (o : Option (Option Target)). old ++ at_target ids encoding text files chosen (found_at o) type_use)
     (sym known) in
-    each_added (at_use id encoding text files chosen found) uses index type_use old c.add_found.new.list.items
-    (each_from (at_use id encoding text files chosen found) 0 uses) there added c.loop-index.invariant
+    each_added (at_use ids encoding text files chosen found) uses index type_use old c.add_found.new.list.items
+    (each_from (at_use ids encoding text files chosen found) 0 uses) there added c.loop-index.invariant
 
 pub add_found-requires-clause-nameable : goal.add_found-requires-clause-nameable
 add_found-requires-clause-nameable c = λ target is.

@@ -1,0 +1,320 @@
+-- The packages of files, by the folders that they are read from.
+use Rattle.std.proofs.Common.{◌≡◌, ◌∙◌, ◌⊎◌, inl, inr, refl, sym, ap, subst, ℕ, Bool, true, false, List, [], ◌∷◌, ◌++◌}
+use Rattle.std.proofs.Common.{Option, map, length, ◌||◌, ◌<◌, ◌+◌, ◌==◌, suc, arith, take, drop, ap₂, get_or, add-one, drop-cons}
+use Rattle.std.specs.Prelude.{All, if◌then◌else◌, string_bytes}
+use Rattle.std.specs.List.{AllZip, list_any}
+use Rattle.std.specs.Str.{bytes_eq}
+use Rattle.std.proofs.Math.Bool.{or-false}
+use Rattle.std.proofs.lemmas.Bool.{eqb-true}
+use Rattle.std.proofs.lemmas.List.{append-nil, append_assoc, take-append-drop, map-append, take_more}
+use Rattle.std.proofs.lemmas.List.Elements.{All-nil, All-cons, All-head, All-tail, All-push}
+use Rattle.std.proofs.lemmas.List.Folds.{list_any-append}
+use Rattle.std.proofs.lemmas.Slice.Eq.{bytes_eq-Decides}
+use Rattle.scip_symbol.specs.Package.{Package, IsPackage}
+use Rattle.scip_document.specs.Packages.{Root, Packages, with_path, package_among, package_of_path}
+use Rattle.command_line.specs.declared.options.IndexOptions.{IndexOptions}
+use Rattle.command_line.specs.declared.options.PackageFolder.{PackageFolder}
+use Rattle.source_tree.specs.Files.{SourceFile, TreeFile, paths_of}
+use Rattle.source_files.specs.Roots.{AreBelow, AreBelowEach, AreFolders, no_root, next_root}
+use Rattle.source_files.specs.Loads.{IsTreeBelow}
+use Rattle.programs.specs.Folders.{AreFolders as AreFoldersOf}
+use Rattle.programs.specs.Settings.{package_in}
+use Rattle.programs.specs.Folders.{AddsRoots, AreByFolder, IsRootOf, folder_package, included_packages, packages_in}
+use Rattle.programs.specs.Folders.{HasBadFolder, included_in, roots_of}
+use Rattle.programs.specs.Starting.{HasNoPackage, IsBadFolder}
+use Rattle.programs.specs.declared.start_fault.StartFault.{StartFault}
+use Rattle.programs.specs.declared.start_fault.StartFault.TheVariants.{BadPart, BadFolder, Load}
+use Rattle.source_files.specs.declared.load_fault.LoadFault.TheVariants as load
+
+-- ---- the paths of one folder
+
+-- a path that is there already changes no answer
+there_already : (path x : List ℕ) (paths : List (List ℕ)) → list_any (bytes_eq x) paths ≡ true → (same : Bool)
+    → bytes_eq path x ≡ same
+    → (list_any (bytes_eq path) paths || (same || false)) ≡ list_any (bytes_eq path) paths
+there_already path x paths there false apart = or-false (list_any (bytes_eq path) paths)
+there_already path x paths there true same =
+    let it : path ≡ x = (bytes_eq-Decides path x).0 same in
+    let has : list_any (bytes_eq path) paths ≡ true =
+    subst (λ (p : List ℕ). list_any (bytes_eq p) paths ≡ true) (sym it) there in rw has refl
+
+kept_once : (path x : List ℕ) (paths : List (List ℕ)) (there : Bool) → list_any (bytes_eq x) paths ≡ there
+    → list_any (bytes_eq path) (if there then paths else paths ++ x ∷ []) ≡ list_any (bytes_eq path) (paths ++ x ∷ [])
+kept_once path x paths false known = refl
+kept_once path x paths true known =
+    sym (list_any-append (bytes_eq path) paths (x ∷ [])
+    ∙ there_already path x paths known (bytes_eq path x) refl)
+
+-- no path of a folder is known yet
+pub no_paths : (id : Package) → IsRootOf (record { id = id; paths = [] }) (record { id = id; paths = [] })
+no_paths id = record { id_is = refl; has = λ path. refl }
+
+-- one more
+pub one_path_more : (id : Package) (before : List (List ℕ)) (x : List ℕ) (old new : Root)
+    → IsRootOf (record { id = id; paths = before }) old → new.id ≡ old.id → new.paths ≡ with_path old.paths x
+    → IsRootOf (record { id = id; paths = before ++ x ∷ [] }) new
+one_path_more id before x old new is same more = record {
+  id_is = same ∙ is.id_is;
+  has = λ path.
+      ap (list_any (bytes_eq path)) more
+      ∙ (kept_once path x old.paths (list_any (bytes_eq x) old.paths) refl
+      ∙ (list_any-append (bytes_eq path) old.paths (x ∷ [])
+      ∙ (ap (λ (b : Bool). b || (bytes_eq path x || false)) (is.has path)
+      ∙ sym (list_any-append (bytes_eq path) before (x ∷ [])))));
+}
+
+-- ---- folders one after another
+
+zip-append : {A B : Type 0} (R : A → B → Type 0) (xs us : List A) (ys vs : List B) → AllZip R xs ys → AllZip R us vs
+    → AllZip R (xs ++ us) (ys ++ vs)
+zip-append R [] us [] vs all more = more
+zip-append R [] us (y ∷ ys) vs all more = absurd all
+zip-append R (x ∷ xs) us [] vs all more = absurd all
+zip-append R (x ∷ xs) us (y ∷ ys) vs all more = (all.0, zip-append R xs us ys vs all.1 more)
+
+-- one folder
+pub one_root : (wanted root : Root) (before after : Packages) → IsRootOf wanted root → after.run ≡ before.run
+    → after.roots ≡ before.roots ++ root ∷ [] → AddsRoots (wanted ∷ []) before after
+one_root wanted root before after is run roots =
+    record { added = root ∷ []; are = (is, tt); run = run; roots = roots }
+
+-- none yet
+pub no_roots : (before : Packages) → AddsRoots [] before before
+no_roots before = record { added = []; are = tt; run = refl; roots = sym (append-nil before.roots) }
+
+pub roots_more : (first second : List Root) (before now after : Packages) → AddsRoots first before now
+    → AddsRoots second now after → AddsRoots (first ++ second) before after
+roots_more first second before now after one two = record {
+  added = one.added ++ two.added;
+  are = zip-append IsRootOf first second one.added two.added one.are two.are;
+  run = two.run ∙ one.run;
+  roots =
+      two.roots
+      ∙ (ap (λ (l : List Root). l ++ two.added) one.roots ∙ append_assoc before.roots one.added two.added);
+}
+
+-- the first of all folders are added, and these are left
+pub record AreAddedBut (all : List Root) (before now : Packages) (ids : List Package) (paths : List (List (List ℕ)))
+    : Type 0 where
+  pub done : List Root
+  pub adds : AddsRoots done before now
+  pub split : all ≡ done ++ roots_of ids paths
+
+pub none_added : (before : Packages) (ids : List Package) (paths : List (List (List ℕ)))
+    → AreAddedBut (roots_of ids paths) before before ids paths
+none_added before ids paths = record { done = []; adds = no_roots before; split = refl }
+
+pub one_added : {A : Type 0} (paths_in : A → List (List ℕ)) (all : List Root) (before now after : Packages)
+    (id : Package) (here : A) (ids rest : List Package) (folders others : List A) → ids ≡ id ∷ rest
+    → folders ≡ here ∷ others → AreAddedBut all before now ids (map paths_in folders)
+    → AddsRoots (record { id = id; paths = paths_in here } ∷ []) now after
+    → AreAddedBut all before after rest (map paths_in others)
+one_added paths_in all before now after id here ids rest folders others first second so_far adds =
+    let left : AreAddedBut all before now (id ∷ rest) (map paths_in (here ∷ others)) =
+    subst (λ (l : List Package). AreAddedBut all before now l (map paths_in (here ∷ others))) first
+    (subst (λ l. AreAddedBut all before now ids (map paths_in l)) second so_far) in
+    let root : Root = record { id = id; paths = paths_in here } in
+    record {
+      done = left.done ++ root ∷ [];
+      adds = roots_more left.done (root ∷ []) before now after left.adds adds;
+      split = left.split ∙ sym (append_assoc left.done (root ∷ []) (roots_of rest (map paths_in others)));
+    }
+
+no_roots_left : {A : Type 0} (paths_in : A → List (List ℕ)) (ids : List Package) (folders : List A)
+    → (length ids ≡ 0) ⊎ (length folders ≡ 0) → roots_of ids (map paths_in folders) ≡ []
+no_roots_left paths_in [] folders ended = refl
+no_roots_left paths_in (id ∷ ids) [] ended = refl
+no_roots_left paths_in (id ∷ ids) (here ∷ folders) (inl none) = absurd cc
+no_roots_left paths_in (id ∷ ids) (here ∷ folders) (inr none) = absurd cc
+
+pub all_added : {A : Type 0} (paths_in : A → List (List ℕ)) (all : List Root) (before now : Packages)
+    (ids : List Package) (folders : List A) → (length ids ≡ 0) ⊎ (length folders ≡ 0)
+    → AreAddedBut all before now ids (map paths_in folders) → AddsRoots all before now
+all_added paths_in all before now ids folders ended so_far =
+    subst (λ (roots : List Root). AddsRoots roots before now)
+    (sym (so_far.split ∙ (ap (λ (l : List Root). so_far.done ++ l) (no_roots_left paths_in ids folders ended)
+    ∙ append-nil so_far.done))) so_far.adds
+
+-- ---- the package of a file
+
+chosen_alike : (b c : Bool) (p q x y : Package) → b ≡ c → p ≡ q → x ≡ y → (if b then p else x) ≡ (if c then q else y)
+chosen_alike b c p q x y one two three = rw (one, two, three) refl
+
+among_alike : (run : Package) (path : List ℕ) (wanted roots : List Root) → AllZip IsRootOf wanted roots
+    → package_among run path roots ≡ package_among run path wanted
+among_alike run path [] [] all = refl
+among_alike run path [] (root ∷ roots) all = absurd all
+among_alike run path (one ∷ wanted) [] all = absurd all
+among_alike run path (one ∷ wanted) (root ∷ roots) all =
+    chosen_alike (list_any (bytes_eq path) root.paths) (list_any (bytes_eq path) one.paths) root.id one.id
+    (package_among run path roots) (package_among run path wanted) (all.0.has path) all.0.id_is
+    (among_alike run path wanted roots all.1)
+
+-- where the roots are those of all folders
+pub by_folder : (options : IndexOptions) (own : List (List ℕ)) (others : List (List (List ℕ)))
+    (first second third : Packages) → first ≡ record { run = package_in options; roots = [] }
+    → AddsRoots (record { id = package_in options; paths = own } ∷ []) first second
+    → AddsRoots (roots_of (included_packages options) others) second third → AreByFolder options own others third
+unfolding package_of_path
+by_folder options own others first second third is one two =
+    let all = roots_more (record { id = package_in options; paths = own } ∷ [])
+    (roots_of (included_packages options) others) first second third one two in
+    let run : third.run ≡ package_in options = all.run ∙ ap (λ (p : Packages). p.run) is in
+    let roots : third.roots ≡ all.added =
+    all.roots ∙ ap (λ (p : Packages). p.roots ++ all.added) is in
+    record {
+      run = run;
+      each = λ path.
+          ap (λ (id : Package). package_among id path third.roots) run
+          ∙ (ap (package_among (package_in options) path) roots
+          ∙ among_alike (package_in options) path (roots_of (packages_in options) (own ∷ others)) all.added all.are);
+    }
+
+-- where no folder has a package of its own
+
+chosen_one : (b : Bool) (p q run : Package) → p ≡ run → q ≡ run → (if b then p else q) ≡ run
+chosen_one true p q run one two = one
+chosen_one false p q run one two = two
+
+among_one : (run : Package) (path : List ℕ) (ids : List Package) (paths : List (List (List ℕ)))
+    → All (λ id. id ≡ run) ids → package_among run path (roots_of ids paths) ≡ run
+among_one run path [] paths all = refl
+among_one run path (id ∷ ids) [] all = refl
+among_one run path (id ∷ ids) (here ∷ paths) all =
+    chosen_one (list_any (bytes_eq path) here) id (package_among run path (roots_of ids paths)) run
+    (All-head (λ p. p ≡ run) id ids all) (among_one run path ids paths (All-tail (λ p. p ≡ run) id ids all))
+
+all_of_run : {A : Type 0} (run : Package) (xs : List A) → All (λ id. id ≡ run) (map (λ _. run) xs ++ [])
+all_of_run run [] = All-nil (λ id. id ≡ run)
+all_of_run run (x ∷ xs) = All-cons (λ id. id ≡ run) run (map (λ _. run) xs ++ []) refl (all_of_run run xs)
+
+pub by_no_folder : (options : IndexOptions) (own : List (List ℕ)) (others : List (List (List ℕ)))
+    → options.include_packages.items ≡ []
+    → AreByFolder options own others (record { run = package_in options; roots = [] })
+unfolding package_of_path
+by_no_folder options own others none = record {
+  run = refl;
+  each = λ path.
+      sym (among_one (package_in options) path (packages_in options) (own ∷ others)
+      (All-cons (λ id. id ≡ package_in options) (package_in options) (included_packages options) refl
+      (subst (λ (folders : List PackageFolder). All (λ id. id ≡ package_in options)
+      (map (λ _. package_in options) options.include.items ++ map folder_package folders)) (sym none)
+      (all_of_run (package_in options) options.include.items))));
+}
+
+-- ---- the packages of folders, one after another
+
+-- one folder more
+pub package_more : (folders : List PackageFolder) (number : ℕ) (folder : PackageFolder) (old new : List Package)
+    (id : Package) → number < length folders → folder ≡ get_or folders number folder
+    → (old ≡ map folder_package (take number folders))
+    × All (λ earlier. IsPackage (folder_package earlier)) (take number folders)
+    → (id ≡ folder_package folder) × IsPackage (folder_package folder) → new ≡ old ++ id ∷ []
+    → (new ≡ map folder_package (take (number + 1) folders))
+    × All (λ earlier. IsPackage (folder_package earlier)) (take (number + 1) folders)
+package_more folders number folder old new id below is so_far named more =
+    let next : take (number + 1) folders ≡ take number folders ++ folder ∷ [] =
+    take_more folders number folder below
+    ∙ ap (λ (f : PackageFolder). take number folders ++ f ∷ []) (sym is) in (
+      more
+          ∙ (ap₂ (λ (l : List Package) (p : Package). l ++ p ∷ []) so_far.0 named.0
+          ∙ (sym (map-append folder_package (take number folders) (folder ∷ []))
+          ∙ ap (map folder_package) (sym next))),
+      subst (λ (l : List PackageFolder). All (λ earlier. IsPackage (folder_package earlier)) l) (sym next)
+          (All-push (λ earlier. IsPackage (folder_package earlier)) (take number folders) folder so_far.1 named.1),
+    )
+
+-- nothing is there
+pub none_there : {A : Type 0} (xs : List A) (count : ℕ) → length xs ≡ count → (count == 0) ≡ true → xs ≡ []
+none_there [] count is none = refl
+none_there (x ∷ xs) count is none =
+    let never : suc (length xs) ≡ 0 = is ∙ eqb-true count 0 none in absurd (omega (arith, never))
+
+-- ---- folders whose package isn't one
+
+bad_folder : (before : List PackageFolder) (folder : PackageFolder) (behind folders : List PackageFolder)
+    (path : List ℕ) → folders ≡ before ++ folder ∷ behind
+    → All (λ earlier. IsPackage (folder_package earlier)) before → (IsPackage (folder_package folder) → ⊥)
+    → path ≡ string_bytes folder.folder → HasBadFolder folders path
+bad_folder before folder behind folders path split good bad is = record {
+  before = before;
+  folder = folder;
+  behind = behind;
+  split = split;
+  good = good;
+  bad = bad;
+  path_is = is;
+}
+
+-- a list, parted at an item
+parted : {A : Type 0} (xs : List A) (number : ℕ) (x : A) → number < length xs → x ≡ get_or xs number x
+    → xs ≡ take number xs ++ x ∷ drop (number + 1) xs
+parted xs number x below is =
+    sym (take-append-drop number xs)
+    ∙ ap (λ l. take number xs ++ l)
+    (drop-cons xs number x below ∙ ap₂ (λ y l. y ∷ l) (sym is) (ap (λ n. drop n xs) (sym (add-one number))))
+
+-- a folder's package isn't one, and those before it are good
+bad_one : (folders before : List PackageFolder) (folder : PackageFolder) (behind : List PackageFolder)
+    (fault : StartFault) → folders ≡ before ++ folder ∷ behind
+    → All (λ earlier. IsPackage (folder_package earlier)) before → IsBadFolder folder fault → HasNoPackage folders fault
+bad_one folders before folder behind BadPart split good bad = absurd bad
+bad_one folders before folder behind (BadFolder path) split good bad =
+    bad_folder before folder behind folders (string_bytes path) split good bad.0 bad.1
+bad_one folders before folder behind (Load load.Memory) split good bad = tt
+bad_one folders before folder behind (Load (load.Unreadable name)) split good bad = absurd bad
+bad_one folders before folder behind (Load load.TooMany) split good bad = absurd bad
+bad_one folders before folder behind (Load (load.BadPath path)) split good bad = absurd bad
+bad_one folders before folder behind (Load (load.SamePath path)) split good bad = absurd bad
+
+pub bad_at : (folders : List PackageFolder) (number : ℕ) (folder : PackageFolder) (fault : StartFault)
+    → number < length folders → folder ≡ get_or folders number folder
+    → All (λ earlier. IsPackage (folder_package earlier)) (take number folders) → IsBadFolder folder fault
+    → HasNoPackage folders fault
+bad_at folders number folder fault below is good bad =
+    bad_one folders (take number folders) folder (drop (number + 1) folders) fault
+    (parted folders number folder below is) good bad
+
+-- ---- the tree of the files below folders
+
+-- the paths of the files below each included folder
+folders_each : (lists : List ℕ → Option (List (List ℕ)) → Type 0) (gives : List ℕ → Option (List ℕ) → Type 0)
+    {roots : List (List ℕ)} {files : List SourceFile} → AreBelowEach lists gives roots files
+    → (paths : List (List (List ℕ))) × (AreFolders lists gives roots files paths)
+folders_each lists gives no_root =
+    ([], record { folders = []; below = tt; files_are = refl; paths_are = refl })
+folders_each lists gives (next_root {here = here} below each) =
+    let rest = folders_each lists gives each in (
+      paths_of here ∷ rest.0,
+      record {
+        folders = here ∷ rest.1.folders;
+        below = (below, rest.1.below);
+        files_are = ap (λ (l : List SourceFile). here ++ l) rest.1.files_are;
+        paths_are = ap (λ (l : List (List (List ℕ))). paths_of here ∷ l) rest.1.paths_are;
+      },
+    )
+
+-- where no folder has a package of its own
+pub folders_of_run : (lists : List ℕ → Option (List (List ℕ)) → Type 0) (gives : List ℕ → Option (List ℕ) → Type 0)
+    (options : IndexOptions) (tree : List TreeFile) → options.include_packages.items ≡ []
+    → IsTreeBelow lists gives (string_bytes options.root) (map string_bytes options.include.items) tree
+    → AreFoldersOf lists gives options tree (record { run = package_in options; roots = [] })
+folders_of_run lists gives options tree none of =
+    let each = folders_each lists gives of.below_included in
+    let roots : included_in options ≡ map string_bytes options.include.items =
+    ap (λ (folders : List PackageFolder). map string_bytes options.include.items
+    ++ map (λ folder. string_bytes folder.folder) folders) none ∙ append-nil (map string_bytes options.include.items) in
+    record {
+      own = paths_of of.sources;
+      others = each.0;
+      below = record {
+        sources = of.sources;
+        included = of.included;
+        below = of.below;
+        below_each = subst (λ (names : List (List ℕ)). AreFolders lists gives names of.included each.0) (sym roots)
+            each.1;
+        tree_is = of.holds;
+        own_are = refl;
+      };
+      by = by_no_folder options (paths_of of.sources) each.0 none;
+    }

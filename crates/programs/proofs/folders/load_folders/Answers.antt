@@ -1,0 +1,22 @@
+use Rattle.std.proofs.Common.{◌∙◌, List, [], ap, length, sym, subst}
+use Rattle.command_line.specs.declared.options.PackageFolder.{PackageFolder}
+use Rattle.scip_symbol.specs.Package.{Package}
+use Rattle.scip_document.specs.Packages.{Packages}
+use Rattle.programs.specs.Folders.{AreFolders}
+use Rattle.programs.proofs.FolderLemmas.{folders_of_run, none_there}
+use Rattle.programs.proofs.folders.load_folders.Goals as goal
+
+pub returns-then-is_empty-clause-folders : goal.returns-then-is_empty-clause-folders
+returns-then-is_empty-clause-folders g c =
+    let lists = g.F.ReadFiles.lists c.args.files.now in
+    let gives = g.F.ReadFiles.gives c.args.files.now in
+    let options = c.args.options.now in
+    let tree = c.in_ok-tree.tree in
+    let none = none_there options.include_packages.items _
+    (ap (λ (folders : List PackageFolder). length folders) (sym c.deref.ensures.value) ∙ c.deref.ensures.len)
+    (sym c.is_empty.ensures ∙ c.if-is_empty.true) in
+    let Of : Package → Packages = λ id. record { run = id; roots = [] } in
+    let Here : Packages → Type 0 = λ packages. AreFolders lists gives options tree packages in
+    subst Here (sym (c.of_run.ensures ∙ ap Of c.in_ok-run.ensures.named.0))
+    (folders_of_run lists gives options tree none
+    (rw (c.as_str-root.ensures.value, c.deref-then-is_empty.ensures.value) at c.in_ok-tree.ensures.tree))

@@ -1,0 +1,16 @@
+use Rattle.std.proofs.Common.{subst, Option, List, ℕ}
+use Rattle.std.specs.Option.{option_map}
+use Rattle.std.specs.String.{string_bytes}
+use Rattle.programs.proofs.LackLemmas.{text_is_said}
+use Rattle.programs.proofs.indexing.end.Goals as goal
+
+pub returns-in-Ok : goal.returns-in-Ok
+returns-in-Ok g c =
+    let kept = c.in-Ok.kept in
+    rw c.in-Ok.is
+    (text_is_said g.M.Sink.contents g.M.Sink.failures c.args.explain c.args.tree.now c.args.messages.now
+    c.say_text.new.messages c.say_text.result kept.built.told (option_map string_bytes kept.text)
+    (rw c.in-Ok.is at c.requires.said) c.say_text.ensures)
+
+pub returns-in-Err : goal.returns-in-Err
+returns-in-Err g c = rw c.in-Err.is c.stop.ensures

@@ -1,0 +1,84 @@
+-- The tree below the folders that options name, and the packages that its files belong to.
+-- `lists` and `gives` are what the system of files gives.
+use Rattle.std.specs.Prelude.{◌≡◌, ℕ, List, [], ◌∷◌, ◌++◌, Option, map, string_bytes, All}
+use Rattle.std.specs.List.{AllZip, list_any}
+use Rattle.std.specs.Str.{bytes_eq}
+use Rattle.source_tree.specs.Files.{TreeFile}
+use Rattle.source_files.specs.Loads.{IsLoadedBelow}
+use Rattle.scip_symbol.specs.Package.{Package, IsPackage}
+use Rattle.scip_document.specs.Packages.{Root, Packages, package_among, package_of_path}
+use Rattle.command_line.specs.declared.options.IndexOptions.{IndexOptions}
+use Rattle.command_line.specs.declared.options.PackageFolder.{PackageFolder}
+use Rattle.programs.specs.Settings.{package_in}
+
+-- the package that the files below a folder belong to
+abbrev pub folder_package : PackageFolder → Package
+folder_package folder = record {
+  manager = string_bytes folder.manager;
+  name = string_bytes folder.name;
+  version = string_bytes folder.release;
+}
+
+-- the folders with included files: first those without a package of their own
+abbrev pub included_in : IndexOptions → List (List ℕ)
+included_in options =
+    map string_bytes options.include.items
+    ++ map (λ folder. string_bytes folder.folder) options.include_packages.items
+
+-- the packages of the folders with included files
+abbrev pub included_packages : IndexOptions → List Package
+included_packages options =
+    map (λ _. package_in options) options.include.items ++ map folder_package options.include_packages.items
+
+-- the packages of all folders, that of the sources before those with included files
+abbrev pub packages_in : IndexOptions → List Package
+packages_in options = package_in options ∷ included_packages options
+
+-- each folder's package, with the paths of the files below it
+abbrev pub roots_of : List Package → List (List (List ℕ)) → List Root
+roots_of [] paths = []
+roots_of (id ∷ ids) [] = []
+roots_of (id ∷ ids) (here ∷ others) = record { id = id; paths = here } ∷ roots_of ids others
+
+-- a folder as it is kept: it has the package, and the same paths
+pub record IsRootOf (wanted root : Root) : Type 0 where
+  pub id_is : root.id ≡ wanted.id
+  pub has : (path : List ℕ) → list_any (bytes_eq path) root.paths ≡ list_any (bytes_eq path) wanted.paths
+
+-- folders are added behind those that are there
+pub record AddsRoots (wanted : List Root) (before after : Packages) : Type 0 where
+  pub added : List Root
+  pub are : AllZip IsRootOf wanted added
+  pub run : after.run ≡ before.run
+  pub roots : after.roots ≡ before.roots ++ added
+
+-- by the paths of the sources, and of the files below each included folder: a file has the package of the first folder
+-- that has a file with its path, since that is the file which counts
+pub record AreByFolder (options : IndexOptions) (own : List (List ℕ)) (others : List (List (List ℕ))) (ids : Packages)
+    : Type 0 where
+  pub run : ids.run ≡ package_in options
+  pub each : (path : List ℕ) → package_of_path ids path
+      ≡ package_among (package_in options) path (roots_of (packages_in options) (own ∷ others))
+
+-- the tree is that of the files below the folders, and these are the packages of its files
+pub record AreFolders (lists : List ℕ → Option (List (List ℕ)) → Type 0) (gives : List ℕ → Option (List ℕ) → Type 0)
+    (options : IndexOptions) (tree : List TreeFile) (ids : Packages) : Type 0 where
+  pub own : List (List ℕ)
+  pub others : List (List (List ℕ))
+  pub below : IsLoadedBelow lists gives (string_bytes options.root) (included_in options) tree own others
+  pub by : AreByFolder options own others ids
+
+-- the options name packages
+pub record NamePackages (options : IndexOptions) : Type 0 where
+  pub run : IsPackage (package_in options)
+  pub folders : All (λ folder. IsPackage (folder_package folder)) options.include_packages.items
+
+-- the first of the folders whose package isn't one has this path
+pub record HasBadFolder (folders : List PackageFolder) (path : List ℕ) : Type 0 where
+  pub before : List PackageFolder
+  pub folder : PackageFolder
+  pub behind : List PackageFolder
+  pub split : folders ≡ before ++ folder ∷ behind
+  pub good : All (λ earlier. IsPackage (folder_package earlier)) before
+  pub bad : IsPackage (folder_package folder) → ⊥
+  pub path_is : path ≡ string_bytes folder.folder

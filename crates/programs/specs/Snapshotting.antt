@@ -1,0 +1,52 @@
+-- What the program `snapshot` does.
+-- `gives` is what reading a file may give, and `messages` the stream of messages.
+use Rattle.std.specs.Prelude.{◌≡◌, ℕ, Bool, List, Option, None, Some, Result, Ok, Err, string_bytes}
+use Rattle.std.specs.Option.{option_map}
+use Rattle.scip_model.specs.declared.records.Index.{Index}
+use Rattle.scip_snapshot.specs.Showing.{Writer, writer, Maker, ArePrinted, AreCutOff, AreFiled, AreFiledButOne, Shows}
+use Rattle.scip_snapshot.specs.declared.show_fault.ShowFault.{ShowFault}
+use Rattle.command_line.specs.declared.options.SnapshotOptions.{SnapshotOptions}
+use Rattle.programs.specs.declared.query_fault.QueryFault.{QueryFault}
+use Rattle.programs.specs.Messages.{IsSilent, Tells}
+use Rattle.programs.specs.Queries.{IsReadFrom}
+use Rattle.programs.specs.QueryExplanations.{told as query_told}
+use Rattle.programs.specs.QueryFaults.{status_of as query_status}
+use Rattle.programs.specs.ShowFaults.{told, status_of}
+
+-- nothing more is said of a success; of a fault its line is, explained where that is asked for, with its status
+abbrev pub EndsShown : {M : Type 0} → (said : M → Option (List ℕ)) → (unsaid : M → ℕ) → (explain : Bool)
+    → Result (Unit {0}) ShowFault → M → M → (status : ℕ) → Type 0
+EndsShown said unsaid explain (Ok done) before after status = IsSilent before after status
+EndsShown said unsaid explain (Err fault) before after status =
+    Tells said unsaid (told explain fault) (status_of fault) before after status
+
+-- documents are printed, and no file is made; or they go to files, and nothing is printed
+abbrev pub ShowsTo : {W O M : Type 0} → (gives : List ℕ → Option (List ℕ) → Type 0) → (root : List ℕ)
+    → (to : Option (List ℕ)) → Index → Writer W → Maker O → Writer M → Result (Unit {0}) ShowFault → Type 0
+ShowsTo gives root None index out files messages done =
+    (files.after ≡ files.before) × Shows gives root index (ArePrinted out) (AreCutOff out) messages done
+ShowsTo gives root (Some folder) index out files messages done =
+    (out.after ≡ out.before)
+    × Shows gives root index (AreFiled files folder) (AreFiledButOne files folder) messages done
+
+-- so, and then it ends
+pub record ShowsAndEnds {W O M : Type 0} (gives : List ℕ → Option (List ℕ) → Type 0) (options : SnapshotOptions)
+    (index : Index) (out : Writer W) (files : Maker O) (messages : Writer M) (status : ℕ) : Type 0 where
+  pub now : M
+  pub done : Result (Unit {0}) ShowFault
+  pub shows : ShowsTo gives (string_bytes options.root) (option_map string_bytes options.to) index out files
+      (writer messages.contents messages.failures messages.before now) done
+  pub ends : EndsShown messages.contents messages.failures options.explain done now messages.after status
+
+-- the index of the file with a path can't be read, and nothing is printed or made; or it is read, and its documents are
+-- shown
+pub data RunsSnapshot {W O M : Type 0} (gives : List ℕ → Option (List ℕ) → Type 0) (options : SnapshotOptions)
+    (out : Writer W) (files : Maker O) (messages : Writer M) (status : ℕ) : Type 0 where
+  unread : (fault : QueryFault) → IsReadFrom (gives (string_bytes options.index)) (Err fault)
+      → out.after ≡ out.before → files.after ≡ files.before
+      → Tells messages.contents messages.failures (query_told options.explain (string_bytes options.index) fault)
+      (query_status fault) messages.before messages.after status
+      → RunsSnapshot gives options out files messages status
+  read : (index : Index) → IsReadFrom (gives (string_bytes options.index)) (Ok index)
+      → ShowsAndEnds gives options index out files messages status
+      → RunsSnapshot gives options out files messages status

@@ -1,0 +1,191 @@
+//! The folders that options name: their tree, and the packages that its files belong to.
+
+ghost use Rattle.std.specs.Prelude.{◌≡◌, ◌∷◌, ◌++◌, [], IfOk, IfErr, OnOk, map, string_bytes, All};
+ghost use Rattle.scip_symbol.specs.Package.{IsPackage};
+ghost use Rattle.programs.specs.Settings.{package_in};
+ghost use Rattle.programs.specs.Folders.{
+  AddsRoots,
+  AreByFolder,
+  AreFolders,
+  NamePackages,
+  folder_package,
+  included_in,
+  included_packages,
+  roots_of,
+};
+ghost use Rattle.programs.specs.Starting.{HasNoPackage, IsBadFolder, MayNotStart, NamesNone};
+
+use crate::package::package_of;
+use crate::start_fault::StartFault;
+use command_line::{IndexOptions, PackageFolder};
+use scip_document::{FilePackages, RootPackage};
+use scip_symbol::PackageId;
+use source_files::{LoadedTree, ReadFiles, load_tree, load_tree_with_paths};
+use source_tree::Tree;
+use std::alloc::{AllocError, Global};
+
+/// The package of a folder.
+fn package_of_folder(alloc: Global, folder: &PackageFolder) -> Result<PackageId, StartFault>
+    ensures named { IfOk result (λ id. (id ≡ folder_package folder.now) × IsPackage (folder_package folder.now)) }
+    ensures bad { IfErr result (IsBadFolder folder.now) }
+{
+    let manager = String::from_str(alloc, folder.manager.as_str())?;
+    let name = String::from_str(alloc, folder.name.as_str())?;
+    let version = String::from_str(alloc, folder.release.as_str())?;
+    match PackageId::new([manager, name, version]) {
+        Ok(id) => Ok(id),
+        Err(_) => {
+            let path = String::from_str(alloc, folder.folder.as_str())?;
+            Err(StartFault::BadFolder(path))
+        }
+    }
+}
+
+/// Adds a package behind those that are there.
+fn push_package(ids: &mut Vec<PackageId>, id: PackageId) -> Result<(), AllocError>
+    ensures { OnOk result (ids.new.items ≡ ids.old.items ++ id ∷ []) }
+{
+    ids.push(id)?;
+    Ok(())
+}
+
+/// The packages of folders, in order. `BadFolder` names the first that has none.
+fn packages_of_folders(
+    alloc: Global,
+    folders: &[PackageFolder],
+) -> Result<Vec<PackageId>, StartFault>
+    ensures named { IfOk result (λ ids. (ids.items ≡ map folder_package folders.now) × All (λ folder. IsPackage
+        (folder_package folder)) folders.now) }
+    ensures bad { IfErr result (HasNoPackage folders.now) }
+{
+    let mut ids = Vec::new(alloc);
+    for folder in folders {
+        push_package(&mut ids, package_of_folder(alloc, folder)?)?;
+    }
+    Ok(ids)
+}
+
+/// The packages of the included folders, in order: of those without one of their own that of the run.
+fn packages_of_included(
+    alloc: Global,
+    options: &IndexOptions,
+    ids: Vec<PackageId>,
+) -> Result<Vec<PackageId>, StartFault>
+    requires { ids.items ≡ map folder_package options.now.include_packages.items }
+    ensures all { IfOk result (λ all. all.items ≡ included_packages options.now) }
+    ensures bad { IfErr result (NamesNone options.now) }
+{
+    let mut all = Vec::new(alloc);
+    for _ in &options.include {
+        push_package(&mut all, package_of(alloc, options)?)?;
+    }
+    let mut ids = ids;
+    all.append(&mut ids)?;
+    Ok(all)
+}
+
+/// The folders with included files: first those without a package of their own.
+fn included_folders(alloc: Global, options: &IndexOptions) -> Result<Vec<String>, AllocError>
+    ensures { IfOk result (λ folders. map string_bytes folders.items ≡ included_in options.now) }
+{
+    let mut folders = Vec::new(alloc);
+    for folder in &options.include {
+        folders.push(String::from_str(alloc, folder.as_str())?)?;
+    }
+    for folder in &options.include_packages {
+        folders.push(String::from_str(alloc, folder.folder.as_str())?)?;
+    }
+    Ok(folders)
+}
+
+/// Adds a folder of this package, with the paths of the files below it.
+fn add_folder(
+    alloc: Global,
+    packages: &mut FilePackages,
+    id: PackageId,
+    paths: Vec<String>,
+) -> Result<(), AllocError>
+    ensures { OnOk result (AddsRoots (record { id = id; paths = map string_bytes paths.items } ∷ []) packages.old
+        packages.new) }
+{
+    let mut folder = RootPackage::new(alloc, id);
+    for path in paths {
+        folder.add(path)?;
+    }
+    packages.add(folder)
+}
+
+/// Adds folders of these packages, with the paths of the files below each.
+fn add_folders(
+    alloc: Global,
+    packages: &mut FilePackages,
+    ids: Vec<PackageId>,
+    paths: Vec<Vec<String>>,
+) -> Result<(), AllocError>
+    ensures { OnOk result (AddsRoots (roots_of ids.items (map (λ here. map string_bytes here.items) paths.items))
+        packages.old packages.new) }
+{
+    for (id, here) in ids.into_iter().zip(paths) {
+        add_folder(alloc, packages, id, here)?;
+    }
+    Ok(())
+}
+
+/// A tree, and the packages that its files belong to.
+#[derive(Drop)]
+pub(crate) struct Folders {
+    pub(crate) tree: Tree,
+    pub(crate) packages: FilePackages,
+}
+
+/// The packages of files, by the folders that they were read from: of the paths of the sources, of those of
+/// the files below each included folder, and the packages of those that have one of their own.
+fn packages_by(
+    alloc: Global,
+    options: &IndexOptions,
+    ids: Vec<PackageId>,
+    own: Vec<String>,
+    others: Vec<Vec<String>>,
+) -> Result<FilePackages, StartFault>
+    requires { ids.items ≡ map folder_package options.now.include_packages.items }
+    ensures by { IfOk result (AreByFolder options.now (map string_bytes own.items) (map (λ here. map string_bytes
+        here.items) others.items)) }
+    ensures bad { IfErr result (NamesNone options.now) }
+{
+    let mut packages = FilePackages::of_run(alloc, package_of(alloc, options)?);
+    add_folder(alloc, &mut packages, package_of(alloc, options)?, own)?;
+    let all = packages_of_included(alloc, options, ids)?;
+    add_folders(alloc, &mut packages, all, others)?;
+    Ok(packages)
+}
+
+/// The tree of the sources below the root and of the files below the included folders, and the packages
+/// that they belong to: of files with one path the first counts.
+///
+/// `BadPart`, of the run, or `BadFolder`, of the first folder whose package has a bad part; then the faults of
+/// `load_tree`.
+pub(crate) fn load_folders<F: ReadFiles>(
+    alloc: Global,
+    options: &IndexOptions,
+    files: &F,
+) -> Result<Folders, StartFault>
+    ensures named { IfOk result (λ _. NamePackages options.now) }
+    ensures folders { IfOk result (λ made. AreFolders (F.lists files.now) (F.gives files.now) options.now made.tree
+        made.packages) }
+    ensures stops { IfErr result (MayNotStart (F.lists files.now) (F.gives files.now) options.now) }
+{
+    let run = package_of(alloc, options)?;
+    let ids = packages_of_folders(alloc, &options.include_packages)?;
+    let root = options.root.as_str();
+    if options.include_packages.is_empty() {
+        let tree = load_tree(alloc, files, root, &options.include)?;
+        return Ok(Folders {
+            tree,
+            packages: FilePackages::of_run(alloc, run),
+        });
+    }
+    let folders = included_folders(alloc, options)?;
+    let LoadedTree { tree, own, others } = load_tree_with_paths(alloc, files, root, &folders)?;
+    let packages = packages_by(alloc, options, ids, own, others)?;
+    Ok(Folders { tree, packages })
+}

@@ -1,0 +1,96 @@
+//! The program `snapshot`: the sources of an index, and below each line what the index says of it.
+
+ghost use Rattle.scip_snapshot.specs.Showing.{maker, writer};
+ghost use Rattle.programs.specs.Queries.{IsReadFrom};
+ghost use Rattle.programs.specs.Snapshotting.{EndsShown, RunsSnapshot, ShowsAndEnds};
+
+use crate::host::Host;
+use crate::messages::report;
+use crate::query_explanations::query_text;
+use crate::query_fault::QueryFault;
+use crate::querying::index_of_file;
+use crate::show_faults::{show_status, show_text};
+use command_line::SnapshotOptions;
+use scip_query::{AnswerFault, Queries};
+use scip_snapshot::{Folders, ShowFault, file_all, print_all};
+use source_files::{MakeFiles, ReadFiles};
+use std::alloc::Global;
+use streams::Sink;
+
+/// The index that the file with a path holds, with its tables.
+fn queries_of<F: ReadFiles>(alloc: Global, files: &F, path: &str) -> Result<Queries, QueryFault>
+    ensures { IsReadFrom (F.gives files.now path.now) result }
+{
+    let index = index_of_file(alloc, files, path)?;
+    match Queries::new(alloc, index) {
+        Ok(queries) => Ok(queries),
+        Err(_) => Err(QueryFault::Answers(AnswerFault::Memory)),
+    }
+}
+
+/// Gives the exit status. Why the documents aren't all shown, if they aren't, is said.
+fn end<M: Sink>(alloc: Global, explain: bool, done: Result<(), ShowFault>, messages: &mut M) -> u8
+    ensures { EndsShown M.contents M.failures explain done messages.old messages.new result }
+{
+    match done {
+        Ok(()) => 0,
+        Err(fault) => report(
+            show_text(alloc, fault, explain),
+            show_status(fault),
+            messages,
+        ),
+    }
+}
+
+/// Prints the snapshots of an index's documents, or makes a file of each, as the options say, and gives the
+/// exit status.
+fn show<R, F: ReadFiles, W: Sink, O: MakeFiles, M: Sink>(
+    host: &Host<'_, R, F>,
+    options: &SnapshotOptions,
+    queries: &Queries,
+    out: &mut W,
+    made: &mut O,
+    messages: &mut M,
+) -> u8
+    ensures { ShowsAndEnds (F.gives host.now.files.now) options.now queries.now (writer W.contents W.failures out.old
+        out.new) (maker O.made made.old made.new) (writer M.contents M.failures messages.old messages.new) result }
+{
+    let root = options.root.as_str();
+    match &options.to {
+        Some(to) => {
+            let folders = Folders {
+                root,
+                to: to.as_str(),
+            };
+            let done = file_all(host.alloc, host.files, &folders, queries, made, messages);
+            end(host.alloc, options.explain, done, messages)
+        }
+        None => {
+            let done = print_all(host.alloc, host.files, root, queries, out, messages);
+            end(host.alloc, options.explain, done, messages)
+        }
+    }
+}
+
+/// Reads the index that a file holds, prints the snapshots of its documents or makes a file of each, as the
+/// options say, and gives the exit status. Each document that is left out is told. Why it stops, if it does,
+/// is said.
+pub(crate) fn snapshot<R, F: ReadFiles, W: Sink, O: MakeFiles, M: Sink>(
+    host: &Host<'_, R, F>,
+    options: &SnapshotOptions,
+    out: &mut W,
+    made: &mut O,
+    messages: &mut M,
+) -> u8
+    ensures { RunsSnapshot (F.gives host.now.files.now) options.now (writer W.contents W.failures out.old out.new)
+        (maker O.made made.old made.new) (writer M.contents M.failures messages.old messages.new) result }
+{
+    let path = options.index.as_str();
+    match queries_of(host.alloc, host.files, path) {
+        Ok(queries) => show(host, options, &queries, out, made, messages),
+        Err(fault) => {
+            let text = query_text(host.alloc, &fault, path, options.explain);
+            report(text, fault.status(), messages)
+        }
+    }
+}

@@ -1,0 +1,95 @@
+-- What is said, on standard error, of what an index lacks: a line for each of these, and one with their numbers. (The
+-- texts are this project's own.)
+use Rattle.std.specs.Prelude.{◌≡◌, ℕ, ◌-◌, Bool, true, false, List, [], ◌∷◌, ◌++◌, nat_lt, codes, if◌then◌else◌}
+use Rattle.std.specs.Prelude.{Option, Some, None}
+use Rattle.std.specs.Fmt.{decimal}
+use Rattle.std.specs.List.{count_by, flat_map}
+use Rattle.source_tree.specs.Files.{TreeFile}
+use Rattle.source_tree.specs.Trees.{IsSourceCount}
+use Rattle.proto_lex.specs.FaultNames.{lex_offset}
+use Rattle.proto_parse.specs.FaultNames.{syntax_offset}
+use Rattle.scip_build.specs.declared.fault.BuildFault.{BuildFault}
+use Rattle.scip_build.specs.declared.fault.BuildFault.TheVariants as build
+use Rattle.protoscip.specs.Explanations.{explanation_of}
+use Rattle.protoscip.specs.FaultLines.{path_of, name_of, line_of, duplicate_line}
+use Rattle.protoscip.specs.Faults.{fault_of_build}
+use Rattle.protoscip.specs.Lines.{line_at, placed_line}
+use Rattle.protoscip.specs.declared.fault.Fault.{Fault}
+use Rattle.protoscip.specs.declared.fault.Fault.TheVariants.{Lex, Syntax, Duplicate, MissingImport, Unresolved}
+
+-- ---- a line for each
+
+-- the path of a file that is left out, and that of one in which an import or a use has no target
+abbrev pub skipped : List TreeFile → (number : ℕ) → List ℕ
+skipped tree number = codes "skipped: " ++ path_of tree number
+
+abbrev pub untargeted : List TreeFile → (number : ℕ) → List ℕ
+untargeted tree number = codes "no target: " ++ path_of tree number
+
+-- the line of the fault for which a tree would be refused, with these words before the path where it is told
+abbrev pub told_line : List TreeFile → Fault → List ℕ
+told_line tree (Lex number fault) = placed_line (skipped tree number) (lex_offset fault) (name_of (Lex number fault))
+told_line tree (Syntax number fault) =
+    placed_line (skipped tree number) (syntax_offset fault) (name_of (Syntax number fault))
+told_line tree (Duplicate first second) =
+    duplicate_line (path_of tree first.file) first.span.start (skipped tree second.file) second.span.start
+told_line tree (MissingImport place) =
+    line_at (untargeted tree place.file) place.span.start (name_of (MissingImport place))
+told_line tree (Unresolved place) = line_at (untargeted tree place.file) place.span.start (name_of (Unresolved place))
+told_line tree fault = line_of tree fault
+
+-- the same, and its explanation where that is asked for
+abbrev pub explained_line : (explain : Bool) → List TreeFile → Fault → List ℕ
+explained_line explain tree fault = told_line tree fault ++ (if explain then explanation_of tree fault else [])
+
+-- ---- numbers
+
+-- a file is left out
+abbrev pub is_skipped : BuildFault → Bool
+is_skipped (build.File number fault) = true
+is_skipped (build.Duplicate first second) = true
+is_skipped fault = false
+
+-- it is a source, by how many the tree has: their numbers are those below
+abbrev pub is_skipped_source : (sources : ℕ) → BuildFault → Bool
+is_skipped_source sources (build.File number fault) = nat_lt number sources
+is_skipped_source sources (build.Duplicate first second) = nat_lt second.file sources
+is_skipped_source sources fault = false
+
+-- an import has no target
+abbrev pub is_import : BuildFault → Bool
+is_import (build.MissingImport place) = true
+is_import fault = false
+
+-- a use has none
+abbrev pub is_use : BuildFault → Bool
+is_use (build.Unresolved place) = true
+is_use fault = false
+
+-- `protoscip: N sources indexed, N skipped, N imports and N uses without a target`
+abbrev pub numbers_line : (indexed skipped imports uses : ℕ) → List ℕ
+numbers_line indexed skipped imports uses =
+    codes "protoscip: " ++ decimal indexed ++ codes " sources indexed, " ++ decimal skipped ++ codes " skipped, "
+    ++ decimal imports ++ codes " imports and " ++ decimal uses ++ codes " uses without a target"
+
+-- of a tree with so many sources
+abbrev pub counts_line : (sources : ℕ) → List BuildFault → List ℕ
+counts_line sources told =
+    numbers_line (sources - count_by (is_skipped_source sources) told) (count_by is_skipped told)
+    (count_by is_import told) (count_by is_use told)
+
+-- ---- all of it
+
+-- a line with its end
+abbrev pub ended_line : (explain : Bool) → List TreeFile → BuildFault → List ℕ
+ended_line explain tree fault = explained_line explain tree (fault_of_build fault) ++ codes "\n"
+
+-- the lines in their order, and the numbers
+abbrev pub told_text : (explain : Bool) → List TreeFile → (sources : ℕ) → List BuildFault → List ℕ
+told_text explain tree sources told = flat_map (ended_line explain tree) told ++ counts_line sources told
+
+-- what is said of an index that lacks this: of nothing nothing; else all of it
+abbrev pub IsTextOfLacks : (explain : Bool) → List TreeFile → List BuildFault → Option (List ℕ) → Type 0
+IsTextOfLacks explain tree [] text = text ≡ None
+IsTextOfLacks explain tree (first ∷ others) text =
+    (sources : ℕ) × IsSourceCount tree sources × (text ≡ Some (told_text explain tree sources (first ∷ others)))

@@ -1,0 +1,15 @@
+//! What is known of an index beside its bytes.
+
+use scip_build::BuildFault;
+use scip_document::Choices;
+use sequences::Sequence;
+
+/// What the index of a tree was made by, and what has no part in it.
+#[derive(Debug, Drop)]
+pub struct Recorded {
+    /// For each file that is kept, by its number among these, the choice for each of its declarations.
+    pub choices: Choices,
+    /// What was left out, and what has no target, each by the fault for which it would be refused, in
+    /// order of file and place; nothing where faults are refused.
+    pub told: Sequence<BuildFault>,
+}

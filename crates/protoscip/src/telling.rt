@@ -1,0 +1,181 @@
+//! What is said of what an index lacks.
+
+ghost use Rattle.std.specs.Prelude.{◌≡◌, ◌++◌, ℕ, IfOk, OnOk, string_bytes};
+ghost use Rattle.std.specs.List.{count_by, flat_map};
+ghost use Rattle.std.specs.Option.{option_map};
+ghost use Rattle.source_tree.specs.Trees.{IsSourceCount};
+ghost use Rattle.protoscip.specs.FaultLines.{HaveFilesOf};
+ghost use Rattle.protoscip.specs.ToldLines.{
+  counts_line,
+  ended_line,
+  is_import,
+  is_skipped,
+  is_skipped_source,
+  is_use,
+  IsTextOfLacks,
+  numbers_line,
+  told_text,
+};
+
+use crate::told_lines::push_told;
+use scip_build::BuildFault;
+use source_tree::Tree;
+use std::alloc::{AllocError, Global};
+
+/// Whether a file is left out.
+fn is_skipped(fault: &BuildFault) -> bool
+    ensures { result ≡ is_skipped fault.now }
+{
+    matches!(fault, BuildFault::File(..) | BuildFault::Duplicate(..))
+}
+
+/// Whether it is a source, by how many the tree has.
+fn is_skipped_source(sources: usize, fault: &BuildFault) -> bool
+    ensures { result ≡ is_skipped_source sources fault.now }
+{
+    match fault {
+        BuildFault::File(number, _) => *number < sources,
+        BuildFault::Duplicate(_, second) => second.file < sources,
+        _ => false,
+    }
+}
+
+/// Whether an import has no target.
+fn is_import(fault: &BuildFault) -> bool
+    ensures { result ≡ is_import fault.now }
+{
+    matches!(fault, BuildFault::MissingImport(_))
+}
+
+/// Whether a use has none.
+fn is_use(fault: &BuildFault) -> bool
+    ensures { result ≡ is_use fault.now }
+{
+    matches!(fault, BuildFault::Unresolved(_))
+}
+
+/// How many files are left out.
+fn count_skipped(told: &[BuildFault]) -> usize
+    ensures { result ≡ count_by is_skipped told.now }
+{
+    told.iter().filter(|fault| is_skipped(*fault)).count()
+}
+
+/// How many of them are sources, by how many the tree has.
+fn count_skipped_sources(sources: usize, told: &[BuildFault]) -> usize
+    ensures { result ≡ count_by (is_skipped_source sources) told.now }
+{
+    told.iter()
+        .filter(|fault| is_skipped_source(sources, *fault))
+        .count()
+}
+
+/// How many imports have no target.
+fn count_imports(told: &[BuildFault]) -> usize
+    ensures { result ≡ count_by is_import told.now }
+{
+    told.iter().filter(|fault| is_import(*fault)).count()
+}
+
+/// How many uses have none.
+fn count_uses(told: &[BuildFault]) -> usize
+    ensures { result ≡ count_by is_use told.now }
+{
+    told.iter().filter(|fault| is_use(*fault)).count()
+}
+
+/// `protoscip: N sources indexed, N skipped, N imports and N uses without a target`
+fn numbers_line(
+    alloc: Global,
+    indexed: usize,
+    skipped: usize,
+    imports: usize,
+    uses: usize,
+) -> Result<String, AllocError>
+    ensures { IfOk result (λ line. string_bytes line ≡ numbers_line indexed skipped imports uses) }
+{
+    format!(in alloc;
+        "protoscip: {indexed} sources indexed, {skipped} skipped, {imports} imports and {uses} uses without a target"
+    )
+}
+
+/// The line with the numbers, of a tree with so many sources.
+fn counts_line(alloc: Global, sources: usize, told: &[BuildFault]) -> Result<String, AllocError>
+    ensures { IfOk result (λ line. string_bytes line ≡ counts_line sources told.now) }
+{
+    numbers_line(
+        alloc,
+        sources.saturating_sub(count_skipped_sources(sources, told)),
+        count_skipped(told),
+        count_imports(told),
+        count_uses(told),
+    )
+}
+
+/// Appends a line for each of what is told.
+fn push_lines(
+    alloc: Global,
+    out: &mut String,
+    tree: &Tree,
+    told: &[BuildFault],
+    explain: bool,
+) -> Result<(), AllocError>
+    requires { HaveFilesOf tree.now told.now }
+    ensures { OnOk result (string_bytes out.new ≡ string_bytes out.old ++ flat_map (ended_line explain tree.now)
+        told.now) }
+{
+    for fault in told {
+        push_told(alloc, out, tree, *fault, explain)?;
+    }
+    Ok(())
+}
+
+/// That and the line with the numbers, of a tree with so many sources.
+fn text_of(
+    alloc: Global,
+    tree: &Tree,
+    sources: usize,
+    told: &[BuildFault],
+    explain: bool,
+) -> Result<String, AllocError>
+    requires { HaveFilesOf tree.now told.now }
+    ensures { IfOk result (λ text. string_bytes text ≡ told_text explain tree.now sources told.now) }
+{
+    let mut text = String::new(alloc);
+    push_lines(alloc, &mut text, tree, told, explain)?;
+    let numbers = counts_line(alloc, sources, told)?;
+    text.push_str(numbers.as_str())?;
+    Ok(text)
+}
+
+/// What is said of what an index of the tree lacks: a line for each, in this order, explained where that is
+/// asked for, and behind them one with their numbers, without its end.
+pub fn told_text(
+    alloc: Global,
+    tree: &Tree,
+    told: &[BuildFault],
+    explain: bool,
+) -> Result<String, AllocError>
+    requires { HaveFilesOf tree.now told.now }
+    ensures { (sources : ℕ) × IsSourceCount tree.now sources
+        × IfOk result (λ text. string_bytes text ≡ told_text explain tree.now sources told.now) }
+{
+    let sources = tree.source_count();
+    text_of(alloc, tree, sources, told, explain)
+}
+
+/// The same of an index that lacks something; of one that lacks nothing there is nothing to say.
+pub(crate) fn text_of_lacks(
+    alloc: Global,
+    tree: &Tree,
+    told: &[BuildFault],
+    explain: bool,
+) -> Result<Option<String>, AllocError>
+    requires { HaveFilesOf tree.now told.now }
+    ensures { IfOk result (λ text. IsTextOfLacks explain tree.now told.now (option_map string_bytes text)) }
+{
+    if told.is_empty() {
+        return Ok(None);
+    }
+    Ok(Some(told_text(alloc, tree, told, explain)?))
+}

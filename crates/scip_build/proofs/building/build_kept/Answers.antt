@@ -1,0 +1,29 @@
+use Rattle.scip_build.proofs.BuiltLemmas.{kept_ready, kept_built}
+use Rattle.scip_build.proofs.building.build_kept.Goals as goal
+
+pub keep_files-requires : goal.keep_files-requires
+keep_files-requires g c = c.requires.tree.own
+
+pub make_kept-requires-clause-tree : goal.make_kept-requires-clause-tree
+make_kept-requires-clause-tree g c = λ _ _.
+    let of = c.in_ok-kept.ensures in
+    rw c.as_slice.ensures.value
+    (kept_ready c.kept_files_are_clear.ensures c.args.all.items c.in_ok-kept.kept.readings.items of.omissions
+    c.requires.tree of.left_out of.kept).tree
+
+pub make_kept-requires-clause-clear : goal.make_kept-requires-clause-clear
+make_kept-requires-clause-clear g c = λ _ _.
+    let of = c.in_ok-kept.ensures in
+    rw c.as_slice.ensures.value
+    (kept_ready c.kept_files_are_clear.ensures c.args.all.items c.in_ok-kept.kept.readings.items of.omissions
+    c.requires.tree of.left_out of.kept).clear
+
+pub returns : goal.returns
+returns g c =
+    let made = rw c.as_slice.ensures.value at c.in_ok-made.ensures in
+    let order = rw (c.as_slice-2.ensures.value, c.as_slice-3.ensures.value, c.as_slice-4.ensures) at
+    c.in_ok-told.ensures in
+    rw c.from_vec.ensures
+    (kept_built g.F.DocumentForm.is_kept c.args.all.items c.in_ok-kept.kept.readings.items c.args.settings.now
+    c.in_ok-made.made.0 c.in_ok-kept.kept.numbers.items c.in_ok-kept.kept.told.items c.in_ok-told.told.items
+    c.in_ok-made.made.1.items c.requires.skip c.in_ok-kept.ensures made.0 made.1 order)

@@ -1,0 +1,6 @@
+use Rattle.std.proofs.Common.{◌≡◌, ◌++◌, map, take}
+use Rattle.scip_build.specs.Telling.{told_use}
+use Rattle.scip_build.proofs.telling.push_uses.Given as goal
+
+abbrev pub invariant-loop-place : goal.invariant-loop-place
+invariant-loop-place l = l.told.items ≡ l.fn.told.items ++ map (told_use l.numbers) (take l.place-index l.places)

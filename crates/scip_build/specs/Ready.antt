@@ -1,0 +1,41 @@
+-- What holds of files that were read from a tree, and so of those of them that are kept.
+use Rattle.std.specs.Prelude.{◌≡◌, ◌<◌, ◌≤◌, ℕ, ⊤, Result, Ok, Err, Some, List, length}
+use Rattle.std.specs.declared.cmp.Ordering.{Ordering}
+use Rattle.std.specs.declared.cmp.Ordering.TheVariants.{Less}
+use Rattle.std.specs.Ordering.{nat_cmp, bool_cmp, ordering_then}
+use Rattle.std.specs.Cmp.Lexicographic.{slice_cmp}
+use Rattle.std.specs.List.{slice_get}
+use Rattle.proto_decl.specs.declared.declaration.Declaration.{Declaration}
+use Rattle.index_hooks.specs.declared.choice.Choice.{Choice}
+use Rattle.index_pool.specs.declared.workers.TheConstants.{MAX_INPUTS}
+use Rattle.proto_visibility.specs.Files as link
+use Rattle.scip_symbol.specs.Path.{IsGoodPath}
+use Rattle.scip_document.specs.Texts.{AreOfText}
+use Rattle.scip_build.specs.declared.fault.FileFault.{FileFault}
+use Rattle.scip_build.specs.Files.{FileContents, ReadFile}
+use Rattle.scip_build.specs.Linking.{linked_files}
+
+-- the facts are those of the text, and each declaration has a choice
+pub record AreWhole (contents : FileContents) : Type 0 where
+  pub of_text : AreOfText contents.text contents.facts
+  pub chosen : (index : ℕ) (declared : Declaration) → slice_get contents.facts.declarations index ≡ Some declared
+      → (choice : Choice) × (slice_get contents.choices index ≡ Some choice)
+
+abbrev pub AreWholeIfRead : Result FileContents FileFault → Type 0
+AreWholeIfRead (Ok contents) = AreWhole contents
+AreWholeIfRead (Err fault) = ⊤
+
+pub record IsOfTree (reading : ReadFile) : Type 0 where
+  pub good : IsGoodPath reading.path
+  pub contents : AreWholeIfRead reading.contents
+
+-- sources before included files, and each of these by path
+abbrev pub reading_cmp : ReadFile → ReadFile → Ordering
+reading_cmp a b = ordering_then (bool_cmp a.is_included b.is_included) (slice_cmp nat_cmp a.path b.path)
+
+pub record AreOfTree (readings : List ReadFile) : Type 0 where
+  pub few : length readings ≤ MAX_INPUTS
+  pub each : (number : ℕ) (reading : ReadFile) → slice_get readings number ≡ Some reading → IsOfTree reading
+  pub own : link.HaveOwnPaths (linked_files readings)
+  pub rising : (lesser number : ℕ) (a b : ReadFile) → lesser < number → slice_get readings lesser ≡ Some a
+      → slice_get readings number ≡ Some b → reading_cmp a b ≡ Less

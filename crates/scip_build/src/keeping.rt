@@ -1,0 +1,99 @@
+//! Which files of a tree are kept.
+
+ghost use Rattle.std.specs.Prelude.{◌≡◌, IfOk, length};
+ghost use Rattle.std.specs.List.{prefix_len};
+ghost use Rattle.proto_visibility.specs.Files.{HaveOwnPaths};
+ghost use Rattle.proto_visibility.specs.Kept.{AreOmissions, kept_of};
+ghost use Rattle.scip_build.specs.Linking.{linked_files};
+ghost use Rattle.scip_build.specs.Keeping.{kept_numbers, is_source};
+ghost use Rattle.scip_build.specs.Telling.{AreKeptFiles};
+
+use crate::fault::BuildFault;
+use crate::linking::linked_files;
+use crate::reading::Reading;
+use crate::telling::push_omissions;
+use proto_link::{LinkFault, left_out};
+use std::alloc::{AllocError, Global};
+
+/// For each of the files that were read, by its number, why it is left out; `None` of a file that is kept.
+fn omissions_of(
+    alloc: Global,
+    readings: &[Reading<'_>],
+) -> Result<Vec<Option<LinkFault>>, AllocError>
+    requires { HaveOwnPaths (linked_files readings.now) }
+    ensures { IfOk result (λ omissions. AreOmissions (linked_files readings.now) omissions.items) }
+{
+    let files = linked_files(alloc, readings)?;
+    left_out(alloc, files.as_slice())
+}
+
+/// The numbers of the files that are kept, in order.
+fn kept_numbers(alloc: Global, omissions: &[Option<LinkFault>]) -> Result<Vec<usize>, AllocError>
+    ensures { IfOk result (λ numbers. numbers.items ≡ kept_numbers 0 omissions.now) }
+{
+    let mut numbers = Vec::new(alloc);
+    for (number, omission) in omissions.iter().enumerate() {
+        if omission.is_none() {
+            numbers.push(number)?;
+        }
+    }
+    Ok(numbers)
+}
+
+/// The readings of the files that are kept, in order.
+fn kept_readings<'a>(
+    alloc: Global,
+    all: Vec<Reading<'a>>,
+    omissions: Vec<Option<LinkFault>>,
+) -> Result<Vec<Reading<'a>>, AllocError>
+    requires { length omissions.items ≡ length all.items }
+    ensures { IfOk result (λ readings. readings.items ≡ kept_of omissions.items all.entry.items) }
+{
+    let mut readings = Vec::with_capacity(alloc, all.len())?;
+    for (reading, omission) in all.into_iter().zip(omissions) {
+        if omission.is_none() {
+            readings.push_reserved(reading);
+        }
+    }
+    Ok(readings)
+}
+
+/// The files of a tree that are kept, by their number among these, and what is told of the others.
+#[derive(Drop)]
+pub(crate) struct KeptFiles<'a> {
+    pub(crate) readings: Vec<Reading<'a>>,
+    /// The number that each has among all files.
+    pub(crate) numbers: Vec<usize>,
+    pub(crate) told: Vec<BuildFault>,
+}
+
+/// Leaves out the files that can't be read, and those of which a name clashes with one of a file before.
+pub(crate) fn keep_files<'a>(
+    alloc: Global,
+    all: Vec<Reading<'a>>,
+) -> Result<KeptFiles<'a>, AllocError>
+    requires { HaveOwnPaths (linked_files all.items) }
+    ensures { IfOk result (λ kept. AreKeptFiles all.entry.items kept.readings.items kept.numbers.items
+        kept.told.items) }
+{
+    let mut told = Vec::new(alloc);
+    let omissions = omissions_of(alloc, all.as_slice())?;
+    push_omissions(&mut told, all.as_slice(), omissions.as_slice())?;
+    let numbers = kept_numbers(alloc, omissions.as_slice())?;
+    let readings = kept_readings(alloc, all, omissions)?;
+    Ok(KeptFiles {
+        readings,
+        numbers,
+        told,
+    })
+}
+
+/// How many files are in front of the first that is included.
+pub(crate) fn sources_among(readings: &[Reading<'_>]) -> usize
+    ensures { result ≡ prefix_len is_source readings.now }
+{
+    readings
+        .iter()
+        .take_while(|reading| !reading.is_included)
+        .count()
+}

@@ -1,0 +1,24 @@
+//! What is made of files that were linked.
+
+use crate::parts::Parts;
+use proto_lex::Span;
+use proto_link::FilePlace;
+use scip_document::Choices;
+use sequences::Sequence;
+
+/// What is kept of a source's document, and the places of its uses that name no type, in order.
+#[derive(Drop)]
+pub(crate) struct MadeDocument<T> {
+    pub(crate) kept: T,
+    pub(crate) unresolved: Sequence<Span>,
+}
+
+/// What is made of files that were linked.
+#[derive(Drop)]
+pub(crate) struct Made<T> {
+    pub(crate) parts: Parts<T>,
+    /// For each file, by its number, the choice for each of its declarations.
+    pub(crate) choices: Choices,
+    /// The places of the uses of sources that name no type; none where such are refused.
+    pub(crate) gaps: Sequence<FilePlace>,
+}

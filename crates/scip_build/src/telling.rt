@@ -1,0 +1,157 @@
+//! What is told of a tree with faults.
+
+ghost use Rattle.std.specs.Prelude.{◌≡◌, ◌++◌, IfOk, OnOk, Some, length, map};
+ghost use Rattle.std.specs.Ordering.{eq_by_cmp};
+ghost use Rattle.proto_visibility.specs.Kept.{AreOmissions};
+ghost use Rattle.scip_build.specs.Linking.{linked_files};
+ghost use Rattle.scip_build.specs.Kept.{IsLeftFor, told_key, told_cmp};
+ghost use Rattle.scip_build.specs.Telling.{Adds, FromFront, IsSomeOmission, number_in, told_import, told_use};
+ghost use Rattle.scip_build.specs.Telling.{AreInOrder, all_told};
+
+use crate::fault::BuildFault;
+use crate::linking::fault_at;
+use crate::reading::Reading;
+use proto_link::{FilePlace, LinkFault};
+use std::alloc::AllocError;
+use std::cmp::Ordering;
+
+/// Why a file is left out, as it is told.
+fn left_fault(readings: &[Reading<'_>], number: usize, fault: LinkFault) -> BuildFault
+    requires { IsSomeOmission (linked_files readings.now) number (Some fault) }
+    ensures { IsLeftFor readings.now (Some fault) result }
+{
+    match fault {
+        LinkFault::Broken(other) => BuildFault::File(other, fault_at(readings, other)),
+        LinkFault::Duplicate(first, second) => BuildFault::Duplicate(first, second),
+        _ => unreachable!(),
+    }
+}
+
+/// Adds why a file is left out, if it is.
+fn push_omission(
+    told: &mut Vec<BuildFault>,
+    readings: &[Reading<'_>],
+    number: usize,
+    omission: &Option<LinkFault>,
+) -> Result<(), AllocError>
+    requires { IsSomeOmission (linked_files readings.now) number omission.now }
+    ensures { OnOk result (Adds (IsLeftFor readings.now omission.now) told.old.items told.new.items) }
+{
+    if let Some(fault) = omission {
+        told.push(left_fault(readings, number, *fault))?;
+    }
+    Ok(())
+}
+
+/// Adds why each file that is left out is.
+pub(crate) fn push_omissions(
+    told: &mut Vec<BuildFault>,
+    readings: &[Reading<'_>],
+    omissions: &[Option<LinkFault>],
+) -> Result<(), AllocError>
+    requires { AreOmissions (linked_files readings.now) omissions.now }
+    ensures { OnOk result (Adds
+        (FromFront (IsLeftFor readings.now) omissions.now (length omissions.now)) told.old.items told.new.items) }
+{
+    for number in 0..omissions.len() {
+        let omission = &omissions[number];
+        push_omission(told, readings, number, omission)?;
+    }
+    Ok(())
+}
+
+/// A place of a kept file, by the file's number in a list of numbers.
+fn moved(numbers: &[usize], place: &FilePlace) -> FilePlace
+    ensures { result ≡ record { file = number_in numbers.now place.now.file; span = place.now.span } }
+{
+    let file = match numbers.get(place.file) {
+        Some(number) => *number,
+        None => place.file,
+    };
+    FilePlace {
+        file,
+        span: place.span,
+    }
+}
+
+/// Adds the imports at these places of kept files.
+fn push_imports(
+    told: &mut Vec<BuildFault>,
+    numbers: &[usize],
+    places: &[FilePlace],
+) -> Result<(), AllocError>
+    ensures { OnOk result (told.new.items ≡ told.old.items ++ map (told_import numbers.now) places.now) }
+{
+    for place in places {
+        told.push(BuildFault::MissingImport(moved(numbers, place)))?;
+    }
+    Ok(())
+}
+
+/// Adds the uses at these places of kept files.
+fn push_uses(
+    told: &mut Vec<BuildFault>,
+    numbers: &[usize],
+    places: &[FilePlace],
+) -> Result<(), AllocError>
+    ensures { OnOk result (told.new.items ≡ told.old.items ++ map (told_use numbers.now) places.now) }
+{
+    for place in places {
+        told.push(BuildFault::Unresolved(moved(numbers, place)))?;
+    }
+    Ok(())
+}
+
+/// Where in the tree a fault is told.
+fn told_key(fault: &BuildFault) -> ((usize, usize), (usize, bool))
+    ensures { result ≡ told_key fault.now }
+{
+    match fault {
+        BuildFault::Spawn | BuildFault::Memory => ((0, 0), (0, false)),
+        BuildFault::File(number, _) => ((*number, 0), (0, false)),
+        BuildFault::Duplicate(_, second) => ((second.file, 0), (0, false)),
+        BuildFault::MissingImport(place) => (
+            (place.file, place.span.start),
+            (place.span.end, false),
+        ),
+        BuildFault::Unresolved(place) => ((place.file, place.span.start), (place.span.end, true)),
+    }
+}
+
+fn compare_told(a: &BuildFault, b: &BuildFault) -> Ordering
+    ensures { result ≡ told_cmp a.now b.now }
+{
+    told_key(a).cmp(&told_key(b))
+}
+
+fn are_told_together(a: &BuildFault, b: &BuildFault) -> bool
+    ensures { result ≡ eq_by_cmp told_cmp a.now b.now }
+{
+    compare_told(a, b) == Ordering::Equal
+}
+
+/// The same, in order, each once.
+fn in_order(told: Vec<BuildFault>) -> Result<Vec<BuildFault>, AllocError>
+    ensures { IfOk result (λ once. AreInOrder told.items once.items) }
+{
+    let mut told = told;
+    told.sort_by(|a, b| compare_told(a, b))?;
+    told.dedup_by(|a, b| are_told_together(a, b));
+    Ok(told)
+}
+
+/// All that is told: what is left out, and the imports and uses of kept files without a target, which have
+/// these numbers among all.
+pub(crate) fn tell(
+    left: Vec<BuildFault>,
+    numbers: &[usize],
+    imports: &[FilePlace],
+    uses: &[FilePlace],
+) -> Result<Vec<BuildFault>, AllocError>
+    ensures { IfOk result (λ once. AreInOrder (all_told left.items numbers.now imports.now uses.now) once.items) }
+{
+    let mut told = left;
+    push_imports(&mut told, numbers, imports)?;
+    push_uses(&mut told, numbers, uses)?;
+    in_order(told)
+}

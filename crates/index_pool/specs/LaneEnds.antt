@@ -35,6 +35,6 @@ tries_left t = t.tries
 -- how many tries are left after a steal: 64 after a number, none once the queue was found empty, and one fewer after a
 -- steal that asks for a further try
 abbrev pub tries_after : Stolen → ℕ → ℕ
-tries_after (Got k) tries = 64
+tries_after (Got t) tries = 64
 tries_after Empty tries = 0
 tries_after Retry tries = tries - 1

@@ -1,6 +1,7 @@
 pub mod Once
 pub mod CoreMachine
 pub mod CoreFields
+pub mod Ticket
 pub mod Lane
 pub mod LaneEnds
 pub mod CoreLanes

@@ -1,16 +1,17 @@
 -- What clauses say of a `Stolen`.
-use Rattle.std.specs.Prelude.{ℕ, ⊤}
+use Rattle.std.specs.Prelude.{⊤}
+use Rattle.index_pool.specs.declared.lanes.ticket.Ticket.{Ticket}
 use Rattle.index_pool.specs.declared.lanes.stolen.Stolen.{Stolen}
 use Rattle.index_pool.specs.declared.lanes.stolen.Stolen.TheVariants.{Got, Empty, Retry}
 
--- a fact about the number, if there is one
-abbrev pub IfGot : Stolen → (ℕ → Type 0) → Type 0
-IfGot (Got k) fact = fact k
+-- a fact about the ticket, if there is one
+abbrev pub IfGot : Stolen → (Ticket → Type 0) → Type 0
+IfGot (Got t) fact = fact t
 IfGot Empty fact = ⊤
 IfGot Retry fact = ⊤
 
--- a fact that holds if there is no number
+-- a fact that holds if there is no ticket
 abbrev pub IfNotGot : Stolen → Type 0 → Type 0
-IfNotGot (Got k) fact = ⊤
+IfNotGot (Got t) fact = ⊤
 IfNotGot Empty fact = fact
 IfNotGot Retry fact = fact

@@ -1,6 +1,9 @@
 //! What a phase runs.
 
 ghost use Rattle.std.specs.Prelude.{ℕ, ◌<◌, Result};
+ghost use Rattle.index_pool.specs.Ticket.{number_of};
+
+use crate::lanes::Ticket;
 
 /// Work on numbered inputs, which any thread may run.
 ///
@@ -20,8 +23,8 @@ pub trait Job: Sync {
     // The results that `run` may return for an input's number.
     ghost gives: { Self → ℕ → Result Self.Out Self.Fault → Type 0 };
 
-    /// Runs one input.
-    fn run(&self, number: usize) -> Result<Self::Out, Self::Fault>
-        requires { number < inputs self.now }
-        ensures { gives self.now number result };
+    /// Runs one input, that of the ticket.
+    fn run(&self, ticket: Ticket) -> Result<Self::Out, Self::Fault>
+        requires { number_of ticket < inputs self.now }
+        ensures { gives self.now (number_of ticket) result };
 }

@@ -5,11 +5,13 @@ ghost use Rattle.std.specs.List.Sorted.{IsPermutation};
 ghost use Rattle.index_pool.specs.Lane.{lane_numbers, lane_view, more_given, more_popped, more_stolen};
 ghost use Rattle.crossbeam_deque.specs.Handles.{worker_capacity, worker_flavor, worker_index, worker_view, SameWorker};
 ghost use Rattle.index_pool.specs.StolenCases.{IfGot, IfNotGot};
+ghost use Rattle.index_pool.specs.Ticket.{number_of};
 ghost use Rattle.index_pool.specs.LaneEnds.{owner_view, owner_deque, found_empty, thief_view, thief_deque, tries_left, tries_after};
 
 mod ends;
 mod rule;
 mod stolen;
+mod ticket;
 
 use crate::workers::{MAX_INPUTS, Workers};
 use crossbeam_deque::Steal;
@@ -18,6 +20,7 @@ pub use ends::{LaneOwner, LaneThief};
 use rule::{Ends, Gives, Pops, Steals};
 use std::alloc::{AllocError, Global};
 pub use stolen::Stolen;
+pub use ticket::Ticket;
 
 /// The lane of one worker, with its inputs pushed: of the numbers below `inputs` those that leave
 /// the worker's number when they are divided by the number of workers, in rising order.
@@ -85,13 +88,13 @@ fn give(deque: &mut LaneWorker, number: usize)
 }
 
 impl LaneOwner {
-    /// The first number of the lane's queue, or None where the queue was empty at one moment.
+    /// The ticket for the first number of the lane's queue, or None where the queue was empty at one moment.
     ///
     /// Once the thief's end was taken in, None tells that each of the lane's numbers was popped or
     /// stolen, once.
-    pub fn pop(&mut self) -> Option<usize>
-        ensures some { IfSome result (λ k. owner_view self.new ≡ more_popped (owner_view self.old) (k ∷ [])) }
-        ensures one_given { IfSome result (λ k. Contains (owner_view self.old).given k × (length (owner_view self.old).popped < length (owner_view self.old).given)) }
+    pub fn pop(&mut self) -> Option<Ticket>
+        ensures some { IfSome result (λ t. owner_view self.new ≡ more_popped (owner_view self.old) (number_of t ∷ [])) }
+        ensures one_given { IfSome result (λ t. Contains (owner_view self.old).given (number_of t) × (length (owner_view self.old).popped < length (owner_view self.old).given)) }
         ensures none { IfNone result (owner_view self.new ≡ owner_view self.old) }
         ensures whole { IfNone result ((owner_view self.old).steals ≡ true → IsPermutation (owner_view self.old).given ((owner_view self.old).popped ++ (owner_view self.old).stolen)) }
         ensures found { IfNone result (found_empty self.new ≡ true) }
@@ -100,7 +103,7 @@ impl LaneOwner {
         match self.worker.pop_as::<Pops>() {
             Some(number) => {
                 self.found_empty = false;
-                Some(number)
+                Some(Ticket { number })
             }
             None => {
                 self.found_empty = true;
@@ -124,8 +127,8 @@ impl LaneOwner {
 impl LaneThief {
     /// Tries to take the first number of the lane's queue.
     pub fn steal(&mut self) -> Stolen
-        ensures got { IfGot result (λ k. thief_view self.new ≡ more_stolen (thief_view self.old) (k ∷ [])) }
-        ensures one_given { IfGot result (λ k. Contains (thief_view self.old).given k × (length (thief_view self.old).stolen < length (thief_view self.old).given)) }
+        ensures got { IfGot result (λ t. thief_view self.new ≡ more_stolen (thief_view self.old) (number_of t ∷ [])) }
+        ensures one_given { IfGot result (λ t. Contains (thief_view self.old).given (number_of t) × (length (thief_view self.old).stolen < length (thief_view self.old).given)) }
         ensures none { IfNotGot result (thief_view self.new ≡ thief_view self.old) }
         ensures tries { tries_left self.new ≡ tries_after result (tries_left self.old) }
         ensures same { thief_deque self.new ≡ thief_deque self.old }
@@ -133,7 +136,7 @@ impl LaneThief {
         match self.stealer.steal_as::<Steals>(&mut self.pass) {
             Steal::Success(number) => {
                 self.tries = MAX_TRIES;
-                Stolen::Got(number)
+                Stolen::Got(Ticket { number })
             }
             Steal::Empty => {
                 self.tries = 0;

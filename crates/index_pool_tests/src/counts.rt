@@ -4,7 +4,7 @@ ghost use Rattle.std.specs.Prelude.{◌≡◌, ◌*◌, Ok};
 
 use crate::calls::{see, workers};
 use index_pool::{
-    Gate, Job, MAX_INPUTS, NoGate, PoolFault, Task, Workers, run_phase, run_phase_refusing,
+    Gate, Job, MAX_INPUTS, NoGate, PoolFault, Task, Ticket, Workers, run_phase, run_phase_refusing,
 };
 use std::alloc::{AllocError, Global};
 use std::sync::Wait;
@@ -32,7 +32,8 @@ impl Job for Counts {
 
     ghost gives = { λ _ k r. r ≡ Ok (2 * k) };
 
-    fn run(&self, number: usize) -> Result<usize, ()> {
+    fn run(&self, ticket: Ticket) -> Result<usize, ()> {
+        let number = ticket.number();
         if is_one(&self.before, number) {
             add_one(&self.runs, number);
         }

@@ -3,7 +3,7 @@
 ghost use Rattle.std.specs.Prelude.{◌≡◌, ◌⊎◌, Ok, Err};
 
 use crate::calls::{see, workers};
-use index_pool::{Job, NoGate, PoolFault, Workers, run_phase};
+use index_pool::{Job, NoGate, PoolFault, Ticket, Workers, run_phase};
 use std::alloc::Global;
 use std::sync::Wait;
 use std::test::Fail;
@@ -23,7 +23,8 @@ impl Job for TwoFaults {
 
     ghost gives = { λ _ k r. (r ≡ Ok tt) ⊎ (r ≡ Err k) };
 
-    fn run(&self, number: usize) -> Result<(), usize> {
+    fn run(&self, ticket: Ticket) -> Result<(), usize> {
+        let number = ticket.number();
         if number == 7 || number == 70 {
             Err(number)
         } else {

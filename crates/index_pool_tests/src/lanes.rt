@@ -24,17 +24,29 @@ fn lane_of(
     }
 }
 
-/// What a steal gives that doesn't ask for a further try, if one of the first hundred doesn't.
-fn stolen(thief: &mut LaneThief) -> Option<Stolen>
+/// What a steal gives that doesn't ask for a further try, if one of the first hundred doesn't: a number,
+/// or none.
+fn stolen(thief: &mut LaneThief) -> Option<Option<usize>>
     ensures { thief_deque thief.new ≡ thief_deque thief.old }
 {
     'tries: for _ in 0..100 {
         match thief.steal() {
+            Stolen::Got(ticket) => return Some(Some(ticket.number())),
+            Stolen::Empty => return Some(None),
             Stolen::Retry => {}
-            found => return Some(found),
         }
     }
     None
+}
+
+/// The number that a pop gives.
+fn popped(owner: &mut LaneOwner) -> Option<usize>
+    ensures { owner_deque owner.new ≡ owner_deque owner.old }
+{
+    match owner.pop() {
+        Some(ticket) => Some(ticket.number()),
+        None => None,
+    }
 }
 
 #[test]
@@ -44,15 +56,11 @@ fn lane_of_the_first_of_two_workers(rt: HostRuntime) -> Result<(), Fail> {
         return Ok(());
     };
     let (mut owner, mut thief) = lane_of(rt.alloc(), 3, two, 0)?;
-    see(&rt, stolen(&mut thief) == Some(Stolen::Got(0)), "steals 0");
-    see(&rt, owner.pop() == Some(2), "pops 2");
-    see(&rt, owner.pop().is_none(), "pops none");
-    see(
-        &rt,
-        stolen(&mut thief) == Some(Stolen::Empty),
-        "steals none",
-    );
+    see(&rt, stolen(&mut thief) == Some(Some(0)), "steals 0");
+    see(&rt, popped(&mut owner) == Some(2), "pops 2");
+    see(&rt, popped(&mut owner).is_none(), "pops none");
+    see(&rt, stolen(&mut thief) == Some(None), "steals none");
     owner.rejoin(thief);
-    see(&rt, owner.pop().is_none(), "pops none at last");
+    see(&rt, popped(&mut owner).is_none(), "pops none at last");
     Ok(())
 }

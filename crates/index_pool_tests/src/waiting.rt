@@ -3,7 +3,7 @@
 ghost use Rattle.std.specs.Prelude.{◌≡◌, ◌≤◌, Ok, length};
 
 use crate::calls::{see, workers};
-use index_pool::{Gate, Job, PoolFault, Workers, run_phase};
+use index_pool::{Gate, Job, PoolFault, Ticket, Workers, run_phase};
 use std::alloc::{AllocError, Global};
 use std::sync::Wait;
 use std::sync::atomic::{AtomicU64, Ordering};
@@ -68,8 +68,8 @@ impl<'a, C: Clock + Sync> Job for Waiting<'a, C> {
 
     ghost gives = { λ _ _ r. r ≡ Ok tt };
 
-    fn run(&self, number: usize) -> Result<(), ()> {
-        self.runs.add(number);
+    fn run(&self, ticket: Ticket) -> Result<(), ()> {
+        self.runs.add(ticket.number());
         Ok(())
     }
 }

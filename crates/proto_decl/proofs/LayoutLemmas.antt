@@ -1,5 +1,5 @@
 -- How tokens in order stand on the lines of a text.
-use Rattle.std.proofs.Common.{◌≡◌, ℕ, ◌-◌, ◌<◌, ◌≤◌, List, length, get_or, map, leb, ltb, arith, inl, inr, subst}
+use Rattle.std.proofs.Common.{◌≡◌, ℕ, ◌-◌, ◌<◌, ◌≤◌, Bool, List, length, get_or, map, leb, arith, inl, inr, subst}
 use Rattle.std.proofs.Common.{IsTrue, ◌↔◌}
 use Rattle.std.specs.Prelude.{◌↔◌, ◌⊎◌, IsTrue}
 use Rattle.std.specs.List.{All}
@@ -12,7 +12,7 @@ use Rattle.proto_lex.specs.Lexed.{Lexed, AreInOrder, AreApart}
 use Rattle.proto_lex.specs.CommentTexts.{Touches, StandsAlone, NoneBetween}
 use Rattle.proto_decl.specs.Comments.{IsFirstOnLine, first_line, last_line}
 use Rattle.proto_decl.proofs.LineLemmas.{lines_rise, behind_place, starts_rise, ends_rise, IsAt, held, at_any, at_index}
-use Rattle.proto_decl.proofs.LineLemmas.{less-test, no_more-test}
+use Rattle.proto_decl.proofs.LineLemmas.{no_more-test}
 
 -- so many tokens begin before an offset, or end by it
 abbrev pub HaveBegun : List Token → (offset count : ℕ) → Type 0
@@ -187,37 +187,29 @@ behind_by_alone text tokens comment some all =
 both : {P Q R : Type 0} → P ↔ Q → Q ↔ R → P ↔ R
 both p q = (λ x. q.0 (p.0 x), λ x. p.1 (q.1 x))
 
-module _ (text text' : List ℕ) (tokens tokens' : List Token) (same_text : text' ≡ text) (same_tokens : tokens' ≡ tokens)
-    (ordered : TokensInOrder tokens) (n a b : ℕ) (d : Token) where
+module _ (text : List ℕ) (tokens tokens' : List Token) (same_tokens : tokens' ≡ tokens)
+    (ordered : TokensInOrder tokens) (n : ℕ) (later : Bool) (d : Token) where
   pub first-test : (comments : List Comment) (first : Span) → HaveBegun tokens first.start n → n ≤ length tokens → 0 < n
-      → a ≡ line_of text' (get_or tokens' (n - 1) d).span.end → b ≡ line_of text' first.start
-      → IsTrue (ltb a b) ↔ IsFirstOnLine (record { text = text; tokens = tokens; comments = comments }) first
-  first-test comments first p le some ea eb =
+      → IsTrue later ↔ (line_of text (get_or tokens' (n - 1) d).span.end < line_of text first.start)
+      → IsTrue later ↔ IsFirstOnLine (record { text = text; tokens = tokens; comments = comments }) first
+  first-test comments first p le some test =
       let lexed : Lexed = record { text = text; tokens = tokens; comments = comments } in
-      let line = first_by_last lexed first n (get_or tokens (n - 1) d) ordered p some
-      (at_index tokens (n - 1) d (omega arith)) in
-      let ea' = rw (same_text, same_tokens) at ea in
-      let eb' = rw same_text at eb in
-      both (less-test a b) (rw (ea', eb') line)
+      both (rw same_tokens at test) (first_by_last lexed first n (get_or tokens (n - 1) d) ordered p some
+      (at_index tokens (n - 1) d (omega arith)))
 
   pub before-test : (offset : ℕ) → HaveEnded tokens offset n → n ≤ length tokens → 0 < n
-      → a ≡ line_of text' (get_or tokens' (n - 1) d).span.end → b ≡ line_of text' offset
-      → IsTrue (ltb a b) ↔ IsClearBefore text tokens offset
-  before-test offset p le some ea eb =
-      let line = before_by_last text tokens offset n (get_or tokens (n - 1) d) ordered p some
-      (at_index tokens (n - 1) d (omega arith)) in
-      let ea' = rw (same_text, same_tokens) at ea in
-      let eb' = rw same_text at eb in
-      both (less-test a b) (rw (ea', eb') line)
+      → IsTrue later ↔ (line_of text (get_or tokens' (n - 1) d).span.end < line_of text offset)
+      → IsTrue later ↔ IsClearBefore text tokens offset
+  before-test offset p le some test =
+      both (rw same_tokens at test) (before_by_last text tokens offset n (get_or tokens (n - 1) d) ordered p some
+      (at_index tokens (n - 1) d (omega arith)))
 
   pub behind-test : (offset : ℕ) → HaveBegun tokens offset n → n < length tokens
-      → a ≡ line_of text' offset → b ≡ line_of text' (get_or tokens' n d).span.start
-      → IsTrue (ltb a b) ↔ IsClearBehind text tokens offset
-  behind-test offset p h ea eb =
-      let line = behind_by_next text tokens offset n (get_or tokens n d) ordered p (at_index tokens n d h) in
-      let ea' = rw same_text at ea in
-      let eb' = rw (same_text, same_tokens) at eb in
-      both (less-test a b) (rw (ea', eb') line)
+      → IsTrue later ↔ (line_of text offset < line_of text (get_or tokens' n d).span.start)
+      → IsTrue later ↔ IsClearBehind text tokens offset
+  behind-test offset p h test =
+      both (rw same_tokens at test) (behind_by_next text tokens offset n (get_or tokens n d) ordered p
+      (at_index tokens n d h))
 
 pub between-test : (tokens tokens' : List Token) (from upto n : ℕ) (d : Token) → tokens' ≡ tokens → TokensInOrder tokens
     → HaveEnded tokens from n → n < length tokens

@@ -3,8 +3,10 @@ pub mod AncestorLemmas
 pub mod OutlineLemmas
 -- Lines, and what stands on them
 pub mod LineLemmas
+pub mod LineEndLemmas
 pub mod LayoutLemmas
 pub mod LeadingLemmas
+pub mod AboveLemmas
 pub mod TrailingLemmas
 pub mod CommentTextLemmas
 -- Spans and literals of a tree

@@ -36,7 +36,7 @@ record IsNamed (text : List ℕ) (outline : Outline) : Type 0 where
   scope : List ℕ
   full : outline.full_name ≡ qualified scope (part_of text outline.heading.name)
 
-simple_name-push : (path : List DeclarationStep) (step : DeclarationStep) → simple_name (path ++ step ∷ []) ≡ step.name
+pub simple_name-push : (path : List DeclarationStep) (step : DeclarationStep) → simple_name (path ++ step ∷ []) ≡ step.name
 simple_name-push [] step = refl
 simple_name-push (first ∷ []) step = refl
 simple_name-push (first ∷ (next ∷ others)) step = simple_name-push (next ∷ others) step

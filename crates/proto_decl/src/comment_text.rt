@@ -31,7 +31,7 @@ fn without_first_space(text: &str) -> &str
 }
 
 /// The text of a comment.
-pub(crate) fn text_of<'a>(lexed: &Tokens<'a>, comment: Comment) -> &'a str
+pub(crate) fn text_of<'t>(lexed: &Tokens<'_, 't>, comment: Comment) -> &'t str
     requires { StandsIn lexed.now comment }
     ensures { result.now ≡ text_of lexed.now comment }
 {

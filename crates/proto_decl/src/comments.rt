@@ -14,13 +14,15 @@ use crate::comment_text::text_of;
 use crate::layout::{
     comments_above, comments_begun, is_first_on_line, is_none_between, stands_alone,
 };
+use crate::lines::is_on_later_line;
+use lent_texts::{KeptText, LentText};
 use proto_lex::{Comment, Span, Tokens};
 use sequences::OwnedText;
 use std::alloc::{AllocError, Global};
 
 /// Whether the comment at this span can lead what begins on a line: it stands alone, and ends on
 /// the line before, or further on.
-fn leads(lexed: &Tokens<'_>, comment: Span, next_line: usize) -> bool
+fn leads(lexed: &Tokens<'_, '_>, comment: Span, next_line: usize) -> bool
     requires some { comment.start ≤ comment.end }
     requires apart { All (λ t. AreApart t.span comment) lexed.now.tokens }
     ensures { IsTrue result
@@ -32,13 +34,15 @@ fn leads(lexed: &Tokens<'_>, comment: Span, next_line: usize) -> bool
     stands_alone(lexed, comment)
 }
 
-/// The longest list of comments that lead what begins on a line.
-fn leading_comments<'a>(lexed: &'a Tokens<'_>, line: usize) -> &'a [Comment]
-    ensures longest { spec.AreLongestLeading lexed.now line result.now }
+/// The longest list of comments that lead what begins on the line of an offset.
+fn leading_comments<'a>(lexed: &'a Tokens<'_, '_>, offset: usize) -> &'a [Comment]
+    ensures longest { spec.AreLongestLeading lexed.now (line_of lexed.now.text offset) result.now }
     ensures stand { All (spec.StandsIn lexed.now) result.now }
 {
+    let text = lexed.text();
+    let line = text.line(offset);
     let comments = lexed.comments();
-    let end = comments_above(lexed, line);
+    let end = comments_above(lexed, offset);
     let mut start = end;
     let mut next_line = line;
     while start > 0 {
@@ -46,7 +50,7 @@ fn leading_comments<'a>(lexed: &'a Tokens<'_>, line: usize) -> &'a [Comment]
         if !leads(lexed, comment, next_line) {
             return &comments[start..end];
         }
-        next_line = lexed.text().line(comment.start);
+        next_line = text.line(comment.start);
         start -= 1;
     }
     &comments[..end]
@@ -64,7 +68,7 @@ fn push_line(joined: &mut String, text: &str) -> Result<(), AllocError>
 /// The texts of a comment and of others behind it, a line each.
 fn joined_texts(
     alloc: Global,
-    lexed: &Tokens<'_>,
+    lexed: &Tokens<'_, '_>,
     first: Comment,
     others: &[Comment],
 ) -> Result<OwnedText, AllocError>
@@ -80,49 +84,53 @@ fn joined_texts(
 }
 
 /// The texts of comments, a line each.
-fn texts_of(
+fn texts_of<'t>(
     alloc: Global,
-    lexed: &Tokens<'_>,
+    lexed: &Tokens<'_, 't>,
     comments: &[Comment],
-) -> Result<OwnedText, AllocError>
+) -> Result<KeptText<'t>, AllocError>
     requires { All (spec.StandsIn lexed.now) comments.now }
     ensures { IfOk result (λ text. text ≡ join_with_byte ascii.line_feed (map (spec.text_of lexed.now) comments.now)) }
 {
     match comments {
-        [] => Ok(OwnedText::new(alloc)),
-        [first, others @ ..] => joined_texts(alloc, lexed, *first, others),
+        [] => Ok(KeptText::lent("")),
+        [comment] => Ok(KeptText::lent(text_of(lexed, *comment))),
+        [first, others @ ..] => {
+            let joined = joined_texts(alloc, lexed, *first, others)?;
+            Ok(KeptText::owned(joined))
+        }
     }
 }
 
 /// The leading text of a declaration with this first token.
-pub(crate) fn leading_text(
+pub(crate) fn leading_text<'t>(
     alloc: Global,
-    lexed: &Tokens<'_>,
+    lexed: &Tokens<'_, 't>,
     first: Span,
-) -> Result<OwnedText, AllocError>
+) -> Result<KeptText<'t>, AllocError>
     ensures { IfOk result (λ text. spec.IsLeadingText lexed.now first text) }
 {
     if !is_first_on_line(lexed, first) {
-        return Ok(OwnedText::new(alloc));
+        return Ok(KeptText::lent(""));
     }
-    let line = lexed.text().line(first.start);
-    texts_of(alloc, lexed, leading_comments(lexed, line))
+    texts_of(alloc, lexed, leading_comments(lexed, first.start))
 }
 
-/// Whether the comment at this span begins on the line on which another span ends, with no token
-/// between.
-fn follows(lexed: &Tokens<'_>, comment: Span, closing: Span) -> bool
+/// Whether the comment at this span, which begins behind another span, does so on the line on which that one
+/// ends, with no token between.
+fn follows(lexed: &Tokens<'_, '_>, comment: Span, closing: Span) -> bool
+    requires { closing.end ≤ comment.start }
     ensures { IsTrue result ↔ (line_of lexed.now.text comment.start ≡ line_of lexed.now.text closing.end)
         × NoneBetween lexed.now.tokens closing.end comment.start }
 {
-    if lexed.text().line(comment.start) != lexed.text().line(closing.end) {
+    if is_on_later_line(lexed, closing.end, comment.start) {
         return false;
     }
     is_none_between(lexed, closing.end, comment.start)
 }
 
 /// The comment that trails a declaration with this closing token.
-fn trailing_comment(lexed: &Tokens<'_>, closing: Span) -> Option<Comment>
+fn trailing_comment(lexed: &Tokens<'_, '_>, closing: Span) -> Option<Comment>
     ensures found { MatchOption result ((comment : Comment) → spec.IsTrailing lexed.now closing comment → ⊥)
         (spec.IsTrailing lexed.now closing) }
     ensures stands { IfSome result (spec.StandsIn lexed.now) }
@@ -140,15 +148,11 @@ fn trailing_comment(lexed: &Tokens<'_>, closing: Span) -> Option<Comment>
 }
 
 /// The trailing text of a declaration with this closing token.
-pub(crate) fn trailing_text(
-    alloc: Global,
-    lexed: &Tokens<'_>,
-    closing: Span,
-) -> Result<OwnedText, AllocError>
-    ensures { IfOk result (λ text. spec.IsTrailingText lexed.now closing text) }
+pub(crate) fn trailing_text<'t>(lexed: &Tokens<'_, 't>, closing: Span) -> LentText<'t>
+    ensures { spec.IsTrailingText lexed.now closing result }
 {
     match trailing_comment(lexed, closing) {
-        Some(comment) => OwnedText::copy_of(alloc, text_of(lexed, comment)),
-        None => Ok(OwnedText::new(alloc)),
+        Some(comment) => LentText::new(text_of(lexed, comment)),
+        None => LentText::new(""),
     }
 }

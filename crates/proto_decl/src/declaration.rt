@@ -4,21 +4,23 @@ ghost use Rattle.std.specs.Prelude.{◌≡◌};
 ghost use Rattle.proto_decl.specs.Declares.{simple_name};
 
 use crate::kind::DeclarationKind;
+use crate::path::DeclarationPath;
 use crate::view::DeclView;
+use lent_texts::{KeptText, LentText};
 use proto_lex::Span;
 use proto_parse::Heading;
-use sequences::{OwnedText, Sequence};
+use sequences::OwnedText;
 
 /// A step of the path to a declaration: a declaration's kind and its simple name.
 #[derive(Debug, Drop)]
-pub struct DeclarationStep {
+pub struct DeclarationStep<'t> {
     pub kind: DeclarationKind,
-    pub name: OwnedText,
+    pub name: LentText<'t>,
 }
 
 /// A declaration of a file.
 #[derive(Debug, Drop)]
-pub struct Declaration {
+pub struct Declaration<'t> {
     pub kind: DeclarationKind,
     /// The full name of its scope, a dot and its simple name. An enum's value has its enum's scope,
     /// and a oneof's field that of the message around the oneof.
@@ -26,27 +28,24 @@ pub struct Declaration {
     /// The path from the package to the declaration, outermost first: the messages or the service
     /// around it, for a value its enum, and last the declaration itself. A oneof stands in no path
     /// but its own.
-    pub path: Sequence<DeclarationStep>,
+    pub path: DeclarationPath<'t>,
     /// Where its simple name stands.
     pub name: Span,
     /// The texts of the comments that stand directly before it, joined by `\n`.
-    pub leading: OwnedText,
+    pub leading: KeptText<'t>,
     /// The text of the comment that follows it on its line.
-    pub trailing: OwnedText,
+    pub trailing: LentText<'t>,
 }
 
 /// The simple name of what a path leads to.
-fn simple_name(path: &[DeclarationStep]) -> &str
+fn simple_name<'t>(path: &DeclarationPath<'t>) -> &'t str
     ensures { result.now ≡ simple_name path.now }
 {
-    match path {
-        [] => "",
-        [step] => step.name.as_str(),
-        [_, others @ ..] => simple_name(others),
-    }
+    let (_outer, last) = path.parts();
+    last.name.as_str()
 }
 
-impl Declaration {
+impl<'t> Declaration<'t> {
     /// What a callback sees of it. Takes no memory.
     pub fn view(&self) -> DeclView<'_>
         ensures { result ≡ record {
@@ -59,7 +58,7 @@ impl Declaration {
     {
         DeclView::new(
             self.kind,
-            simple_name(self.path.as_slice()),
+            simple_name(&self.path),
             self.full_name.as_str(),
             self.leading.as_str(),
             self.trailing.as_str(),
@@ -69,9 +68,9 @@ impl Declaration {
 
 /// A declaration before its comments are looked for.
 #[derive(Debug, Drop)]
-pub(crate) struct Outline {
+pub(crate) struct Outline<'t> {
     pub(crate) kind: DeclarationKind,
     pub(crate) full_name: OwnedText,
-    pub(crate) path: Sequence<DeclarationStep>,
+    pub(crate) path: DeclarationPath<'t>,
     pub(crate) heading: Heading,
 }

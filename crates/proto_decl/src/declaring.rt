@@ -1,12 +1,13 @@
 //! From tokens and their tree to a file's facts.
 
-ghost use Rattle.std.specs.Prelude.{All, IfOk};
-ghost use Rattle.std.specs.List.{AllZip};
+ghost use Rattle.std.specs.Prelude.{All, IfOk, []};
+ghost use Rattle.std.specs.List.{AllZip, flat_map};
 ghost use Rattle.proto_lex.specs.Lexed.{IsPart, IsLexed};
 ghost use Rattle.proto_parse.specs.Derives.{Derives};
 ghost use Rattle.proto_parse.specs.tree.CustomOptions.{CustomOptions};
 ghost use Rattle.proto_decl.specs.Spans.{OfItem, OfPackage};
 ghost use Rattle.proto_decl.specs.Imports.{IsLiteral};
+ghost use Rattle.proto_decl.specs.Outlines.{in_item};
 ghost use Rattle.proto_decl.specs.Declares.{IsDeclaration};
 ghost use Rattle.proto_decl.specs.Facts.{AreFactsOf};
 
@@ -16,15 +17,16 @@ use crate::facts::FileFacts;
 use crate::imports::imports_of;
 use crate::outlines::outlines_of;
 use crate::package::{package_scope, package_spans};
+use crate::path::SharedSteps;
 use crate::surrounding::Surrounding;
 use crate::type_uses::{components_at, uses_of};
 use proto_lex::Tokens;
-use proto_parse::{File, spans_of_tokens};
-use sequences::Sequence;
+use proto_parse::{File, FileItem, spans_of_tokens};
+use sequences::{OwnedText, Sequence};
 use std::alloc::{AllocError, Global};
 
 /// What is known of tokens and comments.
-fn are_lexed(lexed: &Tokens<'_>)
+fn are_lexed(lexed: &Tokens<'_, '_>)
     ensures { IsLexed lexed.now.text lexed.now.tokens lexed.now.comments }
 {
     lexed.tokens();
@@ -32,7 +34,7 @@ fn are_lexed(lexed: &Tokens<'_>)
 }
 
 /// What is known of the spans of a tree that these tokens derive.
-fn spans_of_tree(lexed: &Tokens<'_>, file: &File)
+fn spans_of_tree(lexed: &Tokens<'_, '_>, file: &File)
     requires { (custom : CustomOptions) × Derives custom lexed.now.text lexed.now.tokens file.now }
     ensures package_name { OfPackage (IsPart lexed.now.text) file.now.package_name }
     ensures imports { All (λ import. All (IsLiteral lexed.now.text) import.literals) file.now.imports }
@@ -43,15 +45,15 @@ fn spans_of_tree(lexed: &Tokens<'_>, file: &File)
 }
 
 /// A declaration with the comments that document it.
-fn documented(
+fn documented<'t>(
     alloc: Global,
-    lexed: &Tokens<'_>,
-    outline: Outline,
-) -> Result<Declaration, AllocError>
-    ensures { IfOk result (IsDeclaration lexed.now outline) }
+    lexed: &Tokens<'_, 't>,
+    outline: Outline<'t>,
+) -> Result<Declaration<'t>, AllocError>
+    ensures { IfOk result (IsDeclaration lexed.now outline.entry) }
 {
     let leading = leading_text(alloc, lexed, outline.heading.first)?;
-    let trailing = trailing_text(alloc, lexed, outline.heading.closing)?;
+    let trailing = trailing_text(lexed, outline.heading.closing);
     Ok(Declaration {
         kind: outline.kind,
         full_name: outline.full_name,
@@ -63,31 +65,50 @@ fn documented(
 }
 
 /// Declarations with the comments that document them.
-fn all_documented(
+fn all_documented<'t>(
     alloc: Global,
-    lexed: &Tokens<'_>,
-    outlines: Vec<Outline>,
-) -> Result<Sequence<Declaration>, AllocError>
-    ensures { IfOk result (AllZip (IsDeclaration lexed.now) outlines.items) }
+    lexed: &Tokens<'_, 't>,
+    outlines: Vec<Outline<'t>>,
+) -> Result<Sequence<Declaration<'t>>, AllocError>
+    ensures { IfOk result (AllZip (IsDeclaration lexed.now) outlines.entry.items) }
 {
-    let mut declarations = Vec::new(alloc);
+    let mut declarations = Vec::with_capacity(alloc, outlines.len())?;
     for outline in outlines {
         declarations.push(documented(alloc, lexed, outline)?)?;
     }
     Ok(Sequence::from_vec(declarations))
 }
 
+/// The declarations of a file's items, in the scope of the file's package.
+fn declarations_of<'t>(
+    alloc: Global,
+    lexed: &Tokens<'_, 't>,
+    scope: OwnedText,
+    items: &[FileItem],
+) -> Result<Sequence<Declaration<'t>>, AllocError>
+    requires { All (OfItem (IsPart lexed.now.text)) items.now }
+    ensures { IfOk result (AllZip (IsDeclaration lexed.now)
+        (flat_map (in_item lexed.now.text (record { scope = scope; path = [] })) items.now)) }
+{
+    let surrounding = Surrounding {
+        scope,
+        path: SharedSteps::new(alloc, Sequence::new(alloc))?,
+    };
+    let outlines = outlines_of(alloc, lexed.text().as_str(), &surrounding, items)?;
+    all_documented(alloc, lexed, outlines)
+}
+
 /// The facts of the file with this number, whose tree these tokens derive by either choice of what
 /// is done with custom options.
 ///
-/// The tree must be that of these tokens: its spans are read off their text. It is refused only for
-/// want of memory.
-pub fn declare(
+/// The tree must be that of these tokens: its spans are read off their text, of which the names of the
+/// facts are parts. It is refused only for want of memory.
+pub fn declare<'t>(
     alloc: Global,
     number: usize,
-    lexed: &Tokens<'_>,
+    lexed: &Tokens<'_, 't>,
     file: &File,
-) -> Result<FileFacts, AllocError>
+) -> Result<FileFacts<'t>, AllocError>
     requires { (custom : CustomOptions) × Derives custom lexed.now.text lexed.now.tokens file.now }
     ensures { IfOk result (AreFactsOf number lexed.now file.now) }
 {
@@ -98,12 +119,7 @@ pub fn declare(
     let package_name = package_spans(file);
     let scope = package_scope(alloc, text, package_name)?;
     let uses = uses_of(alloc, text, scope.as_str(), items)?;
-    let surrounding = Surrounding {
-        scope,
-        path: Sequence::new(alloc),
-    };
-    let outlines = outlines_of(alloc, text, &surrounding, items)?;
-    let declarations = all_documented(alloc, lexed, outlines)?;
+    let declarations = declarations_of(alloc, lexed, scope, items)?;
     let imports = imports_of(alloc, text, file.imports.as_slice())?;
     let package_name = components_at(alloc, text, package_name)?;
     Ok(FileFacts::new(number, package_name, imports, declarations, uses))

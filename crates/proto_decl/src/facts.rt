@@ -9,20 +9,21 @@ use crate::type_use::{Component, Use};
 use sequences::Sequence;
 use std::marker::Model;
 
-/// What a file declares, uses and imports, which is all that is linked, named and written of it.
+/// What a file declares, uses and imports, which is all that is linked, named and written of it. Its names
+/// are parts of the file's text.
 ///
 /// Contracts see its number and the lists of the rest, and that these are the facts of some file:
 /// what is law of a file's facts (`facts_in_order`, `facts_are_filled`) holds of every value.
 #[derive(Debug, Drop)]
-pub struct FileFacts {
+pub struct FileFacts<'t> {
     number: usize,
-    package_name: Sequence<Component>,
-    imports: Sequence<Imported>,
-    declarations: Sequence<Declaration>,
-    uses: Sequence<Use>,
+    package_name: Sequence<Component<'t>>,
+    imports: Sequence<Imported<'t>>,
+    declarations: Sequence<Declaration<'t>>,
+    uses: Sequence<Use<'t>>,
 }
 
-impl Model for FileFacts {
+impl<'t> Model for FileFacts<'t> {
     ghost use Rattle.proto_decl.specs.Facts.{Facts, AreOfSomeFile};
 
     ghost Value = { Facts };
@@ -45,15 +46,15 @@ impl Model for FileFacts {
         }) };
 }
 
-impl FileFacts {
+impl<'t> FileFacts<'t> {
     /// The facts of some file, of these parts. Takes no memory.
     pub(crate) fn new(
         number: usize,
-        package_name: Sequence<Component>,
-        imports: Sequence<Imported>,
-        declarations: Sequence<Declaration>,
-        uses: Sequence<Use>,
-    ) -> FileFacts
+        package_name: Sequence<Component<'t>>,
+        imports: Sequence<Imported<'t>>,
+        declarations: Sequence<Declaration<'t>>,
+        uses: Sequence<Use<'t>>,
+    ) -> FileFacts<'t>
         requires { AreOfSomeFile (record {
           number = number;
           package_name = package_name;
@@ -63,10 +64,10 @@ impl FileFacts {
         }) }
         ensures { result ≡ record {
           number = number;
-          package_name = package_name;
-          imports = imports;
-          declarations = declarations;
-          uses = uses;
+          package_name = package_name.entry;
+          imports = imports.entry;
+          declarations = declarations.entry;
+          uses = uses.entry;
         } }
     {
         FileFacts {
@@ -93,28 +94,28 @@ impl FileFacts {
     }
 
     /// The components of the package's name, in order; none where the file has no package.
-    pub fn package_name(&self) -> &[Component]
+    pub fn package_name(&self) -> &[Component<'t>]
         ensures { result.now ≡ self.now.package_name }
     {
         self.package_name.as_slice()
     }
 
     /// The imports, in order of place.
-    pub fn imports(&self) -> &[Imported]
+    pub fn imports(&self) -> &[Imported<'t>]
         ensures { result.now ≡ self.now.imports }
     {
         self.imports.as_slice()
     }
 
     /// The declarations, in order of their names' places.
-    pub fn declarations(&self) -> &[Declaration]
+    pub fn declarations(&self) -> &[Declaration<'t>]
         ensures { result.now ≡ self.now.declarations }
     {
         self.declarations.as_slice()
     }
 
     /// The uses of types, in order of place.
-    pub fn uses(&self) -> &[Use]
+    pub fn uses(&self) -> &[Use<'t>]
         ensures { result.now ≡ self.now.uses }
     {
         self.uses.as_slice()

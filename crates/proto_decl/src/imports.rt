@@ -7,6 +7,7 @@ ghost use Rattle.proto_decl.specs.Imports as spec;
 
 use crate::imported::Imported;
 use crate::names::spelling_at;
+use lent_texts::KeptText;
 use proto_lex::Span;
 use proto_parse::Import;
 use sequences::{OwnedText, Sequence};
@@ -64,29 +65,44 @@ fn joined_literals(alloc: Global, text: &str, literals: &[Span]) -> Result<Owned
     Ok(OwnedText::from_string(path))
 }
 
+/// The path that string literals spell: one of them has it whole.
+fn path_of<'t>(alloc: Global, text: &'t str, literals: &[Span]) -> Result<KeptText<'t>, AllocError>
+    requires { All (spec.IsLiteral text.now) literals.now }
+    ensures { IfOk result (λ path. path ≡ spec.joined_literals text.now literals.now) }
+{
+    match literals {
+        [literal] => Ok(KeptText::lent(between_quotes(text, *literal))),
+        _ => Ok(KeptText::owned(joined_literals(alloc, text, literals)?)),
+    }
+}
+
 /// What an import imports.
-fn imported_by(alloc: Global, text: &str, import: &Import) -> Result<Imported, AllocError>
+fn imported_by<'t>(
+    alloc: Global,
+    text: &'t str,
+    import: &Import,
+) -> Result<Imported<'t>, AllocError>
     requires { All (spec.IsLiteral text.now) import.now.literals }
     ensures { IfOk result (λ imported. imported ≡ spec.imported_by text.now import.now) }
 {
     let literals = import.literals.as_slice();
     Ok(Imported {
-        path: joined_literals(alloc, text, literals)?,
+        path: path_of(alloc, text, literals)?,
         kind: import.kind,
         span: whole_span(literals),
     })
 }
 
 /// What imports import, in order.
-pub(crate) fn imports_of(
+pub(crate) fn imports_of<'t>(
     alloc: Global,
-    text: &str,
+    text: &'t str,
     imports: &[Import],
-) -> Result<Sequence<Imported>, AllocError>
+) -> Result<Sequence<Imported<'t>>, AllocError>
     requires { All (λ import. All (spec.IsLiteral text.now) import.literals) imports.now }
     ensures { IfOk result (λ imported. imported ≡ spec.imports_of text.now imports.now) }
 {
-    let mut imported = Vec::new(alloc);
+    let mut imported = Vec::with_capacity(alloc, imports.len())?;
     for import in imports {
         imported.push(imported_by(alloc, text, import)?)?;
     }

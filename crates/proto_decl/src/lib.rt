@@ -12,9 +12,11 @@ mod imports;
 mod kind;
 mod laws;
 mod layout;
+mod lines;
 mod names;
 mod outlines;
 mod package;
+mod path;
 mod scopes;
 mod surrounding;
 mod type_use;
@@ -31,6 +33,7 @@ pub use laws::{
     facts_are_filled, facts_in_order, facts_stand_apart, facts_stand_in_text, names_are_spelled,
     one_comment_text, one_list_of_facts, prefixes_are_entities, scopes_are_known, scopes_nest,
 };
+pub use path::DeclarationPath;
 pub use scopes::scope_around;
 pub use type_use::{Component, Use};
 pub use view::DeclView;

@@ -23,7 +23,9 @@ pub(crate) fn qualified(alloc: Global, scope: &str, name: &str) -> Result<OwnedT
     if scope.is_empty() {
         return OwnedText::copy_of(alloc, name);
     }
-    let mut full = String::from_str(alloc, scope)?;
+    let length = scope.len().saturating_add(name.len()).saturating_add(1);
+    let mut full = String::with_capacity(alloc, length)?;
+    full.push_str(scope)?;
     full.push_str(".")?;
     full.push_str(name)?;
     Ok(OwnedText::from_string(full))

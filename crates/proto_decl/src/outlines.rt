@@ -17,13 +17,13 @@ use proto_parse::{
 use std::alloc::{AllocError, Global};
 
 /// The outline of a declaration with this heading.
-fn outline_at(
+fn outline_at<'t>(
     alloc: Global,
-    text: &str,
-    surrounding: &Surrounding,
+    text: &'t str,
+    surrounding: &Surrounding<'t>,
     kind: DeclarationKind,
     heading: Heading,
-) -> Result<Outline, AllocError>
+) -> Result<Outline<'t>, AllocError>
     requires { OfHeading (IsPart text.now) heading }
     ensures { IfOk result (λ outline. outline ≡ spec.outline_at text.now surrounding.now kind heading) }
 {
@@ -34,18 +34,18 @@ fn outline_at(
             surrounding.scope.as_str(),
             spelling_at(text, heading.name),
         )?,
-        path: path_to(alloc, text, &surrounding.path, kind, heading)?,
+        path: path_to(text, &surrounding.path, kind, heading)?,
         heading,
     })
 }
 
 /// Appends the outlines of an enum and its values.
-fn outline_enum(
+fn outline_enum<'t>(
     alloc: Global,
-    text: &str,
-    surrounding: &Surrounding,
+    text: &'t str,
+    surrounding: &Surrounding<'t>,
     declared: &Enum,
-    outlines: &mut Vec<Outline>,
+    outlines: &mut Vec<Outline<'t>>,
 ) -> Result<(), AllocError>
     requires { OfEnum (IsPart text.now) declared.now }
     ensures { OnOk result (outlines.new.items
@@ -58,12 +58,12 @@ fn outline_enum(
 }
 
 /// Appends the outlines of an enum's values.
-fn outline_values(
+fn outline_values<'t>(
     alloc: Global,
-    text: &str,
-    surrounding: &Surrounding,
+    text: &'t str,
+    surrounding: &Surrounding<'t>,
     values: &[Heading],
-    outlines: &mut Vec<Outline>,
+    outlines: &mut Vec<Outline<'t>>,
 ) -> Result<(), AllocError>
     requires { All (OfHeading (IsPart text.now)) values.now }
     ensures { OnOk result (outlines.new.items
@@ -76,12 +76,12 @@ fn outline_values(
 }
 
 /// Appends the outlines of fields.
-fn outline_fields(
+fn outline_fields<'t>(
     alloc: Global,
-    text: &str,
-    surrounding: &Surrounding,
+    text: &'t str,
+    surrounding: &Surrounding<'t>,
     fields: &[Field],
-    outlines: &mut Vec<Outline>,
+    outlines: &mut Vec<Outline<'t>>,
 ) -> Result<(), AllocError>
     requires { All (OfField (IsPart text.now)) fields.now }
     ensures { OnOk result (outlines.new.items
@@ -100,12 +100,12 @@ fn outline_fields(
 }
 
 /// Appends the outlines of methods.
-fn outline_methods(
+fn outline_methods<'t>(
     alloc: Global,
-    text: &str,
-    surrounding: &Surrounding,
+    text: &'t str,
+    surrounding: &Surrounding<'t>,
     methods: &[Method],
-    outlines: &mut Vec<Outline>,
+    outlines: &mut Vec<Outline<'t>>,
 ) -> Result<(), AllocError>
     requires { All (OfMethod (IsPart text.now)) methods.now }
     ensures { OnOk result (outlines.new.items
@@ -124,12 +124,12 @@ fn outline_methods(
 }
 
 /// Appends the outlines of a oneof and its fields.
-fn outline_oneof(
+fn outline_oneof<'t>(
     alloc: Global,
-    text: &str,
-    surrounding: &Surrounding,
+    text: &'t str,
+    surrounding: &Surrounding<'t>,
     declared: &Oneof,
-    outlines: &mut Vec<Outline>,
+    outlines: &mut Vec<Outline<'t>>,
 ) -> Result<(), AllocError>
     requires { OfOneof (IsPart text.now) declared.now }
     ensures { OnOk result (outlines.new.items
@@ -152,12 +152,12 @@ fn outline_oneof(
 }
 
 /// Appends the outlines of a service and its methods.
-fn outline_service(
+fn outline_service<'t>(
     alloc: Global,
-    text: &str,
-    surrounding: &Surrounding,
+    text: &'t str,
+    surrounding: &Surrounding<'t>,
     declared: &Service,
-    outlines: &mut Vec<Outline>,
+    outlines: &mut Vec<Outline<'t>>,
 ) -> Result<(), AllocError>
     requires { OfService (IsPart text.now) declared.now }
     ensures { OnOk result (outlines.new.items
@@ -170,12 +170,12 @@ fn outline_service(
 }
 
 /// Appends the outlines of what stands in a message, other than a message.
-fn outline_leaf(
+fn outline_leaf<'t>(
     alloc: Global,
-    text: &str,
-    surrounding: &Surrounding,
+    text: &'t str,
+    surrounding: &Surrounding<'t>,
     leaf: &Leaf,
-    outlines: &mut Vec<Outline>,
+    outlines: &mut Vec<Outline<'t>>,
 ) -> Result<(), AllocError>
     requires { OfLeaf (IsPart text.now) leaf.now }
     ensures { OnOk result (outlines.new.items ≡ outlines.old.items ++ spec.in_leaf text.now surrounding.now leaf.now) }
@@ -191,12 +191,12 @@ fn outline_leaf(
 }
 
 /// Appends the outlines of a message and of what stands in it.
-fn outline_message(
+fn outline_message<'t>(
     alloc: Global,
-    text: &str,
-    surrounding: &Surrounding,
+    text: &'t str,
+    surrounding: &Surrounding<'t>,
     message: &Message,
-    outlines: &mut Vec<Outline>,
+    outlines: &mut Vec<Outline<'t>>,
 ) -> Result<(), AllocError>
     requires { OfMessage (IsPart text.now) message.now }
     ensures { OnOk result (outlines.new.items
@@ -219,12 +219,12 @@ fn outline_message(
 }
 
 /// Appends the outlines of what stands in a file.
-fn outline_item(
+fn outline_item<'t>(
     alloc: Global,
-    text: &str,
-    surrounding: &Surrounding,
+    text: &'t str,
+    surrounding: &Surrounding<'t>,
     item: &FileItem,
-    outlines: &mut Vec<Outline>,
+    outlines: &mut Vec<Outline<'t>>,
 ) -> Result<(), AllocError>
     requires { OfItem (IsPart text.now) item.now }
     ensures { OnOk result (outlines.new.items ≡ outlines.old.items ++ spec.in_item text.now surrounding.now item.now) }
@@ -237,12 +237,12 @@ fn outline_item(
 }
 
 /// The outlines of a file's items, which stand at a surrounding.
-pub(crate) fn outlines_of(
+pub(crate) fn outlines_of<'t>(
     alloc: Global,
-    text: &str,
-    surrounding: &Surrounding,
+    text: &'t str,
+    surrounding: &Surrounding<'t>,
     items: &[FileItem],
-) -> Result<Vec<Outline>, AllocError>
+) -> Result<Vec<Outline<'t>>, AllocError>
     requires { All (OfItem (IsPart text.now)) items.now }
     ensures { IfOk result (λ outlines. outlines.items ≡ flat_map (spec.in_item text.now surrounding.now) items.now) }
 {

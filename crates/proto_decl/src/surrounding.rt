@@ -7,60 +7,87 @@ ghost use Rattle.proto_decl.specs.Outlines.{step_to, inside, beside};
 use crate::declaration::DeclarationStep;
 use crate::kind::DeclarationKind;
 use crate::names::{qualified, spelling_at};
+use crate::path::{DeclarationPath, SharedSteps};
+use lent_texts::LentText;
 use proto_parse::Heading;
 use sequences::{OwnedText, Sequence};
 use std::alloc::{AllocError, Global};
 
 /// What stands around a declaration.
 #[derive(Debug, Drop)]
-pub(crate) struct Surrounding {
+pub(crate) struct Surrounding<'t> {
     /// The full name of the scope; the root's is empty.
     pub(crate) scope: OwnedText,
     /// The path to what the declaration stands in.
-    pub(crate) path: Sequence<DeclarationStep>,
+    pub(crate) path: SharedSteps<'t>,
 }
 
-/// A copy of a path.
-fn copy_path(alloc: Global, path: &[DeclarationStep]) -> Result<Vec<DeclarationStep>, AllocError>
+/// A copy of a path, with room for one step more.
+fn copy_path<'t>(
+    alloc: Global,
+    path: &[DeclarationStep<'t>],
+) -> Result<Vec<DeclarationStep<'t>>, AllocError>
     ensures { IfOk result (λ copy. copy.items ≡ path.now) }
 {
-    let mut copy = Vec::new(alloc);
+    let mut copy = Vec::with_capacity(alloc, path.len().saturating_add(1))?;
     for step in path {
         copy.push(DeclarationStep {
             kind: step.kind,
-            name: OwnedText::copy_of(alloc, step.name.as_str())?,
+            name: LentText::new(step.name.as_str()),
         })?;
     }
     Ok(copy)
 }
 
-/// The path, and the declaration with this heading behind it.
-pub(crate) fn path_to(
-    alloc: Global,
-    text: &str,
-    path: &Sequence<DeclarationStep>,
+/// The step to the declaration with this heading.
+fn step_to<'t>(text: &'t str, kind: DeclarationKind, heading: Heading) -> DeclarationStep<'t>
+    requires { IsPart text.now heading.name }
+    ensures { result ≡ step_to text.now kind heading }
+{
+    DeclarationStep {
+        kind,
+        name: LentText::new(spelling_at(text, heading.name)),
+    }
+}
+
+/// The path to the declaration with this heading.
+pub(crate) fn path_to<'t>(
+    text: &'t str,
+    path: &SharedSteps<'t>,
     kind: DeclarationKind,
     heading: Heading,
-) -> Result<Sequence<DeclarationStep>, AllocError>
+) -> Result<DeclarationPath<'t>, AllocError>
+    requires { IsPart text.now heading.name }
+    ensures { IfOk result (λ longer. longer ≡ path.now ++ step_to text.now kind heading ∷ []) }
+{
+    let last = step_to(text, kind, heading);
+    Ok(DeclarationPath::new(path.share()?, last))
+}
+
+/// The steps to what stands in the declaration with this heading.
+fn steps_through<'t>(
+    alloc: Global,
+    text: &'t str,
+    path: &SharedSteps<'t>,
+    kind: DeclarationKind,
+    heading: Heading,
+) -> Result<SharedSteps<'t>, AllocError>
     requires { IsPart text.now heading.name }
     ensures { IfOk result (λ longer. longer ≡ path.now ++ step_to text.now kind heading ∷ []) }
 {
     let mut longer = copy_path(alloc, path.as_slice())?;
-    longer.push(DeclarationStep {
-        kind,
-        name: OwnedText::copy_of(alloc, spelling_at(text, heading.name))?,
-    })?;
-    Ok(Sequence::from_vec(longer))
+    longer.push(step_to(text, kind, heading))?;
+    SharedSteps::new(alloc, Sequence::from_vec(longer))
 }
 
 /// The surrounding of what stands in a message or a service with this heading.
-pub(crate) fn inside(
+pub(crate) fn inside<'t>(
     alloc: Global,
-    text: &str,
-    surrounding: &Surrounding,
+    text: &'t str,
+    surrounding: &Surrounding<'t>,
     kind: DeclarationKind,
     heading: Heading,
-) -> Result<Surrounding, AllocError>
+) -> Result<Surrounding<'t>, AllocError>
     requires { IsPart text.now heading.name }
     ensures { IfOk result (λ inner. inner ≡ inside text.now surrounding.now kind heading) }
 {
@@ -70,23 +97,23 @@ pub(crate) fn inside(
             surrounding.scope.as_str(),
             spelling_at(text, heading.name),
         )?,
-        path: path_to(alloc, text, &surrounding.path, kind, heading)?,
+        path: steps_through(alloc, text, &surrounding.path, kind, heading)?,
     })
 }
 
 /// The surrounding of the values of an enum with this heading.
-pub(crate) fn beside(
+pub(crate) fn beside<'t>(
     alloc: Global,
-    text: &str,
-    surrounding: &Surrounding,
+    text: &'t str,
+    surrounding: &Surrounding<'t>,
     kind: DeclarationKind,
     heading: Heading,
-) -> Result<Surrounding, AllocError>
+) -> Result<Surrounding<'t>, AllocError>
     requires { IsPart text.now heading.name }
     ensures { IfOk result (λ inner. inner ≡ beside text.now surrounding.now kind heading) }
 {
     Ok(Surrounding {
         scope: OwnedText::copy_of(alloc, surrounding.scope.as_str())?,
-        path: path_to(alloc, text, &surrounding.path, kind, heading)?,
+        path: steps_through(alloc, text, &surrounding.path, kind, heading)?,
     })
 }

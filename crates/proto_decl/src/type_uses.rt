@@ -10,6 +10,7 @@ ghost use Rattle.proto_decl.specs.Uses as spec;
 use crate::imports::{end_of, start_of};
 use crate::names::{qualified, spelling_at};
 use crate::type_use::{Component, Use};
+use lent_texts::{LentText, SharedText};
 use proto_lex::Span;
 use proto_parse::{
     Field, FieldType, FileItem, Leaf, Message, MessageItem, Method, Service, TypeName,
@@ -18,18 +19,18 @@ use sequences::{OwnedText, Sequence};
 use std::alloc::{AllocError, Global};
 
 /// The components that stand at these spans.
-pub(crate) fn components_at(
+pub(crate) fn components_at<'t>(
     alloc: Global,
-    text: &str,
+    text: &'t str,
     spans: &[Span],
-) -> Result<Sequence<Component>, AllocError>
+) -> Result<Sequence<Component<'t>>, AllocError>
     requires { All (IsPart text.now) spans.now }
     ensures { IfOk result (λ components. components ≡ components_at text.now spans.now) }
 {
-    let mut components = Vec::new(alloc);
+    let mut components = Vec::with_capacity(alloc, spans.len())?;
     for span in spans {
         components.push(Component {
-            name: OwnedText::copy_of(alloc, spelling_at(text, *span))?,
+            name: LentText::new(spelling_at(text, *span)),
             span: *span,
         })?;
     }
@@ -47,7 +48,12 @@ fn name_start(leading_dot: Option<Span>, components: &[Span]) -> usize
 }
 
 /// The use of a type in the scope with this full name.
-fn use_of(alloc: Global, text: &str, scope: &str, name: &TypeName) -> Result<Use, AllocError>
+fn use_of<'t>(
+    alloc: Global,
+    text: &'t str,
+    scope: &SharedText,
+    name: &TypeName,
+) -> Result<Use<'t>, AllocError>
     requires { OfTypeName (IsPart text.now) name.now }
     ensures { IfOk result (λ found. found ≡ spec.use_of text.now scope.now name.now) }
 {
@@ -59,17 +65,17 @@ fn use_of(alloc: Global, text: &str, scope: &str, name: &TypeName) -> Result<Use
             start: name_start(name.leading_dot, components),
             end: end_of(components),
         },
-        scope: OwnedText::copy_of(alloc, scope)?,
+        scope: scope.share()?,
     })
 }
 
 /// Appends the use of a type, where it isn't a scalar one.
-fn use_type(
+fn use_type<'t>(
     alloc: Global,
-    text: &str,
-    scope: &str,
+    text: &'t str,
+    scope: &SharedText,
     field_type: &FieldType,
-    uses: &mut Vec<Use>,
+    uses: &mut Vec<Use<'t>>,
 ) -> Result<(), AllocError>
     requires { OfType (IsPart text.now) field_type.now }
     ensures { OnOk result (uses.new.items ≡ uses.old.items ++ spec.uses_of_type text.now scope.now field_type.now) }
@@ -84,12 +90,12 @@ fn use_type(
 }
 
 /// Appends the uses of a oneof's fields.
-fn use_fields(
+fn use_fields<'t>(
     alloc: Global,
-    text: &str,
-    scope: &str,
+    text: &'t str,
+    scope: &SharedText,
     fields: &[Field],
-    uses: &mut Vec<Use>,
+    uses: &mut Vec<Use<'t>>,
 ) -> Result<(), AllocError>
     requires { All (OfField (IsPart text.now)) fields.now }
     ensures { OnOk result (uses.new.items
@@ -102,12 +108,12 @@ fn use_fields(
 }
 
 /// Appends the uses of methods, of each what it takes, then what it gives.
-fn use_methods(
+fn use_methods<'t>(
     alloc: Global,
-    text: &str,
-    scope: &str,
+    text: &'t str,
+    scope: &SharedText,
     methods: &[Method],
-    uses: &mut Vec<Use>,
+    uses: &mut Vec<Use<'t>>,
 ) -> Result<(), AllocError>
     requires { All (OfMethod (IsPart text.now)) methods.now }
     ensures { OnOk result (uses.new.items
@@ -121,12 +127,12 @@ fn use_methods(
 }
 
 /// Appends the uses of what stands in a message, other than a message.
-fn use_leaf(
+fn use_leaf<'t>(
     alloc: Global,
-    text: &str,
-    scope: &str,
+    text: &'t str,
+    scope: &SharedText,
     leaf: &Leaf,
-    uses: &mut Vec<Use>,
+    uses: &mut Vec<Use<'t>>,
 ) -> Result<(), AllocError>
     requires { OfLeaf (IsPart text.now) leaf.now }
     ensures { OnOk result (uses.new.items ≡ uses.old.items ++ spec.uses_in_leaf text.now scope.now leaf.now) }
@@ -140,18 +146,23 @@ fn use_leaf(
 }
 
 /// Appends the uses in a message that stands in the scope with this full name.
-fn use_message(
+fn use_message<'t>(
     alloc: Global,
-    text: &str,
-    scope: &str,
+    text: &'t str,
+    scope: &SharedText,
     message: &Message,
-    uses: &mut Vec<Use>,
+    uses: &mut Vec<Use<'t>>,
 ) -> Result<(), AllocError>
     requires { OfMessage (IsPart text.now) message.now }
     ensures { OnOk result (uses.new.items ≡ uses.old.items ++ spec.uses_in_message text.now scope.now message.now) }
 {
-    let full_name = qualified(alloc, scope, spelling_at(text, message.heading.name))?;
-    let inner = full_name.as_str();
+    let full_name = qualified(
+        alloc,
+        scope.as_str(),
+        spelling_at(text, message.heading.name),
+    )?;
+    let shared = SharedText::new(alloc, full_name)?;
+    let inner = &shared;
     for item in &message.items {
         match item {
             MessageItem::Message(nested) => {
@@ -166,33 +177,32 @@ fn use_message(
 }
 
 /// Appends the uses of a service's methods.
-fn use_service(
+fn use_service<'t>(
     alloc: Global,
-    text: &str,
-    scope: &str,
+    text: &'t str,
+    scope: &SharedText,
     service: &Service,
-    uses: &mut Vec<Use>,
+    uses: &mut Vec<Use<'t>>,
 ) -> Result<(), AllocError>
     requires { OfService (IsPart text.now) service.now }
     ensures { OnOk result (uses.new.items ≡ uses.old.items ++ spec.uses_in_service text.now scope.now service.now) }
 {
-    let full_name = qualified(alloc, scope, spelling_at(text, service.heading.name))?;
-    use_methods(
+    let full_name = qualified(
         alloc,
-        text,
-        full_name.as_str(),
-        service.methods.as_slice(),
-        uses,
-    )
+        scope.as_str(),
+        spelling_at(text, service.heading.name),
+    )?;
+    let inner = SharedText::new(alloc, full_name)?;
+    use_methods(alloc, text, &inner, service.methods.as_slice(), uses)
 }
 
 /// Appends the uses of what stands in a file.
-fn use_item(
+fn use_item<'t>(
     alloc: Global,
-    text: &str,
-    scope: &str,
+    text: &'t str,
+    scope: &SharedText,
     item: &FileItem,
-    uses: &mut Vec<Use>,
+    uses: &mut Vec<Use<'t>>,
 ) -> Result<(), AllocError>
     requires { OfItem (IsPart text.now) item.now }
     ensures { OnOk result (uses.new.items ≡ uses.old.items ++ spec.uses_in_item text.now scope.now item.now) }
@@ -204,13 +214,13 @@ fn use_item(
     }
 }
 
-/// The uses of a file's items, in the scope of the file's package.
-pub(crate) fn uses_of(
+/// The uses of what stands in a file, in the scope with this full name.
+fn uses_of_items<'t>(
     alloc: Global,
-    text: &str,
-    scope: &str,
+    text: &'t str,
+    scope: &SharedText,
     items: &[FileItem],
-) -> Result<Sequence<Use>, AllocError>
+) -> Result<Sequence<Use<'t>>, AllocError>
     requires { All (OfItem (IsPart text.now)) items.now }
     ensures { IfOk result (λ uses. uses ≡ flat_map (spec.uses_in_item text.now scope.now) items.now) }
 {
@@ -219,4 +229,18 @@ pub(crate) fn uses_of(
         use_item(alloc, text, scope, item, &mut uses)?;
     }
     Ok(Sequence::from_vec(uses))
+}
+
+/// The uses of a file's items, in the scope of the file's package.
+pub(crate) fn uses_of<'t>(
+    alloc: Global,
+    text: &'t str,
+    scope: &str,
+    items: &[FileItem],
+) -> Result<Sequence<Use<'t>>, AllocError>
+    requires { All (OfItem (IsPart text.now)) items.now }
+    ensures { IfOk result (λ uses. uses ≡ flat_map (spec.uses_in_item text.now scope.now) items.now) }
+{
+    let shared = SharedText::new(alloc, OwnedText::copy_of(alloc, scope)?)?;
+    uses_of_items(alloc, text, &shared, items)
 }

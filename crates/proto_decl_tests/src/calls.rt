@@ -13,14 +13,14 @@ fn text_of<'a>(alloc: Global, source: &'a [u8]) -> Result<Text<'a>, LexFault> {
     }
 }
 
-fn tokens_of<'a>(alloc: Global, text: &'a Text<'a>) -> Result<Tokens<'a>, LexFault> {
+fn tokens_of<'a>(alloc: Global, text: &'a Text<'a>) -> Result<Tokens<'a, 'a>, LexFault> {
     match lex(alloc, text) {
         Err(LexFault::Memory) => lex(alloc, text),
         answer => answer,
     }
 }
 
-fn facts_of(alloc: Global, tokens: &Tokens<'_>) -> Option<FileFacts> {
+fn facts_of<'t>(alloc: Global, tokens: &Tokens<'_, 't>) -> Option<FileFacts<'t>> {
     let file = match parse(alloc, tokens) {
         Ok(file) => file,
         Err(SyntaxFault::Memory) => match parse(alloc, tokens) {
@@ -35,7 +35,7 @@ fn facts_of(alloc: Global, tokens: &Tokens<'_>) -> Option<FileFacts> {
     }
 }
 
-fn are_tokens_listed(alloc: Global, tokens: &Tokens<'_>, want: &str) -> bool {
+fn are_tokens_listed(alloc: Global, tokens: &Tokens<'_, '_>, want: &str) -> bool {
     match facts_of(alloc, tokens) {
         Some(facts) => is_listed(alloc, tokens.text().as_str(), &facts, want),
         None => false,

@@ -1,7 +1,9 @@
 //! What files declare, use and import, as texts of a line for each.
 
 use crate::calls::is_source_listed;
-use proto_decl::{Component, Declaration, DeclarationKind, FileFacts, Imported, Use};
+use proto_decl::{
+    Component, Declaration, DeclarationKind, DeclarationStep, FileFacts, Imported, Use,
+};
 use proto_lex::Span;
 use proto_parse::ImportKind;
 use std::alloc::Global;
@@ -72,6 +74,29 @@ const COMMENTS_LISTED: &str = "package
 message A (A): message A; One.\nTwo. tail
 field A.x (x): message A; field x;   unit \n";
 
+/// Comments beside one another, one beside a declaration, and one of more than 256 bytes.
+const BESIDE: &str = "syntax = \"proto3\"; // zero
+/* one */ /* two */
+/* beside */ message A { /* three */ // four
+}
+/* Five:
+0123456789012345678901234567890123456789012345678901234567890123456789
+0123456789012345678901234567890123456789012345678901234567890123456789
+0123456789012345678901234567890123456789012345678901234567890123456789
+0123456789012345678901234567890123456789012345678901234567890123456789
+*/
+message B {}
+";
+
+/// The comments on the line above lead `A`, and so does the long one `B`.
+const BESIDE_LISTED: &str = "package
+message A (A): message A;  one \n two   three \nmessage B (B): message B;  Five:
+0123456789012345678901234567890123456789012345678901234567890123456789
+0123456789012345678901234567890123456789012345678901234567890123456789
+0123456789012345678901234567890123456789012345678901234567890123456789
+0123456789012345678901234567890123456789012345678901234567890123456789
+ \n";
+
 /// Appends a part. One that memory isn't there for is left out, and then the listing is another.
 fn add(text: &mut String, part: &str) {
     let _ = text.push_str(part);
@@ -123,6 +148,13 @@ fn mark_of(kind: DeclarationKind) -> &'static str {
     }
 }
 
+/// Appends a step of a path.
+fn add_step(text: &mut String, step: &DeclarationStep) {
+    add(text, mark_of(step.kind));
+    add(text, step.name.as_str());
+    add(text, "; ");
+}
+
 /// Appends a line for a declaration, with its full name, its name, its path, and
 /// its texts as a callback sees them.
 fn add_declaration(text: &mut String, source: &str, declaration: &Declaration) {
@@ -132,11 +164,11 @@ fn add_declaration(text: &mut String, source: &str, declaration: &Declaration) {
     add(text, " (");
     add_name(text, source, declaration.name, view.name());
     add(text, "): ");
-    for step in declaration.path.as_slice() {
-        add(text, mark_of(step.kind));
-        add(text, step.name.as_str());
-        add(text, "; ");
+    let (outer, last) = declaration.path.parts();
+    for step in outer {
+        add_step(text, step);
     }
+    add_step(text, last);
     add(text, view.leading());
     add(text, " ");
     add(text, view.trailing());
@@ -174,7 +206,11 @@ pub(crate) fn is_listed(alloc: Global, source: &str, facts: &FileFacts, want: &s
 
 #[test]
 fn facts_of_sources(rt: HostRuntime) {
-    for (source, want) in [(EVERY_KIND, LISTED), (COMMENTED, COMMENTS_LISTED)] {
+    for (source, want) in [
+        (EVERY_KIND, LISTED),
+        (COMMENTED, COMMENTS_LISTED),
+        (BESIDE, BESIDE_LISTED),
+    ] {
         assert!(rt; is_source_listed(rt.alloc(), source, want), "{want}");
     }
 }

@@ -126,7 +126,7 @@ fn has_backslash(text: &[u8]) -> bool
 }
 
 /// The offset of the token at a place, or the text's length.
-fn offset_at(tokens: &Tokens<'_>, place: usize) -> usize
+fn offset_at(tokens: &Tokens<'_, '_>, place: usize) -> usize
     ensures { result ≡ option_map_or (λ t. t.span.start) (slice_get tokens.now.tokens place) (length tokens.now.text) }
 {
     match tokens.tokens().get(place) {
@@ -138,7 +138,7 @@ fn offset_at(tokens: &Tokens<'_>, place: usize) -> usize
 /// A place among the tokens of a text. Contracts see the tokens behind it, with their spellings.
 #[derive(Drop)]
 pub struct Parser<'t> {
-    tokens: &'t Tokens<'t>,
+    tokens: &'t Tokens<'t, 't>,
     next: usize,
 }
 
@@ -153,7 +153,7 @@ impl<'t> Model for Parser<'t> {
 
 impl<'t> Parser<'t> {
     /// The place before the first token.
-    pub fn new(tokens: &'t Tokens<'t>) -> Parser<'t>
+    pub fn new(tokens: &'t Tokens<'t, 't>) -> Parser<'t>
         ensures { result ≡ lexemes_of tokens.now.text tokens.now.tokens }
     {
         Parser { tokens, next: 0 }

@@ -86,7 +86,7 @@ fn read_pieces(alloc: Global, bytes: &[u8]) -> Result<Pieces, LexFault>
 /// - `BadNumber`: a number's run that has none of the forms of numbers, with its start.
 ///
 /// `Memory` comes where memory runs out, for any text.
-pub fn lex<'a>(alloc: Global, text: &'a Text<'a>) -> Result<Tokens<'a>, LexFault>
+pub fn lex<'a, 't>(alloc: Global, text: &'a Text<'t>) -> Result<Tokens<'a, 't>, LexFault>
     ensures text { IfOk result (λ found. found.text ≡ text.now) }
     ensures found { IfOk result (λ found. Lexes text.now found.tokens found.comments) }
 

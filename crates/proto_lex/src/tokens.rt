@@ -11,16 +11,16 @@ use std::marker::Model;
 
 /// A text with its tokens and comments, which are the text's only lexing.
 ///
-/// It borrows the text. Contracts see the bytes of the text, the list of tokens and the list of
-/// comments, both in the order in which they stand.
+/// It borrows the text, and what it gives of the text may outlive it. Contracts see the bytes of the
+/// text, the list of tokens and the list of comments, both in the order in which they stand.
 #[derive(Drop)]
-pub struct Tokens<'a> {
-    text: &'a Text<'a>,
+pub struct Tokens<'a, 't> {
+    text: &'a Text<'t>,
     tokens: Vec<Token>,
     comments: Vec<Comment>,
 }
 
-impl<'a> Model for Tokens<'a> {
+impl<'a, 't> Model for Tokens<'a, 't> {
     ghost use Rattle.proto_lex.specs.Lexed.{Lexed, IsLexed};
 
     ghost Value = { Lexed };
@@ -34,9 +34,13 @@ impl<'a> Model for Tokens<'a> {
     ghost invariant = { λ inside. IsLexed inside.text.now inside.tokens.items inside.comments.items };
 }
 
-impl<'a> Tokens<'a> {
+impl<'a, 't> Tokens<'a, 't> {
     /// A text with its only lexing. Takes no memory.
-    pub(crate) fn new(text: &'a Text<'a>, tokens: Vec<Token>, comments: Vec<Comment>) -> Tokens<'a>
+    pub(crate) fn new(
+        text: &'a Text<'t>,
+        tokens: Vec<Token>,
+        comments: Vec<Comment>,
+    ) -> Tokens<'a, 't>
         requires { IsLexed text.now tokens.items comments.items }
         ensures { result ≡ record { text = text.now; tokens = tokens.items; comments = comments.items } }
     {
@@ -48,7 +52,7 @@ impl<'a> Tokens<'a> {
     }
 
     /// The text that was lexed, which gives the positions of what stands in it.
-    pub fn text(&self) -> &'a Text<'a>
+    pub fn text(&self) -> &'a Text<'t>
         ensures { result.now ≡ self.now.text }
     {
         self.text
@@ -82,7 +86,7 @@ impl<'a> Tokens<'a> {
     }
 
     /// The spelling of the token with this index, from 0.
-    pub fn slice(&self, index: usize) -> &'a str
+    pub fn slice(&self, index: usize) -> &'t str
         requires { index < length self.now.tokens }
         ensures part { IfSome (slice_get self.now.tokens index) (λ t. result.now ≡ part_of self.now.text t.span) }
         ensures spelled { IfSome (slice_get self.now.tokens index) (λ t. Spells t.kind result.now) }

@@ -18,7 +18,7 @@ pub(crate) fn text_of(alloc: Global, source: &[u8]) -> Result<Text<'_>, LexFault
 }
 
 /// What `lex` answers for a text. After `Memory` it is called again, and the second answer counts.
-pub(crate) fn tokens_of<'a>(alloc: Global, text: &'a Text<'a>) -> Result<Tokens<'a>, LexFault> {
+pub(crate) fn tokens_of<'a>(alloc: Global, text: &'a Text<'a>) -> Result<Tokens<'a, 'a>, LexFault> {
     match lex(alloc, text) {
         Err(LexFault::Memory) => lex(alloc, text),
         answer => answer,

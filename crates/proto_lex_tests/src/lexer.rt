@@ -68,7 +68,7 @@ const TOKENS: [(TokenKind, &str); 20] = [
 ];
 
 /// The first token that has another kind or spelling; how many there are, where that is another number.
-fn first_misread(found: &Tokens<'_>, want: &[(TokenKind, &str)]) -> Option<usize> {
+fn first_misread(found: &Tokens<'_, '_>, want: &[(TokenKind, &str)]) -> Option<usize> {
     if found.tokens().len() != want.len() {
         return Some(found.tokens().len());
     }

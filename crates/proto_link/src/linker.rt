@@ -20,11 +20,11 @@ use std::marker::Model;
 ///
 /// Contracts see the list of the files.
 #[derive(Drop)]
-pub struct Linker<'a> {
-    namespace: Namespace<'a>,
+pub struct Linker<'a, 't> {
+    namespace: Namespace<'a, 't>,
 }
 
-impl<'a> Model for Linker<'a> {
+impl<'a, 't> Model for Linker<'a, 't> {
     ghost use Rattle.std.specs.Prelude.{List};
     ghost use Rattle.proto_visibility.specs.Files.{File};
 
@@ -33,12 +33,12 @@ impl<'a> Model for Linker<'a> {
     ghost view = { λ linker. linker.namespace };
 }
 
-impl<'a> Linker<'a> {
+impl<'a, 't> Linker<'a, 't> {
     /// Links files, no two of which have one path, by their numbers in the list.
     ///
     /// An included file has an effect only where some source sees it. A weak import counts as a
     /// plain one.
-    pub fn new(alloc: Global, files: &'a [LinkFile<'a>]) -> Result<Linker<'a>, LinkFault>
+    pub fn new(alloc: Global, files: &'a [LinkFile<'a, 't>]) -> Result<Linker<'a, 't>, LinkFault>
         requires { HaveOwnPaths files.now }
         ensures linked { IfOk result (λ linker. linker ≡ files.now) }
         ensures can_be { IfOk result (λ _. CanBeLinked files.now) }
@@ -50,7 +50,10 @@ impl<'a> Linker<'a> {
 
     /// Links the files that are kept of a tree with faults, by their numbers in the list: an import may
     /// name none of them.
-    pub fn of_kept(alloc: Global, files: &'a [LinkFile<'a>]) -> Result<Linker<'a>, AllocError>
+    pub fn of_kept(
+        alloc: Global,
+        files: &'a [LinkFile<'a, 't>],
+    ) -> Result<Linker<'a, 't>, AllocError>
         requires own { HaveOwnPaths files.now }
         requires clear { HaveClearNames files.now }
         ensures { IfOk result (λ linker. linker ≡ files.now) }
@@ -94,7 +97,7 @@ impl<'a> Linker<'a> {
     }
 
     /// The facts of a file, where it has some. Takes no memory.
-    pub fn facts_of(&self, number: usize) -> Option<&FileFacts>
+    pub fn facts_of(&self, number: usize) -> Option<&FileFacts<'t>>
         requires { number < length self.now }
         ensures { MatchOption result ((facts : Facts) → HasFacts self.now number facts → ⊥) (λ facts. HasFacts self.now number facts.now) }
     {

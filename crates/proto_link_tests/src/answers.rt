@@ -178,7 +178,10 @@ pub(crate) fn listing_with_paths(alloc: Global, linker: &Linker) -> Result<Strin
 }
 
 /// What linking answers to files, no two of which have one path.
-pub(crate) fn answer_of<'a>(alloc: Global, files: &'a [LinkFile<'a>]) -> Result<String, AllocError>
+pub(crate) fn answer_of<'a>(
+    alloc: Global,
+    files: &'a [LinkFile<'a, '_>],
+) -> Result<String, AllocError>
     requires { HaveOwnPaths files.now }
 {
     match Linker::new(alloc, files) {

@@ -11,7 +11,7 @@ use crate::scans::{absent_of, omissions_of};
 use proto_link::{LinkFault, LinkFile, Linker, kept_files_are_clear, left_out};
 use std::alloc::{AllocError, Global};
 
-fn same<'a>(file: &LinkFile<'a>) -> LinkFile<'a>
+fn same<'a, 't>(file: &LinkFile<'a, 't>) -> LinkFile<'a, 't>
     ensures { result ≡ file.now }
 {
     LinkFile {
@@ -22,11 +22,11 @@ fn same<'a>(file: &LinkFile<'a>) -> LinkFile<'a>
 }
 
 /// The files that aren't left out, in order.
-fn kept_files<'a>(
+fn kept_files<'a, 't>(
     alloc: Global,
-    files: &[LinkFile<'a>],
+    files: &[LinkFile<'a, 't>],
     omissions: &[Option<LinkFault>],
-) -> Result<Vec<LinkFile<'a>>, AllocError>
+) -> Result<Vec<LinkFile<'a, 't>>, AllocError>
     ensures { IfOk result (λ kept. kept.items ≡ kept_of omissions.now files.now) }
 {
     let mut kept = Vec::new(alloc);
@@ -64,7 +64,10 @@ fn are_missing_as_scanned(
     Ok(missing.as_slice() == absent.as_slice())
 }
 
-fn are_linked_as_scanned<'a>(alloc: Global, files: &'a [LinkFile<'a>]) -> Result<bool, AllocError>
+fn are_linked_as_scanned<'a>(
+    alloc: Global,
+    files: &'a [LinkFile<'a, '_>],
+) -> Result<bool, AllocError>
     requires own { HaveOwnPaths files.now }
     requires clear { HaveClearNames files.now }
 {
@@ -77,7 +80,7 @@ fn are_linked_as_scanned<'a>(alloc: Global, files: &'a [LinkFile<'a>]) -> Result
 
 fn are_omitted_as_scanned<'a>(
     alloc: Global,
-    files: &'a [LinkFile<'a>],
+    files: &'a [LinkFile<'a, '_>],
     omissions: &[Option<LinkFault>],
 ) -> Result<bool, AllocError>
     requires own { HaveOwnPaths files.now }
@@ -92,7 +95,7 @@ fn are_omitted_as_scanned<'a>(
 /// Whether scans tell which files are left out, and what linking answers to those that are kept.
 pub(crate) fn are_kept_as_scanned<'a>(
     alloc: Global,
-    files: &'a [LinkFile<'a>],
+    files: &'a [LinkFile<'a, '_>],
 ) -> Result<bool, AllocError>
     requires { HaveOwnPaths files.now }
 {

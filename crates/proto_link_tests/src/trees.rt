@@ -37,18 +37,21 @@ fn sources_of<'a>(alloc: Global, tree: &'a str) -> Result<Vec<Source<'a>>, Alloc
     Ok(sources)
 }
 
-fn add_facts(
+fn add_facts<'t>(
     alloc: Global,
-    all: &mut Vec<Option<FileFacts>>,
+    all: &mut Vec<Option<FileFacts<'t>>>,
     number: usize,
-    text: &str,
+    text: &'t str,
 ) -> Result<(), AllocError> {
     let facts = facts_of(alloc, number, text)?;
     all.push(facts)?;
     Ok(())
 }
 
-fn facts_of_all(alloc: Global, sources: &[Source]) -> Result<Vec<Option<FileFacts>>, AllocError> {
+fn facts_of_all<'t>(
+    alloc: Global,
+    sources: &[Source<'t>],
+) -> Result<Vec<Option<FileFacts<'t>>>, AllocError> {
     let mut all = Vec::with_capacity(alloc, sources.len())?;
     for (number, source) in sources.iter().enumerate() {
         add_facts(alloc, &mut all, number, source.text)?;
@@ -56,18 +59,21 @@ fn facts_of_all(alloc: Global, sources: &[Source]) -> Result<Vec<Option<FileFact
     Ok(all)
 }
 
-fn facts_at<'a>(facts: &'a [Option<FileFacts>], number: usize) -> Option<&'a FileFacts> {
+fn facts_at<'a, 't>(
+    facts: &'a [Option<FileFacts<'t>>],
+    number: usize,
+) -> Option<&'a FileFacts<'t>> {
     match facts.get(number) {
         Some(facts) => facts.as_ref(),
         None => None,
     }
 }
 
-fn files_of<'a>(
+fn files_of<'a, 't>(
     alloc: Global,
     sources: &'a [Source<'a>],
-    facts: &'a [Option<FileFacts>],
-) -> Result<Vec<LinkFile<'a>>, AllocError> {
+    facts: &'a [Option<FileFacts<'t>>],
+) -> Result<Vec<LinkFile<'a, 't>>, AllocError> {
     let mut files = Vec::with_capacity(alloc, sources.len())?;
     for (number, source) in sources.iter().enumerate() {
         files.push(LinkFile {
@@ -91,7 +97,7 @@ fn is_as_scanned(
 
 fn are_files_answered<'a>(
     alloc: Global,
-    files: &'a [LinkFile<'a>],
+    files: &'a [LinkFile<'a, '_>],
     due: Option<&str>,
 ) -> Result<bool, AllocError> {
     if !have_own_paths(alloc, files)? {

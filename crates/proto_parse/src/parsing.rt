@@ -16,7 +16,7 @@ use std::alloc::Global;
 ///
 /// It is Ok exactly where they derive one, but for want of memory. Otherwise the fault is the one
 /// that reading from left to right meets first: which one that is, and its offset, tests show.
-pub fn parse(alloc: Global, tokens: &Tokens<'_>) -> Result<File, SyntaxFault>
+pub fn parse(alloc: Global, tokens: &Tokens<'_, '_>) -> Result<File, SyntaxFault>
     ensures found { IfOk result (λ file. Derives Refuse tokens.now.text tokens.now.tokens file) }
     ensures only { (file : File) → Derives Refuse tokens.now.text tokens.now.tokens file
         → MatchResult result (λ found. found ≡ file) (λ fault. fault ≡ Memory) }
@@ -31,7 +31,7 @@ pub fn parse(alloc: Global, tokens: &Tokens<'_>) -> Result<File, SyntaxFault>
 /// read past none of CustomOption, Aggregate and Extend.
 pub fn parse_with(
     alloc: Global,
-    tokens: &Tokens<'_>,
+    tokens: &Tokens<'_, '_>,
     custom: CustomOptions,
 ) -> Result<File, SyntaxFault>
     ensures found { IfOk result (λ file. Derives custom tokens.now.text tokens.now.tokens file) }

@@ -24,7 +24,7 @@ pub fn text_of<'a>(alloc: Global, source: &'a [u8]) -> Result<Text<'a>, LexFault
 }
 
 /// The tokens of a text.
-pub fn tokens_of<'a>(alloc: Global, text: &'a Text<'a>) -> Result<Tokens<'a>, LexFault> {
+pub fn tokens_of<'a>(alloc: Global, text: &'a Text<'a>) -> Result<Tokens<'a, 'a>, LexFault> {
     match lex(alloc, text) {
         Err(LexFault::Memory) => lex(alloc, text),
         answer => answer,
@@ -34,7 +34,7 @@ pub fn tokens_of<'a>(alloc: Global, text: &'a Text<'a>) -> Result<Tokens<'a>, Le
 /// What `parse` answers, or `parse_with` where custom options are read past.
 fn parse_so(
     alloc: Global,
-    tokens: &Tokens<'_>,
+    tokens: &Tokens<'_, '_>,
     custom: CustomOptions,
 ) -> Result<File, SyntaxFault> {
     match custom {
@@ -43,7 +43,11 @@ fn parse_so(
     }
 }
 
-fn tree_of(alloc: Global, tokens: &Tokens<'_>, custom: CustomOptions) -> Result<File, SyntaxFault> {
+fn tree_of(
+    alloc: Global,
+    tokens: &Tokens<'_, '_>,
+    custom: CustomOptions,
+) -> Result<File, SyntaxFault> {
     match parse_so(alloc, tokens, custom) {
         Err(SyntaxFault::Memory) => parse_with(alloc, tokens, custom),
         answer => answer,
@@ -54,7 +58,7 @@ fn tree_of(alloc: Global, tokens: &Tokens<'_>, custom: CustomOptions) -> Result<
 /// memory was there for.
 fn fault_of_tokens(
     alloc: Global,
-    tokens: &Tokens<'_>,
+    tokens: &Tokens<'_, '_>,
     custom: CustomOptions,
     look: Look,
 ) -> Option<SyntaxFault> {

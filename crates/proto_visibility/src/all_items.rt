@@ -42,7 +42,7 @@ fn prefixes_of_file(alloc: Global, file: &LinkFile) -> Result<Sequence<OwnedText
 // The items of the files that count, in order of place.
 pub(crate) fn all_items<'a>(
     alloc: Global,
-    files: &'a [LinkFile<'a>],
+    files: &'a [LinkFile<'a, '_>],
     prefixes: &'a [Sequence<OwnedText>],
     counted: &FileRow,
 ) -> Result<Vec<Item<'a>>, AllocError>
@@ -63,7 +63,7 @@ pub(crate) fn all_items<'a>(
 fn items_of_file<'a>(
     alloc: Global,
     number: usize,
-    file: &LinkFile<'a>,
+    file: &LinkFile<'a, '_>,
     prefixes: &'a [OwnedText],
 ) -> Result<Vec<Item<'a>>, AllocError>
     requires { ArePrefixes (package_name_of file.now) prefixes.now }

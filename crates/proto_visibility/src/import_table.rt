@@ -54,7 +54,7 @@ pub fn have_own_paths(alloc: Global, files: &[LinkFile]) -> Result<bool, AllocEr
 // The numbers of the files by their paths.
 pub(crate) fn numbers_of<'a>(
     alloc: Global,
-    files: &[LinkFile<'a>],
+    files: &[LinkFile<'a, '_>],
 ) -> Result<HashMap<&'a str, usize>, AllocError>
     requires { HaveOwnPaths files.now }
     ensures { IfOk result (AreNumbered files.now) }

@@ -63,11 +63,11 @@ pub(crate) fn file_items<'a>(
     Ok(items)
 }
 
-fn declared_items(
+fn declared_items<'a>(
     alloc: Global,
     number: usize,
-    declarations: &[Declaration],
-) -> Result<Vec<Item>, AllocError>
+    declarations: &'a [Declaration],
+) -> Result<Vec<Item<'a>>, AllocError>
     ensures { IfOk result (λ items. items.items ≡ map (declared_item number) declarations.now) }
 {
     let mut items = Vec::new(alloc);

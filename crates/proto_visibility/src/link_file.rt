@@ -9,16 +9,16 @@ use std::marker::Model;
 ///
 /// Contracts see its path's bytes, its facts, and whether it is included.
 #[derive(Drop)]
-pub struct LinkFile<'a> {
+pub struct LinkFile<'a, 't> {
     /// Its path below its root.
     pub path: &'a str,
     /// What is known of it; `None` where it couldn't be read or parsed.
-    pub facts: Option<&'a FileFacts>,
+    pub facts: Option<&'a FileFacts<'t>>,
     /// Whether it is included: linked, but not indexed.
     pub included: bool,
 }
 
-impl<'a> Model for LinkFile<'a> {
+impl<'a, 't> Model for LinkFile<'a, 't> {
     ghost use Rattle.std.specs.Option.{option_map};
     ghost use Rattle.proto_visibility.specs.Files.{File};
 
@@ -27,7 +27,7 @@ impl<'a> Model for LinkFile<'a> {
     ghost view = { λ file. record { path = file.path.now; facts = option_map (λ facts. facts.now) file.facts; is_included = file.included } };
 }
 
-impl LinkFile<'_> {
+impl LinkFile<'_, '_> {
     // Whether it is included, and so no source.
     pub(crate) fn is_included(&self) -> bool
         ensures { result ≡ self.now.is_included }

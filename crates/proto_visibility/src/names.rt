@@ -34,7 +34,7 @@ impl<'a> Names<'a> {
     // The names that files give, by the names of their packages' prefixes.
     pub(crate) fn of(
         alloc: Global,
-        files: &'a [LinkFile<'a>],
+        files: &'a [LinkFile<'a, '_>],
         prefixes: &[Sequence<OwnedText>],
     ) -> Result<Names<'a>, AllocError>
         requires { AreAllPrefixes files.now prefixes.now }
@@ -69,7 +69,7 @@ impl<'a> Names<'a> {
 // For each full name the messages, enums and services that have it.
 fn declared_names<'a>(
     alloc: Global,
-    files: &'a [LinkFile<'a>],
+    files: &'a [LinkFile<'a, '_>],
 ) -> Result<IndexMap<&'a str, Vec<DeclaredAt>>, AllocError>
     ensures { IfOk result (λ names. AreDeclared files.now (listed_at names)) }
 {
@@ -84,7 +84,7 @@ fn declared_names<'a>(
 fn add_file<'a>(
     names: &mut IndexMap<&'a str, Vec<DeclaredAt>>,
     number: usize,
-    file: &LinkFile<'a>,
+    file: &LinkFile<'a, '_>,
 ) -> Result<(), AllocError>
     ensures { OnOk result ((name : List ℕ) (one : DeclaredAt) → Contains (listed_at names.new name) one ↔ (Contains (listed_at names.old name) one ⊎ IsDeclaredIn number file.now name one)) }
 {

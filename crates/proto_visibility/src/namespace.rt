@@ -39,14 +39,14 @@ use std::marker::Model;
 ///
 /// Contracts see the list of the files.
 #[derive(Drop)]
-pub struct Namespace<'a> {
-    files: &'a [LinkFile<'a>],
+pub struct Namespace<'a, 't> {
+    files: &'a [LinkFile<'a, 't>],
     numbers: HashMap<&'a str, usize>,
     rows: Vec<FileRow>,
     names: Names<'a>,
 }
 
-impl<'a> Model for Namespace<'a> {
+impl<'a, 't> Model for Namespace<'a, 't> {
     ghost use Rattle.std.specs.Prelude.{List};
     ghost use Rattle.proto_visibility.specs.Files.{File};
     ghost use Rattle.proto_visibility.specs.Linked.{IsLinked};
@@ -58,12 +58,12 @@ impl<'a> Model for Namespace<'a> {
     ghost invariant = { λ namespace. IsLinked namespace.files.now namespace.numbers namespace.rows.items namespace.names };
 }
 
-impl<'a> Namespace<'a> {
+impl<'a, 't> Namespace<'a, 't> {
     /// Links files, no two of which have one path, by their numbers in the list.
     ///
     /// An included file has an effect only where some source sees it. A weak import counts as a
     /// plain one.
-    pub fn new(alloc: Global, files: &'a [LinkFile<'a>]) -> Result<Namespace<'a>, LinkFault>
+    pub fn new(alloc: Global, files: &'a [LinkFile<'a, 't>]) -> Result<Namespace<'a, 't>, LinkFault>
         requires { HaveOwnPaths files.now }
         ensures linked { IfOk result (λ namespace. namespace ≡ files.now) }
         ensures can_be { IfOk result (λ _. CanBeLinked files.now) }
@@ -94,7 +94,10 @@ impl<'a> Namespace<'a> {
     }
 
     /// The namespace of the files that are kept of a tree with faults: an import may name none of them.
-    pub fn of_kept(alloc: Global, files: &'a [LinkFile<'a>]) -> Result<Namespace<'a>, AllocError>
+    pub fn of_kept(
+        alloc: Global,
+        files: &'a [LinkFile<'a, 't>],
+    ) -> Result<Namespace<'a, 't>, AllocError>
         requires own { HaveOwnPaths files.now }
         requires clear { HaveClearNames files.now }
         ensures { IfOk result (λ namespace. namespace ≡ files.now) }
@@ -167,7 +170,7 @@ impl<'a> Namespace<'a> {
     }
 
     /// The facts of a file, where it has some. Takes no memory.
-    pub fn facts_of(&self, number: usize) -> Option<&FileFacts>
+    pub fn facts_of(&self, number: usize) -> Option<&FileFacts<'t>>
         requires { number < length self.now }
         ensures { MatchOption result ((facts : Facts) → HasFacts self.now number facts → ⊥) (λ facts. HasFacts self.now number facts.now) }
     {

@@ -64,7 +64,7 @@ fn metadata(alloc: Global, project_root: &OwnedText) -> Result<Metadata, AllocEr
 /// none is looked for.
 fn make_parts<R: Threads + Wait, G: Gate, F: DocumentForm + Sync>(
     run: &Run<'_, R, G>,
-    sources: &LinkedSources<'_, '_, '_>,
+    sources: &LinkedSources<'_, '_, '_, '_>,
     form: &F,
 ) -> Result<(Parts<F::Kept>, Sequence<FilePlace>), BuildFault>
     requires few { sources.now.count ≤ MAX_INPUTS }
@@ -97,7 +97,7 @@ fn make_parts<R: Threads + Wait, G: Gate, F: DocumentForm + Sync>(
 /// What is made of linked files that were read.
 fn make_linked<R: Threads + Wait, G: Gate, F: DocumentForm + Sync>(
     run: &Run<'_, R, G>,
-    linker: &Linker<'_>,
+    linker: &Linker<'_, '_>,
     readings: &[Reading<'_>],
     settings: &Settings,
     form: &F,

@@ -48,12 +48,12 @@ fn unparsed(number: usize, fault: SyntaxFault) -> BuildFault
 }
 
 /// The facts of a text: it is lexed whole, then parsed, then declared.
-fn facts_of(
+fn facts_of<'a>(
     alloc: Global,
     number: usize,
-    text: &Text<'_>,
+    text: &Text<'a>,
     custom: CustomOptions,
-) -> Result<FileFacts, BuildFault>
+) -> Result<FileFacts<'a>, BuildFault>
     requires { IsText text.now }
     ensures { MatchResult result (AreFactsIn custom number text.now) (MayRefuseFile custom number text.now) }
 {

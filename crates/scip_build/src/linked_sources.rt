@@ -9,9 +9,9 @@ use std::alloc::Global;
 /// Files that were read and linked, and what the documents of the sources among them are made by. The
 /// numbers of the sources are those below `count`.
 #[derive(Drop)]
-pub(crate) struct LinkedSources<'a, 'l, 'r> {
+pub(crate) struct LinkedSources<'a, 'l, 'f, 'r> {
     pub(crate) alloc: Global,
-    pub(crate) linker: &'a Linker<'l>,
+    pub(crate) linker: &'a Linker<'l, 'f>,
     pub(crate) readings: &'a [Reading<'r>],
     pub(crate) choices: &'a Choices,
     pub(crate) settings: &'a Settings,

@@ -12,7 +12,7 @@ use proto_link::{LinkFault, LinkFile, Linker};
 use std::alloc::{AllocError, Global};
 
 /// A file as it is linked.
-fn linked_file<'a>(reading: &'a Reading<'_>) -> LinkFile<'a>
+fn linked_file<'a, 'r>(reading: &'a Reading<'r>) -> LinkFile<'a, 'r>
     ensures { result ≡ linked_file reading.now }
 {
     let facts = match &reading.contents {
@@ -27,10 +27,10 @@ fn linked_file<'a>(reading: &'a Reading<'_>) -> LinkFile<'a>
 }
 
 /// The files as they are linked, each under its number.
-pub fn linked_files<'a>(
+pub fn linked_files<'a, 'r>(
     alloc: Global,
-    readings: &'a [Reading<'_>],
-) -> Result<Vec<LinkFile<'a>>, AllocError>
+    readings: &'a [Reading<'r>],
+) -> Result<Vec<LinkFile<'a, 'r>>, AllocError>
     ensures { IfOk result (λ files. files.items ≡ linked_files readings.now) }
 {
     let mut files = Vec::with_capacity(alloc, readings.len())?;
@@ -70,11 +70,11 @@ fn refusal(readings: &[Reading<'_>], fault: LinkFault) -> BuildFault
 ///
 /// Of the refusals `File` comes first: the least included file that some source sees and that
 /// couldn't be read. Then `Duplicate`, then `MissingImport`. `Memory` comes at any growth.
-pub fn link<'a>(
+pub fn link<'a, 'r>(
     alloc: Global,
     readings: &[Reading<'_>],
-    files: &'a [LinkFile<'a>],
-) -> Result<Linker<'a>, BuildFault>
+    files: &'a [LinkFile<'a, 'r>],
+) -> Result<Linker<'a, 'r>, BuildFault>
     requires same { files.now ≡ linked_files readings.now }
     requires own { HaveOwnPaths files.now }
     ensures { MatchResult result (AreLinked readings.now) (MayRefuseReadings readings.now) }

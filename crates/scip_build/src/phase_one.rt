@@ -9,7 +9,7 @@ use crate::file_reading::{Reader, read_file};
 use crate::reading::Reading;
 use crate::run::Run;
 use index_hooks::Chooses;
-use index_pool::{Gate, Job, PoolFault, run_phase};
+use index_pool::{Gate, Job, PoolFault, Ticket, run_phase};
 use proto_parse::CustomOptions;
 use source_tree::Tree;
 use std::sync::Wait;
@@ -35,8 +35,8 @@ impl<'a, 'c, C: Chooses + Sync> Job for PhaseOne<'a, 'c, C> {
     ghost gives = { λ s number result. GivesReading s.reader.faulty s.reader.custom (C.allows s.reader.chooser.now)
         s.tree.now number result };
 
-    fn run(&self, number: usize) -> Result<Reading<'a>, BuildFault> {
-        read_file(&self.reader, number, self.tree)
+    fn run(&self, ticket: Ticket) -> Result<Reading<'a>, BuildFault> {
+        read_file(&self.reader, ticket.number(), self.tree)
     }
 }
 

@@ -11,7 +11,7 @@ use crate::linked_sources::LinkedSources;
 use crate::made::MadeDocument;
 use crate::run::Run;
 use crate::source_document::make_document;
-use index_pool::{Gate, Job, PoolFault, run_phase};
+use index_pool::{Gate, Job, PoolFault, Ticket, run_phase};
 use scip_document::one_document_a_source;
 use std::marker::Model;
 use std::sync::Wait;
@@ -19,12 +19,12 @@ use std::thread::Threads;
 
 /// The document of each source, in a form.
 #[derive(Drop)]
-struct PhaseTwo<'a, 'b, 'l, 'r, F: DocumentForm + Sync> {
-    sources: &'a LinkedSources<'b, 'l, 'r>,
+struct PhaseTwo<'a, 'b, 'l, 'f, 'r, F: DocumentForm + Sync> {
+    sources: &'a LinkedSources<'b, 'l, 'f, 'r>,
     form: &'a F,
 }
 
-impl<'a, 'b, 'l, 'r, F: DocumentForm + Sync> Model for PhaseTwo<'a, 'b, 'l, 'r, F> {
+impl<'a, 'b, 'l, 'f, 'r, F: DocumentForm + Sync> Model for PhaseTwo<'a, 'b, 'l, 'f, 'r, F> {
     ghost use Rattle.scip_build.specs.Documents.{AreReady, SourceWork};
 
     ghost Value = { SourceWork };
@@ -42,7 +42,7 @@ impl<'a, 'b, 'l, 'r, F: DocumentForm + Sync> Model for PhaseTwo<'a, 'b, 'l, 'r, 
         job.sources.now.readings.now job.sources.now.linker.now job.sources.now.choices.now job.sources.now.count };
 }
 
-impl<'a, 'b, 'l, 'r, F: DocumentForm + Sync> Job for PhaseTwo<'a, 'b, 'l, 'r, F> {
+impl<'a, 'b, 'l, 'f, 'r, F: DocumentForm + Sync> Job for PhaseTwo<'a, 'b, 'l, 'f, 'r, F> {
     ghost use Rattle.scip_build.specs.Forms.{GivesKept};
 
     type Out = MadeDocument<F::Kept>;
@@ -55,8 +55,8 @@ impl<'a, 'b, 'l, 'r, F: DocumentForm + Sync> Job for PhaseTwo<'a, 'b, 'l, 'r, F>
         GivesKept F.is_kept work.faulty work.readings work.files work.chosen work.settings.package
         work.settings.encoding number result };
 
-    fn run(&self, number: usize) -> Result<MadeDocument<F::Kept>, BuildFault> {
-        let made = make_document(self.sources, number)?;
+    fn run(&self, ticket: Ticket) -> Result<MadeDocument<F::Kept>, BuildFault> {
+        let made = make_document(self.sources, ticket.number())?;
         let kept = self.form.keep(self.sources.alloc, made.document)?;
         Ok(MadeDocument {
             kept,
@@ -73,7 +73,7 @@ impl<'a, 'b, 'l, 'r, F: DocumentForm + Sync> Job for PhaseTwo<'a, 'b, 'l, 'r, F>
 /// document lacks memory, it is `Memory`.
 pub(crate) fn make_documents<R: Threads + Wait, G: Gate, F: DocumentForm + Sync>(
     run: &Run<'_, R, G>,
-    sources: &LinkedSources<'_, '_, '_>,
+    sources: &LinkedSources<'_, '_, '_, '_>,
     form: &F,
 ) -> Result<Vec<MadeDocument<F::Kept>>, BuildFault>
     requires few { sources.now.count ≤ MAX_INPUTS }

@@ -13,7 +13,7 @@ use std::marker::Model;
 #[derive(Drop)]
 pub struct Contents<'a> {
     pub text: Text<'a>,
-    pub facts: FileFacts,
+    pub facts: FileFacts<'a>,
     /// The choice for each declaration, in their order.
     pub choices: Sequence<Choice>,
 }

@@ -44,7 +44,7 @@ fn first_refused(faulty: Faulty, unresolved: &[Span]) -> Option<Span>
 /// The document of a source that was read, and its uses that name no type; `Unresolved` at the first of
 /// them, where such are refused.
 pub(crate) fn make_document(
-    sources: &LinkedSources<'_, '_, '_>,
+    sources: &LinkedSources<'_, '_, '_, '_>,
     number: usize,
 ) -> Result<SourceDocument, BuildFault>
     requires source { IsSource sources.now.linker.now number }

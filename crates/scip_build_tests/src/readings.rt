@@ -24,7 +24,7 @@ use std::thread::Threads;
 fn are_linked(
     alloc: Global,
     readings: &[Reading<'_>],
-    files: &[LinkFile<'_>],
+    files: &[LinkFile<'_, '_>],
 ) -> Result<bool, AllocError>
     requires { files.now ≡ linked_files readings.now }
 {

@@ -15,6 +15,8 @@ pub mod PackageLemmas
 pub mod MeetLemmas
 -- Entities of facts
 pub mod EntityLemmas
+-- Texts of own declarations
+pub mod OwnTextLemmas
 -- Lists of entries
 pub mod EntryLemmas
 pub mod ApartLemmas

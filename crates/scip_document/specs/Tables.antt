@@ -7,5 +7,7 @@ pub mod Merges
 -- the lists by which entries are found
 pub mod EntryLists
 pub mod ExternalLists
+-- the texts of own declarations
+pub mod OwnTexts
 -- the marks of paths that pieces have
 pub mod TakenPaths

@@ -8,11 +8,11 @@ use std::alloc::Global;
 
 /// What the document of a source is made from.
 #[derive(Drop)]
-pub struct DocumentMaker<'a, 'l, 't> {
+pub struct DocumentMaker<'a, 'l, 'f, 't> {
     /// Where memory is taken.
     pub alloc: Global,
     /// The files, which are linked.
-    pub linker: &'a Linker<'l>,
+    pub linker: &'a Linker<'l, 'f>,
     /// What was chosen for each declaration of the files.
     pub choices: &'a Choices,
     /// The packages that the symbols belong to, by their files.

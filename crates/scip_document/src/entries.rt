@@ -4,12 +4,15 @@ ghost use Rattle.std.specs.Prelude.{ℕ, ◌≡◌, ◌<◌, ◌≤◌, ◌∷�
 ghost use Rattle.proto_decl.specs.Names.{dotted};
 ghost use Rattle.proto_decl.specs.Ancestors.{component_names};
 ghost use Rattle.scip_symbol.specs.Path.{IsGoodPath};
-ghost use Rattle.proto_visibility.specs.Files.{IsSource};
+ghost use Rattle.proto_decl.specs.Facts.{Facts};
+ghost use Rattle.proto_visibility.specs.Files.{HasFacts, IsSource};
+ghost use Rattle.scip_document.specs.Packages.{package_of_file};
 ghost use Rattle.scip_document.specs.Chosen.{HasChoice, HaveChoices};
 ghost use Rattle.scip_document.specs.Conditions.{HaveGoodPaths};
 ghost use Rattle.scip_document.specs.Entries.{file_entry, package_entry, declaration_entry, HasEntry};
-ghost use Rattle.scip_document.specs.Tables.EntryLists.{package_entries, entry_if_kept, kept_entries};
+ghost use Rattle.scip_document.specs.Tables.EntryLists.{package_entries, kept_entries};
 ghost use Rattle.scip_document.specs.Tables.EntryLists.{choices_for, source_entries};
+ghost use Rattle.scip_document.specs.Tables.OwnTexts.{declaration_texts, entry_with, entries_with};
 ghost use Rattle.scip_document.specs.Indexes.{info_cmp, IsAscendingListOf};
 
 use crate::document_maker::DocumentMaker;
@@ -85,6 +88,25 @@ fn package_entry(
     })
 }
 
+// Of a declaration whose symbol has this text.
+fn entry_with(
+    alloc: Global,
+    symbol: OwnedText,
+    declaration: &Declaration,
+    choice: Choice,
+) -> Result<SymbolInformation, AllocError>
+    ensures { IfOk result (λ entry. entry ≡ entry_with symbol declaration.now choice) }
+{
+    let documentation = documentation_of(alloc, choice.doc, declaration)?;
+    let view = declaration.view();
+    let display_name = OwnedText::copy_of(alloc, view.name())?;
+    Ok(SymbolInformation {
+        symbol,
+        documentation,
+        display_name,
+    })
+}
+
 pub(crate) fn declaration_entry(
     alloc: Global,
     id: &PackageId,
@@ -96,14 +118,7 @@ pub(crate) fn declaration_entry(
     ensures { IfOk result (λ entry. entry ≡ declaration_entry id.now facts.now declaration.now choice) }
 {
     let symbol = declaration_text(alloc, id, facts, declaration)?;
-    let documentation = documentation_of(alloc, choice.doc, declaration)?;
-    let view = declaration.view();
-    let display_name = OwnedText::copy_of(alloc, view.name())?;
-    Ok(SymbolInformation {
-        symbol,
-        documentation,
-        display_name,
-    })
+    entry_with(alloc, symbol, declaration, choice)
 }
 
 // Appends those of a file's packages.
@@ -122,35 +137,37 @@ fn push_packages(
     Ok(())
 }
 
-// Appends that of a declaration that is kept.
+// Appends that of a declaration whose symbol has this text, if it is kept.
 fn push_if_kept(
     alloc: Global,
     entries: &mut Vec<SymbolInformation>,
-    id: &PackageId,
-    facts: &FileFacts,
+    symbol: &str,
     declaration: &Declaration,
     choice: Choice,
 ) -> Result<(), AllocError>
-    requires { Contains facts.now.declarations declaration.now }
     ensures { OnOk result
-        (entries.new.items ≡ entries.old.items ++ entry_if_kept id.now facts.now declaration.now choice) }
+        (entries.new.items ≡ entries.old.items ++ entries_with symbol.now declaration.now choice) }
 {
     if !choice.keep {
         return Ok(());
     }
-    let entry = declaration_entry(alloc, id, facts, declaration, choice)?;
+    let symbol = OwnedText::copy_of(alloc, symbol)?;
+    let entry = entry_with(alloc, symbol, declaration, choice)?;
     entries.push(entry)?;
     Ok(())
 }
 
-// Appends those of the source's declarations that are kept.
+// Appends those of the source's declarations that are kept, whose symbols have these texts.
 fn push_declarations(
     entries: &mut Vec<SymbolInformation>,
-    maker: &DocumentMaker<'_, '_, '_>,
+    maker: &DocumentMaker<'_, '_, '_, '_>,
     id: &PackageId,
+    texts: &[OwnedText],
     facts: &FileFacts,
 ) -> Result<(), AllocError>
-    requires { (index : ℕ) → index < length facts.now.declarations
+    requires texts { texts.now ≡ declaration_texts id.now facts.now }
+    requires one_each { length texts.now ≡ length facts.now.declarations }
+    requires choices { (index : ℕ) → index < length facts.now.declarations
         → HasChoice maker.now.choices.now maker.now.source index }
     ensures { OnOk result (entries.new.items ≡ entries.old.items
         ++ kept_entries id.now facts.now facts.now.declarations
@@ -158,19 +175,28 @@ fn push_declarations(
 {
     for (index, declaration) in facts.declarations().iter().enumerate() {
         let choice = maker.choices.of(maker.source, index);
-        push_if_kept(maker.alloc, entries, id, facts, declaration, choice)?;
+        push_if_kept(
+            maker.alloc,
+            entries,
+            texts[index].as_str(),
+            declaration,
+            choice,
+        )?;
     }
     Ok(())
 }
 
-// Those of the source, by kind; it belongs to this package.
+// Those of the source, by kind; it belongs to this package, and the symbols of its declarations have these texts.
 fn listed_entries(
-    maker: &DocumentMaker<'_, '_, '_>,
+    maker: &DocumentMaker<'_, '_, '_, '_>,
     id: &PackageId,
     path: &str,
+    texts: &[OwnedText],
     facts: &FileFacts,
 ) -> Result<Vec<SymbolInformation>, AllocError>
     requires path { IsGoodPath path.now }
+    requires texts { texts.now ≡ declaration_texts id.now facts.now }
+    requires one_each { length texts.now ≡ length facts.now.declarations }
     requires choices { (index : ℕ) → index < length facts.now.declarations
         → HasChoice maker.now.choices.now maker.now.source index }
     ensures { IfOk result (λ entries. entries.items ≡ source_entries id.now maker.now.package.now.run path.now
@@ -180,7 +206,7 @@ fn listed_entries(
     let first = file_entry(maker.alloc, id, path)?;
     entries.push(first)?;
     push_packages(maker.alloc, &mut entries, maker.package.run(), facts)?;
-    push_declarations(&mut entries, maker, id, facts)?;
+    push_declarations(&mut entries, maker, id, texts, facts)?;
     Ok(entries)
 }
 
@@ -191,13 +217,17 @@ pub(crate) fn compare_symbols(a: &SymbolInformation, b: &SymbolInformation) -> O
     a.symbol.as_str().cmp(b.symbol.as_str())
 }
 
-// The entries of the source, by symbol.
+// The entries of the source, by symbol; the symbols of its declarations have these texts.
 pub(crate) fn entries(
-    maker: &DocumentMaker<'_, '_, '_>,
+    maker: &DocumentMaker<'_, '_, '_, '_>,
+    texts: &[OwnedText],
 ) -> Result<Sequence<SymbolInformation>, AllocError>
     requires source { IsSource maker.now.linker.now maker.now.source }
     requires paths { HaveGoodPaths maker.now.linker.now }
     requires choices { HaveChoices maker.now.linker.now maker.now.choices.now }
+    requires texts { (facts : Facts) → HasFacts maker.now.linker.now maker.now.source facts
+        → texts.now ≡ declaration_texts (package_of_file
+        maker.now.linker.now maker.now.package.now maker.now.source) facts }
     ensures { IfOk result (IsAscendingListOf info_cmp
         (HasEntry maker.now.linker.now maker.now.choices.now maker.now.package.now maker.now.source)) }
 {
@@ -205,7 +235,7 @@ pub(crate) fn entries(
     let path = maker.linker.path_of(maker.source);
     let facts = maker.linker.facts_of(maker.source).unwrap();
     let id = package_of_file(maker.linker, maker.package, maker.source);
-    let mut entries = listed_entries(maker, id, path, facts)?;
+    let mut entries = listed_entries(maker, id, path, texts, facts)?;
     entries.sort_by(|a, b| compare_symbols(a, b))?;
     Ok(Sequence::from_vec(entries))
 }

@@ -26,7 +26,7 @@ use std::alloc::{AllocError, Global};
 // Adds a declaration, where its file is included and it is kept.
 fn push_declared(
     named: &mut Vec<(usize, usize)>,
-    linker: &Linker<'_>,
+    linker: &Linker<'_, '_>,
     choices: &Choices,
     file: usize,
     index: usize,
@@ -50,7 +50,7 @@ fn push_declared(
 // Adds what a component of a use names, where it is such a declaration.
 fn push_part(
     named: &mut Vec<(usize, usize)>,
-    linker: &Linker<'_>,
+    linker: &Linker<'_, '_>,
     choices: &Choices,
     part: Entity,
 ) -> Result<(), AllocError>
@@ -65,7 +65,7 @@ fn push_part(
 
 fn push_parts(
     named: &mut Vec<(usize, usize)>,
-    linker: &Linker<'_>,
+    linker: &Linker<'_, '_>,
     choices: &Choices,
     parts: &[Entity],
 ) -> Result<(), AllocError>
@@ -83,7 +83,7 @@ fn push_parts(
 fn push_use(
     alloc: Global,
     named: &mut Vec<(usize, usize)>,
-    linker: &Linker<'_>,
+    linker: &Linker<'_, '_>,
     choices: &Choices,
     source: usize,
     type_use: &Use,
@@ -104,7 +104,7 @@ fn push_use(
 fn push_uses(
     alloc: Global,
     named: &mut Vec<(usize, usize)>,
-    linker: &Linker<'_>,
+    linker: &Linker<'_, '_>,
     choices: &Choices,
     source: usize,
     uses: &[Use],
@@ -124,7 +124,7 @@ fn push_uses(
 fn push_source(
     alloc: Global,
     named: &mut Vec<(usize, usize)>,
-    linker: &Linker<'_>,
+    linker: &Linker<'_, '_>,
     choices: &Choices,
     source: usize,
 ) -> Result<(), AllocError>
@@ -143,7 +143,7 @@ fn push_source(
 // Those that the uses of all sources name.
 fn named_externals(
     alloc: Global,
-    linker: &Linker<'_>,
+    linker: &Linker<'_, '_>,
     choices: &Choices,
 ) -> Result<Vec<(usize, usize)>, AllocError>
     requires choices { HaveChoices linker.now choices.now }
@@ -189,7 +189,7 @@ fn external_entry(
 // The entry of a declaration that a use in a source names, of an included file, and that is kept.
 fn entry_of(
     alloc: Global,
-    linker: &Linker<'_>,
+    linker: &Linker<'_, '_>,
     choices: &Choices,
     packages: &FilePackages,
     pair: (usize, usize),
@@ -206,7 +206,7 @@ fn entry_of(
 // The entry of each such declaration, in their order.
 fn external_entries(
     alloc: Global,
-    linker: &Linker<'_>,
+    linker: &Linker<'_, '_>,
     choices: &Choices,
     packages: &FilePackages,
     pairs: &[(usize, usize)],
@@ -224,7 +224,7 @@ fn external_entries(
 }
 
 // Whether a file is included.
-fn has_included(linker: &Linker<'_>) -> bool
+fn has_included(linker: &Linker<'_, '_>) -> bool
     ensures { MatchBool result (HasIncluded linker.now) (NoneIncluded linker.now (length linker.now)) }
 {
     for number in 0..linker.count() {
@@ -242,7 +242,7 @@ fn has_included(linker: &Linker<'_>) -> bool
 /// memory is taken.
 pub fn externals(
     alloc: Global,
-    linker: &Linker<'_>,
+    linker: &Linker<'_, '_>,
     choices: &Choices,
     packages: &FilePackages,
 ) -> Result<Sequence<SymbolInformation>, AllocError>

@@ -18,7 +18,7 @@ use scip_symbol::files_are_without_clash;
 
 /// The places of facts are in order and in the text, a use has one target, and no two occurrences
 /// of a document tie.
-pub(crate) fn facts_occur_in_order(linker: &Linker<'_>)
+pub(crate) fn facts_occur_in_order(linker: &Linker<'_, '_>)
     ensures clear { HaveClearNames linker.now }
     ensures origins { HaveOrigins linker.now }
     ensures order { InOrder }
@@ -38,7 +38,7 @@ pub(crate) fn facts_occur_in_order(linker: &Linker<'_>)
 }
 
 /// The symbols of linked files are those of one entity each.
-pub(crate) fn symbols_stand_apart(linker: &Linker<'_>, packages: &FilePackages)
+pub(crate) fn symbols_stand_apart(linker: &Linker<'_, '_>, packages: &FilePackages)
     ensures clear { HaveClearNames linker.now }
     ensures origins { HaveOrigins linker.now }
     ensures declarations { OneDeclarationAName }

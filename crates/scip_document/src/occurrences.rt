@@ -1,6 +1,6 @@
 //! The occurrences of a document that don't come of its uses.
 
-ghost use Rattle.std.specs.Prelude.{◌≡◌, ◌<◌, ◌++◌, ℕ, length, All, Contains, IsTrue, IfOk, OnOk};
+ghost use Rattle.std.specs.Prelude.{◌≡◌, ◌<◌, ◌++◌, ℕ, length, All, IsTrue, IfOk, OnOk};
 ghost use Rattle.proto_lex.specs.Lexed.{IsPart};
 ghost use Rattle.proto_decl.specs.declared.type_use.Component.{Component};
 ghost use Rattle.proto_decl.specs.declared.declaration.Declaration.{Declaration};
@@ -10,9 +10,10 @@ ghost use Rattle.scip_document.specs.Chosen.{HasChoice};
 ghost use Rattle.scip_document.specs.Conditions.{HaveGoodPaths};
 ghost use Rattle.scip_document.specs.Occurs.{range_over};
 ghost use Rattle.scip_document.specs.Tables.Listing.{own_occurrence, each_from, has_path, at_import, at_package, at_declaration};
+ghost use Rattle.scip_document.specs.Tables.OwnTexts.{declaration_texts, occurrences_with};
 
 use crate::document_maker::DocumentMaker;
-use crate::symbol_texts::{declaration_text, file_text, package_text};
+use crate::symbol_texts::{file_text, package_text};
 use proto_decl::{Declaration, FileFacts, Imported};
 use proto_lex::{Encoding, Span, Text, positions_fit};
 use proto_link::Linker;
@@ -41,7 +42,7 @@ fn range_over(text: &Text<'_>, encoding: Encoding, span: Span) -> Range
 
 /// A symbol over a span.
 pub(crate) fn occurrence_over(
-    maker: &DocumentMaker<'_, '_, '_>,
+    maker: &DocumentMaker<'_, '_, '_, '_>,
     span: Span,
     symbol: OwnedText,
     symbol_roles: i32,
@@ -77,7 +78,7 @@ pub(crate) fn file_occurrence(
 }
 
 /// Whether some file has the path of an import. Such a path is good.
-fn has_file(linker: &Linker<'_>, imported: &Imported) -> bool
+fn has_file(linker: &Linker<'_, '_>, imported: &Imported) -> bool
     requires { HaveGoodPaths linker.now }
     ensures found { result ≡ has_path linker.now imported.now.path }
     ensures good { IsTrue result → IsGoodPath imported.now.path }
@@ -88,7 +89,7 @@ fn has_file(linker: &Linker<'_>, imported: &Imported) -> bool
 /// Adds the occurrence of an import, over its literals, where some file has its path.
 fn add_import(
     list: &mut Vec<Occurrence>,
-    maker: &DocumentMaker<'_, '_, '_>,
+    maker: &DocumentMaker<'_, '_, '_, '_>,
     imported: &Imported,
 ) -> Result<(), AllocError>
     requires part { IsPart maker.now.text.now imported.now.span }
@@ -106,7 +107,7 @@ fn add_import(
 
 /// Each import of a file that is there, over its literals.
 pub(crate) fn import_occurrences(
-    maker: &DocumentMaker<'_, '_, '_>,
+    maker: &DocumentMaker<'_, '_, '_, '_>,
     imports: &[Imported],
 ) -> Result<Vec<Occurrence>, AllocError>
     requires parts { All (λ (imported : Imported). IsPart maker.now.text.now imported.span) imports.now }
@@ -124,7 +125,7 @@ pub(crate) fn import_occurrences(
 
 /// Each component of the package's name: the package up to it.
 pub(crate) fn package_occurrences(
-    maker: &DocumentMaker<'_, '_, '_>,
+    maker: &DocumentMaker<'_, '_, '_, '_>,
     facts: &FileFacts,
 ) -> Result<Vec<Occurrence>, AllocError>
     requires { All (λ (component : Component). IsPart maker.now.text.now component.span) facts.now.package_name }
@@ -141,35 +142,36 @@ pub(crate) fn package_occurrences(
     Ok(list)
 }
 
-/// Adds the occurrence of a declaration, where it is kept, over its name.
+/// Adds the occurrence of a declaration, where it is kept, over its name; its symbol has this text.
 fn add_declaration(
     list: &mut Vec<Occurrence>,
-    maker: &DocumentMaker<'_, '_, '_>,
-    id: &PackageId,
-    facts: &FileFacts,
+    maker: &DocumentMaker<'_, '_, '_, '_>,
+    symbol: &str,
     index: usize,
     declaration: &Declaration,
 ) -> Result<(), AllocError>
     requires part { IsPart maker.now.text.now declaration.now.name }
     requires chosen { HasChoice maker.now.choices.now maker.now.source index }
-    requires listed { Contains facts.now.declarations declaration.now }
     ensures { OnOk result (list.new.items ≡ list.old.items
-        ++ at_declaration id.now maker.now.encoding maker.now.text.now
-        maker.now.choices.now maker.now.source facts.now index declaration.now) }
+        ++ occurrences_with maker.now.encoding maker.now.text.now
+        maker.now.choices.now maker.now.source symbol.now index declaration.now) }
 {
     if maker.choices.of(maker.source, index).keep {
-        let symbol = declaration_text(maker.alloc, id, facts, declaration)?;
+        let symbol = OwnedText::copy_of(maker.alloc, symbol)?;
         list.push(occurrence_over(maker, declaration.name, symbol, DEFINITION))?;
     }
     Ok(())
 }
 
-/// Each declaration that is kept, over its name; all belong to one package.
+/// Each declaration that is kept, over its name; all belong to one package, and their symbols have these texts.
 pub(crate) fn declaration_occurrences(
-    maker: &DocumentMaker<'_, '_, '_>,
+    maker: &DocumentMaker<'_, '_, '_, '_>,
     id: &PackageId,
+    texts: &[OwnedText],
     facts: &FileFacts,
 ) -> Result<Vec<Occurrence>, AllocError>
+    requires texts { texts.now ≡ declaration_texts id.now facts.now }
+    requires one_each { length texts.now ≡ length facts.now.declarations }
     requires parts { All (λ (declared : Declaration). IsPart maker.now.text.now declared.name) facts.now.declarations }
     requires chosen { (index : ℕ) → index < length facts.now.declarations
         → HasChoice maker.now.choices.now maker.now.source index }
@@ -180,7 +182,7 @@ pub(crate) fn declaration_occurrences(
 {
     let mut list = Vec::new(maker.alloc);
     for (index, declaration) in facts.declarations().iter().enumerate() {
-        add_declaration(&mut list, maker, id, facts, index, declaration)?;
+        add_declaration(&mut list, maker, texts[index].as_str(), index, declaration)?;
     }
     Ok(list)
 }

@@ -150,7 +150,7 @@ fn package_among<'a>(run: &'a PackageId, roots: &'a [RootPackage], path: &str) -
 
 /// The package of a file, by its number.
 pub(crate) fn package_of_file<'a>(
-    linker: &Linker<'_>,
+    linker: &Linker<'_, '_>,
     packages: &'a FilePackages,
     number: usize,
 ) -> &'a PackageId

@@ -13,7 +13,9 @@ ghost use Rattle.scip_document.specs.Texts.{AreOfText, HasText, MayRefuseDocumen
 ghost use Rattle.scip_document.specs.Occurs.{Occurs};
 ghost use Rattle.scip_document.specs.Indexes.{IsAscendingListOf, IsDocumentOf, encoding_number};
 ghost use Rattle.scip_document.specs.OccurrenceOrder.{occurrence_cmp};
+ghost use Rattle.scip_document.specs.Packages.{package_of_file};
 ghost use Rattle.scip_document.specs.Tables.Listing.{own_occurrence};
+ghost use Rattle.scip_document.specs.Tables.OwnTexts.{declaration_texts};
 
 use crate::document_maker::DocumentMaker;
 use crate::entries::entries;
@@ -23,6 +25,7 @@ use crate::occurrences::{
     declaration_occurrences, file_occurrence, import_occurrences, package_occurrences,
 };
 use crate::packages::package_of_file;
+use crate::symbol_texts::declaration_texts;
 use crate::targets::{find_targets, unresolved_uses};
 use crate::use_occurrences::use_occurrences;
 use proto_decl::FileFacts;
@@ -53,11 +56,13 @@ fn own_occurrences(alloc: Global, id: &PackageId, path: &str) -> Result<Vec<Occu
     Ok(list)
 }
 
-/// What occurs in the source, of which this was found for the uses, in order.
+/// What occurs in the source, of which this was found for the uses, in order; the symbols of its declarations
+/// have these texts.
 fn occurrences(
-    maker: &DocumentMaker<'_, '_, '_>,
+    maker: &DocumentMaker<'_, '_, '_, '_>,
     facts: &FileFacts,
     found: &[Option<Target>],
+    texts: &[OwnedText],
 ) -> Result<Vec<Occurrence>, AllocError>
     requires source { IsSource maker.now.linker.now maker.now.source }
     requires known { HasFacts maker.now.linker.now maker.now.source facts.now }
@@ -65,6 +70,8 @@ fn occurrences(
     requires text { AreOfText maker.now.text.now facts.now }
     requires paths { HaveGoodPaths maker.now.linker.now }
     requires choices { HaveChoices maker.now.linker.now maker.now.choices.now }
+    requires texts { texts.now ≡ declaration_texts (package_of_file
+        maker.now.linker.now maker.now.package.now maker.now.source) facts.now }
     ensures { IfOk result (λ list. IsAscendingListOf occurrence_cmp (Occurs
         maker.now.linker.now maker.now.choices.now maker.now.package.now maker.now.encoding maker.now.source
         maker.now.text.now) list.items) }
@@ -75,7 +82,7 @@ fn occurrences(
     let own = own_occurrences(alloc, id, maker.linker.path_of(maker.source))?;
     let imports = import_occurrences(maker, facts.imports())?;
     let packages = package_occurrences(maker, facts)?;
-    let names = declaration_occurrences(maker, id, facts)?;
+    let names = declaration_occurrences(maker, id, texts, facts)?;
     let uses = use_occurrences(maker, found, facts.uses())?;
     let with_imports = merged(alloc, own, imports)?;
     let with_packages = merged(alloc, with_imports, packages)?;
@@ -94,7 +101,7 @@ pub struct SourceDocument {
 /// The document of a source of linked files, which has this text, by what was chosen for each
 /// declaration: what occurs in it and its symbol entries, in order. A use that names no type doesn't
 /// occur; its place is told beside the document. `Memory` is the only fault.
-pub fn document_and_gaps(maker: &DocumentMaker<'_, '_, '_>) -> Result<SourceDocument, LinkFault>
+pub fn document_and_gaps(maker: &DocumentMaker<'_, '_, '_, '_>) -> Result<SourceDocument, LinkFault>
     requires source { IsSource maker.now.linker.now maker.now.source }
     requires text { HasText maker.now.linker.now maker.now.source maker.now.text.now }
     requires paths { HaveGoodPaths maker.now.linker.now }
@@ -110,8 +117,11 @@ pub fn document_and_gaps(maker: &DocumentMaker<'_, '_, '_>) -> Result<SourceDocu
     let facts = maker.linker.facts_of(maker.source).unwrap();
     let found = find_targets(alloc, maker.linker, maker.source, facts)?;
     let unresolved = unresolved_uses(alloc, facts.uses(), found.as_slice())?;
-    let occurrences = occurrences(maker, facts, found.as_slice())?;
-    let symbols = entries(maker)?;
+    let id = package_of_file(maker.linker, maker.package, maker.source);
+    let texts = declaration_texts(alloc, id, facts)?;
+    let own = texts.as_slice();
+    let occurrences = occurrences(maker, facts, found.as_slice(), own)?;
+    let symbols = entries(maker, own)?;
     let relative_path = OwnedText::copy_of(alloc, maker.linker.path_of(maker.source))?;
     let language = OwnedText::copy_of(alloc, "Protobuf")?;
     let document = Document {
@@ -136,7 +146,7 @@ fn first_of(spans: &[Span]) -> Option<Span>
 
 /// The document of a source, where each use names a type. `Unresolved` at the first that doesn't, kept
 /// or not: there is a document only where all do.
-pub fn document(maker: &DocumentMaker<'_, '_, '_>) -> Result<Document, LinkFault>
+pub fn document(maker: &DocumentMaker<'_, '_, '_, '_>) -> Result<Document, LinkFault>
     requires source { IsSource maker.now.linker.now maker.now.source }
     requires text { HasText maker.now.linker.now maker.now.source maker.now.text.now }
     requires paths { HaveGoodPaths maker.now.linker.now }

@@ -1,12 +1,16 @@
 //! The texts of the symbols of files, packages and declarations.
 
-ghost use Rattle.std.specs.Prelude.{◌≡◌, ◌<◌, ◌≤◌, IfOk, Contains, length};
-ghost use Rattle.scip_symbol.specs.Entities.{OfFile};
+ghost use Rattle.std.specs.Prelude.{◌≡◌, ◌<◌, ◌≤◌, ◌++◌, ◌∷◌, [], IfOk, OnOk, Contains, length};
+ghost use Rattle.proto_decl.specs.Facts.{Facts};
+ghost use Rattle.proto_decl.specs.Ancestors.{component_names};
+ghost use Rattle.scip_symbol.specs.Entities.{OfFile, OfPackage};
+ghost use Rattle.scip_symbol.specs.Package.{Package};
 ghost use Rattle.scip_symbol.specs.Path.{IsGoodPath};
 ghost use Rattle.scip_document.specs.Named.{text_of, package_at, declaration_at};
+ghost use Rattle.scip_document.specs.Tables.OwnTexts.{declaration_texts};
 
 use proto_decl::{Declaration, FileFacts};
-use scip_symbol::{PackageId, print_declaration, print_file, print_package};
+use scip_symbol::{PackageId, print_below, print_declaration, print_file, print_package};
 use sequences::OwnedText;
 use std::alloc::{AllocError, Global};
 
@@ -48,6 +52,53 @@ pub(crate) fn declaration_text(
     requires { Contains facts.now.declarations declaration.now }
     ensures { IfOk result (λ text. text ≡ text_of id.now (declaration_at facts.now declaration.now)) }
 {
-    let text = print_declaration(alloc, id, facts.package_name(), declaration.path.as_slice())?;
+    let text = print_declaration(alloc, id, facts.package_name(), &declaration.path)?;
     Ok(OwnedText::from_string(text))
+}
+
+// Of a declaration of a file, of which the package with all components of its name has this text.
+#[tactic(auto, unfolding(crate::specs::Named::text_of))]
+fn text_below(
+    alloc: Global,
+    front: &str,
+    declaration: &Declaration,
+) -> Result<OwnedText, AllocError>
+    ensures { IfOk result (λ text. (id : Package) (facts : Facts)
+        → front.now ≡ text_of id (OfPackage (component_names facts.package_name))
+        → text ≡ text_of id (declaration_at facts declaration.now)) }
+{
+    let text = print_below(alloc, front, &declaration.path)?;
+    Ok(OwnedText::from_string(text))
+}
+
+// Adds it.
+fn push_text_below(
+    alloc: Global,
+    texts: &mut Vec<OwnedText>,
+    front: &str,
+    declaration: &Declaration,
+) -> Result<(), AllocError>
+    ensures { OnOk result ((id : Package) (facts : Facts)
+        → front.now ≡ text_of id (OfPackage (component_names facts.package_name))
+        → texts.new.items ≡ texts.old.items ++ text_of id (declaration_at facts declaration.now) ∷ []) }
+{
+    let text = text_below(alloc, front, declaration)?;
+    texts.push(text)?;
+    Ok(())
+}
+
+// Of each declaration of a file, in order. What they begin with is made once.
+pub(crate) fn declaration_texts(
+    alloc: Global,
+    id: &PackageId,
+    facts: &FileFacts,
+) -> Result<Vec<OwnedText>, AllocError>
+    ensures { IfOk result (λ texts. texts.items ≡ declaration_texts id.now facts.now) }
+{
+    let front = print_package(alloc, id, facts.package_name())?;
+    let mut texts = Vec::new(alloc);
+    for declaration in facts.declarations() {
+        push_text_below(alloc, &mut texts, front.as_str(), declaration)?;
+    }
+    Ok(texts)
 }

@@ -22,7 +22,7 @@ fn keep(found: &mut Vec<Option<Target>>, target: Option<Target>) -> Result<(), A
 /// What a use of a file names, where it names a type. `Memory` is the only fault.
 fn target_of(
     alloc: Global,
-    linker: &Linker<'_>,
+    linker: &Linker<'_, '_>,
     file: usize,
     type_use: &Use,
 ) -> Result<Option<Target>, LinkFault>
@@ -40,7 +40,7 @@ fn target_of(
 /// What each use of a source names, in order, where it names a type. `Memory` is the only fault.
 pub(crate) fn find_targets(
     alloc: Global,
-    linker: &Linker<'_>,
+    linker: &Linker<'_, '_>,
     source: usize,
     facts: &FileFacts,
 ) -> Result<Vec<Option<Target>>, LinkFault>

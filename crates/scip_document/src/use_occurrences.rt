@@ -72,7 +72,7 @@ fn named_package_text(
 }
 
 /// A declaration of a file, by its number.
-fn declaration_of(facts: &FileFacts, index: usize) -> &Declaration
+fn declaration_of<'a, 't>(facts: &'a FileFacts<'t>, index: usize) -> &'a Declaration<'t>
     requires { index < length facts.now.declarations }
     ensures { slice_get facts.now.declarations index ≡ Some result.now }
 {
@@ -81,7 +81,7 @@ fn declaration_of(facts: &FileFacts, index: usize) -> &Declaration
 
 /// The symbol's text of a declaration, by its file's number and its own.
 fn declared_text(
-    maker: &DocumentMaker<'_, '_, '_>,
+    maker: &DocumentMaker<'_, '_, '_, '_>,
     file: usize,
     index: usize,
 ) -> Result<OwnedText, AllocError>
@@ -99,7 +99,7 @@ fn declared_text(
 
 /// The symbol's text of what a part of a full name names.
 fn entity_text(
-    maker: &DocumentMaker<'_, '_, '_>,
+    maker: &DocumentMaker<'_, '_, '_, '_>,
     name: &str,
     part: Entity,
 ) -> Result<OwnedText, AllocError>
@@ -115,7 +115,7 @@ fn entity_text(
 }
 
 /// Whether a part of a full name occurs: a package does, and a declaration where it is kept.
-fn is_shown(maker: &DocumentMaker<'_, '_, '_>, name: &str, part: Entity) -> bool
+fn is_shown(maker: &DocumentMaker<'_, '_, '_, '_>, name: &str, part: Entity) -> bool
     requires chosen { HaveChoices maker.now.linker.now maker.now.choices.now }
     requires nameable { IsNameable maker.now.linker.now name.now part }
     ensures { result ≡ is_shown maker.now.choices.now part }
@@ -130,7 +130,7 @@ fn is_shown(maker: &DocumentMaker<'_, '_, '_>, name: &str, part: Entity) -> bool
 /// occurs.
 fn add_part(
     list: &mut Vec<Occurrence>,
-    maker: &DocumentMaker<'_, '_, '_>,
+    maker: &DocumentMaker<'_, '_, '_, '_>,
     name: &str,
     span: Span,
     part: Option<Entity>,
@@ -161,7 +161,7 @@ fn part_of(target: &Target, index: usize) -> Option<Entity>
 /// Adds the occurrences of a use with this target, over its components.
 fn add_target(
     list: &mut Vec<Occurrence>,
-    maker: &DocumentMaker<'_, '_, '_>,
+    maker: &DocumentMaker<'_, '_, '_, '_>,
     target: &Target,
     type_use: &Use,
 ) -> Result<(), AllocError>
@@ -184,7 +184,7 @@ fn add_target(
 /// Adds the occurrences of a use, where it names a type.
 fn add_found(
     list: &mut Vec<Occurrence>,
-    maker: &DocumentMaker<'_, '_, '_>,
+    maker: &DocumentMaker<'_, '_, '_, '_>,
     found: &Option<Target>,
     type_use: &Use,
 ) -> Result<(), AllocError>
@@ -204,7 +204,7 @@ fn add_found(
 /// Each component of a use that names a package, or a declaration that is kept; of the uses this was
 /// found.
 pub(crate) fn use_occurrences(
-    maker: &DocumentMaker<'_, '_, '_>,
+    maker: &DocumentMaker<'_, '_, '_, '_>,
     found: &[Option<Target>],
     uses: &[Use],
 ) -> Result<Vec<Occurrence>, AllocError>

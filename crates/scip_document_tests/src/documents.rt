@@ -50,7 +50,7 @@ fn packages_of(alloc: Global, roots: &str) -> Result<FilePackages, AllocError> {
 
 fn is_linked_right<'a>(
     alloc: Global,
-    files: &'a [LinkFile<'a>],
+    files: &'a [LinkFile<'a, '_>],
     readings: &[Reading<'_>],
     choices: &Choices,
     package: &FilePackages,

@@ -15,7 +15,7 @@ use proto_link::{LinkFault, LinkFile, Linker, have_own_paths};
 use scip_document::{Choices, DocumentMaker, FilePackages, document, externals};
 use std::alloc::{AllocError, Global};
 
-fn linked_file<'a>(reading: &'a Reading<'_>) -> LinkFile<'a>
+fn linked_file<'a, 't>(reading: &'a Reading<'t>) -> LinkFile<'a, 't>
     ensures { result ≡ linked_file reading.now }
 {
     LinkFile {
@@ -26,10 +26,10 @@ fn linked_file<'a>(reading: &'a Reading<'_>) -> LinkFile<'a>
 }
 
 /// The files of sources that were read.
-pub(crate) fn files_of<'a>(
+pub(crate) fn files_of<'a, 't>(
     alloc: Global,
-    readings: &'a [Reading<'_>],
-) -> Result<Vec<LinkFile<'a>>, AllocError>
+    readings: &'a [Reading<'t>],
+) -> Result<Vec<LinkFile<'a, 't>>, AllocError>
     ensures { IfOk result (λ files. files.items ≡ linked_files readings.now) }
 {
     let mut files = Vec::with_capacity(alloc, readings.len())?;
@@ -40,7 +40,10 @@ pub(crate) fn files_of<'a>(
 }
 
 /// The linker of files that can be linked.
-pub(crate) fn link<'a>(alloc: Global, files: &'a [LinkFile<'a>]) -> Result<Linker<'a>, AllocError>
+pub(crate) fn link<'a, 't>(
+    alloc: Global,
+    files: &'a [LinkFile<'a, 't>],
+) -> Result<Linker<'a, 't>, AllocError>
     ensures { IfOk result (λ linker. linker ≡ files.now) }
 {
     if !have_own_paths(alloc, files)? {
@@ -53,7 +56,10 @@ pub(crate) fn link<'a>(alloc: Global, files: &'a [LinkFile<'a>]) -> Result<Linke
 }
 
 /// Adds what `document` answers, and tells whether it is a document.
-fn add_made(listing: &mut Listing, maker: &DocumentMaker<'_, '_, '_>) -> Result<bool, AllocError>
+fn add_made(
+    listing: &mut Listing,
+    maker: &DocumentMaker<'_, '_, '_, '_>,
+) -> Result<bool, AllocError>
     requires source { IsSource maker.now.linker.now maker.now.source }
     requires text { HasText maker.now.linker.now maker.now.source maker.now.text.now }
     requires paths { HaveGoodPaths maker.now.linker.now }
@@ -77,7 +83,7 @@ fn add_made(listing: &mut Listing, maker: &DocumentMaker<'_, '_, '_>) -> Result<
 fn add_file(
     alloc: Global,
     listing: &mut Listing,
-    linker: &Linker<'_>,
+    linker: &Linker<'_, '_>,
     readings: &[Reading<'_>],
     choices: &Choices,
     package: &FilePackages,
@@ -114,7 +120,7 @@ fn add_file(
 fn add_files(
     alloc: Global,
     listing: &mut Listing,
-    linker: &Linker<'_>,
+    linker: &Linker<'_, '_>,
     readings: &[Reading<'_>],
     choices: &Choices,
     package: &FilePackages,
@@ -136,7 +142,7 @@ fn add_files(
 pub(crate) fn add_all(
     alloc: Global,
     listing: &mut Listing,
-    linker: &Linker<'_>,
+    linker: &Linker<'_, '_>,
     readings: &[Reading<'_>],
     choices: &Choices,
     package: &FilePackages,

@@ -16,7 +16,7 @@ pub(crate) struct Reading<'a> {
     pub(crate) path: &'a str,
     pub(crate) is_included: bool,
     pub(crate) text: Text<'a>,
-    pub(crate) facts: FileFacts,
+    pub(crate) facts: FileFacts<'a>,
 }
 
 impl<'a> Model for Reading<'a> {
@@ -27,7 +27,7 @@ impl<'a> Model for Reading<'a> {
     ghost view = { λ reading. record { path = reading.path.now; is_included = reading.is_included; text = reading.text; facts = reading.facts } };
 }
 
-fn facts_of(alloc: Global, number: usize, text: &Text<'_>) -> Result<FileFacts, AllocError>
+fn facts_of<'t>(alloc: Global, number: usize, text: &Text<'t>) -> Result<FileFacts<'t>, AllocError>
     ensures { IfOk result (IsReadAs number text.now) }
 {
     let Ok(lexed) = lex(alloc, text) else {

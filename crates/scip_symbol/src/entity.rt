@@ -7,7 +7,7 @@ ghost use Rattle.scip_symbol.specs.Entities.{OfFile, OfPackage, OfDeclaration, s
 
 use crate::package::PackageId;
 use crate::symbol::{Descriptor, GlobalSymbol, Suffix, Symbol, SymbolParts};
-use proto_decl::{Component, DeclarationKind, DeclarationStep};
+use proto_decl::{Component, DeclarationKind, DeclarationPath, DeclarationStep};
 use sequences::{OwnedText, Sequence};
 use std::alloc::{AllocError, Global};
 
@@ -91,6 +91,19 @@ fn push_steps(
     Ok(())
 }
 
+/// Appends the descriptors of all steps of a path.
+fn push_way(
+    alloc: Global,
+    descriptors: &mut Vec<Descriptor>,
+    way: &DeclarationPath,
+) -> Result<(), AllocError>
+    ensures { OnOk result (descriptors.new.items ≡ descriptors.old.items ++ map step_descriptor way.now) }
+{
+    let (outer, last) = way.parts();
+    push_steps(alloc, descriptors, outer)?;
+    push_step(alloc, descriptors, last)
+}
+
 /// The symbol with these descriptors in a package.
 fn symbol_with(
     alloc: Global,
@@ -144,13 +157,13 @@ pub fn symbol_of(
     alloc: Global,
     id: &PackageId,
     components: &[Component],
-    way: &[DeclarationStep],
+    way: &DeclarationPath,
 ) -> Result<Symbol, AllocError>
     requires { IsEntity (OfDeclaration (component_names components.now) way.now) }
     ensures { IfOk result (λ symbol. symbol ≡ symbol_in id.now (OfDeclaration (component_names components.now) way.now)) }
 {
     let mut descriptors = Vec::new(alloc);
     push_namespaces(alloc, &mut descriptors, components)?;
-    push_steps(alloc, &mut descriptors, way)?;
+    push_way(alloc, &mut descriptors, way)?;
     symbol_with(alloc, id, descriptors)
 }

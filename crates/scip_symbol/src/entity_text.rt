@@ -7,11 +7,12 @@ ghost use Rattle.proto_decl.specs.Ancestors.{component_names};
 ghost use Rattle.scip_symbol.specs.SymbolText.{descriptor_text, symbol_text};
 ghost use Rattle.scip_symbol.specs.Entities.{OfFile, OfPackage, OfDeclaration, namespace_of, step_descriptor, symbol_in};
 ghost use Rattle.scip_symbol.specs.EntityTexts.{front_with, front_in, namespaces_text, steps_text};
+ghost use Rattle.scip_symbol.specs.Package.{Package};
 
 use crate::entity::{SCHEME, suffix_of};
 use crate::package::PackageId;
 use crate::printer::{front_text, push_doubled, push_name, push_part, push_suffix};
-use proto_decl::{Component, DeclarationStep};
+use proto_decl::{Component, DeclarationPath, DeclarationStep};
 use std::alloc::{AllocError, Global};
 
 /// The bytes that a text has room for before it grows: most need no more.
@@ -80,6 +81,15 @@ fn push_steps(out: &mut String, way: &[DeclarationStep]) -> Result<(), AllocErro
     Ok(())
 }
 
+/// Appends the descriptors of all steps of a path.
+fn push_way(out: &mut String, way: &DeclarationPath) -> Result<(), AllocError>
+    ensures { OnOk result (string_bytes out.new ≡ string_bytes out.old ++ steps_text way.now) }
+{
+    let (outer, last) = way.parts();
+    push_steps(out, outer)?;
+    push_step(out, last)
+}
+
 /// The text of the symbol of the file with a path, as `print` gives it.
 pub fn print_file(alloc: Global, id: &PackageId, path: &str) -> Result<String, AllocError>
     ensures { IfOk result (λ text. string_bytes text ≡ symbol_text (symbol_in id.now (OfFile path.now))) }
@@ -124,13 +134,27 @@ pub fn print_declaration(
     alloc: Global,
     id: &PackageId,
     components: &[Component],
-    way: &[DeclarationStep],
+    way: &DeclarationPath,
 ) -> Result<String, AllocError>
     ensures { IfOk result (λ text. string_bytes text ≡ symbol_text (symbol_in id.now (OfDeclaration (component_names components.now) way.now))) }
 {
     let mut text = String::with_capacity(alloc, ROOM)?;
     push_front(&mut text, id)?;
     push_namespaces(&mut text, components)?;
-    push_steps(&mut text, way)?;
+    push_way(&mut text, way)?;
     Ok(text)
+}
+
+/// The text of the symbol of a declaration: the text of its package's symbol, which `print_package` gives for
+/// all components of the package's name, and behind it the way from the package to the declaration.
+pub fn print_below(alloc: Global, front: &str, way: &DeclarationPath) -> Result<String, AllocError>
+    ensures { IfOk result (λ text. (id : Package) (components : List (List ℕ))
+        → front.now ≡ symbol_text (symbol_in id (OfPackage components))
+        → string_bytes text ≡ symbol_text (symbol_in id (OfDeclaration components way.now))) }
+{
+    let room = front.len().saturating_add(ROOM);
+    let mut whole = String::with_capacity(alloc, room)?;
+    whole.push_str(front)?;
+    push_way(&mut whole, way)?;
+    Ok(whole)
 }

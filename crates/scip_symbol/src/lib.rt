@@ -11,7 +11,9 @@ mod reader;
 mod symbol;
 
 pub use entity::{SCHEME, file_symbol, package_symbol, symbol_of};
-pub use entity_text::{print_declaration, print_file, print_package, print_package_named};
+pub use entity_text::{
+    print_below, print_declaration, print_file, print_package, print_package_named,
+};
 pub use fault::SymbolFault;
 pub use laws::{
     files_are_without_clash, symbols_have_spellings, symbols_name_one_entity,

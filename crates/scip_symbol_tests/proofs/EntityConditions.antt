@@ -42,9 +42,13 @@ two_components a b e f = (
 abbrev IsNamed : DeclarationStep → Type 0
 IsNamed s = IsIdentifier s.name
 
-pub message : (a : DeclarationStep) → a.name ≡ codes "A" → IsEntity (OfDeclaration [] (a ∷ []))
-message a e = (
+one_message : (a : DeclarationStep) → a.name ≡ codes "A" → IsEntity (OfDeclaration [] (a ∷ []))
+one_message a e = (
   All-nil IsIdentifier,
   λ none. cc,
   All-cons IsNamed a [] (word a.name (codes "A") (identifier refl refl) e) (All-nil IsNamed),
 )
+
+pub message : (steps : List DeclarationStep) {a : DeclarationStep} → steps ≡ a ∷ [] → a.name ≡ codes "A"
+    → IsEntity (OfDeclaration [] steps)
+message steps {a} h e = subst (λ each. IsEntity (OfDeclaration [] each)) (sym h) (one_message a e)

@@ -1,16 +1,18 @@
 //! The symbols of a file, a package and a declaration, their texts made with and without the symbols,
 //! and the parts of a package.
 
-ghost use Rattle.std.specs.Prelude.{◌≡◌, IfOk};
+ghost use Rattle.std.specs.Prelude.{◌≡◌, ◌∷◌, [], IfOk};
+ghost use Rattle.proto_decl.specs.declared.kind.DeclarationKind.TheVariants.{Message};
 
 use crate::calls::{see, text_of_symbol};
-use proto_decl::{Component, DeclarationKind, DeclarationStep};
+use lent_texts::LentText;
+use proto_decl::{Component, DeclarationKind, DeclarationPath, DeclarationStep};
 use proto_lex::Span;
 use scip_symbol::{
-    BadPart, PackageId, Symbol, SymbolParts, file_symbol, package_symbol, print_declaration,
-    print_file, print_package, print_package_named, symbol_of,
+    BadPart, PackageId, Symbol, SymbolParts, file_symbol, package_symbol, print_below,
+    print_declaration, print_file, print_package, print_package_named, symbol_of,
 };
-use sequences::OwnedText;
+use sequences::{OwnedText, Sequence};
 use std::alloc::{AllocError, Global};
 use std::test::Fail;
 
@@ -26,21 +28,24 @@ fn package_of(
 }
 
 /// A component of a package's name, wherever it stands.
-fn component(alloc: Global, name: &str) -> Result<Component, AllocError>
-    ensures { IfOk result (λ component. component.name ≡ name.now) }
+fn component(name: &str) -> Component<'_>
+    ensures { result.name ≡ name.now }
 {
-    let name = OwnedText::copy_of(alloc, name)?;
-    let span = Span { start: 0, end: 0 };
-    Ok(Component { name, span })
+    Component {
+        name: LentText::new(name),
+        span: Span { start: 0, end: 0 },
+    }
 }
 
-/// The step to a message.
-fn step(alloc: Global, name: &str) -> Result<DeclarationStep, AllocError>
-    ensures { IfOk result (λ step. step.name ≡ name.now) }
+/// The path to a message outside all others.
+fn way<'t>(alloc: Global, name: &'t str) -> Result<DeclarationPath<'t>, AllocError>
+    ensures { IfOk result (λ way. way ≡ record { kind = Message; name = name.now } ∷ []) }
 {
-    let name = OwnedText::copy_of(alloc, name)?;
-    let kind = DeclarationKind::Message;
-    Ok(DeclarationStep { kind, name })
+    let step = DeclarationStep {
+        kind: DeclarationKind::Message,
+        name: LentText::new(name),
+    };
+    DeclarationPath::from_steps(alloc, Sequence::new(alloc), step)
 }
 
 fn file_text(alloc: Global, id: &PackageId) -> Result<String, AllocError> {
@@ -48,25 +53,32 @@ fn file_text(alloc: Global, id: &PackageId) -> Result<String, AllocError> {
 }
 
 fn package_text(alloc: Global, id: &PackageId) -> Result<String, AllocError> {
-    let a = component(alloc, "a")?;
-    let b = component(alloc, "b")?;
+    let a = component("a");
+    let b = component("b");
     text_of_symbol(alloc, package_symbol(alloc, id, &[a, b]))
 }
 
 fn message_text(alloc: Global, id: &PackageId) -> Result<String, AllocError> {
-    let a = step(alloc, "A")?;
-    text_of_symbol(alloc, symbol_of(alloc, id, &[], &[a]))
+    let a = way(alloc, "A")?;
+    text_of_symbol(alloc, symbol_of(alloc, id, &[], &a))
 }
 
 fn printed_package(alloc: Global, id: &PackageId) -> Result<String, AllocError> {
-    let a = component(alloc, "a")?;
-    let b = component(alloc, "b")?;
+    let a = component("a");
+    let b = component("b");
     print_package(alloc, id, &[a, b])
 }
 
 fn printed_message(alloc: Global, id: &PackageId) -> Result<String, AllocError> {
-    let a = step(alloc, "A")?;
-    print_declaration(alloc, id, &[], &[a])
+    let a = way(alloc, "A")?;
+    print_declaration(alloc, id, &[], &a)
+}
+
+fn printed_below(alloc: Global, id: &PackageId) -> Result<String, AllocError> {
+    let b = component("b");
+    let front = print_package(alloc, id, &[b])?;
+    let a = way(alloc, "A")?;
+    print_below(alloc, front.as_str(), &a)
 }
 
 fn local_text(alloc: Global) -> Result<String, AllocError> {
@@ -85,6 +97,7 @@ enum Of {
     PrintedPackage,
     PrintedNames,
     PrintedMessage,
+    PrintedBelow,
 }
 
 fn text_of(alloc: Global, id: &PackageId, of: Of) -> Result<String, AllocError> {
@@ -97,12 +110,13 @@ fn text_of(alloc: Global, id: &PackageId, of: Of) -> Result<String, AllocError> 
         Of::PrintedPackage => printed_package(alloc, id),
         Of::PrintedNames => print_package_named(alloc, id, &["a", "b"]),
         Of::PrintedMessage => printed_message(alloc, id),
+        Of::PrintedBelow => printed_below(alloc, id),
     }
 }
 
 // The first case: of the file `a b.proto` in a package of the manager `my mgr`, without a name, of the
 // version 1.0, the symbol has two spaces for the manager's one, and backticks around the path.
-const CASES: [(Of, &str); 8] = [
+const CASES: [(Of, &str); 9] = [
     (Of::File, "scip-protobuf my  mgr . 1.0 `a b.proto`/"),
     (Of::Package, "scip-protobuf my  mgr . 1.0 a/b/"),
     (Of::Message, "scip-protobuf my  mgr . 1.0 A#"),
@@ -111,6 +125,7 @@ const CASES: [(Of, &str); 8] = [
     (Of::PrintedPackage, "scip-protobuf my  mgr . 1.0 a/b/"),
     (Of::PrintedNames, "scip-protobuf my  mgr . 1.0 a/b/"),
     (Of::PrintedMessage, "scip-protobuf my  mgr . 1.0 A#"),
+    (Of::PrintedBelow, "scip-protobuf my  mgr . 1.0 b/A#"),
 ];
 
 /// Whether a package has its parts, and what is made in it is a text.

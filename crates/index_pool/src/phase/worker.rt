@@ -3,12 +3,13 @@
 ghost use Rattle.std.specs.Prelude.{◌≡◌, ℕ, ◌+◌, ◌<◌, true, ◌++◌, All, sum_by, OnOk};
 ghost use Rattle.std.specs.List.Sorted.{IsPermutation};
 ghost use Rattle.index_pool.specs.LaneEnds.{owner_view, found_empty, thief_view, tries_left};
+ghost use Rattle.index_pool.specs.Ticket.{number_of};
 ghost use Rattle.index_pool.specs.PhaseSteps.{AllBelow, FreshPost, PoppedMore, StoleMore, AllGiven, weight, Worked};
 
 use super::task::Task;
 use crate::gate::Gate;
 use crate::job::Job;
-use crate::lanes::{LaneOwner, LaneThief, Stolen};
+use crate::lanes::{LaneOwner, LaneThief, Stolen, Ticket};
 use std::alloc::AllocError;
 
 // An input's number, and what `run` returned for it.
@@ -33,15 +34,17 @@ pub(crate) struct Done<A> {
     pub(crate) starved: bool,
 }
 
-// Runs an input between the gate's two calls.
-fn run_one<J: Job, G: Gate>(task: &Task<'_, J, G>, number: usize) -> Result<J::Out, J::Fault>
-    requires { number < J.inputs task.now.job.now }
-    ensures { J.gives task.now.job.now number result }
+// Runs an input, whose ticket it uses up, between the gate's two calls.
+fn run_one<J: Job, G: Gate>(task: &Task<'_, J, G>, ticket: Ticket) -> Ran<Result<J::Out, J::Fault>>
+    requires { number_of ticket < J.inputs task.now.job.now }
+    ensures number { result.number ≡ number_of ticket }
+    ensures given { J.gives task.now.job.now result.number result.answer }
 {
+    let number = ticket.number();
     task.gate.before(number);
-    let answer = task.job.run(number);
+    let answer = task.job.run(ticket);
     task.gate.after(number);
-    answer
+    Ran { number, answer }
 }
 
 // Pops the lane until it is empty, and runs each number before it takes the next. Room for a
@@ -60,11 +63,11 @@ pub(crate) fn run_own<J: Job, G: Gate>(
 {
     'pops: loop {
         results.reserve(1)?;
-        let Some(number) = owner.pop() else {
+        let Some(ticket) = owner.pop() else {
             return Ok(());
         };
-        let answer = run_one(task, number);
-        results.push_reserved(Ran { number, answer });
+        let ran = run_one(task, ticket);
+        results.push_reserved(ran);
     }
 }
 
@@ -86,9 +89,9 @@ fn run_stolen<J: Job, G: Gate>(
     'steals: while thief.tries() > 0 {
         results.reserve(1)?;
         match thief.steal() {
-            Stolen::Got(number) => {
-                let answer = run_one(task, number);
-                results.push_reserved(Ran { number, answer });
+            Stolen::Got(ticket) => {
+                let ran = run_one(task, ticket);
+                results.push_reserved(ran);
             }
             Stolen::Empty => return Ok(()),
             Stolen::Retry => {}

@@ -1,4 +1,5 @@
 use Rattle.std.proofs.Common.{◌≤◌}
+use Rattle.proto_lex.specs.Position.{line_of}
 use Rattle.proto_decl.proofs.LeadingLemmas.{IsRun, IsNextLine}
 use Rattle.proto_decl.proofs.comments.leading_comments.Given as goal
 
@@ -6,8 +7,8 @@ use Rattle.proto_decl.proofs.comments.leading_comments.Given as goal
 abbrev pub invariant-loop-start : goal.invariant-loop-start
 invariant-loop-start l = record {
   within : l.start ≤ l.end;
-  run : IsRun l.lexed l.line l.start l.end;
-  next : IsNextLine l.lexed l.line l.start l.end l.next_line;
+  run : IsRun l.lexed (line_of l.lexed.text l.offset) l.start l.end;
+  next : IsNextLine l.lexed (line_of l.lexed.text l.offset) l.start l.end l.next_line;
 }
 
 abbrev pub decreases-loop-start : goal.decreases-loop-start

@@ -1,23 +1,31 @@
-use Rattle.std.proofs.Common.{rules, subst, sym, ltb, List}
-use Rattle.std.specs.List.Sorted.{IsPartitionedBy}
-use Rattle.std.proofs.lemmas.List.Sorted.{IsPartitionPoint-from_clause, IsPartitionedBy-ltb}
-use Rattle.proto_lex.specs.Position.{line_of}
-use Rattle.proto_lex.specs.declared.token.Comment.{Comment}
-use Rattle.proto_decl.proofs.LineLemmas.{ends_rise, lines_rise, parted_less}
+use Rattle.std.proofs.Common.{arith}
+use Rattle.proto_decl.proofs.AboveLemmas.{none_behind, above_by_start, above_by_later, none_before}
 use Rattle.proto_decl.proofs.layout.comments_above.Goals as goal
+
+pub loop-above-init : goal.loop-above-init
+loop-above-init c = record {
+  within = c.comments_begun-above.ensures.within;
+  behind = none_behind c.args.lexed.now c.args.offset c.comments-comments.ensures.in_order
+      c.comments_begun-above.result c.comments_begun-above.ensures.parted;
+}
+
+pub returns-then-is_on_later_line-clause-parted : goal.returns-then-is_on_later_line-clause-parted
+returns-then-is_on_later_line-clause-parted c =
+    above_by_later c.args.lexed.now c.args.offset c.comments-comments.ensures.in_order c.loop-above.above
+    c.loop-above-test.true c.loop-above.invariant.within c.loop-above.invariant.behind c.comments-comments.result.now
+    c.comments-comments.ensures.value _ c.is_on_later_line.result c.is_on_later_line.ensures
+    c.if-is_on_later_line.true
+
+pub loop-above-preserved : goal.loop-above-preserved
+loop-above-preserved c = record {
+  within = omega (arith, c.loop-above.invariant.within);
+  behind = none_before c.args.lexed.now c.args.offset c.comments-comments.ensures.in_order c.loop-above.above
+      c.loop-above-test.true c.loop-above.invariant.within c.loop-above.invariant.behind c.comments-comments.result.now
+      c.comments-comments.ensures.value _ c.is_on_later_line.result c.is_on_later_line.ensures
+      c.if-is_on_later_line.false;
+}
 
 pub returns-clause-parted : goal.returns-clause-parted
 returns-clause-parted c =
-    let comments = c.args.lexed.now.comments in
-    let bound = c.args.line in
-    let key = λ (t : Comment). line_of c.args.lexed.now.text t.span.end in
-    let parted = IsPartitionedBy-ltb key comments bound
-    (λ i j d le h. lines_rise c.args.lexed.now.text _ _
-    (ends_rise (λ (t : Comment). t.span) 0 i j d comments c.comments.ensures.in_order le h)) in
-    let listed = subst (λ (xs : List Comment). IsPartitionedBy (λ t. ltb (key t) bound) xs)
-    (sym c.comments.ensures.value) parted in
-    let point = IsPartitionPoint-from_clause
-    (λ (t : Comment). ltb (key t) bound) c.comments.result.now c.partition_point.result
-    c.partition_point.ensures.partitioned listed (λ a r q k. search rules) in
-    parted_less key bound c.partition_point.result comments
-    (rw c.comments.ensures.value at c.partition_point.ensures.bound) (rw c.comments.ensures.value at point)
+    above_by_start c.args.lexed.now c.args.offset c.comments-comments.ensures.in_order c.loop-above.above
+    c.loop-above-test.false c.loop-above.invariant.behind

@@ -38,7 +38,7 @@ loop-item-preserved t c =
     let rest = drop (c.loop-item.item-index + 1) items in
     let here = left_at items c.loop-item.item-index c.item-item.result c.loop-item-test.true c.item-item.is in
     let text = c.args.text.now in
-    let inner = c.as_str-inner.result.now in
+    let inner = c.in_ok-shared.shared in
     elim c.match-item.branch [
       | in-Message+in_ok-use_message-in-Message w ↦
           let left : drop c.loop-item.item-index items ≡ Message w.in-Message.nested ∷ rest =

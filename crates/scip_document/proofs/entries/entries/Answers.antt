@@ -13,6 +13,8 @@ use Rattle.scip_document.specs.Indexes.{info_cmp}
 use Rattle.scip_document.proofs.ApartLemmas.{AreCounted}
 use Rattle.scip_document.proofs.EntryLemmas.{at-index}
 use Rattle.scip_document.proofs.LinkedLemmas.{source-counts, source-facts}
+use Rattle.scip_document.specs.Tables.OwnTexts.{declaration_texts}
+use Rattle.scip_document.proofs.OwnTextLemmas.{texts_count}
 use Rattle.scip_document.proofs.PackageLemmas.{file_good}
 use Rattle.scip_document.proofs.SourceEntryLemmas.{infos_rank, distinct, source-list}
 use Rattle.scip_document.proofs.entries.entries.Goals as goal
@@ -39,6 +41,26 @@ listed_entries-requires-clause-choices c = λ index within.
     let declared = at-index facts.declarations index within in
     c.requires.choices c.args.maker.now.source index facts declared.0
     (record { has_facts = known; numbered = declared.1 })
+
+pub listed_entries-requires-clause-one_each : goal.listed_entries-requires-clause-one_each
+listed_entries-requires-clause-one_each c =
+    let files = c.args.maker.now.linker.now in
+    let source = c.args.maker.now.source in
+    let facts = c.unwrap-facts.result.now in
+    let known = MatchOption-at_some ((other : Facts) → HasFacts files source other → ⊥)
+    (λ facts. HasFacts files source facts.now) c.unwrap-facts.result c.unwrap-facts.ensures c.facts_of.ensures in
+    texts_count (package_of_file files c.args.maker.now.package.now source) facts c.args.texts.now
+    (c.requires.texts facts known)
+
+pub listed_entries-requires-clause-texts : goal.listed_entries-requires-clause-texts
+listed_entries-requires-clause-texts c =
+    let files = c.args.maker.now.linker.now in
+    let source = c.args.maker.now.source in
+    let facts = c.unwrap-facts.result.now in
+    let known = MatchOption-at_some ((other : Facts) → HasFacts files source other → ⊥)
+    (λ facts. HasFacts files source facts.now) c.unwrap-facts.result c.unwrap-facts.ensures c.facts_of.ensures in
+    c.requires.texts facts known
+    ∙ ap (λ (id : Package). declaration_texts id facts) (sym c.package_of_file-id.ensures)
 
 pub package_of_file-id-requires : goal.package_of_file-id-requires
 package_of_file-id-requires c =

@@ -8,7 +8,12 @@ use Rattle.scip_document.specs.Tables.Listing.{each_from, gap_at}
 use Rattle.scip_document.proofs.GapLemmas.{gaps_of}
 use Rattle.scip_document.proofs.TargetLemmas.{zip_length}
 use Rattle.scip_document.proofs.LinkedLemmas.{source-facts}
-use Rattle.scip_document.proofs.NamedLemmas.{some_facts, given_facts}
+use Rattle.scip_document.proofs.NamedLemmas.{some_facts, given_facts, same_facts}
+use Rattle.std.proofs.lemmas.Option.{slice_get_within}
+use Rattle.proto_decl.specs.Facts.{Facts}
+use Rattle.scip_symbol.specs.Package.{Package}
+use Rattle.scip_document.specs.Packages.{package_of_file}
+use Rattle.scip_document.specs.Tables.OwnTexts.{declaration_texts}
 use Rattle.scip_document.proofs.source_document.document_and_gaps.Goals as goal
 
 pub unwrap-facts-requires : goal.unwrap-facts-requires
@@ -22,6 +27,30 @@ occurrences-requires-clause-text c =
     let facts = c.unwrap-facts.result.now in
     c.requires.text facts (given_facts c.args.maker.now.linker.now c.args.maker.now.source c.facts_of.result
     c.unwrap-facts.result c.unwrap-facts.ensures c.facts_of.ensures)
+
+pub package_of_file-id-requires : goal.package_of_file-id-requires
+package_of_file-id-requires c =
+    let source = c.requires.source in
+    slice_get_within c.args.maker.now.linker.now c.args.maker.now.source source.file source.numbered
+
+pub occurrences-requires-clause-texts : goal.occurrences-requires-clause-texts
+occurrences-requires-clause-texts c =
+    c.as_slice-own.ensures.value
+    ∙ (c.in_ok-texts.ensures
+    ∙ ap (λ (id : Package). declaration_texts id c.unwrap-facts.result.now) c.package_of_file-id.ensures)
+
+pub entries-requires-clause-texts : goal.entries-requires-clause-texts
+entries-requires-clause-texts c = λ other known.
+    let files = c.args.maker.now.linker.now in
+    let source = c.args.maker.now.source in
+    let facts = c.unwrap-facts.result.now in
+    let given = given_facts files source c.facts_of.result c.unwrap-facts.result c.unwrap-facts.ensures
+    c.facts_of.ensures in
+    let id = package_of_file files c.args.maker.now.package.now source in
+    c.as_slice-own.ensures.value
+    ∙ (c.in_ok-texts.ensures
+    ∙ (ap (λ (p : Package). declaration_texts p facts) c.package_of_file-id.ensures
+    ∙ ap (λ (f : Facts). declaration_texts id f) (same_facts files source facts other given known)))
 
 pub unresolved_uses-requires : goal.unresolved_uses-requires
 unresolved_uses-requires c =

@@ -18,6 +18,9 @@ use Rattle.scip_document.proofs.OrderLemmas.{tied}
 use Rattle.scip_document.specs.OccurrenceOrder.{occurrence_cmp}
 use Rattle.scip_document.specs.Occurs.{Occurs}
 use Rattle.scip_document.specs.Texts.{AreOfText}
+use Rattle.scip_document.specs.Packages.{package_of_file}
+use Rattle.scip_document.specs.Tables.OwnTexts.{declaration_texts}
+use Rattle.scip_document.proofs.OwnTextLemmas.{texts_count}
 use Rattle.scip_model.specs.declared.records.Occurrence.{Occurrence}
 use Rattle.std.specs.declared.cmp.Ordering.TheVariants.{Equal}
 use Rattle.scip_document.specs.Gaps.{IsFound}
@@ -59,6 +62,16 @@ pub declaration_occurrences-requires-clause-chosen : goal.declaration_occurrence
 declaration_occurrences-requires-clause-chosen c =
     choices_there c.args.maker.now.linker.now c.args.maker.now.choices.now c.args.maker.now.source c.args.facts.now
     c.requires.choices c.requires.known
+
+pub declaration_occurrences-requires-clause-one_each : goal.declaration_occurrences-requires-clause-one_each
+declaration_occurrences-requires-clause-one_each c =
+    texts_count (package_of_file c.args.maker.now.linker.now c.args.maker.now.package.now c.args.maker.now.source)
+    c.args.facts.now c.args.texts.now c.requires.texts
+
+pub declaration_occurrences-requires-clause-texts : goal.declaration_occurrences-requires-clause-texts
+declaration_occurrences-requires-clause-texts c =
+    c.requires.texts
+    ∙ ap (λ (id : Package). declaration_texts id c.args.facts.now) (sym c.package_of_file-id.ensures)
 
 pub use_occurrences-requires-clause-stand : goal.use_occurrences-requires-clause-stand
 use_occurrences-requires-clause-stand c =

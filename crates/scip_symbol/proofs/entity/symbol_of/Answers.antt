@@ -9,5 +9,5 @@ symbol_with-requires c =
     let first = c.in_ok-push_namespaces.ensures
     ∙ ap (λ l. l ++ map namespace_of (component_names c.args.components.now)) c.new-descriptors.ensures.items in
     let e = entity-has (OfDeclaration (component_names c.args.components.now) c.args.way.now) _ c.requires
-    (c.in_ok-push_steps.ensures ∙ ap (λ l. l ++ map step_descriptor c.args.way.now) first) in
+    (c.in_ok-push_way.ensures ∙ ap (λ l. l ++ map step_descriptor c.args.way.now) first) in
     record { some = e.0; good = e.1 }

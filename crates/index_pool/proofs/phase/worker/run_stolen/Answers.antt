@@ -1,8 +1,9 @@
-use Rattle.std.proofs.Common.{◌∙◌, ◌++◌, ◌∷◌, [], ap, sum_by, arith}
+use Rattle.std.proofs.Common.{◌∙◌, ◌++◌, ◌∷◌, [], sym, ap, sum_by, arith}
 use Rattle.std.specs.Prelude.{Result}
 use Rattle.std.proofs.lemmas.List.Elements.{All-same}
 use Rattle.index_pool.specs.declared.lanes.rule.LaneView.{LaneView}
 use Rattle.index_pool.specs.declared.phase.worker.Ran.{Ran}
+use Rattle.index_pool.specs.Lane.{more_stolen}
 use Rattle.index_pool.specs.LaneEnds.{thief_view}
 use Rattle.index_pool.specs.PhaseSteps.{weight}
 use Rattle.index_pool.proofs.TakenLemmas.{stole_one, stole_none, given_one, weighs_one}
@@ -10,15 +11,15 @@ use Rattle.index_pool.proofs.phase.worker.run_stolen.Goals as goal
 
 pub steals-preserved-in-Got : goal.steals-preserved-in-Got
 steals-preserved-in-Got g c =
-    let one = c.in-Got.ensures.got in
+    let ran : Ran (Result g.row.J-Out.Denot g.row.J-Fault.Denot) = c.run_one-ran.result in
+    let one = c.in-Got.ensures.got
+    ∙ ap (λ k. more_stolen (thief_view c.steals.thief) (k ∷ [])) (sym c.run_one-ran.ensures.number) in
     let before = c.steals.results.items in
-    let ran : Ran (Result g.row.J-Out.Denot g.row.J-Fault.Denot) =
-    record { number = c.in-Got.number; answer = c.run_one-answer.result } in
     let items = c.push_reserved.ensures.items ∙ ap (λ l. l ++ ran ∷ []) c.in_ok-reserve.ensures.items in record {
-      thief = stole_one c.args.thief.now c.steals.thief c.steal.new.self c.in-Got.number c.steals.invariant.thief
+      thief = stole_one c.args.thief.now c.steals.thief c.steal.new.self ran.number c.steals.invariant.thief
           c.in-Got.ensures.same one;
       answers = λ given. given_one before c.push_reserved.new.self.items ran items
-          (g.J.Job.gives c.args.task.now.job.now) (c.steals.invariant.answers given) c.run_one-answer.ensures;
+          (g.J.Job.gives c.args.task.now.job.now) (c.steals.invariant.answers given) c.run_one-ran.ensures.given;
       weighed = λ h. weighs_one before c.push_reserved.new.self.items ran items h (thief_view c.steals.thief).stolen
           (thief_view c.steal.new.self).stolen
           (sum_by h (thief_view c.args.thief.now).stolen) (weight h c.args.results.now.items)

@@ -1,0 +1,2 @@
+-- the bytes of a text, wherever it is
+pub mod Kept

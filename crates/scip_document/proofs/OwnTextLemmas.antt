@@ -1,0 +1,43 @@
+-- The texts of the symbols of a file's own declarations.
+use Rattle.std.proofs.Common.{◌≡◌, ◌∙◌, ap, sym, ℕ, Some, List, length}
+use Rattle.std.specs.List.{slice_get}
+use Rattle.std.specs.Option.{option_map}
+use Rattle.std.proofs.lemmas.List.{length-map}
+use Rattle.std.proofs.lemmas.Option.{slice_get-map}
+use Rattle.proto_decl.specs.Facts.{Facts}
+use Rattle.proto_decl.specs.Ancestors.{component_names}
+use Rattle.proto_decl.specs.declared.declaration.Declaration.{Declaration}
+use Rattle.proto_decl.specs.declared.type_use.Component.{Component}
+use Rattle.scip_symbol.specs.Package.{Package}
+use Rattle.scip_symbol.specs.SymbolText.{symbol_text}
+use Rattle.scip_symbol.specs.Entities.{OfPackage, symbol_in}
+use Rattle.scip_document.specs.Named.{text_of, declaration_at}
+use Rattle.scip_document.specs.Tables.OwnTexts.{declaration_texts}
+
+same_some : {Y : Type 0} {x y : Y} → Some x ≡ Some y → x ≡ y
+same_some h = cc
+
+-- a package with all components
+pub front_text : (id : Package) (facts : Facts) (parts : List Component) (front : List ℕ) → parts ≡ facts.package_name
+    → front ≡ symbol_text (symbol_in id (OfPackage (component_names parts)))
+    → front ≡ text_of id (OfPackage (component_names facts.package_name))
+unfolding text_of
+front_text id facts parts front same is =
+    is ∙ ap (λ (cs : List Component). symbol_text (symbol_in id (OfPackage (component_names cs)))) same
+
+-- one text for each declaration
+pub texts_count : (id : Package) (facts : Facts) (texts : List (List ℕ)) → texts ≡ declaration_texts id facts
+    → length texts ≡ length facts.declarations
+texts_count id facts texts are =
+    ap (λ (ts : List (List ℕ)). length ts) are
+    ∙ length-map facts.declarations (λ (declared : Declaration). text_of id (declaration_at facts declared))
+
+-- the text of a declaration
+pub own_text : (id : Package) (facts : Facts) (texts : List (List ℕ)) (index : ℕ) (declared : Declaration)
+    (its : List ℕ) → texts ≡ declaration_texts id facts → slice_get facts.declarations index ≡ Some declared
+    → slice_get texts index ≡ Some its → its ≡ text_of id (declaration_at facts declared)
+own_text id facts texts index declared its are there known =
+    let text : Declaration → List ℕ = λ one. text_of id (declaration_at facts one) in
+    same_some (sym known
+    ∙ (ap (λ (ts : List (List ℕ)). slice_get ts index) are
+    ∙ (slice_get-map text facts.declarations index ∙ ap (option_map text) there)))

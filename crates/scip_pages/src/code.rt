@@ -6,20 +6,20 @@ ghost use Rattle.scip_pages.specs.Code as spec;
 
 use crate::escapes::push_escaped;
 use crate::runs::Run;
-use sequences::OwnedText;
+use sequences::Sequence;
 use std::alloc::{AllocError, Global};
 
 /// Where a piece of code leads.
 #[derive(Debug, Drop)]
 pub struct Link {
     /// A URL, if it leads anywhere.
-    pub target: Option<OwnedText>,
+    pub target: Option<Sequence<u8>>,
     /// What is shown where a pointer hovers.
-    pub label: OwnedText,
+    pub label: Sequence<u8>,
 }
 
-/// Appends an attribute with its value.
-fn push_attribute(page: &mut Vec<u8>, name: &[u8], value: &[u8]) -> Result<(), AllocError>
+/// Appends an attribute with its value between quotes (HTML Standard, 13.1.2.3 "Attributes").
+pub fn push_attribute(page: &mut Vec<u8>, name: &[u8], value: &[u8]) -> Result<(), AllocError>
     ensures { OnOk result (page.new.items ≡ page.old.items ++ spec.attribute name.now value.now) }
 {
     page.extend_from_slice(b" ")?;
@@ -30,11 +30,11 @@ fn push_attribute(page: &mut Vec<u8>, name: &[u8], value: &[u8]) -> Result<(), A
 }
 
 /// Appends where a link leads.
-fn push_target(page: &mut Vec<u8>, target: &Option<OwnedText>) -> Result<(), AllocError>
+fn push_target(page: &mut Vec<u8>, target: &Option<Sequence<u8>>) -> Result<(), AllocError>
     ensures { OnOk result (page.new.items ≡ page.old.items ++ spec.target_code target.now) }
 {
     match target {
-        Some(target) => push_attribute(page, b"href", target.as_str().as_bytes()),
+        Some(target) => push_attribute(page, b"href", target.as_slice()),
         None => Ok(()),
     }
 }
@@ -45,7 +45,7 @@ fn push_linked(page: &mut Vec<u8>, link: &Link, text: &[u8]) -> Result<(), Alloc
 {
     page.extend_from_slice(b"<a")?;
     push_target(page, &link.target)?;
-    push_attribute(page, b"title", link.label.as_str().as_bytes())?;
+    push_attribute(page, b"title", link.label.as_slice())?;
     page.extend_from_slice(b">")?;
     push_escaped(page, text)?;
     page.extend_from_slice(b"</a>")
@@ -71,8 +71,8 @@ fn link_of(links: &[Link], occurrence: Option<usize>) -> Option<&Link>
     }
 }
 
-/// The first bytes of a line, and those behind them.
-pub(crate) fn cut(line: &[u8], len: usize) -> (&[u8], &[u8])
+/// The first bytes of a line, as many as are asked for or as there are, and those behind them.
+pub fn cut(line: &[u8], len: usize) -> (&[u8], &[u8])
     ensures front { result.0.now ≡ take len line.now }
     ensures behind { result.1.now ≡ drop len line.now }
 {

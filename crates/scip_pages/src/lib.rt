@@ -13,7 +13,7 @@ mod snapshot_fault;
 mod snapshots;
 mod urls;
 
-pub use code::{Link, push_line};
+pub use code::{Link, cut, push_attribute, push_line};
 pub use columns::{ColumnUnit, offset_of, unit_of};
 pub use escapes::{escape, push_escaped};
 pub use laws::{
@@ -21,8 +21,9 @@ pub use laws::{
     paths_stay_below, snapshots_have_their_source, the_narrowest_marks,
     units_are_those_of_their_encoding, urls_lead_to_their_pages,
 };
+pub use lines::{lines_of, misfit};
 pub use paths::{PathFault, path_fault};
 pub use runs::{Run, Span, line_runs, span_on};
 pub use snapshot_fault::SnapshotFault;
-pub use snapshots::snapshot;
-pub use urls::push_url;
+pub use snapshots::{is_definition, parts_of, snapshot};
+pub use urls::{push_encoded, push_ups, push_url};

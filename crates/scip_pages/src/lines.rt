@@ -11,7 +11,7 @@ use scip_model::{Occurrence, Range};
 use std::alloc::{AllocError, Global};
 
 /// The lines of a text: what is between its `\n`, and before and behind them.
-pub(crate) fn lines_of(alloc: Global, text: &str) -> Result<Vec<&str>, AllocError>
+pub fn lines_of(alloc: Global, text: &str) -> Result<Vec<&str>, AllocError>
     ensures { IfOk result (λ lines. map (λ (line : Bor (List ℕ)). line.now) lines.items ≡ spec.lines_of text.now) }
 {
     text.split('\n').collect(alloc)
@@ -50,8 +50,8 @@ fn fits(unit: ColumnUnit, lines: &[&str], occurrence: &Occurrence) -> bool
     is_ordered(range, from, to)
 }
 
-/// The number of the first occurrence whose range isn't one of a source.
-pub(crate) fn misfit(unit: ColumnUnit, lines: &[&str], occurrences: &[Occurrence]) -> Option<usize>
+/// The number, from 0, of the first occurrence whose range isn't one of a source with these lines.
+pub fn misfit(unit: ColumnUnit, lines: &[&str], occurrences: &[Occurrence]) -> Option<usize>
     ensures { result ≡ spec.misfit unit (map (λ (l : Bor (List ℕ)). l.now) lines.now) occurrences.now }
 {
     for (number, occurrence) in occurrences.iter().enumerate() {

@@ -59,8 +59,8 @@ fn push_flat(text: &mut Vec<u8>, bytes: &[u8]) -> Result<(), AllocError>
     Ok(())
 }
 
-/// Whether an occurrence is a definition.
-fn is_definition(occurrence: &Occurrence) -> bool
+/// Whether an occurrence is a definition: bit 1 of its roles (`scip.proto`, `SymbolRole`).
+pub fn is_definition(occurrence: &Occurrence) -> bool
     ensures { result ≡ is_definition occurrence.now }
 {
     occurrence.symbol_roles & DEFINITION != 0
@@ -159,8 +159,9 @@ fn push_notes(
     Ok(())
 }
 
-/// What of a line is before a range that begins on it, and what is in the range.
-fn parts_of(unit: ColumnUnit, line: &[u8], range: Range) -> (&[u8], &[u8])
+/// What of a line is before a range that begins on it, and what is in the range; of a range over
+/// several lines up to the end of this one.
+pub fn parts_of(unit: ColumnUnit, line: &[u8], range: Range) -> (&[u8], &[u8])
     ensures before { result.0.now ≡ spec.before_in unit line.now range }
     ensures inside { result.1.now ≡ spec.inside_in unit line.now range }
 {

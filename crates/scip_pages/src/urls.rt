@@ -31,8 +31,9 @@ fn push_encoded_byte(url: &mut Vec<u8>, byte: u8) -> Result<(), AllocError>
     }
 }
 
-/// Appends a path, so that what has a meaning in a URL is text of the path.
-fn push_encoded(url: &mut Vec<u8>, path: &[u8]) -> Result<(), AllocError>
+/// Appends a path, so that what has a meaning in a URL is text of the path (RFC 3986, 2.1
+/// "Percent-Encoding").
+pub fn push_encoded(url: &mut Vec<u8>, path: &[u8]) -> Result<(), AllocError>
     ensures { OnOk result (url.new.items ≡ url.old.items ++ spec.encoded path.now) }
 {
     for byte in path {
@@ -52,8 +53,8 @@ fn push_up(url: &mut Vec<u8>, byte: u8) -> Result<(), AllocError>
     }
 }
 
-/// Appends what leads from the folder of a page to that of all pages.
-fn push_ups(url: &mut Vec<u8>, from: &[u8]) -> Result<(), AllocError>
+/// Appends what leads from the folder of the page with a path to that of all pages.
+pub fn push_ups(url: &mut Vec<u8>, from: &[u8]) -> Result<(), AllocError>
     ensures { OnOk result (url.new.items ≡ url.old.items ++ spec.ups from.now) }
 {
     for byte in from {

@@ -2,7 +2,7 @@
 
 use crate::see::see;
 use scip_pages::{Link, Run, Span, escape, line_runs, push_line};
-use sequences::OwnedText;
+use sequences::Sequence;
 use std::alloc::{AllocError, Global};
 use std::test::Fail;
 
@@ -50,12 +50,16 @@ fn the_narrower_of_two_occurrences_wins(rt: HostRuntime) -> Result<(), Fail> {
     Ok(())
 }
 
+fn bytes(alloc: Global, text: &str) -> Result<Sequence<u8>, AllocError> {
+    Ok(Sequence::from_vec(Vec::from_slice(alloc, text.as_bytes())?))
+}
+
 fn link(alloc: Global, target: Option<&str>, label: &str) -> Result<Link, AllocError> {
     let target = match target {
-        Some(target) => Some(OwnedText::copy_of(alloc, target)?),
+        Some(target) => Some(bytes(alloc, target)?),
         None => None,
     };
-    let label = OwnedText::copy_of(alloc, label)?;
+    let label = bytes(alloc, label)?;
     Ok(Link { target, label })
 }
 

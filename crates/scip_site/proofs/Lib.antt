@@ -1,0 +1,15 @@
+mod TextLemmas
+mod CodeLemmas
+mod FactLemmas
+mod LawLemmas
+mod ElementLemmas
+mod IdLemmas
+mod PagePathLemmas
+mod RepeatLemmas
+mod TreeLemmas
+mod OrderLemmas
+mod ReadLemmas
+mod MakeLemmas
+mod ScriptLemmas
+mod GoodLemmas
+mod FolderLemmas

@@ -1,0 +1,267 @@
+-- Files that are made one after another.
+use Rattle.std.proofs.Common.{◌≡◌, ◌∙◌, sym, refl, ap, subst, ℕ, zero, suc, ◌+◌, ◌<◌, ◌≤◌, ◌-◌, List, [], ◌∷◌, ◌++◌, map}
+use Rattle.std.proofs.Common.{append-nil, append_assoc, arith, Ok, Err, inl, inr}
+use Rattle.std.specs.Prelude.{Result, Option, None, Some, length}
+use Rattle.std.specs.List.{flat_map, range_with_len}
+use Rattle.std.proofs.lemmas.Grind.{flat_map-append}
+use Rattle.std.proofs.lemmas.List.{map-append}
+use Rattle.source_files.specs.Made.{MadeFile, MakesAll}
+use Rattle.scip_model.specs.declared.records.Index.{Index}
+use Rattle.scip_query.specs.Tables.{numbers, IsByPath}
+use Rattle.scip_snapshot.specs.declared.show_fault.ShowFault.{ShowFault}
+use Rattle.scip_snapshot.specs.declared.show_fault.ShowFault.TheVariants.{Write, Memory}
+use Rattle.scip_snapshot.specs.Showing.{maker, writer, silent}
+use Rattle.scip_snapshot.proofs.ShowLemmas.{makes_none, makes_false}
+use Rattle.scip_site.specs.Site.{Sources}
+use Rattle.scip_site.specs.Tree.{first_page}
+use Rattle.scip_site.specs.Reading.{ReadsInto, AllAreKept, none}
+use Rattle.scip_site.specs.Making.{AllOf, PartOf, MakesFiles, Makes, file, in_folder, pages, shared, script_text}
+use Rattle.scip_site.specs.Making.{paths_in, site_files}
+use Rattle.scip_site.proofs.CodeLemmas.{range_more}
+
+-- ---- some files, and others behind them
+
+makes_both : (first now after : Option (List MadeFile)) (files more : List MadeFile) → MakesAll first now files
+    → MakesAll now after more → MakesAll first after (files ++ more)
+makes_both None now after files more before behind = tt
+makes_both (Some made) None after files more before behind = absurd before
+makes_both (Some made) (Some all) None files more before behind = absurd behind
+makes_both (Some made) (Some all) (Some every) files more before behind =
+    behind ∙ ap (λ l. l ++ more) before ∙ append_assoc made files more
+
+module _ {O : Type 0} (made : O → Option (List MadeFile)) where
+  -- none is made where memory runs out
+  pub none_made : (files : List MadeFile) (now : O) → MakesFiles (maker made now now) files (Err Memory)
+  none_made files now = record {
+    others = files;
+    made = record { part = []; is_part = refl; all = makes_none (made now) };
+  }
+
+  module _ (first now after : O) (files more : List MadeFile) where
+    part_behind : (others : List MadeFile) → AllOf (maker made first now) files
+        → PartOf (maker made now after) more others → PartOf (maker made first after) (files ++ more) others
+    part_behind others before behind = record {
+      part = files ++ behind.part;
+      is_part = ap (λ l. files ++ l) behind.is_part ∙ sym (append_assoc files behind.part others);
+      all = makes_both (made first) (made now) (made after) files behind.part before behind.all;
+    }
+
+    -- the first are made, and what becomes of the others
+    pub both : AllOf (maker made first now) files → (done : Result (Unit {0}) ShowFault)
+        → MakesFiles (maker made now after) more done → MakesFiles (maker made first after) (files ++ more) done
+    both before (Ok done) behind = makes_both (made first) (made now) (made after) files more before behind
+    both before (Err Write) behind = record {
+      failed = behind.failed;
+      others = behind.others;
+      made = part_behind (behind.failed ∷ behind.others) before behind.made;
+    }
+    both before (Err Memory) behind = record {
+      others = behind.others;
+      made = part_behind behind.others before behind.made;
+    }
+
+  module _ (first after : O) (files more : List MadeFile) where
+    part_before : (others : List MadeFile) → PartOf (maker made first after) files others
+        → PartOf (maker made first after) (files ++ more) (others ++ more)
+    part_before others before = record {
+      part = before.part;
+      is_part = ap (λ l. l ++ more) before.is_part ∙ append_assoc before.part others more;
+      all = before.all;
+    }
+
+    -- or already the first aren't all made
+    pub stops : (fault : ShowFault) → MakesFiles (maker made first after) files (Err fault)
+        → MakesFiles (maker made first after) (files ++ more) (Err fault)
+    stops Write before = record {
+      failed = before.failed;
+      others = before.others ++ more;
+      made = part_before (before.failed ∷ before.others) before.made;
+    }
+    stops Memory before = record { others = before.others ++ more; made = part_before before.others before.made }
+
+  -- memory runs out behind the first
+  pub stops_behind : (first now : O) (files more : List MadeFile) → AllOf (maker made first now) files
+      → MakesFiles (maker made first now) (files ++ more) (Err Memory)
+  stops_behind first now files more before = both first now now files more before (Err Memory) (none_made more now)
+
+-- a file in a folder, and what is known of its text
+abbrev pub one : (folder path bytes : List ℕ) → List MadeFile
+one folder path bytes = map (in_folder folder) (file path bytes ∷ [])
+
+pub same_text : {O : Type 0} (made : O → Option (List MadeFile)) (now after : O) (folder path bytes text : List ℕ)
+    (done : Result (Unit {0}) ShowFault) → bytes ≡ text
+    → MakesFiles (maker made now after) (one folder path bytes) done
+    → MakesFiles (maker made now after) (one folder path text) done
+same_text made now after folder path bytes text done same makes =
+    subst (λ (t : List ℕ). MakesFiles (maker made now after) (one folder path t) done) same makes
+
+-- ---- pages of so many documents
+
+in_two : (a n m : ℕ) → range_with_len a (n + m) ≡ range_with_len a n ++ range_with_len (a + n) m
+in_two a zero m = ap (range_with_len a) (none_plus m) ∙ ap (λ (k : ℕ). range_with_len k m) (plus_none a)
+  where
+    none_plus : (k : ℕ) → 0 + k ≡ k
+    none_plus k = omega arith
+
+    plus_none : (k : ℕ) → k ≡ k + 0
+    plus_none k = omega arith
+in_two a (suc n) m =
+    ap (range_with_len a) (next_plus n m) ∙ ap (λ (l : List ℕ). a ∷ l)
+    (in_two (a + 1) n m ∙ ap (λ (k : ℕ). range_with_len (a + 1) n ++ range_with_len k m) (moved a n))
+  where
+    next_plus : (k i : ℕ) → suc k + i ≡ suc (k + i)
+    next_plus k i = omega arith
+
+    moved : (k i : ℕ) → k + 1 + i ≡ k + suc i
+    moved k i = omega arith
+
+-- those behind the next
+abbrev behind_next : ℕ → ℕ → List ℕ
+behind_next n count = range_with_len (n + 1) (count - (n + 1))
+
+next_and_behind : (n count : ℕ) → n < count → numbers count ≡ numbers (n + 1) ++ behind_next n count
+next_and_behind n count within =
+    ap numbers (sum n count within) ∙ in_two 0 (n + 1) (count - (n + 1))
+    ∙ ap (λ (k : ℕ). numbers (n + 1) ++ range_with_len k (count - (n + 1))) (no_more n)
+  where
+    sum : (a b : ℕ) → a < b → b ≡ a + 1 + (b - (a + 1))
+    sum a b less = omega (arith, less)
+
+    no_more : (a : ℕ) → 0 + (a + 1) ≡ a + 1
+    no_more a = omega arith
+
+module _ {X : Type 0} (f : ℕ → List X) where
+  pub one_more : (n : ℕ) → flat_map f (numbers (n + 1)) ≡ flat_map f (numbers n) ++ f n
+  one_more n =
+      ap (flat_map f) (range_more 0 n n (omega arith)) ∙ flat_map-append f (numbers n) (n ∷ [])
+      ∙ ap (λ (l : List X). flat_map f (numbers n) ++ l) (append-nil (f n))
+
+  -- and the rest
+  others_behind : (n count : ℕ) → n < count
+      → flat_map f (numbers count) ≡ (flat_map f (numbers n) ++ f n) ++ flat_map f (behind_next n count)
+  others_behind n count within =
+      ap (flat_map f) (next_and_behind n count within) ∙ flat_map-append f (numbers (n + 1)) (behind_next n count)
+      ∙ ap (λ (l : List X). l ++ flat_map f (behind_next n count)) (one_more n)
+
+module _ (f : ℕ → List MadeFile) (g : MadeFile → MadeFile) where
+  pub files_more : (n : ℕ) → map g (flat_map f (numbers (n + 1))) ≡ map g (flat_map f (numbers n)) ++ map g (f n)
+  files_more n = ap (map g) (one_more f n) ∙ map-append g (flat_map f (numbers n)) (f n)
+
+  pub files_behind : (n count : ℕ) → n < count → map g (flat_map f (numbers count))
+      ≡ (map g (flat_map f (numbers n)) ++ map g (f n)) ++ map g (flat_map f (behind_next n count))
+  files_behind n count within =
+      ap (map g) (others_behind f n count within)
+      ∙ map-append g (flat_map f (numbers n) ++ f n) (flat_map f (behind_next n count))
+      ∙ ap (λ (l : List MadeFile). l ++ map g (flat_map f (behind_next n count)))
+      (map-append g (flat_map f (numbers n)) (f n))
+
+  module _ {O : Type 0} (made : O → Option (List MadeFile)) (first now after : O) (n : ℕ)
+      (before : AllOf (maker made first now) (map g (flat_map f (numbers n)))) where
+    -- the file of one more is made
+    pub more_made : (done : Result (Unit {0}) ShowFault) → MakesFiles (maker made now after) (map g (f n)) done
+        → MakesFiles (maker made first after) (map g (flat_map f (numbers (n + 1)))) done
+    more_made done one =
+        subst (λ (files : List MadeFile). MakesFiles (maker made first after) files done) (sym (files_more n))
+        (both made first now after (map g (flat_map f (numbers n))) (map g (f n)) before done one)
+
+    -- or not
+    pub not_made : (count : ℕ) → n < count → (fault : ShowFault)
+        → MakesFiles (maker made now after) (map g (f n)) (Err fault)
+        → MakesFiles (maker made first after) (map g (flat_map f (numbers count))) (Err fault)
+    not_made count within fault one =
+        subst (λ (files : List MadeFile). MakesFiles (maker made first after) files (Err fault))
+        (sym (files_behind n count within))
+        (stops made first after (map g (flat_map f (numbers n)) ++ map g (f n))
+        (map g (flat_map f (behind_next n count))) fault
+        (both made first now after (map g (flat_map f (numbers n))) (map g (f n)) before (Err fault) one))
+
+-- ---- all files
+
+-- the pages in a folder
+abbrev pub pages_in : (folder : List ℕ) → Index → Sources → List MadeFile
+pages_in folder index sources = map (in_folder folder) (pages index sources (numbers (length index.documents)))
+
+-- what they share
+abbrev pub shared_in : (folder script first : List ℕ) → List MadeFile
+shared_in folder script first = map (in_folder folder) (shared script first)
+
+abbrev pub all_in : (folder : List ℕ) → Index → Sources → List ℕ → List MadeFile
+all_in folder index sources order = map (in_folder folder) (site_files index sources order)
+
+abbrev due_first : Index → Sources → List ℕ → List ℕ
+due_first index sources order = first_page (paths_in index.documents sources order)
+
+all_are : (folder : List ℕ) (index : Index) (sources : Sources) (order : List ℕ)
+    → all_in folder index sources order
+    ≡ pages_in folder index sources ++ shared_in folder (script_text index sources) (due_first index sources order)
+all_are folder index sources order =
+    map-append (in_folder folder) (pages index sources (numbers (length index.documents)))
+    (shared (script_text index sources) (due_first index sources order))
+
+module _ {O : Type 0} (made : O → Option (List MadeFile)) (folder : List ℕ) (index : Index) (sources : Sources)
+    (order : List ℕ) (first : O) where
+  abbrev Behind : O → Result (Unit {0}) ShowFault → Type 0
+  Behind after done = MakesFiles (maker made first after) (all_in folder index sources order) done
+
+  with_pages : (after : O) (done : Result (Unit {0}) ShowFault)
+      → MakesFiles (maker made first after) (pages_in folder index sources
+      ++ shared_in folder (script_text index sources) (due_first index sources order)) done
+      → Behind after done
+  with_pages after done makes = subst (λ (files : List MadeFile). MakesFiles (maker made first after) files done)
+      (sym (all_are folder index sources order)) makes
+
+  -- the pages aren't all made
+  pub pages_stop : (after : O) (fault : ShowFault)
+      → MakesFiles (maker made first after) (pages_in folder index sources) (Err fault) → Behind after (Err fault)
+  pages_stop after fault makes = with_pages after (Err fault)
+      (stops made first after (pages_in folder index sources)
+      (shared_in folder (script_text index sources) (due_first index sources order)) fault makes)
+
+  module _ (now : O) (before : AllOf (maker made first now) (pages_in folder index sources)) where
+    -- they are, and then memory runs out
+    pub nothing_shared : Behind now (Err Memory)
+    nothing_shared = with_pages now (Err Memory)
+        (stops_behind made first now (pages_in folder index sources)
+        (shared_in folder (script_text index sources) (due_first index sources order)) before)
+
+    -- or what they share is made
+    pub all_shared : (after : O) (script page : List ℕ) → script ≡ script_text index sources
+        → page ≡ due_first index sources order → (done : Result (Unit {0}) ShowFault)
+        → MakesFiles (maker made now after) (shared_in folder script page) done → Behind after done
+    all_shared after script page is_script is_page done makes = with_pages after done
+        (both made first now after (pages_in folder index sources)
+        (shared_in folder (script_text index sources) (due_first index sources order)) before done
+        (subst (λ (p : List ℕ). MakesFiles (maker made now after) (shared_in folder (script_text index sources) p) done)
+        is_page
+        (subst (λ (s : List ℕ). MakesFiles (maker made now after) (shared_in folder s page) done) is_script makes)))
+
+-- ---- the whole
+
+module _ {O M : Type 0} (made : O → Option (List MadeFile)) (heard : M → Option (List ℕ)) (unheard : M → ℕ)
+    (gives : List ℕ → Option (List ℕ) → Type 0) (root folder : List ℕ) (index : Index) (start : O) where
+  -- memory runs out while sources are read
+  pub nothing_made : (here after : M) (fault : ShowFault)
+      → ReadsInto gives root index.documents (writer heard unheard here after) (Err fault)
+      → Makes gives root folder index (maker made start start) (writer heard unheard here after) (Err fault)
+  nothing_made here after Write reads = absurd reads
+  nothing_made here after Memory reads = inr record { read = reads; none_made = makes_none (made start) }
+
+  pub nothing_read : (here : M)
+      → Makes gives root folder index (maker made start start) (writer heard unheard here here) (Err Memory)
+  nothing_read here = inr record {
+    read = record { reads = []; are = none; told_are = silent };
+    none_made = makes_none (made start);
+  }
+
+  -- or files are made
+  pub made_so : (after : O) (here heard_all : M) (sources : Sources) (order : List ℕ)
+      → AllAreKept gives root index.documents sources (writer heard unheard here heard_all)
+      → IsByPath index.documents order → (done : Result (Unit {0}) ShowFault)
+      → MakesFiles (maker made start after) (all_in folder index sources order) done
+      → Makes gives root folder index (maker made start after) (writer heard unheard here heard_all) done
+  made_so after here heard_all sources order read ordered (Ok done) makes =
+      record { sources = sources; read = read; order = order; ordered = ordered; made = makes }
+  made_so after here heard_all sources order read ordered (Err Write) makes =
+      record { sources = sources; read = read; order = order; ordered = ordered; made = makes }
+  made_so after here heard_all sources order read ordered (Err Memory) makes =
+      inl record { sources = sources; read = read; order = order; ordered = ordered; made = makes }

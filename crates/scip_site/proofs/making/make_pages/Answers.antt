@@ -1,0 +1,47 @@
+use Rattle.std.proofs.Common.{subst, sym, ℕ, List, Err}
+use Rattle.std.proofs.lemmas.Result.{err_from_is_err_and}
+use Rattle.scip_model.specs.declared.records.Document.{Document}
+use Rattle.scip_query.specs.Tables.{IsByPath}
+use Rattle.scip_snapshot.specs.Showing.{writer}
+use Rattle.scip_site.specs.Site.{Sources}
+use Rattle.scip_site.specs.Reading.{AllAreKept, ReadsInto}
+use Rattle.scip_site.proofs.MakeLemmas.{nothing_made, nothing_read, made_so}
+use Rattle.scip_site.proofs.making.make_pages.Goals as goal
+
+pub returns-in_err-order : goal.returns-in_err-order
+returns-in_err-order g c =
+    let p = err_from_is_err_and c.from_residual.result c.from_residual.ensures.1 in
+    let folders = c.args.folders.now in
+    rw (p.1, p.2) (nothing_read g.O.MakeFiles.made g.M.Sink.contents g.M.Sink.failures
+    (g.F.ReadFiles.gives c.args.files.now) folders.root.now folders.to.now c.args.queries.now c.args.made.now
+    c.args.messages.now)
+
+pub returns-in_err-sources : goal.returns-in_err-sources
+returns-in_err-sources g c =
+    let p = err_from_is_err_and c.from_residual-in_err-sources.result
+    c.from_residual-in_err-sources.ensures.1 in
+    let folders = c.args.folders.now in
+    let gives = g.F.ReadFiles.gives c.args.files.now in
+    let messages = writer g.M.Sink.contents g.M.Sink.failures c.args.messages.now c.read_all.new.messages in
+    rw (p.1, p.2) (nothing_made g.O.MakeFiles.made g.M.Sink.contents g.M.Sink.failures gives folders.root.now
+    folders.to.now c.args.queries.now c.args.made.now c.args.messages.now c.read_all.new.messages
+    c.in_err-sources.field-0.0
+    (subst (λ (ds : List Document). ReadsInto gives folders.root.now ds messages (Err c.in_err-sources.field-0.0))
+    c.documents-documents.ensures c.in_err-sources.ensures))
+
+pub returns : goal.returns
+returns g c =
+    let folders = c.args.folders.now in
+    let gives = g.F.ReadFiles.gives c.args.files.now in
+    let messages = writer g.M.Sink.contents g.M.Sink.failures c.args.messages.now c.read_all.new.messages in
+    let sources : Sources = c.deref.result.now in
+    let order : List ℕ = c.deref-2.result.now in
+    made_so g.O.MakeFiles.made g.M.Sink.contents g.M.Sink.failures gives folders.root.now folders.to.now
+    c.args.queries.now c.args.made.now c.make_all.new.made c.args.messages.now c.read_all.new.messages sources order
+    (subst (λ (ds : List Document). AllAreKept gives folders.root.now ds sources messages) c.documents-documents.ensures
+    (subst (λ (s : Sources). AllAreKept gives folders.root.now c.documents-documents.result.now s messages)
+    (sym c.deref.ensures.value) c.in_ok-sources.ensures))
+    (subst (λ (ds : List Document). IsByPath ds order) c.documents-documents.ensures
+    (subst (λ (l : List ℕ). IsByPath c.documents-documents.result.now l) (sym c.deref-2.ensures.value)
+    c.in_ok-order.ensures))
+    c.make_all.result c.make_all.ensures

@@ -1,0 +1,30 @@
+use Rattle.std.proofs.Common.{◌≡◌, ◌∙◌, ◌++◌, ap, ℕ, List}
+use Rattle.std.specs.Prelude.{codes}
+use Rattle.scip_pages.specs.Code.{attribute}
+use Rattle.scip_pages.specs.Escapes.{escape}
+use Rattle.scip_site.specs.Tree.{is_open}
+use Rattle.scip_site.proofs.TextLemmas.{more, more_by}
+use Rattle.scip_site.proofs.tree.push_open.Goals as goal
+
+pub returns : goal.returns
+returns c =
+    let page : List ℕ = c.args.page.now.items in
+    let above : List ℕ = c.args.above.now in
+    let name : List ℕ = c.args.name.now in
+    let start : List ℕ = codes "<li><details" in
+    let id : List ℕ = attribute (codes "id") (codes "d/" ++ above ++ name) in
+    let middle : List ℕ = codes "><summary>" in
+    let same : c.deref.result.now ≡ codes "d/" ++ above ++ name =
+    c.deref.ensures.value ∙ c.in_ok-extend_from_slice-2.ensures.items
+    ∙ ap (λ (l : List ℕ). l ++ name)
+    (c.in_ok-extend_from_slice.ensures.items ∙ ap (λ (l : List ℕ). l ++ above) c.in_ok-id.ensures.items) in
+    more page (start ++ id ++ is_open above ++ middle ++ escape name) (codes "/</summary><ul>\n")
+    (more page (start ++ id ++ is_open above ++ middle) (escape name)
+    (more page (start ++ id ++ is_open above) middle
+    (more page (start ++ id) (is_open above)
+    (more_by page start id c.in_ok-extend_from_slice-3.ensures.items c.in_ok-push_attribute.ensures
+    (ap (attribute (codes "id")) same))
+    c.in_ok-push_is_open.ensures)
+    c.in_ok-extend_from_slice-4.ensures.items)
+    c.in_ok-push_escaped.ensures)
+    c.in_ok-extend_from_slice-5.ensures.items

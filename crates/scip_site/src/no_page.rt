@@ -1,0 +1,73 @@
+//! Why a document of an index has no page.
+
+ghost use Rattle.std.specs.Prelude.{◌≡◌, IfOk, string_bytes};
+ghost use Rattle.scip_snapshot.specs.LeftOuts.{line_with};
+ghost use Rattle.scip_snapshot.specs.Showing.{IsSaid, SaysLine, writer};
+ghost use Rattle.scip_site.specs.Reading.{name_of};
+
+use scip_snapshot::ShowFault;
+use std::alloc::{AllocError, Global};
+use streams::{Sink, write_all};
+
+/// Why a document of an index has no page. The first of those that hold.
+#[derive(Clone, Copy, Debug, Drop, PartialEq, Eq)]
+pub(crate) enum NoPage {
+    /// Its path leads to no place of its own below the root (`scip_pages::path_fault`).
+    BadPath,
+    /// A document before it has its path.
+    Repeated,
+    /// Its source can't be read.
+    Unreadable,
+    /// Its source isn't UTF-8.
+    NotText,
+    /// It doesn't say what its columns count.
+    NoUnit,
+    /// A range of it isn't one of its source.
+    Misfit,
+}
+
+impl NoPage {
+    /// Its name.
+    fn name(&self) -> &'static str
+        ensures { result.now ≡ name_of self.now }
+    {
+        match self {
+            NoPage::BadPath => "BadPath",
+            NoPage::Repeated => "Repeated",
+            NoPage::Unreadable => "Unreadable",
+            NoPage::NotText => "NotText",
+            NoPage::NoUnit => "NoUnit",
+            NoPage::Misfit => "Misfit",
+        }
+    }
+}
+
+/// The line that says a name of the document with a path.
+fn line_with(alloc: Global, path: &str, name: &str) -> Result<String, AllocError>
+    ensures { IfOk result (λ line. string_bytes line ≡ line_with path.now name.now) }
+{
+    format!(in alloc; "protoscip: {path}: {name}")
+}
+
+/// Writes a line and its end. What the stream doesn't take is lost.
+fn say<M: Sink>(messages: &mut M, line: &str)
+    ensures { IsSaid M.contents M.failures line.now messages.old messages.new }
+{
+    if write_all(messages, line.as_bytes()).is_ok() {
+        let _ = write_all(messages, b"\n");
+    }
+}
+
+/// Says that the document with a path has no page, and why.
+pub(crate) fn tell<M: Sink>(
+    alloc: Global,
+    path: &str,
+    why: NoPage,
+    messages: &mut M,
+) -> Result<(), ShowFault>
+    ensures { SaysLine (line_with path.now (name_of why)) (writer M.contents M.failures messages.old messages.new) result }
+{
+    let line = line_with(alloc, path, why.name())?;
+    say(messages, line.as_str());
+    Ok(())
+}

@@ -1,0 +1,213 @@
+//! Folders of pages.
+
+use crate::files::{Files, Made};
+use crate::see::see;
+use scip_model::Index;
+use scip_query::Queries;
+use scip_site::make_pages;
+use scip_snapshot::{Folders, ShowFault};
+use scip_wire::{WireFault, read_index};
+use std::alloc::{AllocError, Global};
+use std::process::Abort;
+use std::test::Fail;
+use streams::Std;
+
+/// The most bytes that files hold in these tests, and that are said.
+const ROOM: usize = 4096;
+
+/// An index of eight documents: `b/x`, which defines a symbol; one whose path leads out of the root; `a/y`, which uses
+/// the symbol; `b/x` again; one whose source can't be read; one whose source isn't UTF-8; one without a position
+/// encoding; and one with a range past its source's end.
+const INDEX: &[u8] = b"\x12\x14\x0a\x03b/x\x12\x0b\x0a\x03\x00\x00\x01\x12\x02S#\x18\x010\x01\
+\x12\x08\x0a\x04../x0\x01\
+\x12\x12\x0a\x03a/y\x12\x09\x0a\x03\x00\x00\x01\x12\x02S#0\x01\
+\x12\x07\x0a\x03b/x0\x01\
+\x12\x06\x0a\x02no0\x01\
+\x12\x09\x0a\x05bytes0\x01\
+\x12\x06\x0a\x04unit\
+\x12\x14\x0a\x05short\x12\x09\x0a\x03\x00\x00\x02\x12\x02S#0\x01";
+
+/// What is said of those that have no page.
+const TOLD: &str = "protoscip: ../x: BadPath
+protoscip: b/x: Repeated
+protoscip: no: Unreadable
+protoscip: bytes: NotText
+protoscip: unit: NoUnit
+protoscip: short: Misfit
+";
+
+/// The folder that files go to; what they hold, for which there is room alone, but that a `\0` is room for a byte that
+/// doesn't come; and what is answered.
+struct Case {
+    to: &'static str,
+    made: &'static str,
+    answer: Result<(), ShowFault>,
+}
+
+static CASES: [Case; 3] = [
+    Case {
+        to: "out",
+        made: "[out/src/b/x.html]<!DOCTYPE html>
+<html lang=\"en\">
+<head>
+<meta charset=\"utf-8\">
+<meta name=\"viewport\" content=\"width=device-width, initial-scale=1\">
+<title>b/x</title>
+<link rel=\"stylesheet\" href=\"../../pages.css\">
+</head>
+<body>
+<header><nav><a href=\"../../index.html\">All sources</a> <span><a href=\"../../index.html#d/b\">b</a>/<wbr><b>x</b></span></nav></header>
+<main>
+<pre><a id=\"L1\"></a><a href=\"#U0\" title=\"S#\">S</a></pre>
+<aside><h2>Definitions and their uses</h2>
+<dl>
+<dt id=\"U0\"><a href=\"#L1\"><b>S</b> <span>S#</span></a></dt>
+<dd><a href=\"../../src/a/y.html#L1\">a/y:1</a></dd>
+</dl>
+</aside>
+</main>
+</body>
+</html>
+[out/src/a/y.html]<!DOCTYPE html>
+<html lang=\"en\">
+<head>
+<meta charset=\"utf-8\">
+<meta name=\"viewport\" content=\"width=device-width, initial-scale=1\">
+<title>a/y</title>
+<link rel=\"stylesheet\" href=\"../../pages.css\">
+</head>
+<body>
+<header><nav><a href=\"../../index.html\">All sources</a> <span><a href=\"../../index.html#d/a\">a</a>/<wbr><b>y</b></span></nav></header>
+<main>
+<pre><a id=\"L1\"></a><a href=\"../../src/b/x.html#L1\" title=\"S#\">S</a>
+<a id=\"L2\"></a></pre>
+<aside><h2>Definitions and their uses</h2>
+<dl>
+</dl>
+</aside>
+</main>
+</body>
+</html>
+[out/pages.css]
+[out/search.js]
+[out/symbols.js]const sources = [
+[\"src/b/x.html\",\"b/x\",[[1,\"S\"],]],
+[\"src/a/y.html\",\"a/y\",[]],
+];
+[out/index.html]<!DOCTYPE html>
+<html lang=\"en\">
+<head>
+<meta charset=\"utf-8\">
+<meta name=\"viewport\" content=\"width=device-width, initial-scale=1\">
+<title>Sources</title>
+<link rel=\"stylesheet\" href=\"pages.css\">
+</head>
+<body>
+<header><nav><b>All sources</b></nav>
+<search><input id=\"query\" type=\"search\" placeholder=\"Search symbols\" aria-label=\"Search symbols\" autocomplete=\"off\" spellcheck=\"false\"></search></header>
+<main class=\"first\">
+<ul id=\"found\" aria-live=\"polite\"></ul>
+<ul id=\"tree\">
+<li><details id=\"d/a\" open><summary>a/</summary><ul>
+<li><a href=\"src/a/y.html\">y</a></li>
+</ul></details></li>
+<li><details id=\"d/b\" open><summary>b/</summary><ul>
+<li><a href=\"src/b/x.html\">x</a></li>
+</ul></details></li>
+</ul>
+</main>
+<script src=\"symbols.js\"></script>
+<script src=\"search.js\"></script>
+</body>
+</html>
+\0",
+        answer: Ok(()),
+    },
+    // The first page can't be made.
+    Case {
+        to: "",
+        made: "[src/b/x.html]<!DOCTYPE",
+        answer: Err(ShowFault::Write),
+    },
+    Case {
+        to: "/",
+        made: "",
+        answer: Err(ShowFault::Write),
+    },
+];
+
+/// Makes pages as a case says; gives the answer, and whether what is due is said.
+fn pages(
+    alloc: Global,
+    queries: &Queries,
+    case: &Case,
+    room: &mut [u8],
+) -> (Result<(), ShowFault>, bool) {
+    let mut told = [0u8; ROOM];
+    let mut messages = Std::new(told.as_mut_slice());
+    let folders = Folders {
+        root: "src",
+        to: case.to,
+    };
+    let mut made = Made {
+        room: Std::new(room),
+    };
+    let answer = make_pages(alloc, &Files, &folders, queries, &mut made, &mut messages);
+    let count = ROOM - messages.into_inner().len().min(ROOM);
+    (answer, told.split_at(count).0 == TOLD.as_bytes())
+}
+
+/// Whether a case is as it is due; none after want of memory.
+fn is_so(alloc: Global, queries: &Queries, case: &Case) -> Option<bool> {
+    let mut room = [0u8; ROOM];
+    let room = room.split_at_mut(case.made.len().min(ROOM)).0;
+    let (answer, is_said) = pages(alloc, queries, case, room);
+    if answer == Err(ShowFault::Memory) {
+        return None;
+    }
+    Some(answer == case.answer && is_said && *room == *case.made.as_bytes())
+}
+
+/// Sees that each case is so. After want of memory it is tried again, and the second answer counts.
+fn see_cases(rt: &impl Abort, alloc: Global, queries: &Queries) {
+    for case in &CASES {
+        let is_so = match is_so(alloc, queries, case) {
+            None => is_so(alloc, queries, case),
+            is_so => is_so,
+        };
+        see(rt, is_so == Some(true), case.made);
+    }
+}
+
+fn index_again(alloc: Global) -> Result<Index, WireFault> {
+    match read_index(alloc, INDEX) {
+        Err(WireFault::Memory) => read_index(alloc, INDEX),
+        answer => answer,
+    }
+}
+
+/// The index.
+fn index(rt: &impl Abort, alloc: Global) -> Result<Index, AllocError> {
+    match index_again(alloc) {
+        Ok(index) => Ok(index),
+        Err(fault) => {
+            see(rt, fault == WireFault::Memory, "bytes of an index");
+            Err(AllocError)
+        }
+    }
+}
+
+/// Its queries.
+fn queries(rt: &impl Abort, alloc: Global) -> Result<Queries, AllocError> {
+    match Queries::new(alloc, index(rt, alloc)?) {
+        Ok(queries) => Ok(queries),
+        Err(_) => Err(AllocError),
+    }
+}
+
+#[test]
+fn folders_have_the_pages_due(rt: HostRuntime) -> Result<(), Fail> {
+    let queries = queries(&rt, rt.alloc())?;
+    see_cases(&rt, rt.alloc(), &queries);
+    Ok(())
+}

@@ -1,0 +1,11 @@
+//! Tests of `scip_site`, by its public calls, on files in memory.
+#![tactic(auto)]
+
+#[cfg(test)]
+mod files;
+#[cfg(test)]
+mod folders;
+#[cfg(test)]
+mod pages;
+#[cfg(test)]
+mod see;

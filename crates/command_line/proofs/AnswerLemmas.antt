@@ -38,6 +38,7 @@ pub refuses : (r : Request) → Prints kind.ValueValidation r → IsRefused r
 refuses (request.Dump custom_options explain) p = absurd p
 refuses (request.Query index explain) p = absurd p
 refuses (request.Snapshot options) p = absurd p
+refuses (request.Pages options) p = absurd p
 refuses (request.Index options out) p = absurd p
 refuses (request.Shell options) p = absurd p
 refuses (request.Print text) (inl help) = absurd cc

@@ -4,7 +4,7 @@ use Rattle.std.specs.Prelude.{◌≡◌, ◌≢◌, List, [], ◌∷◌, Option,
 use Rattle.std.specs.Option.{option_map}
 use Rattle.clap.specs.Words.{Kinds, IsAmong, Row, Text, fault_of, subcommand_of}
 use Rattle.clap.specs.declared.error.kind.ErrorKind.{ErrorKind}
-use Rattle.command_line.specs.Values.{Carries, CarriesSnapshot, custom_options_of, explains_in, rows_in, text_of}
+use Rattle.command_line.specs.Values.{Carries, CarriesPages, CarriesSnapshot, custom_options_of, explains_in, rows_in, text_of}
 use Rattle.command_line.specs.Program.{command_line}
 use Rattle.command_line.specs.Requests.{Prints}
 use Rattle.command_line.specs.Words.{AreListed}
@@ -16,7 +16,7 @@ use Rattle.command_line.specs.declared.request.Request.TheVariants as request
 abbrev pub name_of : Option (Text × List Row) → Option Text
 name_of program = option_map (λ p. p.0) program
 
--- the program, with what it is given: `index`, `shell`, `query`, `snapshot`, and else `dump`, the only other one
+-- the program, with what it is given: `index`, `shell`, `query`, `snapshot`, `pages`, and else `dump`, the only other one
 abbrev pub Names : Option (Text × List Row) → Request → Type 0
 Names program (request.Index options out) = (name_of program ≡ Some (codes "index"))
     × Carries (rows_in program) options
@@ -28,10 +28,13 @@ Names program (request.Query index explain) = (name_of program ≡ Some (codes "
     × (explain ≡ explains_in (rows_in program))
 Names program (request.Snapshot options) = (name_of program ≡ Some (codes "snapshot"))
     × CarriesSnapshot (rows_in program) options
+Names program (request.Pages options) = (name_of program ≡ Some (codes "pages"))
+    × CarriesPages (rows_in program) options
 Names program (request.Dump custom_options explain) = (name_of program ≢ Some (codes "index"))
     × (name_of program ≢ Some (codes "shell"))
     × (name_of program ≢ Some (codes "query"))
     × (name_of program ≢ Some (codes "snapshot"))
+    × (name_of program ≢ Some (codes "pages"))
     × (custom_options ≡ custom_options_of (rows_in program))
     × (explain ≡ explains_in (rows_in program))
 Names program (request.Print text) = ⊥

@@ -123,6 +123,12 @@ snapshot_line =
     line_of (codes "snapshot")
     (required_rule (codes "INDEX") ∷ required_rule (codes "ROOT") ∷ option_rule (codes "to") ∷ explain_rule ∷ [])
 
+-- `pages` wants a folder for them, too
+abbrev pub pages_line : Shape
+pages_line =
+    line_of (codes "pages")
+    (required_rule (codes "INDEX") ∷ required_rule (codes "ROOT") ∷ required_rule (codes "OUT") ∷ explain_rule ∷ [])
+
 abbrev pub dump_line : WordLists → Shape
 dump_line lists = line_of (codes "dump") (custom_options_rule lists.custom_options ∷ explain_rule ∷ [])
 
@@ -134,5 +140,5 @@ no_program =
 
 abbrev pub command_line : WordLists → App
 command_line lists =
-    with_subcommand (with_subcommand (with_subcommand (with_subcommand (with_subcommand no_program
-    (index_line lists)) (shell_line lists)) query_line) snapshot_line) (dump_line lists)
+    with_subcommand (with_subcommand (with_subcommand (with_subcommand (with_subcommand (with_subcommand no_program
+    (index_line lists)) (shell_line lists)) query_line) snapshot_line) pages_line) (dump_line lists)

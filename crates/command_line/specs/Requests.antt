@@ -5,6 +5,7 @@ use Rattle.clap.specs.declared.error.kind.ErrorKind.{ErrorKind}
 use Rattle.clap.specs.declared.error.kind.ErrorKind.TheVariants as kind
 use Rattle.command_line.specs.declared.options.IndexOptions.{IndexOptions}
 use Rattle.command_line.specs.declared.options.SnapshotOptions.{SnapshotOptions}
+use Rattle.command_line.specs.declared.options.PagesOptions.{PagesOptions}
 use Rattle.command_line.specs.declared.options.CustomOptionsWord.{CustomOptionsWord}
 use Rattle.command_line.specs.declared.request.Request.{Request}
 use Rattle.command_line.specs.declared.request.Request.TheVariants as request
@@ -59,6 +60,11 @@ shell_options _ = None
 abbrev pub snapshot_options : Request → Option SnapshotOptions
 snapshot_options (request.Snapshot options) = Some options
 snapshot_options _ = None
+
+-- what the pages of an index are asked for with
+abbrev pub pages_options : Request → Option PagesOptions
+pages_options (request.Pages options) = Some options
+pages_options _ = None
 
 -- whether a fault of the dump or of the answers from a file is explained
 abbrev pub explains : Request → Bool

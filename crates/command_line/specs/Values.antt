@@ -10,6 +10,7 @@ use Rattle.clap.specs.ValueTests.{is_unsigned_in}
 use Rattle.command_line.specs.Words.{custom_options_word, doc_word, faulty_word, positions_word}
 use Rattle.command_line.specs.declared.options.IndexOptions.{IndexOptions}
 use Rattle.command_line.specs.declared.options.SnapshotOptions.{SnapshotOptions}
+use Rattle.command_line.specs.declared.options.PagesOptions.{PagesOptions}
 use Rattle.command_line.specs.declared.options.PackageFolder.{PackageFolder}
 use Rattle.command_line.specs.declared.options.DocWord.{DocWord}
 use Rattle.command_line.specs.declared.options.PositionsWord.{PositionsWord}
@@ -98,4 +99,11 @@ pub record CarriesSnapshot (rows : List Row) (options : SnapshotOptions) : Type 
   pub index : string_bytes options.index ≡ text_of (codes "INDEX") rows
   pub root : string_bytes options.root ≡ text_of (codes "ROOT") rows
   pub to : option_map string_bytes options.to ≡ first_of (codes "to") rows
+  pub explain : options.explain ≡ explains_in rows
+
+-- and those of `pages`
+pub record CarriesPages (rows : List Row) (options : PagesOptions) : Type 0 where
+  pub index : string_bytes options.index ≡ text_of (codes "INDEX") rows
+  pub root : string_bytes options.root ≡ text_of (codes "ROOT") rows
+  pub out : string_bytes options.out ≡ text_of (codes "OUT") rows
   pub explain : options.explain ≡ explains_in rows

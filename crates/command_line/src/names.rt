@@ -4,19 +4,21 @@ pub(crate) const DUMP: &str = "dump";
 
 pub(crate) const INDEX: &str = "index";
 
+pub(crate) const PAGES: &str = "pages";
+
 pub(crate) const QUERY: &str = "query";
 
 pub(crate) const SHELL: &str = "shell";
 
 pub(crate) const SNAPSHOT: &str = "snapshot";
 
-/// The argument that `query` and `snapshot` want.
+/// The argument that `query`, `snapshot` and `pages` want.
 pub(crate) const INDEX_FILE: &str = "INDEX";
 
-/// The argument that `index` and `shell` want, and the other one of `snapshot`.
+/// The argument that `index` and `shell` want, and the second one of `snapshot` and `pages`.
 pub(crate) const ROOT: &str = "ROOT";
 
-/// The other argument that `index` wants.
+/// The last argument that `index` and `pages` want.
 pub(crate) const OUT: &str = "OUT";
 
 pub(crate) const WORKERS: &str = "workers";

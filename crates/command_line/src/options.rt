@@ -49,6 +49,19 @@ pub struct SnapshotOptions {
     pub explain: bool,
 }
 
+/// What `pages` is given.
+#[derive(Debug, Drop)]
+pub struct PagesOptions {
+    /// The path of the file that holds the index.
+    pub index: String,
+    /// The folder below which the sources of its documents are.
+    pub root: String,
+    /// The folder that the pages go to.
+    pub out: String,
+    /// Whether a fault is explained.
+    pub explain: bool,
+}
+
 /// A folder with included files, and the package that these belong to.
 #[derive(Debug, Drop)]
 pub struct PackageFolder {

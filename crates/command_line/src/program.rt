@@ -10,12 +10,13 @@ ghost use Rattle.command_line.specs.Program.{
   index_line,
   line_of,
   no_program,
+  pages_line,
   query_line,
   shell_line,
   snapshot_line,
 };
 
-use crate::names::{DUMP, INDEX, INDEX_FILE, OUT, QUERY, ROOT, SHELL, SNAPSHOT, TO};
+use crate::names::{DUMP, INDEX, INDEX_FILE, OUT, PAGES, QUERY, ROOT, SHELL, SNAPSHOT, TO};
 use crate::tree::{add_tree_options, custom_options, explain, option, required};
 use crate::words::WordLists;
 use clap::{Arg, Command};
@@ -46,6 +47,11 @@ const SNAPSHOT_EXAMPLE: &str =
     "Example: show the sources below api with what the index says about them:
 
   protoscip snapshot api.scip api";
+
+const PAGES_EXAMPLE: &str =
+    "Example: make pages of the sources below api; then open pages/index.html in a browser:
+
+  protoscip pages api.scip api pages";
 
 const DUMP_EXAMPLE: &str = "Example: print the occurrences of a source, past its custom options:
 
@@ -124,6 +130,22 @@ fn snapshot_program<'a>(alloc: Global) -> Result<Command<'a>, AllocError>
     program_of(alloc, SNAPSHOT, about, SNAPSHOT_EXAMPLE, args)
 }
 
+/// The command line of `pages`.
+fn pages_program<'a>(alloc: Global) -> Result<Command<'a>, AllocError>
+    ensures line { IfOk result (λ c. (app_of c).top ≡ pages_line) }
+    ensures local { IfOk result (λ c. (fields_of c).has_globals ≡ false) }
+{
+    let about = "Makes pages of the sources of an index, to be read in a browser";
+    let out = "The folder for the pages, which must be empty or not exist yet";
+    let args = vec![in alloc;
+        required(alloc, INDEX_FILE, "A file with a SCIP index"),
+        required(alloc, ROOT, "The folder with the sources that were indexed"),
+        required(alloc, OUT, out),
+        explain(alloc),
+    ]?;
+    program_of(alloc, PAGES, about, PAGES_EXAMPLE, args)
+}
+
 /// The command line of `dump`.
 fn dump_program<'a>(alloc: Global, lists: WordLists<'a>) -> Result<Command<'a>, AllocError>
     ensures line { IfOk result (λ c. (app_of c).top ≡ dump_line lists.entry) }
@@ -164,5 +186,6 @@ pub(crate) fn program<'a>(alloc: Global, lists: WordLists<'a>) -> Result<Command
     let serving = with_program(indexing, shell_program(alloc, lists))?;
     let querying = with_program(serving, query_program(alloc))?;
     let showing = with_program(querying, snapshot_program(alloc))?;
-    with_program(showing, dump_program(alloc, lists))
+    let paging = with_program(showing, pages_program(alloc))?;
+    with_program(paging, dump_program(alloc, lists))
 }

@@ -8,11 +8,13 @@ ghost use Rattle.command_line.specs.Asks.{Asks, Names};
 ghost use Rattle.command_line.specs.Values.{custom_options_of, explains_in, rows_in};
 ghost use Rattle.command_line.specs.Requests.{IsRefused, Prints};
 
-use crate::names::{INDEX, INDEX_FILE, OUT, QUERY, SHELL, SNAPSHOT};
+use crate::names::{INDEX, INDEX_FILE, OUT, PAGES, QUERY, SHELL, SNAPSHOT};
 use crate::options::CustomOptionsWord;
 use crate::program::program;
 use crate::request::Request;
-use crate::values::{custom_options_of, explains_in, options_of, snapshot_options_of, text_of};
+use crate::values::{
+    custom_options_of, explains_in, options_of, pages_options_of, snapshot_options_of, text_of,
+};
 use crate::words::WordLists;
 use clap::error::ErrorKind;
 use clap::{ArgMatches, Error};
@@ -49,6 +51,9 @@ fn named(alloc: Global, matches: &ArgMatches<'_>) -> Result<Request, AllocError>
     }
     if let Some(given) = matches.subcommand_matches(SNAPSHOT) {
         return Ok(Request::Snapshot(snapshot_options_of(alloc, given)?));
+    }
+    if let Some(given) = matches.subcommand_matches(PAGES) {
+        return Ok(Request::Pages(pages_options_of(alloc, given)?));
     }
     let (custom_options, explain) = dump_options(matches);
     Ok(Request::Dump(custom_options, explain))

@@ -1,6 +1,6 @@
 //! What a command line asks for.
 
-use crate::options::{CustomOptionsWord, IndexOptions, SnapshotOptions};
+use crate::options::{CustomOptionsWord, IndexOptions, PagesOptions, SnapshotOptions};
 
 /// What a command line asks for.
 #[derive(Debug, Drop)]
@@ -12,6 +12,8 @@ pub enum Request {
     Query(String, bool),
     /// The program `snapshot`.
     Snapshot(SnapshotOptions),
+    /// The program `pages`.
+    Pages(PagesOptions),
     /// The program `index`, whose index goes to the file with this path.
     Index(IndexOptions, String),
     /// The program `shell`, about the index of the tree that the options tell.

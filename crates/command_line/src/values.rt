@@ -4,6 +4,7 @@ ghost use Rattle.std.specs.Prelude.{◌≡◌, ◌≤◌, IfOk, [], map, codes, 
 ghost use Rattle.clap.specs.Words.{all_of, first_of, found_of, rows_of};
 ghost use Rattle.command_line.specs.Values.{
   Carries,
+  CarriesPages,
   CarriesSnapshot,
   custom_options_of,
   doc_of,
@@ -18,12 +19,12 @@ ghost use Rattle.command_line.specs.Values.{
 };
 
 use crate::names::{
-    CUSTOM_OPTIONS, DOC, EXPLAIN, FAULTY, INCLUDE, INCLUDE_PACKAGE, INDEX_FILE, MANAGER, ONLY,
+    CUSTOM_OPTIONS, DOC, EXPLAIN, FAULTY, INCLUDE, INCLUDE_PACKAGE, INDEX_FILE, MANAGER, ONLY, OUT,
     PACKAGE, POSITIONS, PROJECT_ROOT, RELEASE, ROOT, TO, WORKERS,
 };
 use crate::options::{
-    CustomOptionsWord, DocWord, FaultyWord, IndexOptions, PackageFolder, PositionsWord,
-    SnapshotOptions,
+    CustomOptionsWord, DocWord, FaultyWord, IndexOptions, PackageFolder, PagesOptions,
+    PositionsWord, SnapshotOptions,
 };
 use clap::ArgMatches;
 use index_pool::MAX_WORKERS;
@@ -231,6 +232,24 @@ pub(crate) fn snapshot_options_of(
         index: text_of(alloc, given, INDEX_FILE)?,
         root: text_of(alloc, given, ROOT)?,
         to: optional_text_of(alloc, given, TO)?,
+        explain: explains_in(given),
+    })
+}
+
+/// What `pages` is given.
+pub(crate) fn pages_options_of(
+    alloc: Global,
+    given: &ArgMatches<'_>,
+) -> Result<PagesOptions, AllocError>
+    ensures { IfOk result (CarriesPages (rows_of (found_of given.now))) }
+{
+    let index = text_of(alloc, given, INDEX_FILE)?;
+    let root = text_of(alloc, given, ROOT)?;
+    let out = text_of(alloc, given, OUT)?;
+    Ok(PagesOptions {
+        index,
+        root,
+        out,
         explain: explains_in(given),
     })
 }

@@ -43,7 +43,7 @@ Options:
 ";
 
 // The last row reads: `protoscip --version` prints one line.
-static PRINTED: [Printed; 7] = [
+static PRINTED: [Printed; 8] = [
     Printed {
         words: "--help",
         parts: [
@@ -56,6 +56,7 @@ Commands:
   shell     Indexes the sources below a folder and answers commands from standard input
   query     Answers commands from standard input about an index
   snapshot  Shows the sources of an index, and below each line what the index says about it
+  pages     Makes pages of the sources of an index, to be read in a browser
   dump      Indexes one source from standard input and prints its occurrences
   help      Print this message or the help of the given subcommand(s)
 
@@ -151,6 +152,30 @@ Options:
 Example: show the sources below api with what the index says about them:
 
   protoscip snapshot api.scip api
+",
+            "",
+            "",
+        ],
+    },
+    Printed {
+        words: "pages --help",
+        parts: [
+            "Makes pages of the sources of an index, to be read in a browser
+
+Usage: protoscip pages [OPTIONS] <INDEX> <ROOT> <OUT>
+
+Arguments:
+  <INDEX>  A file with a SCIP index
+  <ROOT>   The folder with the sources that were indexed
+  <OUT>    The folder for the pages, which must be empty or not exist yet
+
+Options:
+      --explain  Explains a fault: adds its line and column, a sentence, and the text of that line
+  -h, --help     Print help
+
+Example: make pages of the sources below api; then open pages/index.html in a browser:
+
+  protoscip pages api.scip api pages
 ",
             "",
             "",

@@ -11,7 +11,7 @@ struct Asked {
 
 // The fourth row reads: `dump --explain --custom-options skip` asks for a dump that reads past custom options, and
 // explains a fault.
-static ASKED: [Asked; 12] = [
+static ASKED: [Asked; 14] = [
     Asked {
         words: "query a.scip",
         request: "Query(\"a.scip\", false)",
@@ -59,6 +59,14 @@ static ASKED: [Asked; 12] = [
     Asked {
         words: "snapshot --explain a.scip --to shown api",
         request: "Snapshot(SnapshotOptions { index: \"a.scip\", root: \"api\", to: Some(\"shown\"), explain: true })",
+    },
+    Asked {
+        words: "pages a.scip api out",
+        request: "Pages(PagesOptions { index: \"a.scip\", root: \"api\", out: \"out\", explain: false })",
+    },
+    Asked {
+        words: "pages a.scip --explain api -- -out",
+        request: "Pages(PagesOptions { index: \"a.scip\", root: \"api\", out: \"-out\", explain: true })",
     },
 ];
 

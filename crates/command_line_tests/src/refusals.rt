@@ -33,6 +33,16 @@ snapshot a.scip
 error: the following required arguments were not provided:
   <ROOT>
 
+pages a.scip api
+error: the following required arguments were not provided:
+  <OUT>
+
+pages a.scip api out more
+error: unexpected argument 'more' found
+
+pages a.scip api --to out
+error: unexpected argument '--to' found
+
 index api out --workers 0
 error: invalid value '0' for '--workers <N>': 0 is not in 1..=16
 

@@ -11,6 +11,8 @@ pub mod Answering
 -- `snapshot`
 pub mod ShowFaults
 pub mod Snapshotting
+-- `pages`
+pub mod Paging
 -- `index` and `shell`: what their options say, why there is no package or no tree, and what they do
 pub mod Choices
 pub mod Settings

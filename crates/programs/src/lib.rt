@@ -17,6 +17,9 @@ mod querying;
 mod show_faults;
 mod snapshotting;
 
+// `pages`: the sources of an index as pages, in files.
+mod paging;
+
 // The programs about a tree: what their options say of the run, and why there is no package or no tree.
 mod choices;
 mod ending;

@@ -9,6 +9,7 @@ ghost use Rattle.command_line.specs.Requests.{
   index_options,
   index_path,
   out_path,
+  pages_options,
   printed_text,
   refused_text,
   shell_options,
@@ -23,6 +24,7 @@ ghost use Rattle.programs.specs.Answering.{Answers};
 ghost use Rattle.programs.specs.Dumping.{EndsDump};
 ghost use Rattle.programs.specs.Indexing.{Indexed};
 ghost use Rattle.programs.specs.Messages.{Heard, Tells, memory_line, memory_status};
+ghost use Rattle.programs.specs.Paging.{RunsPages};
 ghost use Rattle.programs.specs.Printing.{Prints};
 ghost use Rattle.programs.specs.Queries.{Queried};
 ghost use Rattle.programs.specs.Serving.{Served};
@@ -35,6 +37,7 @@ use crate::host::Host;
 use crate::indexing::index;
 use crate::messages::report;
 use crate::output::print;
+use crate::paging::pages;
 use crate::query_explanations::query_text;
 use crate::querying::query;
 use crate::serving::shell;
@@ -42,7 +45,7 @@ use crate::snapshotting::snapshot;
 use crate::statuses::COMMAND_LINE_STATUS;
 use command_line::Request;
 use protoscip::{MEMORY_STATUS, plain_line};
-use source_files::{MakeFiles, ReadFiles};
+use source_files::{EmptyFolders, MakeFiles, ReadFiles};
 use std::alloc::AllocError;
 use std::sync::Wait;
 use std::thread::Threads;
@@ -93,8 +96,9 @@ pub fn out_path(asked: &Result<Request, AllocError>) -> &str
 }
 
 /// Does what was asked for, and gives the exit status. An index goes to `file`, which makes the files
-/// of snapshots too; everything else goes to `out`. Where memory ran out while the command line was read, it says so.
-pub fn run<R: Threads + Wait, F: ReadFiles, I: Feed, W: Sink, O: Sink + MakeFiles, M: Sink>(
+/// of snapshots and of pages too; everything else goes to `out`. Where memory ran out while the command
+/// line was read, it says so.
+pub fn run<R, F, I: Feed, W: Sink, O: Sink + MakeFiles, M: Sink>(
     host: &Host<'_, R, F>,
     asked: &Result<Request, AllocError>,
     input: &mut I,
@@ -102,6 +106,9 @@ pub fn run<R: Threads + Wait, F: ReadFiles, I: Feed, W: Sink, O: Sink + MakeFile
     file: &mut O,
     messages: &mut M,
 ) -> u8
+where
+    R: Threads + Wait,
+    F: ReadFiles + EmptyFolders,
     // Help and the version are printed.
     ensures printed { IfOk asked.now (λ request. IfSome (printed_text request) (λ text.
         Prints W.contents W.failures M.contents M.failures text out.old out.new messages.old messages.new result
@@ -141,6 +148,11 @@ pub fn run<R: Threads + Wait, F: ReadFiles, I: Feed, W: Sink, O: Sink + MakeFile
         RunsSnapshot (F.gives host.now.files.now) options (stream W.contents W.failures out.old out.new)
         (maker O.made file.old file.new) (stream M.contents M.failures messages.old messages.new) result
         × (input.new ≡ input.old))) }
+    // What `pages` does.
+    ensures paged { IfOk asked.now (λ request. IfSome (pages_options request) (λ options.
+        RunsPages (F.frees host.now.files.now) (F.gives host.now.files.now) options
+        (maker O.made file.old file.new) (stream M.contents M.failures messages.old messages.new) result
+        × (input.new ≡ input.old) × (out.new ≡ out.old))) }
     // Nothing was asked for, since memory ran out, and that is said.
     ensures unknown { IfErr asked.now (λ _. Tells M.contents M.failures memory_line memory_status messages.old
         messages.new result
@@ -155,6 +167,7 @@ pub fn run<R: Threads + Wait, F: ReadFiles, I: Feed, W: Sink, O: Sink + MakeFile
                 answer(host, path.as_str(), *explain, input, out, messages)
             }
             Request::Snapshot(options) => snapshot(host, options, out, file, messages),
+            Request::Pages(options) => pages(host, options, file, messages),
             Request::Index(options, _) => index(host, options, file, messages),
             Request::Shell(options) => shell(host, options, input, out, messages),
             Request::Print(text) => print(host.alloc, text.as_str(), out, messages),

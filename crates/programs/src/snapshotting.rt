@@ -18,7 +18,11 @@ use std::alloc::Global;
 use streams::Sink;
 
 /// The index that the file with a path holds, with its tables.
-fn queries_of<F: ReadFiles>(alloc: Global, files: &F, path: &str) -> Result<Queries, QueryFault>
+pub(crate) fn queries_of<F: ReadFiles>(
+    alloc: Global,
+    files: &F,
+    path: &str,
+) -> Result<Queries, QueryFault>
     ensures { IsReadFrom (F.gives files.now path.now) result }
 {
     let index = index_of_file(alloc, files, path)?;
@@ -29,7 +33,12 @@ fn queries_of<F: ReadFiles>(alloc: Global, files: &F, path: &str) -> Result<Quer
 }
 
 /// Gives the exit status. Why the documents aren't all shown, if they aren't, is said.
-fn end<M: Sink>(alloc: Global, explain: bool, done: Result<(), ShowFault>, messages: &mut M) -> u8
+pub(crate) fn end<M: Sink>(
+    alloc: Global,
+    explain: bool,
+    done: Result<(), ShowFault>,
+    messages: &mut M,
+) -> u8
     ensures { EndsShown M.contents M.failures explain done messages.old messages.new result }
 {
     match done {

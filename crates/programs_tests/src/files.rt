@@ -1,6 +1,6 @@
 //! Files in memory.
 
-use source_files::ReadFiles;
+use source_files::{EmptyFolders, ReadFiles};
 use source_tree::read_source;
 use std::alloc::{AllocError, Global};
 use streams::Std;
@@ -93,7 +93,7 @@ const SEEN: &[u8] =
 \x12\x16\x0a\x07b/c.txt\x12\x09\x0a\x03\x00\x01\x02\x12\x02X#0\x01";
 
 /// The sources of `ENTRIES`, and beside them the index `a.scip` of one document `a` with one occurrence,
-/// `cut.scip`, which is cut off, and `SEEN` with sources below `src`.
+/// `cut.scip`, which is cut off, and `SEEN` with sources below `src`. No folder but `full` has an entry.
 #[derive(Clone, Copy)]
 pub(crate) struct Files;
 
@@ -153,5 +153,15 @@ impl ReadFiles for Files {
             Some(text) => read_source(alloc, &mut Std::new(text.as_bytes())),
             None => Ok(None),
         }
+    }
+}
+
+impl EmptyFolders for Files {
+    ghost use Rattle.std.specs.Prelude.{⊤};
+
+    ghost frees = { λ _ _ _. ⊤ };
+
+    fn is_free(&self, path: &str) -> Result<bool, AllocError> {
+        Ok(path != "full")
     }
 }

@@ -8,6 +8,8 @@ mod files;
 #[cfg(test)]
 mod laws;
 #[cfg(test)]
+mod pages;
+#[cfg(test)]
 mod report;
 #[cfg(test)]
 mod runs;

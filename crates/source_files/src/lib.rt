@@ -1,7 +1,8 @@
 //! The files of a run: the sources below a root, the tree that they make with included files, the file that an
-//! index is written to, and files that are made by their paths.
+//! index is written to, files that are made by their paths, and whether a folder is free for them.
 #![tactic(auto)]
 
+mod empty_folders;
 mod folders;
 mod load;
 mod load_fault;
@@ -12,6 +13,7 @@ mod root;
 mod system_files;
 mod walk;
 
+pub use empty_folders::EmptyFolders;
 pub use load::{LoadedTree, load_tree, load_tree_with_paths};
 pub use load_fault::LoadFault;
 pub use make_files::MakeFiles;

@@ -2,6 +2,7 @@
 
 ghost use Rattle.source_files.specs.SystemFiles.{IsGiven};
 
+use crate::empty_folders::EmptyFolders;
 use crate::read_files::ReadFiles;
 use crate::walk;
 use source_tree::read_source;
@@ -60,6 +61,32 @@ impl<'a, S: Files + AllocGlobal + Clone + Drop> ReadFiles for SystemFiles<'a, S>
         match given(File::open(self.system, path))? {
             Some(file) => read_source(alloc, &mut Std::new(file)),
             None => Ok(None),
+        }
+    }
+}
+
+// Whether a folder has no entries.
+fn has_no_entries<S: Files + AllocGlobal + Clone + Drop>(
+    system: &S,
+    path: &str,
+) -> io::Result<bool> {
+    match fs::read_dir(system, path)?.next() {
+        None => Ok(true),
+        Some(Ok(_)) => Ok(false),
+        Some(Err(error)) => Err(error),
+    }
+}
+
+impl<'a, S: Files + AllocGlobal + Clone + Drop> EmptyFolders for SystemFiles<'a, S> {
+    ghost use Rattle.std.specs.Prelude.{⊤};
+
+    ghost frees = { λ _ _ _. ⊤ };
+
+    fn is_free(&self, path: &str) -> Result<bool, AllocError> {
+        let folder = if path.is_empty() { "." } else { path };
+        match has_no_entries(self.system, folder) {
+            Err(error) if error.kind() == ErrorKind::NotFound => Ok(true),
+            answer => Ok(given(answer)? == Some(true)),
         }
     }
 }

@@ -4,6 +4,8 @@
 #[cfg(test)]
 mod closed_streams;
 #[cfg(test)]
+mod free_folders;
+#[cfg(test)]
 mod loads;
 #[cfg(test)]
 mod outputs;

@@ -3,10 +3,11 @@ use Rattle.std.proofs.Common.{◌≡◌, refl, subst, sym}
 use Rattle.std.specs.Prelude.{IfOk, IfSome, Result}
 use Rattle.std.specs.declared.alloc.AllocError.{AllocError}
 use Rattle.scip_snapshot.specs.Showing.{maker, writer as stream}
-use Rattle.command_line.specs.Requests.{index_options, shell_options, snapshot_options}
+use Rattle.command_line.specs.Requests.{index_options, pages_options, shell_options, snapshot_options}
 use Rattle.command_line.specs.declared.request.Request.{Request}
 use Rattle.programs.specs.Indexing.{Indexed}
 use Rattle.programs.specs.Messages.{memory_line}
+use Rattle.programs.specs.Paging.{RunsPages}
 use Rattle.programs.specs.Serving.{Served}
 use Rattle.programs.specs.Snapshotting.{RunsSnapshot}
 use Rattle.programs.specs.Streams.{reader, writer}
@@ -44,6 +45,16 @@ returns-in-Snapshot-clause-snapshotted g c =
     × (c.args.input.now ≡ c.args.input.now)) in
     subst (λ (asked : Result Request AllocError). IfOk asked Here) (sym c.in-Ok.is)
     (subst Here (sym c.in-Snapshot.is) (c.snapshot.ensures, refl))
+
+pub returns-in-Pages-clause-paged : goal.returns-in-Pages-clause-paged
+returns-in-Pages-clause-paged g c =
+    let Here : Request → Type 0 = λ request. IfSome (pages_options request) (λ options.
+    RunsPages (g.F.EmptyFolders.frees c.args.host.now.files.now) (g.F.ReadFiles.gives c.args.host.now.files.now) options
+    (maker g.O.MakeFiles.made c.args.file.now c.pages.new.made)
+    (stream g.M.Sink.contents g.M.Sink.failures c.args.messages.now c.pages.new.messages) c.pages.result
+    × (c.args.input.now ≡ c.args.input.now) × (c.args.out.now ≡ c.args.out.now)) in
+    subst (λ (asked : Result Request AllocError). IfOk asked Here) (sym c.in-Ok.is)
+    (subst Here (sym c.in-Pages.is) (c.pages.ensures, refl, refl))
 
 pub returns-in-Err-clause-unknown : goal.returns-in-Err-clause-unknown
 returns-in-Err-clause-unknown g c =

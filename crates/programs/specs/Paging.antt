@@ -1,0 +1,58 @@
+-- What the program `pages` does.
+-- `frees` is what asking whether a folder is free may answer, `gives` what reading a file may give, and `messages` the
+-- stream of messages.
+use Rattle.std.specs.Prelude.{◌≡◌, ◌++◌, ℕ, Bool, true, false, List, [], Option, Result, Ok, Err, codes, string_bytes}
+use Rattle.std.specs.Prelude.{if◌then◌else◌}
+use Rattle.scip_model.specs.declared.records.Index.{Index}
+use Rattle.scip_snapshot.specs.Showing.{Writer, writer, Maker}
+use Rattle.scip_snapshot.specs.declared.show_fault.ShowFault.{ShowFault}
+use Rattle.scip_site.specs.Making.{Makes}
+use Rattle.protoscip.specs.Lines.{path_line}
+use Rattle.protoscip.specs.declared.statuses.TheConstants.{STREAM_STATUS}
+use Rattle.command_line.specs.declared.options.PagesOptions.{PagesOptions}
+use Rattle.programs.specs.declared.query_fault.QueryFault.{QueryFault}
+use Rattle.programs.specs.Messages.{Says, Tells, memory_line, memory_status}
+use Rattle.programs.specs.Queries.{IsReadFrom}
+use Rattle.programs.specs.QueryExplanations.{told as query_told}
+use Rattle.programs.specs.QueryFaults.{status_of as query_status}
+use Rattle.programs.specs.Snapshotting.{EndsShown}
+
+-- of a folder that isn't free, explained where that is asked for (the texts are this project's own)
+abbrev pub taken_told : (explain : Bool) → (out : List ℕ) → List ℕ
+taken_told explain out =
+    path_line out (codes "NotEmpty")
+    ++ (if explain then codes "\nit must be an empty folder, or not exist yet" else [])
+
+-- the pages of an index's documents are made, and then it ends
+pub record MakesAndEnds {O M : Type 0} (gives : List ℕ → Option (List ℕ) → Type 0) (options : PagesOptions)
+    (index : Index) (files : Maker O) (messages : Writer M) (status : ℕ) : Type 0 where
+  pub now : M
+  pub done : Result (Unit {0}) ShowFault
+  pub makes : Makes gives (string_bytes options.root) (string_bytes options.out) index files
+      (writer messages.contents messages.failures messages.before now) done
+  pub ends : EndsShown messages.contents messages.failures options.explain done now messages.after status
+
+-- the index of the file with a path can't be read, and nothing is made; or it is read, and pages are made
+pub data ReadsAndMakes {O M : Type 0} (gives : List ℕ → Option (List ℕ) → Type 0) (options : PagesOptions)
+    (files : Maker O) (messages : Writer M) (status : ℕ) : Type 0 where
+  unread : (fault : QueryFault) → IsReadFrom (gives (string_bytes options.index)) (Err fault)
+      → files.after ≡ files.before
+      → Tells messages.contents messages.failures (query_told options.explain (string_bytes options.index) fault)
+      (query_status fault) messages.before messages.after status
+      → ReadsAndMakes gives options files messages status
+  read : (index : Index) → IsReadFrom (gives (string_bytes options.index)) (Ok index)
+      → MakesAndEnds gives options index files messages status
+      → ReadsAndMakes gives options files messages status
+
+-- the folder for the pages isn't free, or memory ran out, and nothing is made; or it is free, and so it goes on
+pub data RunsPages {O M : Type 0} (frees : List ℕ → Bool → Type 0) (gives : List ℕ → Option (List ℕ) → Type 0)
+    (options : PagesOptions) (files : Maker O) (messages : Writer M) (status : ℕ) : Type 0 where
+  taken : frees (string_bytes options.out) false → files.after ≡ files.before
+      → Tells messages.contents messages.failures (taken_told options.explain (string_bytes options.out)) STREAM_STATUS
+      messages.before messages.after status
+      → RunsPages frees gives options files messages status
+  unasked : files.after ≡ files.before
+      → Says messages.contents messages.failures memory_line memory_status messages.before messages.after status
+      → RunsPages frees gives options files messages status
+  free : frees (string_bytes options.out) true → ReadsAndMakes gives options files messages status
+      → RunsPages frees gives options files messages status

@@ -1,0 +1,92 @@
+//! The program `pages`: pages of the sources of an index, to be read in a browser.
+
+ghost use Rattle.std.specs.Prelude.{◌≡◌, IfOk, string_bytes};
+ghost use Rattle.scip_snapshot.specs.Showing.{maker, writer};
+ghost use Rattle.programs.specs.Paging.{MakesAndEnds, ReadsAndMakes, RunsPages, taken_told};
+
+use crate::host::Host;
+use crate::messages::report;
+use crate::query_explanations::query_text;
+use crate::snapshotting::{end, queries_of};
+use command_line::PagesOptions;
+use protoscip::{MEMORY_STATUS, STREAM_STATUS, path_line};
+use scip_query::Queries;
+use scip_site::make_pages;
+use scip_snapshot::Folders;
+use source_files::{EmptyFolders, MakeFiles, ReadFiles};
+use std::alloc::{AllocError, Global};
+use streams::Sink;
+
+/// The line, without its end, that says of a folder for pages that it isn't free, explained where that is
+/// asked for.
+fn taken_text(alloc: Global, out: &str, explain: bool) -> Result<String, AllocError>
+    ensures { IfOk result (λ text. string_bytes text ≡ taken_told explain out.now) }
+{
+    let mut text = path_line(alloc, out, "NotEmpty")?;
+    if explain {
+        text.push_str("\nit must be an empty folder, or not exist yet")?;
+    }
+    Ok(text)
+}
+
+/// Makes the pages of an index's documents, and gives the exit status.
+fn make<R, F: ReadFiles, O: MakeFiles, M: Sink>(
+    host: &Host<'_, R, F>,
+    options: &PagesOptions,
+    queries: &Queries,
+    made: &mut O,
+    messages: &mut M,
+) -> u8
+    ensures { MakesAndEnds (F.gives host.now.files.now) options.now queries.now (maker O.made made.old made.new)
+        (writer M.contents M.failures messages.old messages.new) result }
+{
+    let root = options.root.as_str();
+    let to = options.out.as_str();
+    let folders = Folders { root, to };
+    let done = make_pages(host.alloc, host.files, &folders, queries, made, messages);
+    end(host.alloc, options.explain, done, messages)
+}
+
+/// Reads the index that a file holds, makes the pages of its documents, and gives the exit status. Why it
+/// stops, if it does, is said.
+fn read_and_make<R, F: ReadFiles, O: MakeFiles, M: Sink>(
+    host: &Host<'_, R, F>,
+    options: &PagesOptions,
+    made: &mut O,
+    messages: &mut M,
+) -> u8
+    ensures { ReadsAndMakes (F.gives host.now.files.now) options.now (maker O.made made.old made.new) (writer M.contents
+        M.failures messages.old messages.new) result }
+{
+    let path = options.index.as_str();
+    match queries_of(host.alloc, host.files, path) {
+        Ok(queries) => make(host, options, &queries, made, messages),
+        Err(fault) => {
+            let text = query_text(host.alloc, &fault, path, options.explain);
+            report(text, fault.status(), messages)
+        }
+    }
+}
+
+/// Makes the pages of the documents of an index below a folder where nothing is yet, and gives the exit
+/// status. Each document without a page is told. Why it stops, if it does, is said: first that the folder
+/// isn't free, and then nothing is read.
+pub(crate) fn pages<R, F: ReadFiles + EmptyFolders, O: MakeFiles, M: Sink>(
+    host: &Host<'_, R, F>,
+    options: &PagesOptions,
+    made: &mut O,
+    messages: &mut M,
+) -> u8
+    ensures { RunsPages (F.frees host.now.files.now) (F.gives host.now.files.now) options.now (maker O.made made.old
+        made.new) (writer M.contents M.failures messages.old messages.new) result }
+{
+    let out = options.out.as_str();
+    match host.files.is_free(out) {
+        Ok(true) => read_and_make(host, options, made, messages),
+        Ok(false) => {
+            let text = taken_text(host.alloc, out, options.explain);
+            report(text, STREAM_STATUS, messages)
+        }
+        Err(AllocError) => report(Err(AllocError), MEMORY_STATUS, messages),
+    }
+}

@@ -1,0 +1,51 @@
+//! Folders that are free for files, and others.
+
+use source_files::{EmptyFolders, SystemFiles};
+use std::alloc::AllocError;
+use std::fs;
+use std::rt::Files;
+use std::test::Fail;
+
+/// Paths, and whether files may go there. The last but one is a link to a folder without entries.
+const PLACES: [(&str, bool); 10] = [
+    ("site/none", true),
+    ("site/none/below", true),
+    ("site/empty", true),
+    ("site/empty/", true),
+    ("site/taken", false),
+    ("site/hidden", false),
+    ("site/taken/file", false),
+    ("site/taken/file/below", false),
+    ("site/link", true),
+    ("", false),
+];
+
+/// Whether files may go there. None after want of memory.
+fn answer_of<F: EmptyFolders>(files: &F, path: &str) -> Option<bool> {
+    match files.is_free(path) {
+        Ok(free) => Some(free),
+        Err(AllocError) => None,
+    }
+}
+
+#[test]
+fn absent_or_empty(rt: HostRuntime) -> Result<(), Fail> {
+    // What an earlier run has left that didn't come to its end.
+    let _ = fs::remove_dir_all(&rt, "site");
+    for folder in &["site", "site/empty", "site/taken", "site/hidden"] {
+        fs::create_dir(&rt, *folder)?;
+    }
+    fs::write(&rt, "site/taken/file", "")?;
+    fs::write(&rt, "site/hidden/.file", "")?;
+    rt.symlink("empty", "site/link")?;
+    let files = SystemFiles::new(&rt);
+    for (path, due) in &PLACES {
+        let free = match answer_of(&files, *path) {
+            None => answer_of(&files, *path),
+            free => free,
+        };
+        assert!(&rt; free == Some(*due), "{path}");
+    }
+    fs::remove_dir_all(&rt, "site")?;
+    Ok(())
+}

@@ -7,7 +7,7 @@ use Rattle.proto_lex.specs.Bytes.{starts}
 abbrev pub goes_on : ℕ → Bool
 goes_on byte = nat_le 128 byte && nat_lt byte 192
 
--- Each is one byte with those that go on behind it. In a text in UTF-8 these are its characters.
+-- Each is one byte with those that go on after it. In a text in UTF-8 these are its characters.
 abbrev pub characters : List ℕ → List (List ℕ)
 characters [] = []
 characters (byte ∷ bytes) =

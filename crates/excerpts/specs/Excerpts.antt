@@ -7,7 +7,7 @@ use Rattle.excerpts.specs.Places.{line_number, line_after}
 use Rattle.excerpts.specs.Shown.{shown, mark}
 use Rattle.proto_lex.specs.Position.{line_before}
 
--- the characters of a line before its marked part, of this part, and behind it
+-- the characters of a line before its marked part, of this part, and after it
 pub record Parts : Type 0 where
   pub before : List (List ℕ)
   pub marked : List (List ℕ)
@@ -28,7 +28,7 @@ room parts = if nat_lt 200 (length parts.before + length parts.marked + length p
 abbrev pub last_of : ℕ → List (List ℕ) → List (List ℕ)
 last_of count characters = drop (length characters - count) characters
 
--- what stands where characters are left out
+-- what is shown where characters are left out
 abbrev pub where_cut : Bool → List ℕ → List ℕ
 where_cut cut text = if cut then text else []
 
@@ -47,12 +47,12 @@ shown_line parts =
     ++ shown_text (take (room parts - length parts.marked) parts.behind)
     ++ where_cut (nat_lt (room parts) (length parts.marked + length parts.behind)) (codes "...")
 
--- carets below what is marked, and one below a place alone
+-- carets below what is marked, or one caret below a place
 abbrev pub carets : List (List ℕ) → List ℕ
 carets [] = codes "^"
 carets (character ∷ others) = marks (codes "^") (character ∷ others)
 
--- what stands below the line
+-- what is below the line
 abbrev pub mark_line : Parts → List ℕ
 mark_line parts =
     where_cut (nat_lt (room parts) (length parts.before)) (codes "   ")
@@ -63,7 +63,7 @@ mark_line parts =
 abbrev pub blanks : List ℕ → List ℕ
 blanks digits = flat_map (λ digit. codes " ") digits
 
--- the line behind its number, and what stands below it, each after a line end
+-- the line after its number, and what is below it, each after a line end
 abbrev pub numbered : (number : List ℕ) → Parts → List ℕ
 numbered number parts = codes "\n  " ++ number ++ codes " | " ++ shown_line parts
 

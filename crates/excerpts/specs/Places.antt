@@ -25,14 +25,14 @@ place_text path text at =
 abbrev pub without_return : List ℕ → List ℕ
 without_return line = if nat_eq (slice_index line (length line - 1)) 13 then take (length line - 1) line else line
 
--- what stands on an offset's line from it on
+-- what is on an offset's line from it on
 abbrev pub line_after : List ℕ → ℕ → List ℕ
 line_after text at = without_return (before_first is_line_end (drop at text))
 
 -- ---- tokens
 
--- a `\` in a string literal escapes the byte behind it, if it isn't escaped itself (Protocol Buffers Version 3 Language
--- Specification, String literals)
+-- a `\` in a string literal escapes the byte after it, if it isn't escaped itself (Protocol Buffers Version 3
+-- Language Specification, String literals)
 abbrev pub escapes : (escaped : Bool) → ℕ → Bool
 escapes escaped byte = not escaped && nat_eq byte backslash
 
@@ -40,7 +40,7 @@ escapes escaped byte = not escaped && nat_eq byte backslash
 abbrev pub closes : (quote : ℕ) → (escaped : Bool) → ℕ → Bool
 closes quote escaped byte = not escaped && nat_eq byte quote
 
--- how many bytes a literal has behind its opening quote: up to its closing one, or all where that is missing
+-- how many bytes a literal has after its opening quote: up to its closing one, or all if that is missing
 abbrev pub closing_len : (quote : ℕ) → (escaped : Bool) → List ℕ → ℕ
 closing_len quote escaped [] = 0
 closing_len quote escaped (byte ∷ bytes) =

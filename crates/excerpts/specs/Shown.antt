@@ -11,7 +11,7 @@ is_control [] = false
 is_control (byte ∷ []) = (nat_lt byte 32 && not (nat_eq byte 9)) || nat_eq byte 127
 is_control (byte ∷ second ∷ others) = nat_eq byte 194 && nat_lt second 160
 
--- a character that stands as it is
+-- a character that is shown as it is
 abbrev pub is_plain : List ℕ → Bool
 is_plain character = is_utf8 character && not (is_control character)
 
@@ -32,7 +32,7 @@ is_tab (byte ∷ second ∷ others) = false
 abbrev pub four : List ℕ → List ℕ
 four sign = sign ++ sign ++ sign ++ sign
 
--- what stands below a character: a tab below a tab, and else a sign for each place that it takes
+-- what is below a character: a tab below a tab, and else a sign for each place that it takes
 abbrev pub mark : List ℕ → List ℕ → List ℕ
 mark sign character = if is_tab character then codes "\t" else if is_plain character then sign else flat_map
     (λ byte. four sign) character

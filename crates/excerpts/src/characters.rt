@@ -19,7 +19,7 @@ fn count_going_on(bytes: &[u8]) -> usize
     bytes.iter().take_while(|byte| goes_on(**byte)).count()
 }
 
-/// The first character of bytes, and those behind it.
+/// The first character of bytes, and those after it.
 pub(crate) fn first_character(bytes: &[u8]) -> Option<(&[u8], &[u8])>
     ensures parts { MatchOption result (bytes.now ≡ []) (λ parts. characters bytes.now ≡ parts.0.now ∷ characters parts.1.now) }
     ensures lengths { IfSome result (λ parts. (length parts.1.now < length bytes.now) × (length parts.0.now ≤ length bytes.now)) }
@@ -44,7 +44,7 @@ pub(crate) fn count_characters(bytes: &[u8]) -> usize
     count
 }
 
-/// The bytes behind so many characters.
+/// The bytes after this many characters.
 pub(crate) fn skip_characters(bytes: &[u8], count: usize) -> &[u8]
     ensures { characters result.now ≡ drop count (characters bytes.now) }
 {

@@ -40,7 +40,7 @@ fn push_where_cut(out: &mut String, cut: bool, text: &str) -> Result<(), AllocEr
     if cut { out.push_str(text) } else { Ok(()) }
 }
 
-/// The bytes of the last characters, at most so many.
+/// The bytes of the last characters, at most this many.
 fn last_characters(bytes: &[u8], most: usize) -> &[u8]
     ensures last { characters result.now ≡ last_of most (characters bytes.now) }
     ensures few { length (characters result.now) ≤ most }
@@ -48,14 +48,14 @@ fn last_characters(bytes: &[u8], most: usize) -> &[u8]
     skip_characters(bytes, count_characters(bytes).saturating_sub(most))
 }
 
-/// Appends the last characters, at most so many, as they are shown.
+/// Appends the last characters, at most this many, as they are shown.
 fn push_last(out: &mut String, bytes: &[u8], most: usize) -> Result<(), AllocError>
     ensures { OnOk result (string_bytes out.new ≡ string_bytes out.old ++ shown_text (last_of most (characters bytes.now))) }
 {
     push_shown(out, last_characters(bytes, most), most)
 }
 
-/// Appends spaces below the last characters, at most so many.
+/// Appends spaces below the last characters, at most this many.
 fn push_spaces(out: &mut String, bytes: &[u8], most: usize) -> Result<(), AllocError>
     ensures { OnOk result (string_bytes out.new ≡ string_bytes out.old ++ marks (codes " ") (last_of most (characters bytes.now))) }
 {
@@ -81,7 +81,7 @@ fn push_line(
     push_where_cut(out, more > room as u128, "...")
 }
 
-/// Appends carets below what is marked, at most so many characters of it, and one below a place alone.
+/// Appends carets below what is marked, at most this many characters of it, or one caret below a place.
 fn push_carets(out: &mut String, marked: &[u8], most: usize) -> Result<(), AllocError>
     requires { 0 < most }
     ensures { OnOk result (string_bytes out.new ≡ string_bytes out.old ++ carets (take most (characters marked.now))) }
@@ -93,7 +93,7 @@ fn push_carets(out: &mut String, marked: &[u8], most: usize) -> Result<(), Alloc
     }
 }
 
-/// Appends what stands below a line.
+/// Appends what is below a line.
 fn push_mark_line(
     out: &mut String,
     before: &[u8],
@@ -118,7 +118,7 @@ fn push_blanks(out: &mut String, digits: &[u8]) -> Result<(), AllocError>
     Ok(())
 }
 
-/// Appends a line behind its number.
+/// Appends a line after its number.
 fn push_numbered(
     out: &mut String,
     number: &str,
@@ -134,7 +134,7 @@ fn push_numbered(
     push_line(out, before, marked, behind)
 }
 
-/// Appends what stands below a line with a number.
+/// Appends what is below a line with a number.
 fn push_below(
     out: &mut String,
     number: &str,
@@ -150,7 +150,7 @@ fn push_below(
     push_mark_line(out, before, marked, behind)
 }
 
-/// Appends the line of an offset in a source, with its number, and marks so many bytes from the offset on.
+/// Appends the line of an offset in a source, with its number, and marks this many bytes from the offset on.
 pub fn push_excerpt(
     alloc: Global,
     out: &mut String,

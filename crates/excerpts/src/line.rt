@@ -61,7 +61,7 @@ pub(crate) fn line_number(text: &[u8]) -> usize
     count_line_ends(text) + 1
 }
 
-/// How many bytes stand behind the last line end.
+/// How many bytes come after the last line end.
 fn last_line_len(text: &[u8]) -> usize
     ensures value { result ≡ suffix_len (λ byte. not (is_line_end byte)) text.now }
     ensures within { result ≤ length text.now }
@@ -69,7 +69,7 @@ fn last_line_len(text: &[u8]) -> usize
     text.iter().rev().take_while(|byte| **byte != b'\n').count()
 }
 
-/// What stands behind the last line end of a text.
+/// What comes after the last line end of a text.
 pub(crate) fn last_line(text: &[u8]) -> &[u8]
     ensures { result.now ≡ after_last is_line_end text.now }
 {
@@ -86,7 +86,7 @@ fn without_return(line: &[u8]) -> &[u8]
     }
 }
 
-/// How many bytes stand before the first line end.
+/// How many bytes come before the first line end.
 fn line_len(text: &[u8]) -> usize
     ensures value { result ≡ prefix_len (λ byte. not (is_line_end byte)) text.now }
     ensures within { result ≤ length text.now }
@@ -94,7 +94,7 @@ fn line_len(text: &[u8]) -> usize
     text.iter().take_while(|byte| **byte != b'\n').count()
 }
 
-/// What stands before the first line end of a text.
+/// What comes before the first line end of a text.
 pub(crate) fn first_line(text: &[u8]) -> &[u8]
     ensures { result.now ≡ without_return (before_first is_line_end text.now) }
 {
@@ -116,7 +116,7 @@ fn is_quote(byte: u8) -> bool
     matches!(byte, b'"' | b'\'')
 }
 
-/// Whether the byte of a string literal escapes the one behind it.
+/// Whether the byte of a string literal escapes the one after it.
 fn escapes(escaped: bool, byte: u8) -> bool
     ensures { result ≡ escapes escaped byte }
 {
@@ -130,7 +130,7 @@ fn closes(quote: u8, escaped: bool, byte: u8) -> bool
     !escaped && byte == quote
 }
 
-/// The first byte, and those behind it.
+/// The first byte, and those after it.
 fn first_byte(bytes: &[u8]) -> Option<(u8, &[u8])>
     ensures { MatchOption result (bytes.now ≡ []) (λ parts. bytes.now ≡ parts.0 ∷ parts.1.now) }
 {
@@ -140,7 +140,7 @@ fn first_byte(bytes: &[u8]) -> Option<(u8, &[u8])>
     }
 }
 
-/// How many bytes a string literal has behind its opening quote: up to its closing one, or all.
+/// How many bytes a string literal has after its opening quote: up to its closing one, or all.
 fn closing_len(quote: u8, others: &[u8]) -> usize
     ensures len { result ≡ closing_len quote false others.now }
     ensures within { result ≤ length others.now }
@@ -170,7 +170,7 @@ fn first_len(bytes: &[u8]) -> usize
     }
 }
 
-/// How many bytes the string literal has with which they begin, or else their first character.
+/// How many bytes the string literal has that the bytes begin with, or else their first character.
 fn sign_len(bytes: &[u8]) -> usize
     ensures len { result ≡ sign_len bytes.now }
     ensures within { result ≤ length bytes.now }
@@ -187,8 +187,8 @@ fn sign_len(bytes: &[u8]) -> usize
     }
 }
 
-/// How many bytes the token has with which they begin: letters, digits and `_`, or a string literal, or else
-/// one character.
+/// How many bytes the token has that the bytes begin with: letters, digits and `_`, or a string literal, or else one
+/// character.
 pub fn token_len(bytes: &[u8]) -> usize
     ensures len { result ≡ token_len bytes.now }
     ensures within { result ≤ length bytes.now }

@@ -31,7 +31,7 @@ fn is_tab(character: &[u8]) -> bool
     }
 }
 
-/// The character, where it stands as it is.
+/// The character, if it is shown as it is.
 fn plain_text(character: &[u8]) -> Option<&str>
     ensures { MatchOption result (is_plain character.now ≡ false) (λ text. (is_plain character.now ≡ true) × (text.now ≡ character.now)) }
 {
@@ -101,7 +101,7 @@ fn push_fours(out: &mut String, bytes: &[u8], sign: &str) -> Result<(), AllocErr
     Ok(())
 }
 
-/// Appends what stands below a character.
+/// Appends what is below a character.
 fn push_mark(out: &mut String, character: &[u8], sign: &str) -> Result<(), AllocError>
     ensures { OnOk result (string_bytes out.new ≡ string_bytes out.old ++ mark sign.now character.now) }
 {
@@ -114,7 +114,7 @@ fn push_mark(out: &mut String, character: &[u8], sign: &str) -> Result<(), Alloc
     }
 }
 
-/// Appends the first characters of bytes, at most so many, as they are shown.
+/// Appends the first characters of bytes, at most this many, as they are shown.
 pub(crate) fn push_shown(out: &mut String, bytes: &[u8], most: usize) -> Result<(), AllocError>
     ensures { OnOk result (string_bytes out.new ≡ string_bytes out.old ++ flat_map shown (take most (characters bytes.now))) }
 {
@@ -133,7 +133,7 @@ pub(crate) fn push_shown(out: &mut String, bytes: &[u8], most: usize) -> Result<
     Ok(())
 }
 
-/// Appends what stands below the first characters of bytes, at most so many.
+/// Appends what is below the first characters of bytes, at most this many.
 pub(crate) fn push_marks(
     out: &mut String,
     bytes: &[u8],

@@ -1,7 +1,7 @@
 -- Full names under one another.
 use Rattle.std.specs.Prelude.{◌≡◌, ◌⊎◌, ℕ, List, ◌∷◌, ◌++◌}
 
--- `.`, which stands between the components of a full name
+-- `.`, which is between the components of a full name
 abbrev pub dot : ℕ
 dot = 46
 

@@ -5,7 +5,7 @@ use Rattle.index_hooks.specs.declared.choice.Choice.{Choice}
 use Rattle.index_hooks.specs.declared.choice.DocChoice.{DocChoice}
 use Rattle.index_hooks.specs.declared.choice.DocChoice.TheVariants.{Pass, Leading}
 
--- the choice where nobody is asked: the declaration is kept, with its leading text
+-- the choice if nobody is asked: the declaration is kept, with its leading text
 pub record IsDefaultChoice (choice : Choice) : Type 0 where
   pub keep : choice.keep ≡ true
   pub doc : choice.doc ≡ Leading
@@ -19,7 +19,7 @@ pub record FirstOf {H : Type 0} (Before Here : H → Type 0) (hooks : List H) : 
   pub before_it : All Before before
   pub at_it : Here hook
 
--- a declaration is kept where all filters may answer true, and isn't where one may answer false and all before it true
+-- a declaration is kept if all filters may answer true, and isn't if one may answer false and all before it true
 abbrev pub MayKeep : {H : Type 0} → (H → Bool → Type 0) → List H → Bool → Type 0
 MayKeep may filters true = All (λ f. may f true) filters
 MayKeep may filters false = FirstOf (λ f. may f true) (λ f. may f false) filters

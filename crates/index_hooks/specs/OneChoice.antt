@@ -14,6 +14,6 @@ pub record AreExact {F R : Type 0} (may_keep : F → Bool → Type 0) (may_docum
   pub filters_are : All (λ f. AllowsOne (may_keep f)) filters
   pub rules_are : All (λ r. AllowsOne (may_document r)) rules
 
--- where for what is seen of a declaration all promises are so, one choice alone may come for it
+-- if all promises are so for what is seen of a declaration, only one choice may come for it
 abbrev pub OneChoice : (are_exact : Seen → Type 0) (allows : Seen → Choice → Type 0) → Type 0
 OneChoice are_exact allows = (seen : Seen) → are_exact seen → AllowsOne (allows seen)

@@ -9,7 +9,7 @@ use proto_decl::DeclView;
 pub trait FilterCallback {
     ghost use Rattle.proto_decl.specs.Seen.{Seen};
 
-    // The answers that it may give, on any call: all, where nothing else is said.
+    // The answers that it may give, on any call: all, if nothing else is said.
     ghost gives: { Self → Seen → Bool → Type 0 } = { λ _ _ _. Unit {0} };
 
     /// Whether the declaration is kept.
@@ -22,7 +22,7 @@ pub trait DocCallback {
     ghost use Rattle.proto_decl.specs.Seen.{Seen};
     ghost use Rattle.index_hooks.specs.declared.choice.DocChoice.{DocChoice};
 
-    // The answers that it may give, on any call: all, where nothing else is said.
+    // The answers that it may give, on any call: all, if nothing else is said.
     ghost gives: { Self → Seen → DocChoice → Type 0 } = { λ _ _ _. Unit {0} };
 
     /// Which texts document the declaration.

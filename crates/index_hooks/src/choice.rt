@@ -9,9 +9,9 @@ pub enum DocChoice {
     Nothing,
     /// The text before the declaration.
     Leading,
-    /// The text behind it on its line.
+    /// The text after it on its line.
     Trailing,
-    /// The text before it, then the one behind it.
+    /// The text before it, then the one after it.
     Both,
 }
 

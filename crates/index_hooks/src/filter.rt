@@ -9,8 +9,8 @@ use crate::promise::FilterPromise;
 use proto_decl::DeclView;
 use std::marker::Model;
 
-/// A callback that says of each declaration whether it is kept, beside a promise that allows each of
-/// its answers. Contracts see the promise alone.
+/// A callback that says of each declaration whether it is kept, beside a promise that allows each of its answers.
+/// Contracts see only the promise.
 #[derive(Drop)]
 pub struct Filter<P: FilterPromise, C: FilterCallback> {
     promise: P,

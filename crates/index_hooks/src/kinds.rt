@@ -25,7 +25,7 @@ impl Kinds {
     ghost use Rattle.proto_decl.specs.declared.kind.DeclarationKind.{DeclarationKind};
     ghost use Rattle.index_hooks.specs.HasKind.{HasKind};
 
-    /// The set of these kinds. One may stand there more than once.
+    /// The set of these kinds. One may be there more than once.
     pub fn of(kinds: &[DeclarationKind]) -> Kinds
         ensures { (kind : DeclarationKind) → HasKind result kind ↔ Contains kinds.now kind }
     {
@@ -44,7 +44,7 @@ impl Kinds {
     }
 }
 
-/// The promise of a filter that answers `true` exactly where the kind is in the set.
+/// The promise of a filter that answers `true` if and only if the kind is in the set.
 #[derive(Clone, Copy, Debug, PartialEq, Eq)]
 pub struct KindIn(pub Kinds);
 

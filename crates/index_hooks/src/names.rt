@@ -10,14 +10,14 @@ use crate::promise::FilterPromise;
 use proto_decl::DeclView;
 use std::alloc::{AllocError, Global};
 
-/// The promise of a filter that answers `true` exactly where the full name is this text, or begins
-/// with it and a dot. So the empty text keeps nothing.
+/// The promise of a filter that answers `true` if and only if the full name is this text, or begins with it and a
+/// dot. So the empty text keeps nothing.
 ///
 /// It is also the callback that answers so.
 #[derive(Debug, Drop)]
 pub struct NamePrefix(pub String);
 
-/// Whether a full name is that of the scope, or of what stands in it.
+/// Whether a full name is that of the scope, or of what is in it.
 fn is_under(scope: &str, name: &str) -> bool
     ensures { IsTrue result ↔ IsUnder scope.now name.now }
 {

@@ -89,7 +89,7 @@ impl Registry {
         }
     }
 
-    /// Adds a filter behind those that it has.
+    /// Adds a filter after those that it has.
     ///
     /// `Full`: it has `MAX_HOOKS` filters. Then `Memory`. The registry stays as it was, and the
     /// filter comes back.
@@ -100,7 +100,7 @@ impl Registry {
         add(&mut self.filters, filter)
     }
 
-    /// Adds a documentation rule behind those that it has.
+    /// Adds a documentation rule after those that it has.
     ///
     /// `Full`: it has `MAX_HOOKS` rules. Then `Memory`. The registry stays as it was, and the rule
     /// comes back.
@@ -138,7 +138,7 @@ fn keeps(filters: &[BoxedFilter], view: &DeclView<'_>) -> bool
     true
 }
 
-/// The first answer that isn't `Pass`, and `Leading` where all rules pass.
+/// The first answer that isn't `Pass`, and `Leading` if all rules pass.
 fn documents(rules: &[BoxedRule], view: &DeclView<'_>) -> DocChoice
     ensures { MayDocument (λ r answer. (DocHook-box r).may r.value view.now answer) rules.now result }
 {

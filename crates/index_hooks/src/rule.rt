@@ -11,8 +11,8 @@ use crate::promise::DocPromise;
 use proto_decl::DeclView;
 use std::marker::Model;
 
-/// A callback that says of each declaration which texts document it, beside a promise that allows
-/// each of its answers. Contracts see the promise alone.
+/// A callback that says of each declaration which texts document it, beside a promise that allows each of its
+/// answers. Contracts see only the promise.
 #[derive(Drop)]
 pub struct DocRule<P: DocPromise, C: DocCallback> {
     promise: P,

@@ -11,8 +11,8 @@ use Rattle.proto_decl.specs.declared.declaration.DeclarationStep.{DeclarationSte
 use Rattle.proto_decl.specs.declared.declaration.Declaration.{Declaration}
 use Rattle.proto_decl.specs.declared.type_use.Component.{Component}
 
--- The names of the scopes that a declaration stands in and its own: a message or a service is a scope, and an enum
--- is none, so that a value is a sibling of its enum (proto3 language guide, Enumerations).
+-- The names of the scopes that a declaration is in and its own: a message or a service is a scope, and an enum is
+-- none, so that a value is a sibling of its enum (proto3 language guide, Enumerations).
 abbrev pub scoped : DeclarationKind → (name : List ℕ) → (inner : List (List ℕ)) → List (List ℕ)
 scoped Enum name inner = inner
 scoped Message name inner = name ∷ inner
@@ -36,9 +36,8 @@ pub record AreNamed (components : List Component) (declarations : List Declarati
   pub of_components : All (Spells Identifier) (component_names components)
   pub of_steps : All (λ d. All (λ step. Spells Identifier step.name) d.path) declarations
 
--- Each prefix of a path leads to a declaration, and the names of the package's components and those on the path, joined
--- by
--- dots, are the full name.
+-- Each prefix of a path leads to a declaration, and the names of the package's components and those on the path,
+-- joined by dots, are the full name.
 pub record AreHeld (components : List Component) (declarations : List Declaration) : Type 0 where
   pub holder : (d : Declaration) (outer inner : List DeclarationStep) → Contains declarations d
       → d.path ≡ outer ++ inner → outer ≢ []

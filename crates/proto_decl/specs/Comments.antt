@@ -13,7 +13,7 @@ use Rattle.proto_lex.specs.declared.token.Comment.{Comment}
 abbrev pub text_of : Lexed → Comment → List ℕ
 text_of lexed comment = comment_text comment.kind (part_of lexed.text comment.span)
 
--- a comment stands in the text, and there is spelled as one of its kind
+-- a comment is in the text, spelled as one of its kind
 pub record StandsIn (lexed : Lexed) (comment : Comment) : Type 0 where
   pub part : IsPart lexed.text comment.span
   pub spelled : IsComment comment.kind (part_of lexed.text comment.span) (drop comment.span.end lexed.text)
@@ -44,7 +44,7 @@ EndBefore lexed line [] = Unit {0}
 EndBefore lexed line (comment ∷ []) = last_line lexed comment.span + 1 ≡ line
 EndBefore lexed line (comment ∷ (next ∷ others)) = EndBefore lexed line (next ∷ others)
 
--- Comments that may lead a declaration on a line: consecutive ones of the file that stand alone, joined, up to the line
+-- Comments that may lead a declaration on a line: consecutive ones of the file that are alone, joined, up to the line
 -- before. No comments are such a list too.
 pub record AreLeading (lexed : Lexed) (line : ℕ) (comments : List Comment) : Type 0 where
   pub before : List Comment
@@ -59,16 +59,15 @@ pub record AreLongestLeading (lexed : Lexed) (line : ℕ) (comments : List Comme
   pub leading : AreLeading lexed line comments
   pub longest : (others : List Comment) → AreLeading lexed line others → length others ≤ length comments
 
--- The leading text of a declaration with this first token: the texts of the longest such list, a line each. Where the
--- token isn't the first on its line there is none.
+-- The leading text of a declaration with this first token: the texts of the longest such list, a line each. If the
+-- token isn't the first on its line, there is none.
 pub data IsLeadingText (lexed : Lexed) (first : Span) : List ℕ → Type 0 where
   leading : {comments : List Comment} → IsFirstOnLine lexed first
       → AreLongestLeading lexed (first_line lexed first) comments
       → IsLeadingText lexed first (join_with_byte ascii.line_feed (map (text_of lexed) comments))
   not_first : (IsFirstOnLine lexed first → ⊥) → IsLeadingText lexed first []
 
--- The first comment behind a declaration's closing token, where it begins on that token's line and no token stands
--- between.
+-- The first comment after a declaration's closing token, if it begins on that token's line and no token is between.
 pub record IsTrailing (lexed : Lexed) (closing : Span) (comment : Comment) : Type 0 where
   pub listed : Contains lexed.comments comment
   pub behind : closing.end ≤ comment.span.start

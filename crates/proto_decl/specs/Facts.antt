@@ -16,7 +16,7 @@ use Rattle.proto_decl.specs.declared.type_use.Use.{Use}
 use Rattle.proto_decl.specs.declared.imported.Imported.{Imported}
 use Rattle.proto_decl.specs.declared.declaration.Declaration.{Declaration}
 
--- The package's name has no components where the file has no package.
+-- The package's name has no components if the file has no package.
 pub record Facts : Type 0 where
   pub number : ℕ
   pub package_name : List Component
@@ -41,38 +41,38 @@ pub record AreOfSomeFile (facts : Facts) : Type 0 where
   pub derives : Derives custom lexed.text lexed.tokens file
   pub of_file : AreFactsOf facts.number lexed file facts
 
--- Where declared names stand.
+-- Where declared names are.
 abbrev pub name_spans : List Declaration → List Span
 name_spans declarations = map (λ declaration. declaration.name) declarations
 
--- Each declared name stands behind those before it: its place is there once.
+-- Each declared name comes after those before it: its place is there once.
 abbrev pub NamesInOrder : List Declaration → Type 0
 NamesInOrder declarations = AreInOrder 0 (name_spans declarations)
 
--- Where the components of a name stand, and those of uses.
+-- Where the components of a name are, and those of uses.
 abbrev pub component_spans : List Component → List Span
 component_spans components = map (λ component. component.span) components
 
 abbrev pub use_spans : List Use → List Span
 use_spans uses = flat_map (λ used. component_spans used.components) uses
 
--- Each component of a use stands behind those before it.
+-- Each component of a use comes after those before it.
 abbrev pub UsesInOrder : List Use → Type 0
 UsesInOrder uses = AreInOrder 0 (use_spans uses)
 
--- Each import stands behind those before it.
+-- Each import comes after those before it.
 abbrev pub ImportsInOrder : List Imported → Type 0
 ImportsInOrder imports = AreInOrder 0 (map (λ imported. imported.span) imports)
 
--- The components of the package's name stand in order, between the names of the declarations before its statement and
--- those of the declarations behind it.
+-- The components of the package's name are in order, between the names of the declarations before its statement and
+-- those of the declarations after it.
 pub record PackageInOrder (facts : Facts) : Type 0 where
   pub before : List Declaration
   pub behind : List Declaration
   pub split : facts.declarations ≡ before ++ behind
   pub in_order : AreInOrder 0 (name_spans before ++ (component_spans facts.package_name ++ name_spans behind))
 
--- Each use has a component at least, and each declaration a name.
+-- Each use has at least one component, and each declaration a name.
 abbrev pub UsesAreFilled : List Use → Type 0
 UsesAreFilled uses = All (λ used. 0 < length used.components) uses
 

@@ -9,7 +9,7 @@ use Rattle.proto_parse.specs.tree.Import.{Import}
 use Rattle.proto_parse.specs.Terminal.{between_quotes}
 use Rattle.proto_decl.specs.declared.imported.Imported.{Imported}
 
--- A string literal of the text stands at the span.
+-- A string literal of the text is at the span.
 pub record IsLiteral (text : List ℕ) (span : Span) : Type 0 where
   pub part : IsPart text span
   pub spelled : Spells StringLiteral (part_of text span)

@@ -28,7 +28,7 @@ OneFacts = (number : ℕ) (lexed : Lexed) (file : File) (facts other : Facts)
     → IsLexed lexed.text lexed.tokens lexed.comments
     → AreFactsOf number lexed file facts → AreFactsOf number lexed file other → facts ≡ other
 
--- The simple name of a declaration is what stands at its name's place, and its full name is that in its scope.
+-- The simple name of a declaration is what is at its name's place, and its full name is that in its scope.
 pub record IsNamedAt (text : List ℕ) (declaration : Declaration) : Type 0 where
   pub place : IsPart text declaration.name
   pub simple : simple_name declaration.path ≡ part_of text declaration.name
@@ -41,7 +41,7 @@ NamesAreSpelled = (custom : CustomOptions) (number : ℕ) (lexed : Lexed) (file 
     → Derives custom lexed.text lexed.tokens file → AreFactsOf number lexed file facts
     → All (IsNamedAt lexed.text) facts.declarations
 
--- The full name of a scope of a file: of its package, which is the root's where it has none, or of a declaration.
+-- The full name of a scope of a file: of its package, which is the root's if it has none, or of a declaration.
 pub data IsScope (facts : Facts) : List ℕ → Type 0 where
   of_package : IsScope facts (dotted (map (λ component. component.name) facts.package_name))
   of_declaration : {declaration : Declaration} → Contains facts.declarations declaration

@@ -1,6 +1,6 @@
 -- names and scopes
 pub mod Names
--- where names stand in the text
+-- where names are in the text
 pub mod Spans
 -- what a file imports
 pub mod Imports

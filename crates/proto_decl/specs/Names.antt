@@ -32,7 +32,7 @@ prefix_of name count = dotted (take count (components_of name))
 abbrev pub package_of : List Component → (count : ℕ) → List ℕ
 package_of components count = dotted (map (λ component. component.name) (take count components))
 
--- A component of a name: what stands at the span.
+-- A component of a name: what is at the span.
 abbrev pub component_at : (text : List ℕ) → Span → Component
 component_at text span = record { name = part_of text span; span = span }
 

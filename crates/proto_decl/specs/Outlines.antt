@@ -38,7 +38,7 @@ outline_at text surrounding kind heading = record {
   heading = heading;
 }
 
--- What surrounds what stands in a message or in a service: both are scopes.
+-- What surrounds what is in a message or in a service: both are scopes.
 abbrev pub inside : (text : List ℕ) → Surrounding → DeclarationKind → Heading → Surrounding
 inside text surrounding kind heading = record {
   scope = qualified surrounding.scope (name_of text heading);
@@ -55,7 +55,7 @@ in_enum text surrounding enum =
     outline_at text surrounding EnumKind enum.heading
     ∷ map (outline_at text (beside text surrounding EnumKind enum.heading) Value) enum.values
 
--- The fields of a oneof stand where it stands.
+-- The fields of a oneof have the surroundings of the oneof.
 abbrev pub in_oneof : (text : List ℕ) → Surrounding → Oneof → List Outline
 in_oneof text surrounding oneof =
     outline_at text surrounding OneofKind oneof.heading
@@ -90,7 +90,7 @@ in_item text surrounding (item.Message message) = in_message text surrounding me
 in_item text surrounding (item.Enum enum) = in_enum text surrounding enum
 in_item text surrounding (item.Service service) = in_service text surrounding service
 
--- The spans of a package's components; none where a file has no package.
+-- The spans of a package's components; none if a file has no package.
 abbrev pub package_spans : Option (List Span) → List Span
 package_spans None = []
 package_spans (Some spans) = spans
@@ -99,7 +99,7 @@ package_spans (Some spans) = spans
 abbrev pub package_scope : (text : List ℕ) → File → List ℕ
 package_scope text file = dotted (map (part_of text) (package_spans file.package_name))
 
--- What surrounds what stands in a file: its package's scope.
+-- What surrounds what is in a file: its package's scope.
 abbrev pub file_surrounding : (text : List ℕ) → File → Surrounding
 file_surrounding text file = record { scope = package_scope text file; path = [] }
 

@@ -65,7 +65,7 @@ fn push_line(joined: &mut String, text: &str) -> Result<(), AllocError>
     Ok(())
 }
 
-/// The texts of a comment and of others behind it, a line each.
+/// The texts of a comment and of others after it, a line each.
 fn joined_texts(
     alloc: Global,
     lexed: &Tokens<'_, '_>,

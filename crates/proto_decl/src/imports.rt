@@ -44,7 +44,7 @@ pub(crate) fn whole_span(spans: &[Span]) -> Span
     }
 }
 
-/// What stands between a string literal's quotes.
+/// What is between a string literal's quotes.
 fn between_quotes<'a>(text: &'a str, literal: Span) -> &'a str
     requires { spec.IsLiteral text.now literal }
     ensures { result.now ≡ between_quotes (part_of text.now literal) }

@@ -1,4 +1,4 @@
-//! Laws: what the definitions say of facts, whatever the code does.
+//! Laws: what the definitions say about facts, whatever the code does.
 
 ghost use Rattle.std.specs.Prelude.{All};
 ghost use Rattle.proto_decl.specs.Facts.{Facts, AreOfSomeFile, NamesInOrder, UsesInOrder, ImportsInOrder};
@@ -21,8 +21,8 @@ pub fn one_list_of_facts()
     ensures { OneFacts }
 {}
 
-/// Declared names, the components of uses, and imports stand in order, so that each place is there
-/// once; and the package's name stands between two declared names.
+/// Declared names, the components of uses, and imports are in order, so that each place is there once; and the
+/// package's name is between two declared names.
 pub fn facts_in_order()
     ensures names { (facts : Facts) → AreOfSomeFile facts → NamesInOrder facts.declarations }
     ensures uses { (facts : Facts) → AreOfSomeFile facts → UsesInOrder facts.uses }
@@ -34,8 +34,8 @@ pub fn facts_in_order()
     names_have_components();
 }
 
-/// The components of uses stand apart from declared names and from the package's name, and an import
-/// begins where none of these does.
+/// The components of uses are apart from declared names and from the package's name, and an import begins where none
+/// of these does.
 pub fn facts_stand_apart()
     ensures { (facts : Facts) → AreOfSomeFile facts → StandApart facts }
 {
@@ -54,7 +54,7 @@ pub fn facts_stand_in_text()
     facts_in_order();
 }
 
-/// Each use has a component at least, and no declared name is empty.
+/// Each use has at least one component, and no declared name is empty.
 pub fn facts_are_filled()
     ensures uses { (facts : Facts) → AreOfSomeFile facts → UsesAreFilled facts.uses }
     ensures names { (facts : Facts) → AreOfSomeFile facts → NamesAreFilled facts.declarations }
@@ -63,7 +63,7 @@ pub fn facts_are_filled()
     names_are_spelled();
 }
 
-/// Names are spelled as they stand in the text.
+/// Names are spelled as they are in the text.
 pub fn names_are_spelled()
     ensures { NamesAreSpelled }
 {
@@ -80,8 +80,8 @@ pub fn scopes_are_known()
     spans_of_tokens();
 }
 
-/// What the first components of a declaration's full name make, any number of them, is the full name
-/// of a package or of a declaration of its file.
+/// The first components of a declaration's full name, any number of them, make the full name of a package or of a
+/// declaration of its file.
 pub fn prefixes_are_entities()
     ensures { (facts : Facts) → AreOfSomeFile facts → PrefixesAreEntities facts }
 {

@@ -1,4 +1,4 @@
-//! How tokens and comments stand on the lines of a text.
+//! How tokens and comments are on the lines of a text.
 
 ghost use Rattle.std.specs.Prelude.{◌≡◌, ◌<◌, ◌≤◌, ◌↔◌, length, All, IsTrue};
 ghost use Rattle.std.specs.List.Sorted.{IsPartitionPoint};

@@ -8,7 +8,7 @@ use proto_lex::Span;
 use sequences::OwnedText;
 use std::alloc::{AllocError, Global};
 
-/// What stands at a span of a text.
+/// What is at a span of a text.
 pub(crate) fn spelling_at<'a>(text: &'a str, span: Span) -> &'a str
     requires { IsPart text.now span }
     ensures { result.now ≡ part_of text.now span }

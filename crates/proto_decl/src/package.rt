@@ -11,7 +11,7 @@ use proto_parse::File;
 use sequences::OwnedText;
 use std::alloc::{AllocError, Global};
 
-/// The spans of the components of a file's package; none where it has none.
+/// The spans of the components of a file's package; none if it has none.
 pub(crate) fn package_spans(file: &File) -> &[Span]
     ensures { result.now ≡ spec.package_spans file.now.package_name }
 {
@@ -40,7 +40,7 @@ fn joined_components(
     Ok(OwnedText::from_string(joined))
 }
 
-/// The full name of the package with these components; empty where there are none.
+/// The full name of the package with these components; empty if there are none.
 pub(crate) fn package_scope(
     alloc: Global,
     text: &str,

@@ -4,7 +4,7 @@ ghost use Rattle.std.specs.Prelude.{◌≡◌, ◌≢◌, ◌<◌, ◌∷◌, []
 ghost use Rattle.proto_lex.specs.Ascii as ascii;
 ghost use Rattle.proto_decl.specs.Names.{scopes_of};
 
-/// Where the last dot of a name stands.
+/// Where the last dot of a name is.
 #[tactic(auto, using(crate::proofs::ScopeLemmas::found_dot))]
 fn last_dot(name: &str) -> Option<usize>
     ensures last { MatchOption result ((i : ℕ) → i < length name.now → get_or name.now i 0 ≢ ascii.dot)
@@ -15,8 +15,8 @@ fn last_dot(name: &str) -> Option<usize>
     name.rfind('.')
 }
 
-/// The full name of the scope around the one with this full name: what stands before its last dot,
-/// or the empty name, which is the root's. None stands around the root.
+/// The full name of the scope around the one with this full name: what comes before its last dot, or the empty name,
+/// which is the root's. There is none around the root.
 ///
 /// So the scopes of a use are its `scope`, and from each one the next. Takes no memory.
 #[tactic(auto, using(crate::proofs::ScopeLemmas::around_dot, crate::proofs::ScopeLemmas::around_none))]

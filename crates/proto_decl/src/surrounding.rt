@@ -1,4 +1,4 @@
-//! Where declarations stand.
+//! Where declarations are.
 
 ghost use Rattle.std.specs.Prelude.{◌≡◌, ◌++◌, ◌∷◌, [], IfOk};
 ghost use Rattle.proto_lex.specs.Lexed.{IsPart};

@@ -32,8 +32,8 @@ impl<'a> Model for DeclView<'a> {
 }
 
 impl<'a> DeclView<'a> {
-    /// The view of a declaration of this kind, with this simple name, this full name, and these
-    /// texts before and behind it.
+    /// The view of a declaration of this kind, with this simple name, this full name, and these texts before and
+    /// after it.
     pub fn new(
         kind: DeclarationKind,
         name: &'a str,
@@ -79,14 +79,14 @@ impl<'a> DeclView<'a> {
         self.full_name
     }
 
-    /// The text of the comments that stand directly before the declaration; empty where none do.
+    /// The text of the comments that are directly before the declaration; empty if none do.
     pub fn leading(&self) -> &'a str
         ensures { result.now ≡ self.now.leading }
     {
         self.leading
     }
 
-    /// The text of the comment that follows the declaration on its line; empty where none does.
+    /// The text of the comment that follows the declaration on its line; empty if none does.
     pub fn trailing(&self) -> &'a str
         ensures { result.now ≡ self.now.trailing }
     {

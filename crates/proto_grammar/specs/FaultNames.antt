@@ -14,7 +14,7 @@ syntax_name (fault.TooDeep at) = codes "TooDeep"
 syntax_name (fault.Grammar at) = codes "Grammar"
 syntax_name fault.Memory = codes "Memory"
 
--- Want of memory has no offset.
+-- Memory has no offset.
 abbrev pub syntax_offset : SyntaxFault → Option ℕ
 syntax_offset (fault.NotProto3 at) = Some at
 syntax_offset (fault.CustomOption at) = Some at

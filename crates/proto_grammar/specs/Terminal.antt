@@ -1,4 +1,4 @@
--- What single tokens are, and what stands next, as tests.
+-- What single tokens are, and what is next, as tests.
 use Rattle.std.specs.Prelude.{ℕ, ◌-◌, Bool, true, false, ◌==◌, ◌&&◌, ◌||◌, not, Option, Some, None, List, [], ◌∷◌}
 use Rattle.std.specs.Prelude.{length, take, drop, bytes_eq, codes}
 use Rattle.std.specs.Option.{option_map_or}
@@ -67,15 +67,15 @@ is_sign t = is_kind Minus t.kind || is_kind Plus t.kind
 abbrev pub is_numeral : Lexeme → Bool
 is_numeral t = is_kind Integer t.kind || is_kind Float t.kind
 
--- what may stand behind a sign
+-- what may be after a sign
 abbrev pub is_number : Lexeme → Bool
 is_number t = is_numeral t || (is_word (codes "inf") t || is_word (codes "nan") t)
 
--- What stands between a literal's quotes, as it is spelled.
+-- What is between a literal's quotes, as it is spelled.
 abbrev pub between_quotes : List ℕ → List ℕ
 between_quotes spelling = take (length spelling - 2) (drop 1 spelling)
 
--- a string literal in which no `\` stands
+-- a string literal without a `\`
 abbrev pub is_plain_literal : Lexeme → Bool
 is_plain_literal t = is_kind StringLiteral t.kind && not (list_any (λ byte. byte == ascii.backslash) t.spelling)
 
@@ -102,6 +102,6 @@ abbrev pub is_end : List Lexeme → Bool
 is_end [] = true
 is_end (t ∷ rest) = false
 
--- Whether a scalar type stands next: its word, which no `.` follows.
+-- Whether a scalar type is next: its word, which no `.` follows.
 abbrev pub begins_scalar : List Lexeme → Bool
 begins_scalar tokens = first_is is_scalar tokens && not_next Dot (others tokens)

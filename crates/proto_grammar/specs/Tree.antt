@@ -3,7 +3,7 @@ use Rattle.std.specs.Prelude.{ℕ, ◌+◌}
 use Rattle.proto_grammar.specs.declared.tree.Heading.{Heading}
 use Rattle.proto_grammar.specs.declared.tree.Leaf.{Leaf}
 
--- What stands between a message's braces, in order.
+-- What is between a message's braces, in order.
 pub data Body : Type 0 where
   NoMore : Body
   LeafThen : (leaf : Leaf) (others : Body) → Body
@@ -13,7 +13,7 @@ pub record MessageTree : Type 0 where
   pub heading : Heading
   pub body : Body
 
--- How many messages stand in a body, at any depth.
+-- How many messages are in a body, at any depth.
 abbrev pub body_size : Body → ℕ
 body_size NoMore = 0
 body_size (LeafThen leaf others) = body_size others

@@ -9,30 +9,27 @@ use std::fmt;
 
 /// Why the tokens of a text derive no tree of the grammar.
 ///
-/// Offsets are byte offsets from the text's start, of the token that can't stand at its place, or
-/// the text's length where tokens are missing. Of several faults it is the one that reading from
-/// left to right meets first. That a fault comes only where there is no tree is proved; which one
-/// comes, and its offset, tests show.
+/// Offsets are byte offsets from the text's start, of the token that can't be at its place, or the text's length if
+/// tokens are missing. Of several faults it is the one that reading from left to right meets first. That a fault
+/// comes only if there is no tree is proved; which one comes, and its offset, tests show.
 #[derive(Clone, Copy, Debug, Drop, PartialEq, Eq)]
 pub enum SyntaxFault {
     /// The first token is not the word `syntax` (its offset), or the syntax statement's literals
     /// do not spell `proto3` (the first literal's offset).
     NotProto3(usize),
-    /// A `(` where a component of an option's name is expected. Never where custom options are
-    /// read past.
+    /// A `(` where a component of an option's name is expected. Never if custom options are read past.
     CustomOption(usize),
-    /// A `{` where an option's value is expected. Never where custom options are read past.
+    /// A `{` where an option's value is expected. Never if custom options are read past.
     Aggregate(usize),
-    /// The word `extend` first in a statement of the file or of a message. Never where custom
-    /// options are read past.
+    /// The word `extend` first in a statement of the file or of a message. Never if custom options are read past.
     Extend(usize),
     /// The word `package` of a second package statement.
     TwoPackages(usize),
     /// A literal of an import's path that holds a `\`.
     ImportEscape(usize),
-    /// A message stands inside 64 others: its word `message`.
+    /// A message is inside 64 others: its word `message`.
     TooDeep(usize),
-    /// Another token that can't stand at its place.
+    /// Another token that can't be at its place.
     Grammar(usize),
     /// Memory ran out.
     Memory,
@@ -74,7 +71,7 @@ impl SyntaxFault {
     }
 }
 
-/// The variant's name, and its number in parentheses where it has one.
+/// The variant's name, and its number in parentheses if it has one.
 impl fmt::Display for SyntaxFault {
     fn fmt<W: fmt::Write>(&self, f: &mut fmt::Formatter<W>) -> fmt::Result {
         fmt::Debug::fmt(self, f)

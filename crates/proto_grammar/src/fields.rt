@@ -13,7 +13,7 @@ use proto_lex::{Span, TokenKind};
 use std::alloc::Global;
 
 impl<'t> Parser<'t> {
-    /// What stands behind a field's type, of a field that begins with the first token.
+    /// What comes after a field's type, of a field that begins with the first token.
     #[tactic(auto, unfolding(crate::specs::Reading::Fields::numbered_at))]
     fn numbered(&mut self, custom: CustomOptions, first: Span) -> Result<Heading, SyntaxFault>
         ensures { Gives custom (λ x. x) self.new result (numbered_at custom first self.old) }
@@ -50,7 +50,7 @@ impl<'t> Parser<'t> {
         })
     }
 
-    /// A label, if one stands next.
+    /// A label, if one is next.
     #[tactic(auto, unfolding(crate::specs::Reading::Fields::label_at))]
     fn label(&mut self) -> Result<Option<Label>, SyntaxFault>
         ensures { Gives Skip (λ x. x) self.new result (label_at self.old) }

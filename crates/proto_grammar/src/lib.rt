@@ -1,8 +1,8 @@
-//! The syntax tree of a proto3 source, and the parts of its grammar that stand below declarations:
-//! names, types, options, reserved statements and fields.
+//! The syntax tree of a proto3 source, and the parts of its grammar that are below declarations: names, types,
+//! options, reserved statements and fields.
 //!
-//! A [`Parser`] is a place among the tokens of a text. Each of its methods reads one part: it goes
-//! behind the part, or gives the fault that it meets.
+//! A [`Parser`] is a place among the tokens of a text. Each of its methods reads one part: it moves past the part, or
+//! gives the fault that it meets.
 #![tactic(auto)]
 
 mod fault;

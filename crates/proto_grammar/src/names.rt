@@ -36,7 +36,7 @@ impl<'t> Parser<'t> {
         self.dot_names(components)
     }
 
-    /// The components behind the first ones.
+    /// The components after the first ones.
     fn dot_names(&mut self, mut components: Sequence<Span>) -> Result<Sequence<Span>, SyntaxFault>
         ensures { Gives Skip (λ x. x) self.new result (dot_names_at components self.old) }
     {
@@ -65,7 +65,7 @@ impl<'t> Parser<'t> {
         self.pass_dot_names()
     }
 
-    /// The components behind the first one, which aren't kept.
+    /// The components after the first one, which aren't kept.
     fn pass_dot_names(&mut self) -> Result<(), SyntaxFault>
         ensures { Gives Skip (λ x. x) self.new result (pass_dot_names_at self.old) }
     {
@@ -75,7 +75,7 @@ impl<'t> Parser<'t> {
         Ok(())
     }
 
-    /// The `.` before a name, if one stands next.
+    /// The `.` before a name, if one is next.
     #[tactic(auto, unfolding(crate::specs::Reading::Names::leading_dot_at))]
     fn leading_dot(&mut self) -> Result<Option<Span>, SyntaxFault>
         ensures { Gives Skip (λ x. x) self.new result (leading_dot_at self.old) }
@@ -108,7 +108,7 @@ impl<'t> Parser<'t> {
         self.pass_name()
     }
 
-    /// A type's name where no scalar type may stand.
+    /// A type's name. The word of a scalar type may not be there.
     #[tactic(auto, unfolding(crate::specs::Reading::Names::named_type_at))]
     pub fn named_type(&mut self, alloc: Global) -> Result<TypeName, SyntaxFault>
         ensures { Gives Skip (λ x. x) self.new result (named_type_at self.old) }

@@ -50,7 +50,7 @@ impl<'t> Parser<'t> {
         self.part(custom)
     }
 
-    /// The parts of an option's name behind the first one.
+    /// The parts of an option's name after the first one.
     fn dot_parts(&mut self, custom: CustomOptions) -> Result<(), SyntaxFault>
         ensures { Gives custom (λ x. x) self.new result (dot_parts_at custom self.old) }
     {
@@ -78,7 +78,7 @@ impl<'t> Parser<'t> {
         Ok(())
     }
 
-    /// The literals behind the first one.
+    /// The literals after the first one.
     fn literals(&mut self) -> Result<(), SyntaxFault>
         ensures { Gives Skip (λ x. x) self.new result (literals_at self.old) }
     {
@@ -122,8 +122,7 @@ impl<'t> Parser<'t> {
         Ok(())
     }
 
-    /// Takes a token, and gives how many braces are open behind it. At most `left` are open
-    /// before it, or left.
+    /// Takes a token, and gives how many braces are open after it. At most `left` are open before it, or left.
     #[tactic(auto, unfolding(crate::specs::Reading::Options::deeper_at))]
     fn deeper(&mut self, depth: usize, left: usize) -> Result<usize, SyntaxFault>
         requires bounded { depth + length self.old ≤ left }
@@ -154,7 +153,7 @@ impl<'t> Parser<'t> {
         Ok(())
     }
 
-    /// A sign, and what may stand behind it.
+    /// A sign, and what may be after it.
     #[tactic(auto, unfolding(crate::specs::Reading::Options::signed_at))]
     fn signed(&mut self) -> Result<(), SyntaxFault>
         ensures { Gives Skip (λ x. x) self.new result (signed_at self.old) }
@@ -195,7 +194,7 @@ impl<'t> Parser<'t> {
         self.constant(custom)
     }
 
-    /// A comma and the setting behind it.
+    /// A comma and the setting after it.
     #[tactic(auto, unfolding(crate::specs::Reading::Options::comma_setting_at))]
     fn comma_setting(&mut self, custom: CustomOptions) -> Result<(), SyntaxFault>
         ensures { Gives custom (λ x. x) self.new result (comma_setting_at custom self.old) }
@@ -204,7 +203,7 @@ impl<'t> Parser<'t> {
         self.setting(custom)
     }
 
-    /// The settings behind the first one.
+    /// The settings after the first one.
     fn comma_settings(&mut self, custom: CustomOptions) -> Result<(), SyntaxFault>
         ensures { Gives custom (λ x. x) self.new result (comma_settings_at custom self.old) }
     {
@@ -226,7 +225,7 @@ impl<'t> Parser<'t> {
         Ok(())
     }
 
-    /// Options in brackets, if they stand next.
+    /// Options in brackets, if they are next.
     #[tactic(auto, unfolding(crate::specs::Reading::Options::options_at))]
     pub fn options(&mut self, custom: CustomOptions) -> Result<(), SyntaxFault>
         ensures { Gives custom (λ x. x) self.new result (options_at custom self.old) }

@@ -24,12 +24,12 @@ pub struct Lexeme<'t> {
     pub kind: TokenKind,
     /// The part of the text that is the token.
     pub spelling: &'t str,
-    /// Where it stands in the text, in bytes.
+    /// Where it is in the text, in bytes.
     pub span: Span,
 }
 
 impl<'t> Lexeme<'t> {
-    /// What stands between a string literal's quotes, as it is spelled.
+    /// What is between a string literal's quotes, as it is spelled.
     pub fn between_quotes(self) -> &'t [u8]
         ensures { result.now ≡ between_quotes self.entry.spelling.now }
     {
@@ -75,14 +75,14 @@ impl<'t> Lexeme<'t> {
         self.kind == TokenKind::Integer || self.kind == TokenKind::Float
     }
 
-    /// Whether it is what may stand behind a sign.
+    /// Whether it is what may be after a sign.
     fn is_number(self) -> bool
         ensures { result ≡ is_number (lexeme_view self.entry) }
     {
         self.is_numeral() || self.is_word("inf") || self.is_word("nan")
     }
 
-    /// Whether it is a string literal in which no `\` stands.
+    /// Whether it is a string literal without a `\`.
     fn is_plain_literal(self) -> bool
         ensures { result ≡ is_plain_literal (lexeme_view self.entry) }
     {
@@ -118,7 +118,7 @@ fn is_key_word(word: &str) -> bool
     )
 }
 
-/// Whether a `\` stands among the bytes.
+/// Whether a `\` is among the bytes.
 fn has_backslash(text: &[u8]) -> bool
     ensures { result ≡ list_any (λ byte. byte == ascii.backslash) text.now }
 {
@@ -135,7 +135,7 @@ fn offset_at(tokens: &Tokens<'_, '_>, place: usize) -> usize
     }
 }
 
-/// A place among the tokens of a text. Contracts see the tokens behind it, with their spellings.
+/// A place among the tokens of a text. Contracts see the tokens after it, with their spellings.
 #[derive(Drop)]
 pub struct Parser<'t> {
     tokens: &'t Tokens<'t, 't>,
@@ -183,7 +183,7 @@ impl<'t> Parser<'t> {
         lexeme
     }
 
-    /// Goes behind the next token, if there is one.
+    /// Moves past the next token, if there is one.
     #[tactic(auto, using(crate::proofs::Places::others_drop))]
     pub fn advance(&mut self)
         ensures { self.new ≡ others self.old }
@@ -244,7 +244,7 @@ impl<'t> Parser<'t> {
         }
     }
 
-    /// The place behind the next token, if there is one.
+    /// The place after the next token, if there is one.
     fn behind(&self) -> Parser<'t>
         ensures { result ≡ others self.now }
     {
@@ -256,7 +256,7 @@ impl<'t> Parser<'t> {
         behind
     }
 
-    /// Whether the token behind the next one is of the kind.
+    /// Whether the token after the next one is of the kind.
     pub fn is_before(&self, kind: TokenKind) -> bool
         ensures { result ≡ first_is (of_kind kind) (others self.now) }
     {
@@ -273,7 +273,7 @@ impl<'t> Parser<'t> {
         }
     }
 
-    /// Where the next token stands, which is left.
+    /// Where the next token is. It isn't taken.
     #[tactic(auto, unfolding(crate::specs::Reading::Repetition::span_at))]
     pub(crate) fn span(&self) -> Result<Span, SyntaxFault>
         ensures { Gives Skip (λ x. x) self.now result (span_at self.now) }
@@ -284,8 +284,8 @@ impl<'t> Parser<'t> {
         }
     }
 
-    /// Takes a token of the kind, and gives where it stands. Grammar at another token, or at the
-    /// text's length, as in all methods that take a part where nothing else is said.
+    /// Takes a token of the kind, and gives where it is. Grammar at another token, or at the text's length, as in all
+    /// methods that take a part, unless they say otherwise.
     #[tactic(auto, unfolding(crate::specs::Reading::Repetition::token_that))]
     pub fn token(&mut self, kind: TokenKind) -> Result<Span, SyntaxFault>
         ensures { Gives Skip (λ x. x) self.new result (token_that (of_kind kind) self.old) }
@@ -345,7 +345,7 @@ impl<'t> Parser<'t> {
         }
     }
 
-    /// Takes what may stand behind a sign.
+    /// Takes what may be after a sign.
     #[tactic(auto, unfolding(crate::specs::Reading::Repetition::token_that))]
     pub(crate) fn number(&mut self) -> Result<Span, SyntaxFault>
         ensures { Gives Skip (λ x. x) self.new result (token_that is_number self.old) }
@@ -369,7 +369,7 @@ impl<'t> Parser<'t> {
         }
     }
 
-    /// Takes a literal of an import's path: ImportEscape where a `\` stands in it.
+    /// Takes a literal of an import's path: ImportEscape if it has a `\`.
     #[tactic(auto, unfolding(crate::specs::Reading::Repetition::token_that))]
     pub fn plain_literal(&mut self) -> Result<Span, SyntaxFault>
         ensures { Gives Skip (λ x. x) self.new result (token_that is_plain_literal self.old) }

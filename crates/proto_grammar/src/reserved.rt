@@ -20,7 +20,7 @@ impl<'t> Parser<'t> {
         Ok(())
     }
 
-    /// A whole number, behind a `-` only where it may be negative.
+    /// A whole number, after a `-` only if it may be negative.
     #[tactic(auto, unfolding(crate::specs::Reading::Reserved::integer_at))]
     pub fn integer(&mut self, negative: bool) -> Result<(), SyntaxFault>
         ensures { Gives Skip (λ x. x) self.new result (integer_at negative self.old) }
@@ -56,7 +56,7 @@ impl<'t> Parser<'t> {
         Ok(())
     }
 
-    /// What is reserved: a name where `names` is true, and else a range.
+    /// What is reserved: a name if `names` is true, otherwise a range.
     #[tactic(auto, unfolding(crate::specs::Reading::Reserved::reserved_item_at))]
     fn reserved_item(&mut self, negative: bool, names: bool) -> Result<(), SyntaxFault>
         ensures { Gives Skip (λ x. x) self.new result (reserved_item_at negative names self.old) }
@@ -67,7 +67,7 @@ impl<'t> Parser<'t> {
         self.range(negative)
     }
 
-    /// A comma and what is reserved behind it.
+    /// A comma and what is reserved after it.
     #[tactic(auto, unfolding(crate::specs::Reading::Reserved::comma_item_at))]
     fn comma_item(&mut self, negative: bool, names: bool) -> Result<(), SyntaxFault>
         ensures { Gives Skip (λ x. x) self.new result (comma_item_at negative names self.old) }
@@ -76,7 +76,7 @@ impl<'t> Parser<'t> {
         self.reserved_item(negative, names)
     }
 
-    /// What is reserved behind the first item.
+    /// What is reserved after the first item.
     fn comma_items(&mut self, negative: bool, names: bool) -> Result<(), SyntaxFault>
         ensures { Gives Skip (λ x. x) self.new result (comma_items_at negative names self.old) }
     {

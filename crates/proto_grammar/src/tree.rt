@@ -1,6 +1,6 @@
 //! The syntax tree of a proto3 source. Names, types and literals are spans of its text.
 //!
-//! Options, reserved statements, numbers and lone `;` are checked, and do not stand in the tree.
+//! Options, reserved statements, numbers and lone `;` are checked, and aren't in the tree.
 
 use proto_lex::Span;
 use sequences::Sequence;
@@ -30,7 +30,7 @@ pub struct File {
 /// An import (proto3 specification, "Import statement").
 #[derive(Debug, Drop)]
 pub struct Import {
-    /// What stands behind the word `import`.
+    /// What comes after the word `import`.
     pub kind: ImportKind,
     /// The literals that spell the path when joined, each with its quotes. None of them holds a
     /// `\`.
@@ -48,7 +48,7 @@ pub enum ImportKind {
     Public,
 }
 
-/// What stands in a file.
+/// What is in a file.
 #[derive(Debug, Drop)]
 pub enum FileItem {
     /// A message.
@@ -59,12 +59,12 @@ pub enum FileItem {
     Service(Service),
 }
 
-/// Where the first token, the name and the closing token of a declaration stand.
+/// Where the first token, the name and the closing token of a declaration are.
 ///
-/// The first token is the declaring word of a message, an enum, a oneof, a service and a method,
-/// the label, the type's first token or `map` of a field, and the name of an enum's value. The
-/// closing token is the `{` of a message, an enum, a oneof and a service, the `;` of a field and
-/// of an enum's value, and the `;` or `{` behind a method's result type.
+/// The first token is the declaring word of a message, an enum, a oneof, a service and a method, the label, the
+/// type's first token or `map` of a field, and the name of an enum's value. The closing token is the `{` of a
+/// message, an enum, a oneof and a service, the `;` of a field and of an enum's value, and the `;` or `{` after a
+/// method's result type.
 #[derive(Clone, Copy, Debug, PartialEq, Eq)]
 pub struct Heading {
     /// The first token. Of an enum's value it is the name.
@@ -81,21 +81,21 @@ pub struct Heading {
 pub struct Message {
     /// From the word `message` to the `{`.
     pub heading: Heading,
-    /// What stands between the braces, in order.
+    /// What is between the braces, in order.
     pub items: Vec<MessageItem>,
 }
 
-/// What stands in a message: a message, or something in which none stands.
+/// What is in a message: a message, or something without messages in it.
 #[derive(Debug, Drop)]
 #[cycle(tree)]
 pub enum MessageItem {
     /// A message.
     Message(Message),
-    /// Something in which no message stands.
+    /// Something in which there is no message.
     Leaf(Leaf),
 }
 
-/// What stands in a message, other than a message.
+/// What is in a message, other than a message.
 #[derive(Debug, Drop)]
 pub enum Leaf {
     /// An enum.
@@ -133,7 +133,7 @@ pub struct Field {
     pub heading: Heading,
     /// The label, if there is one.
     pub label: Option<Label>,
-    /// The type, behind the label.
+    /// The type, after the label.
     pub field_type: FieldType,
 }
 
@@ -187,7 +187,7 @@ pub struct Service {
 /// A method (proto3 specification, "Service definition").
 #[derive(Debug, Drop)]
 pub struct Method {
-    /// From the word `rpc` to the `;` or `{` behind the result's type.
+    /// From the word `rpc` to the `;` or `{` after the result's type.
     pub heading: Heading,
     /// The type of what the method takes.
     pub input: TypeName,

@@ -13,12 +13,12 @@ use Rattle.proto_lex.specs.Ascii as ascii
 abbrev pub Touches : List ℕ → Span → ℕ → Type 0
 Touches text span line = (line_of text span.start ≤ line) × (line ≤ line_of text span.end)
 
--- a comment stands alone where no token touches any of the lines that it touches
+-- a comment is alone if no token touches any of the lines that it touches
 abbrev pub StandsAlone : List ℕ → List Token → Span → Type 0
 StandsAlone text tokens comment =
     All (λ t. (line : ℕ) → Touches text comment line → Touches text t.span line → ⊥) tokens
 
--- no token stands between two offsets
+-- no token is between two offsets
 abbrev pub NoneBetween : List Token → (from upto : ℕ) → Type 0
 NoneBetween tokens from upto = All (λ t. (t.span.end ≤ from) ⊎ (upto ≤ t.span.start)) tokens
 
@@ -26,8 +26,8 @@ abbrev pub without_first_space : List ℕ → List ℕ
 without_first_space [] = []
 without_first_space (byte ∷ others) = if byte == 32 then others else byte ∷ others
 
--- the text of a comment, which is spelled so: of a line comment what follows the slashes, without one \r at its end
--- and then without one space at its start; of a block comment all that stands between its marks
+-- the text of a comment with this spelling: of a line comment what follows the slashes, without one \r at its end and
+-- then without one space at its start; of a block comment all that is between its marks
 abbrev pub comment_text : CommentKind → List ℕ → List ℕ
 comment_text Line spelling = without_first_space (strip_last ascii.carriage_return (drop 2 spelling))
 comment_text Block spelling = take (length spelling - 4) (drop 2 spelling)

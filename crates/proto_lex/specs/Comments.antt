@@ -12,7 +12,7 @@ abbrev pub begins_close : List ℕ → Bool
 begins_close [] = false
 begins_close (b ∷ others) = nat_eq b ascii.star && starts (nat_eq ascii.slash) others
 
--- what stands after the `/*` of a block comment: it ends with its first `*/`
+-- what is after the `/*` of a block comment: it ends with its first `*/`
 pub data EndsBlock : List ℕ → Type 0 where
   close : EndsBlock (ascii.star ∷ (ascii.slash ∷ []))
   inside : {b : ℕ} {others : List ℕ} → begins_close (b ∷ others) ≡ false → EndsBlock others → EndsBlock (b ∷ others)

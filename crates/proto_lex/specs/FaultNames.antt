@@ -14,7 +14,7 @@ lex_name (fault.BadEscape at) = codes "BadEscape"
 lex_name (fault.BadNumber at) = codes "BadNumber"
 lex_name fault.Memory = codes "Memory"
 
--- Bytes that are too many are so at the first one that may not be. Want of memory has no offset.
+-- If there are too many bytes, the fault is at the first one past the limit. Memory has no offset.
 abbrev pub lex_offset : LexFault → Option ℕ
 lex_offset fault.TooLong = Some max_text_length
 lex_offset (fault.NotUtf8 at) = Some at

@@ -21,7 +21,7 @@ pub data StaysInString (quote : ℕ) : (place : ℕ) (bytes : List ℕ) (later :
       → IsEscape letters → StaysInString quote (place + (1 + length letters)) others later left
       → StaysInString quote place (ascii.backslash ∷ (letters ++ others)) later left
 
--- why what opens a string at `opening` is none, where these bytes stand from `place` on
+-- why what opens a string at `opening` is none, if these are the bytes from `place` on
 pub data IsStringFault (quote opening : ℕ) : (place : ℕ) → List ℕ → LexFault → Type 0 where
   -- a \n or the end of the text comes first
   cut : {place later : ℕ} {bytes left : List ℕ}
@@ -35,7 +35,7 @@ pub data IsStringFault (quote opening : ℕ) : (place : ℕ) → List ℕ → Le
       → ((letters rest : List ℕ) → IsEscape letters → left ≡ letters ++ rest → ⊥)
       → IsStringFault quote opening place bytes (BadEscape later)
 
--- why no blank, comment or token stands at a place, where these bytes are the rest of the text
+-- why no blank, comment or token is at a place, where these bytes are the rest of the text
 pub data IsFaultAt : (place : ℕ) → List ℕ → LexFault → Type 0 where
   unknown : {place b : ℕ} {others : List ℕ} → is_blank b ≡ false → is_letter b ≡ false → is_digit b ≡ false
       → is_quote b ≡ false
@@ -64,8 +64,7 @@ abbrev pub begins_mark : List ℕ → Bool
 begins_mark (a ∷ (b ∷ (c ∷ _))) = nat_eq a ascii.mark_first && nat_eq b ascii.mark_second && nat_eq c ascii.mark_third
 begins_mark _ = false
 
--- the first fault of the text, after a byte order mark where it begins with one (that the first counts is the
--- profile's)
+-- the first fault of the text, after a byte order mark if it begins with one (that the first counts is the profile's)
 pub data IsFirstFault : List ℕ → LexFault → Type 0 where
   unmarked : {text : List ℕ} {f : LexFault} → begins_mark text ≡ false → Meets 0 text f → IsFirstFault text f
   marked : {rest : List ℕ} {f : LexFault} → Meets 3 rest f

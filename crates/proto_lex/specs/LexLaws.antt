@@ -24,20 +24,20 @@ abbrev pub OneFirstFault : Type 0
 OneFirstFault = (text : List ℕ) (fault other : LexFault) → IsFirstFault text fault → IsFirstFault text other
     → fault ≡ other
 
--- none where it lexes,
+-- none if it lexes,
 abbrev pub NoFaultWhereItLexes : Type 0
 NoFaultWhereItLexes =
     (text : List ℕ) (tokens : List Token) (comments : List Comment) (fault : LexFault)
     → Lexes text tokens comments → IsFirstFault text fault → ⊥
 
--- and one where it doesn't.
+-- and one if it doesn't.
 abbrev pub LexesOrFaults : Type 0
 LexesOrFaults =
     (text : List ℕ)
     → ((tokens : List Token) × (comments : List Comment) × Lexes text tokens comments)
     ⊎ ((fault : LexFault) × IsFirstFault text fault)
 
--- Where a token stands, no longer spelling of a token stands.
+-- A token is as long as it can be: no longer spelling of a token begins at its place.
 abbrev pub LongestToken : Type 0
 LongestToken =
     (kind other : TokenKind) (word rest more tail : List ℕ)

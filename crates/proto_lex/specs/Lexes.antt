@@ -45,8 +45,8 @@ pub data Spells : TokenKind → List ℕ → Type 0 where
       → Spells kind.StringLiteral (quote ∷ others)
   sign : {b : ℕ} {k : TokenKind} → sign_kind b ≡ Some k → Spells k (b ∷ [])
 
--- such a word is a whole token where this rest of the text follows: an identifier doesn't go on, a number is its
--- whole run (the profile's, over the longest number), a `.` begins no number and a `/` no comment
+-- such a word is a whole token if this rest of the text follows: an identifier doesn't go on, a number is its whole
+-- run (the profile's, over the longest number), a `.` begins no number and a `/` no comment
 abbrev pub IsWhole : TokenKind → (word rest : List ℕ) → Type 0
 IsWhole kind.Identifier word rest = starts is_word rest ≡ false
 IsWhole kind.Integer word rest = run_of (word ++ rest) ≡ word

@@ -5,7 +5,7 @@ use Rattle.proto_lex.specs.Ascii as ascii
 
 -- Strings (proto3 specification, String literals).
 
--- a byte of a character that stands in such a string for itself: none of \n, NUL, `\` and the string's quote
+-- a byte of a character that means itself in such a string: none of \n, NUL, `\` and the string's quote
 abbrev pub is_plain : ℕ → ℕ → Bool
 is_plain quote b = not (nat_eq b quote || nat_eq b ascii.line_feed || nat_eq b ascii.nul || nat_eq b ascii.backslash)
 
@@ -13,7 +13,7 @@ is_plain quote b = not (nat_eq b quote || nat_eq b ascii.line_feed || nat_eq b a
 abbrev pub is_escape_letter : ℕ → Bool
 is_escape_letter b = list_any (nat_eq b) (codes "abfnrtv?") || nat_eq b ascii.backslash || is_quote b
 
--- what stands after the `\` of an escape
+-- what is after the `\` of an escape
 pub data IsEscape : List ℕ → Type 0 where
   letter : {b : ℕ} → is_escape_letter b ≡ true → IsEscape (b ∷ [])
   one_hex : {x a : ℕ} → is_hex_mark x ≡ true → list_all is_hex_digit (a ∷ []) ≡ true → IsEscape (x ∷ (a ∷ []))
@@ -32,7 +32,7 @@ pub data IsEscape : List ℕ → Type 0 where
   last_unicode : {a b c d : ℕ} → list_all is_hex_digit (a ∷ (b ∷ (c ∷ (d ∷ [])))) ≡ true
       → IsEscape (ascii.upper_u ∷ (ascii.zero ∷ (ascii.zero ∷ (ascii.one ∷ (ascii.zero ∷ (a ∷ (b ∷ (c ∷ (d ∷ [])))))))))
 
--- what stands after the opening quote: characters and escapes, and then the same quote
+-- what is after the opening quote: characters and escapes, and then the same quote
 pub data EndsLiteral (quote : ℕ) : List ℕ → Type 0 where
   close : EndsLiteral quote (quote ∷ [])
   character : {b : ℕ} {others : List ℕ} → is_plain quote b ≡ true → EndsLiteral quote others

@@ -45,8 +45,8 @@ abbrev pub begins_hexadecimal : List ℕ → Bool
 begins_hexadecimal [] = false
 begins_hexadecimal (b ∷ others) = nat_eq b ascii.zero && starts is_hex_mark others
 
--- the run of a number, in which the byte `last` stands, goes on with `next`: a letter, a digit, `_`, `.`,
--- or a `+` or `-` directly after an `e` or `E` in a run that may hold signs
+-- the run of a number, in which the byte `last` is, goes on with `next`: a letter, a digit, `_`, `.`, or a `+` or `-`
+-- directly after an `e` or `E` in a run that may hold signs
 abbrev pub goes_on : Bool → ℕ → ℕ → Bool
 goes_on may_hold_signs last next =
     is_word next || nat_eq next ascii.dot || may_hold_signs && is_exponent_mark last && is_plus_or_minus next

@@ -6,14 +6,14 @@ use Rattle.proto_lex.specs.Position.{position_of, line_before, IsBefore}
 use Rattle.proto_lex.specs.declared.position.Encoding.{Encoding}
 use Rattle.proto_lex.specs.declared.position.Encoding.TheVariants.{Utf8, Utf16}
 
--- A place between two characters stands before each later offset of its text.
+-- A place between two characters comes before each later offset of its text.
 abbrev pub CharactersRise : Type 0
 CharactersRise =
     (encoding : Encoding) (text : List ℕ) (a b : ℕ)
     → IsCharBoundary text a → a < b → b ≤ length text
     → IsBefore (position_of encoding text a) (position_of encoding text b)
 
--- Where columns count bytes, each offset stands before each later one.
+-- If columns count bytes, each offset comes before each later one.
 abbrev pub BytesRise : Type 0
 BytesRise =
     (text : List ℕ) (a b : ℕ)
@@ -28,12 +28,12 @@ LinesFit = (encoding : Encoding) (text : List ℕ) (offset : ℕ) → (position_
 abbrev pub ColumnsFit : Type 0
 ColumnsFit = (encoding : Encoding) (text : List ℕ) (offset : ℕ) → (position_of encoding text offset).column ≤ 2 * offset
 
--- and at most the offset where columns count bytes.
+-- and at most the offset if columns count bytes.
 abbrev pub ByteColumnsFit : Type 0
 ByteColumnsFit = (text : List ℕ) (offset : ℕ) → (position_of Utf8 text offset).column ≤ offset
 
--- A column in UTF-16 is the length of what stands before the offset on its line, in UTF-16.
--- (Unicode Standard, section 3.9, "Unicode Encoding Forms": UTF-16)
+-- A column in UTF-16 is the length of what comes before the offset on its line, in UTF-16. (Unicode Standard, section
+-- 3.9, "Unicode Encoding Forms": UTF-16)
 abbrev pub ColumnsCountUtf16 : Type 0
 ColumnsCountUtf16 =
     (text : List ℕ) (offset : ℕ)

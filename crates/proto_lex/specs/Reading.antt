@@ -126,7 +126,7 @@ character_at opening at b others =
     cond (nat_eq b ascii.nul) (Err (BadByte at)) (
     cond (nat_eq b ascii.backslash) (escaped at (escape_len others)) (Ok 1)))
 
--- how many bytes a string takes, of which so many were read and the next `skip` are known to be in it
+-- how many bytes a string takes, of which this many were read and the next `skip` are known to be in it
 unfoldable pub literal_at : (quote opening skip len : ℕ) → List ℕ → Read ℕ
 literal_at quote opening skip len [] = Err (OpenString opening)
 literal_at quote opening (suc skip) len (b ∷ others) = literal_at quote opening skip (len + 1) others
@@ -144,7 +144,7 @@ abbrev pub blocked : ℕ → Option ℕ → Read Piece
 blocked at None = Err (OpenComment at)
 blocked at (Some len) = Ok (record { kind = piece.Comment comment.Block; len = len })
 
--- what stands at a place
+-- what is at a place
 
 abbrev pub past_first : List ℕ → List ℕ
 past_first [] = []

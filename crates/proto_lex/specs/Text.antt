@@ -10,13 +10,13 @@ use Rattle.proto_lex.specs.declared.fault.LexFault.TheVariants.{BadEscape, BadNu
 abbrev pub max_text_length : ℕ
 max_text_length = MAX_TEXT_LENGTH
 
--- A text is at most so many bytes of UTF-8. (Unicode Standard, section 3.9, "Unicode Encoding Forms": UTF-8)
+-- A text is at most this many bytes of UTF-8. (Unicode Standard, section 3.9, "Unicode Encoding Forms": UTF-8)
 pub record IsText (bytes : List ℕ) : Type 0 where
   pub short : length bytes ≤ max_text_length
   pub utf8 : IsUtf8 bytes
 
--- Why bytes are no text: they are too many; or they are few enough, and the first `offset` of them are
--- the longest front that is UTF-8, so that the first ill-formed sequence begins there.
+-- Why bytes are no text: they are too many; or they are few enough, and the first `offset` of them are the longest
+-- prefix that is UTF-8, so that the first ill-formed sequence begins there.
 abbrev pub IsNoText : List ℕ → LexFault → Type 0
 IsNoText bytes TooLong = max_text_length < length bytes
 IsNoText bytes (NotUtf8 offset) = (length bytes ≤ max_text_length) × IsValidUpTo bytes offset

@@ -48,7 +48,7 @@ impl LexFault {
         }
     }
 
-    /// Where it is in the bytes: of bytes that are too many the first one that may not be.
+    /// Where it is in the bytes. If there are too many bytes, it is at the first one past the limit.
     pub fn offset(&self) -> Option<usize>
         ensures { result ≡ lex_offset self.now }
     {
@@ -65,7 +65,7 @@ impl LexFault {
     }
 }
 
-/// The variant's name, and its number in parentheses where it has one.
+/// The variant's name, and its number in parentheses if it has one.
 impl fmt::Display for LexFault {
     fn fmt<W: fmt::Write>(&self, f: &mut fmt::Formatter<W>) -> fmt::Result {
         fmt::Debug::fmt(self, f)

@@ -1,4 +1,4 @@
-//! Laws: what the definitions say of texts, tokens and positions, whatever the code does.
+//! Laws: what the definitions say about texts, tokens and positions, whatever the code does.
 
 ghost use Rattle.proto_lex.specs.LexLaws.{OneTokens, OneComments, OneFirstFault, NoFaultWhereItLexes, LexesOrFaults};
 ghost use Rattle.proto_lex.specs.LexLaws.{LongestToken};
@@ -30,14 +30,14 @@ pub fn one_lexing()
     ensures comments { OneComments }
 {}
 
-/// A text has at most one first fault, none where it lexes, and one where it doesn't.
+/// A text has at most one first fault, none if it lexes, and one if it doesn't.
 pub fn one_first_fault()
     ensures one { OneFirstFault }
     ensures none { NoFaultWhereItLexes }
     ensures or_lexes { LexesOrFaults }
 {}
 
-/// Where a token stands, no longer spelling of a token stands.
+/// A token is as long as it can be: no longer spelling of a token begins at its place.
 pub fn longest_token()
     ensures { LongestToken }
 {}

@@ -22,14 +22,14 @@ use crate::token::{Comment, Token};
 use crate::tokens::Tokens;
 use std::alloc::Global;
 
-/// The tokens and comments of the front of a text.
+/// The tokens and comments of the first part of a text.
 #[derive(Drop)]
 struct Pieces {
     tokens: Vec<Token>,
     comments: Vec<Comment>,
 }
 
-/// Adds what stands at `span`, if it is a token or a comment.
+/// Adds what is at `span`, if it is a token or a comment.
 fn push_piece(found: &mut Pieces, kind: PieceKind, span: Span) -> Result<(), LexFault>
     ensures pushed { OnOk result (pieces found.new.tokens.items found.new.comments.items
         ≡ with_last (pieces found.old.tokens.items found.old.comments.items) kind span) }

@@ -65,7 +65,7 @@ pub(crate) fn line_starts(alloc: Global, text: &[u8]) -> Result<Vec<u32>, LexFau
     Ok(starts)
 }
 
-/// The code units of `bytes`, which stand in a text, in `encoding`.
+/// The code units of `bytes`, which are in a text, in `encoding`.
 pub(crate) fn columns(encoding: Encoding, bytes: &[u8]) -> u32
     requires { length bytes.now ≤ max_text_length }
     ensures { result ≡ sum_by (spec.code_units encoding) bytes.now }

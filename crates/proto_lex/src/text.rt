@@ -91,8 +91,8 @@ impl<'a> Text<'a> {
         }
     }
 
-    /// The line of `offset`, from 0: how many `\n` stand before it. It is found by a search among the
-    /// line starts, without a look at the line.
+    /// The line of `offset`, from 0: how many `\n` come before it. It is found by a search among the line starts,
+    /// without a look at the line.
     pub fn line(&self, offset: usize) -> usize
         ensures { result ≡ line_of self.now offset }
     {

@@ -47,7 +47,7 @@ pub enum TokenKind {
     Slash,
 }
 
-/// A token: its kind, and where its spelling stands.
+/// A token: its kind, and where its spelling is.
 #[derive(Clone, Copy, Debug, PartialEq, Eq)]
 pub struct Token {
     pub kind: TokenKind,
@@ -63,7 +63,7 @@ pub enum CommentKind {
     Block,
 }
 
-/// A comment: its kind, and where it stands, with its marks.
+/// A comment: its kind, and where it is, with its marks.
 #[derive(Clone, Copy, Debug, PartialEq, Eq)]
 pub struct Comment {
     pub kind: CommentKind,

@@ -58,7 +58,7 @@ impl<'a, 't> Tokens<'a, 't> {
         self.text
     }
 
-    /// The tokens, in the order in which they stand.
+    /// The tokens, in order of place.
     pub fn tokens(&self) -> &[Token]
         ensures value { result.now ≡ self.now.tokens }
         ensures lexed { Lexes self.now.text self.now.tokens self.now.comments }
@@ -69,7 +69,7 @@ impl<'a, 't> Tokens<'a, 't> {
         &self.tokens
     }
 
-    /// The comments, in the order in which they stand.
+    /// The comments, in order of place.
     pub fn comments(&self) -> &[Comment]
         ensures value { result.now ≡ self.now.comments }
         ensures parts { All (λ c. IsPart self.now.text c.span) self.now.comments }

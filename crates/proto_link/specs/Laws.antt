@@ -46,7 +46,7 @@ pub record HasPackage (files : List File) (name : List ℕ) : Type 0 where
   pub few : count ≤ length facts.package_name
   pub named : name ≡ package_of facts.package_name count
 
--- without a clash a full name is that of one declaration at most, or names packages alone
+-- without a clash a full name is that of one declaration at most, or names only packages
 abbrev pub OneDeclarationAName : Type 0
 OneDeclarationAName = (files : List File) → HaveOrigins files → NoClash files
     → (number index other its : ℕ) (a b : Declaration)

@@ -1,6 +1,5 @@
--- What a use of a type names (proto3 language guide, "Packages and Name Resolution"; that names which aren't types, or
--- aggregates,
--- are passed by, and that the innermost aggregate decides, is the profile's).
+-- What a use of a type names (proto3 language guide, "Packages and Name Resolution"; that names which aren't types,
+-- or aggregates, are passed by, and that the innermost aggregate decides, is the profile's).
 use Rattle.std.specs.Prelude.{ℕ, Bool, true, false, List, [], ◌∷◌, map}
 use Rattle.proto_decl.specs.Names.{qualified, dotted, scopes_of}
 use Rattle.proto_decl.specs.declared.type_use.Use.{Use}

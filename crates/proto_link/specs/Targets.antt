@@ -25,8 +25,8 @@ pub data IsNamed (files : List File) (file : ℕ) (name : List ℕ) (count : ℕ
       → declaration.full_name ≡ prefix_of name count
       → IsNamed files file name count (Declared seen index)
 
--- Of a use with k components that resolves to a full name of m, the name's first ones, m less k, are skipped: component
--- number j (from 0) of the use names the entity of the name's components up to number j behind these.
+-- Let a use with k components resolve to a full name of m. The first m - k components of the full name are skipped.
+-- Component number j (from 0) of the use names the entity of the full name up to its component number j after these.
 pub record IsTarget (files : List File) (file : ℕ) (type_use : Use) (target : Target) : Type 0 where
   pub resolves : Resolves files file type_use target.name
   pub skipped : ℕ
@@ -39,7 +39,7 @@ pub record IsTarget (files : List File) (file : ℕ) (type_use : Use) (target : 
 abbrev pub IsUnresolved : List File → ℕ → Use → Type 0
 IsUnresolved files file type_use = (name : List ℕ) → Resolves files file type_use name → ⊥
 
--- A use is refused where it names no type, at the place of the whole use. Of memory nothing is said.
+-- A use is refused if it names no type, at the place of the whole use. Nothing is said about memory.
 abbrev pub MayRefuseUse : List File → ℕ → Use → LinkFault → Type 0
 MayRefuseUse files file type_use (Unresolved place) =
     IsUnresolved files file type_use × (place ≡ record { file = file; span = type_use.span })

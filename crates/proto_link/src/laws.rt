@@ -9,12 +9,12 @@ pub fn one_name_a_use()
     ensures { OneNameAUse }
 {}
 
-/// Of the files that count and have no facts one is the least.
+/// One of the files that count and have no facts is the least.
 pub fn one_broken_file()
     ensures { OneBrokenFile }
 {}
 
-/// In files without a clash a full name is that of one declaration at most, or names packages alone.
+/// In files without a clash a full name is that of one declaration at most, or names only packages.
 pub fn one_declaration_a_name()
     ensures declarations { OneDeclarationAName }
     ensures packages { NoPackageIsDeclared }
@@ -41,7 +41,7 @@ pub fn one_refusal()
     facts_in_order();
 }
 
-/// Of files with faults one list is left out, each file for one reason.
+/// What is left out of files with faults is one list, each file for one reason.
 pub fn one_omission_list()
     ensures { OneOmissionList }
 {

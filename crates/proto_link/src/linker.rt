@@ -127,8 +127,8 @@ impl<'a, 't> Linker<'a, 't> {
         self.namespace.path_of(number)
     }
 
-    /// What a use names, in a file's scopes: by the names of the files that it sees. `Unresolved`,
-    /// at the place of the whole use, where it names no type.
+    /// What a use names, in a file's scopes: by the names of the files that it sees. `Unresolved`, at the place of
+    /// the whole use, if it names no type.
     ///
     /// For a source the answer is the only one. An included file may see files that don't count,
     /// whose names may clash: there a part may be any declaration of its name.

@@ -35,7 +35,7 @@ fn joined(alloc: Global, components: &[Component]) -> Result<String, AllocError>
     }
 }
 
-// The same of a first component and others.
+// The same for a first component and others.
 fn joined_behind(
     alloc: Global,
     first: &Component,
@@ -128,7 +128,7 @@ fn single(
     }
 }
 
-// The same of more words, of which this is the first.
+// The same for more words, of which this is the first.
 fn compound(
     alloc: Global,
     namespace: &Namespace,
@@ -150,7 +150,7 @@ fn compound(
     }
 }
 
-// The text, where a file knows a type by it.
+// The text, if a file knows a type by it.
 fn if_type(namespace: &Namespace, file: usize, text: String) -> Option<String>
     requires { file < length namespace.now }
     ensures { MatchOption result (KnowsAs namespace.now file is_type (string_bytes text) → ⊥) (λ name. (string_bytes name ≡ string_bytes text) × KnowsAs namespace.now file is_type (string_bytes text)) }

@@ -20,7 +20,7 @@ fn components_in(alloc: Global, name: &str) -> Result<Vec<&str>, AllocError>
     name.split('.').collect(alloc)
 }
 
-// Adds a component to a prefix of so many.
+// Adds a component to a prefix of this many.
 fn lengthen(prefix: &mut String, count: usize, component: &str) -> Result<(), AllocError>
     ensures { OnOk result (string_bytes prefix.new ≡ longer (string_bytes prefix.old) count component.now) }
 {

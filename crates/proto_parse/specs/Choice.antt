@@ -8,7 +8,7 @@ use Rattle.proto_parse.specs.declared.statement.FileStatement.TheVariants as fil
 use Rattle.proto_parse.specs.declared.statement.MessageStatement.{MessageStatement}
 use Rattle.proto_parse.specs.declared.statement.MessageStatement.TheVariants as message
 
--- In a file. Nothing else can stand there.
+-- In a file. Nothing else can be there.
 abbrev pub file_statement_of : List Lexeme → FileStatement
 file_statement_of a =
     cond (first_is (of_kind Semicolon) a) file.Empty

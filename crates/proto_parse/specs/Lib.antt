@@ -12,7 +12,7 @@ pub mod Choice
 pub mod Grammar
 pub mod Derives
 pub mod Faults
--- Where the spans of a tree stand
+-- Where the spans of a tree are
 pub mod Walk
 -- The lists of a tree that are never empty
 pub mod Filled

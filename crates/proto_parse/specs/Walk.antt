@@ -1,4 +1,4 @@
--- Where the spans of a tree stand among the tokens.
+-- Where the spans of a tree are among the tokens.
 use Rattle.std.specs.Prelude.{◌≡◌, ℕ, ◌≤◌, ◌<◌, Option, Some, None, List, [], ◌∷◌, ◌++◌, option_to_list}
 use Rattle.proto_lex.specs.declared.span.Span.{Span}
 use Rattle.proto_lex.specs.declared.token.TokenKind.TheVariants.{Identifier, StringLiteral}
@@ -43,8 +43,8 @@ pub data Among : List Mark → List Lexeme → Type 0 where
   other : {marks : List Mark} {t : Lexeme} {rest : List Lexeme} → Among marks rest
       → Among (Other t.span ∷ marks) (t ∷ rest)
 
--- Each mark begins at the place or behind it; behind a declaration's first token the next one begins where it does or
--- behind, behind another mark where that one ends or behind.
+-- Each mark begins at the place or after it. After a declaration's first token the next mark begins at the same place
+-- or later; after any other mark it begins at that mark's end or later.
 abbrev pub MarksAreInOrder : (place : ℕ) → List Mark → Type 0
 MarksAreInOrder place [] = Unit {0}
 MarksAreInOrder place (First span ∷ marks) =
@@ -61,7 +61,7 @@ abbrev pub each_then : {A : Type 0} → (A → List Mark → List Mark) → List
 each_then marks_then [] marks = marks
 each_then marks_then (x ∷ xs) marks = marks_then x (each_then marks_then xs marks)
 
--- The marks of the parts of a tree before others, in the order of a walk: a declaration before what stands in it.
+-- The marks of the parts of a tree before others, in the order of a walk: a declaration before what is in it.
 abbrev pub name_then : Span → List Mark → List Mark
 name_then span marks = Name span ∷ marks
 
@@ -139,8 +139,8 @@ marks_of_imports file = each_then import_then file.imports []
 abbrev pub marks_of_package : File → List Mark
 marks_of_package file = each_then names_then (option_to_list file.package_name) []
 
--- The spans of the package's name stand between those of the items before the package statement and those of the items
--- behind it.
+-- The spans of the package's name are between those of the items before the package statement and those of the items
+-- after it.
 abbrev pub IsAmongItems : (components : List Span) → List FileItem → List Lexeme → Type 0
 IsAmongItems components items tokens =
     (before : List FileItem)

@@ -42,7 +42,7 @@ fn value(parser: &mut Parser<'_>, custom: CustomOptions) -> Result<Heading, Synt
     })
 }
 
-/// What stands in an enum, if it is kept.
+/// What is in an enum, if it is kept.
 #[tactic(auto, unfolding(crate::specs::Reading::Messages::enum_item_at))]
 fn enum_item(parser: &mut Parser<'_>, custom: CustomOptions) -> Result<Option<Heading>, SyntaxFault>
     ensures { Gives custom (λ x. x) parser.new result (enum_item_at custom parser.old) }
@@ -62,7 +62,7 @@ fn enum_item(parser: &mut Parser<'_>, custom: CustomOptions) -> Result<Option<He
     Ok(Some(value(parser, custom)?))
 }
 
-/// What stands before an enum's closing brace: its values.
+/// What comes before an enum's closing brace: its values.
 fn enum_items(
     parser: &mut Parser<'_>,
     alloc: Global,

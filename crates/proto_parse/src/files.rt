@@ -17,7 +17,7 @@ use proto_lex::{Span, TokenKind};
 use sequences::Sequence;
 use std::alloc::Global;
 
-/// The next literal, off the front of a text. Where it isn't there, the fault is at `start`.
+/// The next literal, off the front of a text. If it isn't there, the fault is at `start`.
 #[tactic(auto, unfolding(crate::specs::Reading::Files::stripped_at))]
 fn stripped<'s>(
     parser: &mut Parser<'_>,
@@ -35,7 +35,7 @@ fn stripped<'s>(
     }
 }
 
-/// Literals that spell the text when joined. Where they don't, the fault is at `start`.
+/// Literals that spell the text when joined. If they don't, the fault is at `start`.
 fn spelled(parser: &mut Parser<'_>, text: &[u8], start: usize) -> Result<(), SyntaxFault>
     ensures { Gives Skip (λ x. x) parser.new result (spelled_at text.now parser.old) }
 {
@@ -76,7 +76,7 @@ fn syntax(parser: &mut Parser<'_>) -> Result<(), SyntaxFault>
     Ok(())
 }
 
-/// The word `weak` or `public` of an import, if one stands next.
+/// The word `weak` or `public` of an import, if one is next.
 #[tactic(auto, unfolding(crate::specs::Reading::Files::import_kind_at))]
 fn import_kind(parser: &mut Parser<'_>) -> Result<ImportKind, SyntaxFault>
     ensures { Gives Skip (λ x. x) parser.new result (import_kind_at parser.old) }
@@ -100,7 +100,7 @@ fn path_literal(parser: &mut Parser<'_>) -> Result<Option<Span>, SyntaxFault>
     Ok(Some(parser.plain_literal()?))
 }
 
-/// The literals of a path behind the first ones.
+/// The literals of a path after the first ones.
 fn path_literals(
     parser: &mut Parser<'_>,
     mut literals: Sequence<Span>,
@@ -174,7 +174,7 @@ fn file_statement(parser: &Parser<'_>) -> FileStatement
     FileStatement::Other
 }
 
-/// A package statement, where the file has none yet.
+/// A package statement, if the file has none yet.
 #[tactic(auto, unfolding(crate::specs::Reading::Files::only_package_at))]
 fn only_package(parser: &mut Parser<'_>, alloc: Global, file: &mut File) -> Result<(), SyntaxFault>
     ensures { Gives Skip (λ x. file.new) parser.new result (only_package_at file.old parser.old) }
@@ -224,7 +224,7 @@ fn statement(
     Ok(())
 }
 
-/// The statements behind the syntax statement, up to the last token.
+/// The statements after the syntax statement, up to the last token.
 fn statements(
     parser: &mut Parser<'_>,
     alloc: Global,

@@ -27,19 +27,19 @@ pub fn spans_of_tokens()
         → Derives custom text tokens file → Among (marks_of_imports file) (lexemes_of text tokens) }
     ensures package_name { (custom : CustomOptions) (text : List ℕ) (tokens : List Token) (file : File)
         → Derives custom text tokens file → Among (marks_of_package file) (lexemes_of text tokens) }
-    // The package's name stands between the items before its statement and those behind it.
+    // The package's name is between the items before its statement and those after it.
     ensures package_place { (custom : CustomOptions) (text : List ℕ) (tokens : List Token) (file : File)
         → Derives custom text tokens file → PackageIsAmongItems file.package_name file.items (lexemes_of text tokens) }
 {}
 
-/// Spans of tokens in the order of a walk are in order, where the tokens are.
+/// Spans of tokens in the order of a walk are in order, if the tokens are.
 pub fn spans_in_order()
     ensures { (text : List ℕ) (tokens : List Token) (marks : List Mark)
         → Among marks (lexemes_of text tokens) → AreInOrder 0 (map (λ t. t.span) tokens) → MarksAreInOrder 0 marks }
 {}
 
-/// The names of a tree have a component at least, and its imports a literal: its package's name,
-/// the types of its fields, and those that its methods take and give.
+/// Each name of a tree has at least one component: its package's name, the types of its fields, and those that its
+/// methods take and give. Each import has at least one literal.
 pub fn names_have_components()
     ensures { (custom : CustomOptions) (text : List ℕ) (tokens : List Token) (file : File)
         → Derives custom text tokens file → FilledFile file }

@@ -19,10 +19,10 @@ use proto_lex::TokenKind;
 use sequences::Sequence;
 use std::alloc::{AllocError, Global};
 
-/// How many messages may stand inside one another, the outermost and the innermost among them.
+/// How many messages may be inside one another, the outermost and the innermost among them.
 pub const MAX_MESSAGE_DEPTH: usize = 64;
 
-/// What stands in a oneof, if it is kept.
+/// What is in a oneof, if it is kept.
 #[tactic(auto, unfolding(crate::specs::Reading::Messages::oneof_item_at))]
 fn oneof_item(
     parser: &mut Parser<'_>,
@@ -42,7 +42,7 @@ fn oneof_item(
     Ok(Some(parser.oneof_field(alloc, custom)?))
 }
 
-/// What stands before a oneof's closing brace: its fields.
+/// What comes before a oneof's closing brace: its fields.
 fn oneof_items(
     parser: &mut Parser<'_>,
     alloc: Global,
@@ -73,7 +73,7 @@ fn oneof(
     Ok(Oneof { heading, fields })
 }
 
-/// What stands in an extend: a lone `;` or a field, neither of which is kept.
+/// What is in an extend: a lone `;` or a field, neither of which is kept.
 #[tactic(auto, unfolding(crate::specs::Reading::Messages::extend_item_at))]
 fn extend_item(parser: &mut Parser<'_>) -> Result<(), SyntaxFault>
     ensures { Gives Skip (λ x. x) parser.new result (extend_item_at parser.old) }
@@ -85,7 +85,7 @@ fn extend_item(parser: &mut Parser<'_>) -> Result<(), SyntaxFault>
     parser.pass_field(CustomOptions::Skip)
 }
 
-/// What stands before an extend's closing brace.
+/// What comes before an extend's closing brace.
 fn extend_items(parser: &mut Parser<'_>) -> Result<(), SyntaxFault>
     ensures { Gives Skip (λ x. x) parser.new result (extend_items_at parser.old) }
 {
@@ -95,7 +95,7 @@ fn extend_items(parser: &mut Parser<'_>) -> Result<(), SyntaxFault>
     Ok(())
 }
 
-/// An extend, only where custom options are read past.
+/// An extend, only if custom options are read past.
 #[tactic(auto, unfolding(crate::specs::Reading::Messages::extend_at))]
 pub(crate) fn extend(parser: &mut Parser<'_>, custom: CustomOptions) -> Result<(), SyntaxFault>
     ensures { Gives custom (λ x. x) parser.new result (extend_at custom parser.old) }
@@ -148,8 +148,8 @@ fn message_statement(parser: &Parser<'_>) -> MessageStatement
     MessageStatement::Field
 }
 
-/// A message, in which at most `levels` messages stand inside one another, itself the outermost
-/// (proto3 specification, "Message definition").
+/// A message, in which at most `levels` messages are inside one another, itself the outermost (proto3 specification,
+/// "Message definition").
 #[cycle(parser)]
 #[tactic(auto, unfolding(crate::specs::Reading::Messages::message_at, crate::specs::Reading::Messages::message_of_at))]
 pub(crate) fn message(
@@ -169,7 +169,7 @@ pub(crate) fn message(
     Ok(Message { heading, items })
 }
 
-/// What stands before a message's closing brace.
+/// What comes before a message's closing brace.
 #[cycle(parser)]
 fn items(
     parser: &mut Parser<'_>,
@@ -188,7 +188,7 @@ fn items(
     Ok(items)
 }
 
-/// What stands in a message, if it is kept.
+/// What is in a message, if it is kept.
 #[cycle(parser)]
 #[tactic(auto, unfolding(crate::specs::Reading::Messages::message_item_at))]
 fn item(

@@ -26,9 +26,9 @@ pub fn parse(alloc: Global, tokens: &Tokens<'_, '_>) -> Result<File, SyntaxFault
 
 /// The tree that the tokens derive, with a choice of what is done with custom options.
 ///
-/// It is Ok exactly where they derive one, but for want of memory. Otherwise the fault is the one
-/// that reading from left to right meets first (tests show which), and where custom options are
-/// read past none of CustomOption, Aggregate and Extend.
+/// It is Ok if and only if they derive one, unless memory runs out. Otherwise the fault is the one that reading from
+/// left to right meets first (tests show which), and if custom options are read past none of CustomOption, Aggregate
+/// and Extend.
 pub fn parse_with(
     alloc: Global,
     tokens: &Tokens<'_, '_>,

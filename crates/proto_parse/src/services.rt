@@ -13,7 +13,7 @@ use proto_lex::{Span, TokenKind};
 use sequences::Sequence;
 use std::alloc::Global;
 
-/// The marker `stream`, if it stands next.
+/// The marker `stream`, if it is next.
 #[tactic(auto, unfolding(crate::specs::Reading::Services::stream_at))]
 fn stream(parser: &mut Parser<'_>) -> Result<(), SyntaxFault>
     ensures { Gives Skip (λ x. x) parser.new result (stream_at parser.old) }
@@ -36,7 +36,7 @@ fn method_type(parser: &mut Parser<'_>, alloc: Global) -> Result<TypeName, Synta
     Ok(name)
 }
 
-/// What stands in a method's body: a lone `;` or an option.
+/// What is in a method's body: a lone `;` or an option.
 #[tactic(auto, unfolding(crate::specs::Reading::Services::method_item_at))]
 fn method_item(parser: &mut Parser<'_>, custom: CustomOptions) -> Result<(), SyntaxFault>
     ensures { Gives custom (λ x. x) parser.new result (method_item_at custom parser.old) }
@@ -48,7 +48,7 @@ fn method_item(parser: &mut Parser<'_>, custom: CustomOptions) -> Result<(), Syn
     parser.option(custom)
 }
 
-/// What stands before the closing brace of a method's body.
+/// What comes before the closing brace of a method's body.
 fn method_items(parser: &mut Parser<'_>, custom: CustomOptions) -> Result<(), SyntaxFault>
     ensures { Gives custom (λ x. x) parser.new result (method_items_at custom parser.old) }
 {
@@ -69,7 +69,7 @@ fn method_body(parser: &mut Parser<'_>, custom: CustomOptions) -> Result<Span, S
     Ok(open_brace)
 }
 
-/// What stands behind a method's result type. Gives its first token.
+/// What comes after a method's result type. Gives its first token.
 #[tactic(auto, unfolding(crate::specs::Reading::Services::method_end_at))]
 fn method_end(parser: &mut Parser<'_>, custom: CustomOptions) -> Result<Span, SyntaxFault>
     ensures { Gives custom (λ x. x) parser.new result (method_end_at custom parser.old) }
@@ -107,7 +107,7 @@ fn method(
     })
 }
 
-/// What stands in a service, if it is kept.
+/// What is in a service, if it is kept.
 #[tactic(auto, unfolding(crate::specs::Reading::Services::service_item_at))]
 fn service_item(
     parser: &mut Parser<'_>,
@@ -127,7 +127,7 @@ fn service_item(
     Ok(Some(method(parser, alloc, custom)?))
 }
 
-/// What stands before a service's closing brace: its methods.
+/// What comes before a service's closing brace: its methods.
 fn service_items(
     parser: &mut Parser<'_>,
     alloc: Global,

@@ -11,7 +11,7 @@ pub(crate) enum FileStatement {
     Enum,
     Service,
     Extend,
-    /// None that can stand there.
+    /// None that is allowed there.
     Other,
 }
 

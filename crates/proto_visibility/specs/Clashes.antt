@@ -12,8 +12,8 @@ pub record Excludes (IsItem : Item → Type 0) (first second : Item) : Type 0 wh
   pub one_name : first.full_name ≡ second.full_name
   pub declares : (first.is_declaration || second.is_declaration) ≡ true
 
--- Of the pairs of items that exclude one another, the places of the one with the least second place, then the least
--- first.
+-- Among the pairs of items that exclude one another, the places of that with the least second place, and then the
+-- least first.
 pub record ClashBy (IsItem : Item → Type 0) (first second : FilePlace) : Type 0 where
   pub earlier : Item
   pub later : Item

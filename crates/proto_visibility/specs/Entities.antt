@@ -7,7 +7,7 @@ use Rattle.proto_visibility.specs.declared.entities.Entity.{Entity}
 use Rattle.proto_visibility.specs.declared.entities.Entity.TheVariants.{Package, Declared}
 use Rattle.proto_visibility.specs.FileNames.{IsPrefix}
 
--- the package of so many components, or the declaration, which has the name
+-- the package of this many components, or the declaration, which has the name
 pub data IsEntityOf (number : ℕ) (facts : Facts) (name : List ℕ) (count : ℕ) : Entity → Type 0 where
   packaged : IsPrefix facts.package_name name → IsEntityOf number facts name count (Package count)
   declared : {index : ℕ} {declaration : Declaration}

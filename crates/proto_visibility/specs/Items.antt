@@ -1,4 +1,4 @@
--- Places in the files, and the items that stand there: declarations and the components of package statements.
+-- Places in the files, and the items that are there: declarations and the components of package statements.
 use Rattle.std.specs.Prelude.{◌≡◌, ◌<◌, ◌⊎◌, ℕ, ◌+◌, Bool, true, false, Some, List, Contains}
 use Rattle.std.specs.List.{slice_get}
 use Rattle.proto_decl.specs.Names.{package_of}
@@ -19,8 +19,7 @@ pub record Item : Type 0 where
   pub is_declaration : Bool
 
 -- Each declaration of a file that counts, at its name; and each component of its package statement, which names the
--- package of the
--- components up to it.
+-- package of the components up to it.
 pub data IsItem (files : List File) : Item → Type 0 where
   declared : {number : ℕ} {facts : Facts} {declaration : Declaration}
       → Counts files number → HasFacts files number facts → Contains facts.declarations declaration

@@ -10,7 +10,7 @@ use Rattle.proto_visibility.specs.Clashes.{ClashBy, NoClashBy}
 use Rattle.proto_visibility.specs.Absences.{IsUnread}
 use Rattle.proto_visibility.specs.Linked.{HaveClearNames}
 
--- For each file, by its number, why it is left out; `None` of a file that is kept.
+-- For each file, by its number, why it is left out; `None` for a file that is kept.
 abbrev pub Omissions : Type 0
 Omissions = List (Option LinkFault)
 
@@ -24,10 +24,8 @@ pub record IsMet (IsItem : Item → Type 0) (omissions : Omissions) (number : �
   pub meets : (item.place.file ≡ number) ⊎ ((item.place.file < number) × IsKept omissions item.place.file)
 
 -- Whether a file is left out, and why. Files are taken one by one, in order of their numbers. Left out is one that
--- counts and has
--- no facts, and one of which an item clashes with another of its own, or with one of a file kept before it: for the
--- first such
--- clash. Files that don't count give no items, so they are kept.
+-- counts and has no facts, and one of which an item clashes with another of its own, or with one of a file kept
+-- before it: for the first such clash. Files that don't count give no items, so they are kept.
 abbrev pub IsOmission : List File → Omissions → (number : ℕ) → Option LinkFault → Type 0
 IsOmission files omissions number None = (IsUnread files number → ⊥) × NoClashBy (IsMet (IsItem files) omissions number)
 IsOmission files omissions number (Some (Broken other)) = (other ≡ number) × IsUnread files number
@@ -61,18 +59,18 @@ number_among_all (Some fault ∷ omissions) number = suc (number_among_all omiss
 abbrev pub AreAllKept : Omissions → Type 0
 AreAllKept omissions = All (λ omission. omission ≡ None) omissions
 
--- The laws. Of files one list is kept.
+-- The laws. What is kept of files is one list.
 abbrev pub OneKept : Type 0
 OneKept = (files : List File) (omissions others : Omissions) → AreOmissions files omissions → AreOmissions files others
     → (number : ℕ) → IsKept omissions number ↔ IsKept others number
 
--- Nothing is left out just where the files that count have facts and no names clash.
+-- Nothing is left out if and only if the files that count have facts and no names clash.
 abbrev pub NothingIsLeftOutOfGoodFiles : Type 0
 NothingIsLeftOutOfGoodFiles = (files : List File) (omissions : Omissions) → AreOmissions files omissions
     → AreAllKept omissions ↔ HaveClearNames files
 
--- The files that are kept can stand together: they have paths of their own, those of them that count have facts, and no
--- names clash.
+-- The files that are kept can be linked together: they have paths of their own, those of them that count have facts,
+-- and no names clash.
 abbrev pub KeptFilesAreClear : Type 0
 KeptFilesAreClear = (files : List File) (omissions : Omissions) → AreOmissions files omissions → HaveOwnPaths files
     → HaveOwnPaths (kept_of omissions files) × HaveClearNames (kept_of omissions files)

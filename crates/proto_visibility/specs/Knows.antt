@@ -1,5 +1,5 @@
--- Which names a file knows (proto3 language guide, "Packages and Name Resolution"; that a package is known
--- only where a file that is seen has it, or one below it, is the profile's).
+-- Which names a file knows (proto3 language guide, "Packages and Name Resolution"; that a package is known only if a
+-- file that is seen has it, or one below it, is the profile's).
 use Rattle.std.specs.Prelude.{◌≡◌, ◌<◌, ◌≤◌, ℕ, Bool, true, false, List, length, Contains}
 use Rattle.proto_decl.specs.declared.kind.DeclarationKind.{DeclarationKind}
 use Rattle.proto_decl.specs.declared.kind.DeclarationKind.TheVariants.{Message, Enum, Service, Field, Oneof, Value}

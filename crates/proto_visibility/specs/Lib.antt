@@ -6,7 +6,7 @@ pub mod Sees
 pub mod Items
 pub mod Clashes
 pub mod Absences
--- which files can be linked, and which are kept where not all can
+-- which files can be linked, and which are kept if not all can
 pub mod Linked
 pub mod Kept
 -- which names a file knows, who gives them, and as what

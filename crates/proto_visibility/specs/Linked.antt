@@ -23,8 +23,8 @@ pub record CanBeLinked (files : List File) : Type 0 where
   pub clear : NoClash files
   pub complete : absences.NoAbsent files
 
--- each fault comes where it holds and none of those before it does; of memory nothing is said; that a use names no type
--- is none of them
+-- each fault comes if it holds and none of those before it does; nothing is said about memory; that a use names no
+-- type is none of them
 abbrev pub MayRefuse : List File → LinkFault → Type 0
 MayRefuse files (Broken number) = absences.Broken files number
 MayRefuse files (Duplicate first second) = absences.NoneBroken files × Clash files first second

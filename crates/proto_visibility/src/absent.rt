@@ -38,7 +38,7 @@ pub(crate) fn first_absent(
     None
 }
 
-// The same of the imports of one file.
+// The same for the imports of one file.
 fn absent_of(file: &LinkFile, numbers: &HashMap<&str, usize>) -> Option<Span>
     ensures first { MatchOption result (NoneIsAbsent (number_in numbers.now) file.now.is_included (imports_of file.now)) (IsFirstAbsent (number_in numbers.now) file.now.is_included (imports_of file.now)) }
     ensures in_order { ImportsInOrder (imports_of file.now) }

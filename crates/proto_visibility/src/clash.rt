@@ -11,8 +11,7 @@ use std::alloc::{AllocError, Global};
 use std::collections::HashMap;
 use std::marker::Model;
 
-// A declaration or a component of a package statement: where it stands, and the full name that it
-// gives.
+// A declaration or a component of a package statement: where it is, and the full name that it gives.
 #[derive(Drop)]
 pub(crate) struct Item<'a> {
     pub(crate) place: FilePlace,
@@ -28,8 +27,8 @@ impl<'a> Model for Item<'a> {
     ghost view = { λ item. record { place = item.place; full_name = item.full_name.now; is_declaration = item.is_declaration } };
 }
 
-// The first two items, in order of place, that have one full name, where one is a declaration: of
-// those pairs that with the least second place, and then the least first.
+// Two items, in order of place, that have one full name and of which one is a declaration: among these pairs, that
+// with the least second place, and then the least first.
 pub(crate) fn first_clash(
     alloc: Global,
     items: &[Item],
@@ -48,7 +47,7 @@ pub(crate) fn first_clash(
     Ok(None)
 }
 
-// The index of the first item with a name, where there is one; else this index is kept as its.
+// The index of the first item with a name. If there is none, this index is kept as that of the name.
 pub(crate) fn first_named<'a>(
     names: &mut HashMap<&'a str, usize>,
     name: &'a str,
@@ -64,7 +63,7 @@ pub(crate) fn first_named<'a>(
     Ok(None)
 }
 
-// The place of the first item with a name, where it or the later one is a declaration.
+// The place of the first item with a name, if it or the later one is a declaration.
 pub(crate) fn clash_with(items: &[Item], first: Option<usize>, item: &Item) -> Option<FilePlace>
     ensures { result ≡ clash_with items.now first item.now }
 {

@@ -27,8 +27,8 @@ fn first_with(declarations: &[Declaration], name: &str) -> Option<usize>
         .position(|declaration| declaration.full_name.as_str() == name)
 }
 
-// What a full name of so many components names, where it is that of a declaration or a package of
-// the file with this number: by the tables, which have all that types stand in.
+// What a full name of this many components names, if it is that of a declaration or a package of the file with this
+// number. The tables have all that can hold types.
 #[tactic(auto, using(crate::proofs::EntityLemmas::listed_entity))]
 pub(crate) fn entity_in(
     names: &Names,

@@ -3,22 +3,21 @@
 use crate::place::FilePlace;
 use std::alloc::AllocError;
 
-/// Why files can't be linked, or why a use of a type names none. Where several of the first three
-/// hold, the first of them is answered.
+/// Why files can't be linked, or why a use of a type names none. If several of the first three hold, the first of
+/// them is answered.
 #[derive(Clone, Copy, Debug, Drop, PartialEq, Eq)]
 pub enum LinkFault {
-    /// The least number of a file without facts, of the sources and the included files that some
-    /// source sees.
+    /// The least number of a file without facts, among the sources and the included files that some source sees.
     Broken(usize),
-    /// The places of two declarations, or of a declaration and a component of a package statement,
-    /// that give one full name, of the files as above: of these pairs that with the least second
-    /// place, and then the least first. Places are ordered by file number, then start.
+    /// The places of two declarations, or of a declaration and a component of a package statement, that give one full
+    /// name, in these files: among these pairs, that with the least second place, and then the least first. Places
+    /// are ordered by file number, then start.
     Duplicate(FilePlace, FilePlace),
     /// The first import, by its literal's place, of a path that no file has: any import of a source
     /// counts, and the public ones of an included file that some source sees.
     MissingImport(FilePlace),
-    /// A use that names no type, by the place of the whole use: from its leading dot, or its first
-    /// component where it has none, to its last one. Only `Linker::resolve` of `proto_link` answers it.
+    /// A use that names no type, by the place of the whole use: from its leading dot, or its first component if it
+    /// has none, to its last one. Only `Linker::resolve` of `proto_link` answers it.
     Unresolved(FilePlace),
     /// Memory was refused.
     Memory,

@@ -35,8 +35,7 @@ pub(crate) fn steps_of(
     Ok(table)
 }
 
-/// Whether no two of the files have one path, as `Linker::new` needs it. `Err` where memory was
-/// refused.
+/// Whether no two of the files have one path, as `Linker::new` needs it. `Err` if memory was refused.
 pub fn have_own_paths(alloc: Global, files: &[LinkFile]) -> Result<bool, AllocError>
     ensures { IfOk result (λ own. IsTrue own ↔ HaveOwnPaths files.now) }
 {
@@ -108,7 +107,7 @@ impl Steps {
         }
     }
 
-    // Adds the file that an import names, where there is one.
+    // Adds the file that an import names, if there is one.
     fn add_import(
         &mut self,
         numbers: &HashMap<&str, usize>,

@@ -2,17 +2,17 @@
 
 ghost use Rattle.proto_visibility.specs.Kept.{OneKept, NothingIsLeftOutOfGoodFiles, KeptFilesAreClear};
 
-/// Of files one list is kept.
+/// What is kept of files is one list.
 pub fn one_kept()
     ensures { OneKept }
 {}
 
-/// Nothing is left out just where the files that count have facts and no names clash.
+/// Nothing is left out if and only if the files that count have facts and no names clash.
 pub fn nothing_is_left_out_of_good_files()
     ensures { NothingIsLeftOutOfGoodFiles }
 {}
 
-/// The files that are kept can stand together.
+/// The files that are kept can be linked together.
 pub fn kept_files_are_clear()
     ensures { KeptFilesAreClear }
 {}

@@ -53,7 +53,7 @@ fn shared(numbers: &[usize], others: &[usize]) -> Option<usize>
     }
 }
 
-// The first of these numbers that stands among others, which don't fall.
+// The first of these numbers that is among others, which don't fall.
 fn first_among(numbers: &[usize], others: &[usize]) -> Option<usize>
     requires { IsNonDecreasing others.now }
     ensures { MatchOption result ((number : ℕ) → Contains numbers.now number → Contains others.now number → ⊥) (λ number. Contains numbers.now number × Contains others.now number) }
@@ -66,7 +66,7 @@ fn first_among(numbers: &[usize], others: &[usize]) -> Option<usize>
     None
 }
 
-// Whether a number stands among others, which don't fall.
+// Whether a number is among others, which don't fall.
 pub(crate) fn stands_among(number: usize, others: &[usize]) -> bool
     requires { IsNonDecreasing others.now }
     ensures { IsTrue result ↔ Contains others.now number }

@@ -142,7 +142,7 @@ fn package_names(
     Ok(names)
 }
 
-// Adds the file with this number, which is none before those that stand there.
+// Adds the file with this number, which isn't less than those that are there.
 fn add_prefixes(
     alloc: Global,
     names: &mut IndexMap<String, Vec<usize>>,

@@ -158,9 +158,8 @@ impl<'a, 't> Namespace<'a, 't> {
         let _files = self.files;
     }
 
-    /// What a full name names in a file with these facts, where it is that of a declaration or a package
-    /// of the file. How many components the name has is the caller's word, given back with a package.
-    /// Takes no memory.
+    /// What a full name names in a file with these facts, if it is that of a declaration or a package of the file.
+    /// How many components the name has is the caller's word, given back with a package. Takes no memory.
     pub fn entity_of(&self, number: usize, facts: &FileFacts, name: &str, count: usize) -> Entity
         requires has { HasFacts self.now number facts.now }
         requires entity { IsEntity facts.now name.now }

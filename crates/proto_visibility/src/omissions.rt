@@ -20,13 +20,13 @@ use crate::seeing::seen_files;
 use std::alloc::{AllocError, Global};
 use std::collections::HashMap;
 
-/// For each file, by its number, why it is left out of a tree with faults; `None` of a file that is
-/// kept. No two of the files have one path.
+/// For each file, by its number, why it is left out of a tree with faults; `None` for a file that is kept. No two of
+/// the files have one path.
 ///
-/// `Broken` is told of a file without facts, by its number, and `Duplicate` of one of which a name
-/// clashes with another of its own, or with one of a file kept before it: of these clashes that with
-/// the least second place, and then the least first. Only files that count are left out: sources, and
-/// what some source sees. No other fault comes.
+/// A file without facts gets `Broken`, with its number. A file gets `Duplicate` if one of its names clashes with
+/// another of its own, or with one of a file that was kept before it: among these clashes, that with the least second
+/// place, and then the least first. Only files that count are left out: sources, and what some source sees. No other
+/// fault comes.
 pub fn left_out(alloc: Global, files: &[LinkFile]) -> Result<Vec<Option<LinkFault>>, AllocError>
     requires { HaveOwnPaths files.now }
     ensures { IfOk result (λ omissions. AreOmissions files.now omissions.items) }
@@ -41,7 +41,7 @@ pub fn left_out(alloc: Global, files: &[LinkFile]) -> Result<Vec<Option<LinkFaul
     Ok(omissions)
 }
 
-// Of each file, whether it is left out for want of facts.
+// For each file, whether it is left out because it has no facts.
 fn unread_files(
     alloc: Global,
     files: &[LinkFile],
@@ -57,7 +57,7 @@ fn unread_files(
     Ok(omissions)
 }
 
-// The same of one file.
+// The same for one file.
 fn unread_at(number: usize, file: &LinkFile, counted: &FileRow) -> Option<LinkFault>
     ensures { MatchOption result
         (file.now.facts ≡ None → Contains counted.now number → ⊥)
@@ -87,8 +87,8 @@ fn omit_clashes(
     Ok(())
 }
 
-// Takes one more item: its name is kept where none of an open file has it, and where that one clashes
-// with it, its file is left out.
+// Takes one more item. If no item of an open file has its name, the name is kept as its. If the item that has it
+// clashes with this one, the file of this one is left out.
 fn pass_item<'a>(
     omissions: &mut Vec<Option<LinkFault>>,
     names: &mut HashMap<&'a str, usize>,
@@ -127,7 +127,7 @@ fn is_kept(omissions: &[Option<LinkFault>], number: usize) -> bool
     }
 }
 
-// The index of the item that the map has at a name, where its file is kept so far.
+// The index of the item that the map has at a name, if its file is kept so far.
 fn open_with(
     omissions: &[Option<LinkFault>],
     names: &HashMap<&str, usize>,
@@ -147,7 +147,7 @@ fn open_with(
     }
 }
 
-// Leaves out the file of an item, where the item clashes with the one at this index.
+// Leaves out the file of an item, if the item clashes with the one at this index.
 fn omit_if_clash(omissions: &mut Vec<Option<LinkFault>>, items: &[Item], first: usize, item: &Item)
     requires { item.now.place.file < length omissions.old.items }
     ensures { MatchOption (clash_with items.now (Some first) item.now)

@@ -22,7 +22,7 @@ use Rattle.protoscip.specs.declared.fault.Fault.TheVariants.{Memory, Read, Write
 abbrev pub source_path : List ℕ
 source_path = codes "input.proto"
 
--- its tree: this source alone
+-- its tree: only this source
 abbrev pub dump_tree : List ℕ → List TreeFile
 dump_tree bytes = record { path = source_path; bytes = bytes; is_included = false } ∷ []
 
@@ -51,8 +51,8 @@ pub record IsListing (custom : CustomOptions) (bytes listing : List ℕ) : Type 
 abbrev pub IsRefusal : CustomOptions → List ℕ → Fault → Type 0
 IsRefusal custom bytes fault = IsRefused default_choices (dump_settings custom) (dump_tree bytes) 1 fault
 
--- what a dump of these bytes answers, and what it has to write: the listing, of which all is written, or, where a write
--- fails, a part of it from its start; or why there is none. (Read says nothing of the bytes.)
+-- what a dump of these bytes answers, and what it has to write: the listing, of which all is written, or, if a write
+-- fails, a part of it from its start; or why there is none. (Read says nothing about the bytes.)
 abbrev pub Dumps : CustomOptions → List ℕ → List ℕ → Result (Unit {0}) Fault → Type 0
 Dumps custom bytes due (Ok done) = IsListing custom bytes due
 Dumps custom bytes due (Err (Write count)) = IsListing custom bytes due
@@ -73,8 +73,8 @@ LeavesWriter contents failures before after due (Ok done) = IsWritten contents f
 LeavesWriter contents failures before after due (Err (Write count)) = IsCutOff contents failures before after due count
 LeavesWriter contents failures before after due (Err fault) = after ≡ before
 
--- What a dump leaves of its writer, by the text that it has to write: that of the bytes which the reader tells that it
--- has left; where it tells none, of some bytes.
+-- What a dump leaves of its writer, by the text that it has to write: that of the bytes which the reader tells that
+-- it has left; if it tells none, of some bytes.
 pub record IsDumped {R W : Type 0} (remaining : R → Option (List ℕ)) (contents : W → Option (List ℕ)) (failures : W → ℕ)
     (custom : CustomOptions) (reader : R) (before after : W)
     (done : Result (Unit {0}) Fault) : Type 0 where
@@ -83,7 +83,7 @@ pub record IsDumped {R W : Type 0} (remaining : R → Option (List ℕ)) (conten
   pub some : (bytes : List ℕ) × Dumps custom bytes due done
   pub told : (bytes : List ℕ) → remaining reader ≡ Some bytes → Dumps custom bytes due done
 
--- The tree is that of what was kept of a source: of the bytes which the reader tells that it has left; where it tells
+-- The tree is that of what was kept of a source: of the bytes which the reader tells that it has left; if it tells
 -- none, of some bytes.
 pub record IsTreeOfSource {R : Type 0} (remaining : R → Option (List ℕ)) (reader : R) (tree : List TreeFile) : Type 0
   where
@@ -91,7 +91,7 @@ pub record IsTreeOfSource {R : Type 0} (remaining : R → Option (List ℕ)) (re
     pub tree_is : tree ≡ dump_tree kept
     pub told : (bytes : List ℕ) → remaining reader ≡ Some bytes → kept ≡ kept_bytes bytes
 
--- the tree in which a dump's fault has its places; any tree where the source wasn't read, or memory ran out
+-- the tree in which a dump's fault has its places; any tree if the source wasn't read, or memory ran out
 abbrev pub IsTreeOfFault : {R : Type 0} → (remaining : R → Option (List ℕ)) → R → List TreeFile → Fault → Type 0
 IsTreeOfFault remaining reader tree Read = Unit {0}
 IsTreeOfFault remaining reader tree Memory = Unit {0}

@@ -1,4 +1,4 @@
--- What the definitions say of dumps, whatever the code does.
+-- What the definitions say about dumps, whatever the code does.
 use Rattle.std.specs.Prelude.{◌≡◌, ℕ, List}
 use Rattle.proto_parse.specs.tree.CustomOptions.{CustomOptions}
 use Rattle.protoscip.specs.Dump.{IsListing, IsRefusal}
@@ -10,7 +10,7 @@ abbrev pub OneListing : Type 0
 OneListing = (custom : CustomOptions) (bytes listing other : List ℕ) → IsListing custom bytes listing
     → IsListing custom bytes other → listing ≡ other
 
--- a source that has a listing isn't refused, but for want of memory
+-- a source that has a listing isn't refused, unless memory runs out
 abbrev pub ListedUnlessMemory : Type 0
 ListedUnlessMemory = (custom : CustomOptions) (bytes listing : List ℕ) (fault : Fault) → IsListing custom bytes listing
     → IsRefusal custom bytes fault → fault ≡ Memory

@@ -1,5 +1,5 @@
--- What is added to the line of a fault where it is to be explained: the place, a sentence, and the source's line.
--- (The texts are this project's own.)
+-- What is added to the line of a fault if it is to be explained: the place, a sentence, and the source's line. (The
+-- texts are this project's own.)
 use Rattle.std.specs.Prelude.{ℕ, ◌-◌, Bool, List, [], ◌++◌, Option, None, Some, take, drop, length, nat_eq, codes}
 use Rattle.std.specs.Prelude.{if◌then◌else◌}
 use Rattle.std.specs.List.{slice_get}
@@ -61,7 +61,7 @@ first_sentence = codes "it is given here"
 
 -- ---- places
 
--- what the file with this number holds; nothing where there is none
+-- what the file with this number holds; nothing if there is none
 abbrev pub bytes_of : List TreeFile → ℕ → List ℕ
 bytes_of tree number = unwrap_or (option_map (λ (file : TreeFile). file.bytes) (slice_get tree number)) []
 
@@ -94,7 +94,7 @@ at_both tree first second sentence = at_place tree second sentence ++ at_place t
 
 -- ---- explanations
 
--- It begins with a line end. Nothing is said of want of memory.
+-- It begins with a line end. Nothing is said about lack of memory.
 abbrev pub explanation_of : List TreeFile → Fault → List ℕ
 explanation_of tree Memory = []
 explanation_of tree (Lex number fault) =
@@ -106,6 +106,6 @@ explanation_of tree (MissingImport place) = at_place tree place (sentence_of (Mi
 explanation_of tree (Unresolved place) = at_place tree place (sentence_of (Unresolved place))
 explanation_of tree fault = codes "\n" ++ sentence_of fault
 
--- the line of a fault, and its explanation where that is asked for
+-- the line of a fault, and its explanation if that is asked for
 abbrev pub told : (explain : Bool) → List TreeFile → Fault → List ℕ
 told explain tree fault = line_of tree fault ++ (if explain then explanation_of tree fault else [])

@@ -29,7 +29,7 @@ name_of (Answer count) = codes "Answer"
 
 -- ---- lines
 
--- the path of the file with this number; empty where there is none
+-- the path of the file with this number; empty if there is none
 abbrev pub path_of : List TreeFile → ℕ → List ℕ
 path_of tree number = unwrap_or (option_map (λ (file : TreeFile). file.path) (slice_get tree number)) []
 

@@ -1,4 +1,4 @@
--- A run's fault, by the fault of the step that stops. Want of memory is one fault, whichever step it comes in.
+-- A run's fault, by the fault of the step that stops. Lack of memory is one fault, whichever step it comes in.
 use Rattle.scip_build.specs.declared.fault.BuildFault.{BuildFault}
 use Rattle.scip_build.specs.declared.fault.BuildFault.TheVariants as build
 use Rattle.scip_build.specs.declared.fault.FileFault.{FileFault}

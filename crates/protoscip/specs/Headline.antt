@@ -114,7 +114,7 @@ module _ {allows : Seen → Choice → Type 0} {settings : Settings} {tree : Lis
   abbrev pub IsDefinitionOf : Entity → Site → Type 0
   IsDefinitionOf entity site = (of : IsSiteOf entity site) × (defines of.1.occurs ≡ true)
 
-  -- At a position of the document that a path names an occurrence of an entity stands.
+  -- At a position of the document that a path names there is an occurrence of an entity.
   pub record IsAt (path : List ℕ) (line column : ℕ) (entity : Entity) : Type 0 where
     pub named : Numbered
     pub occurrence : Occurrence
@@ -123,7 +123,7 @@ module _ {allows : Seen → Choice → Type 0} {settings : Settings} {tree : Lis
     pub is : IsOf entity named.document occurrence
 
   -- What is answered about a position: just the sites that are wanted of the entity there, each once, in the index's
-  -- order; it is refused only where there is none.
+  -- order; it is refused only if there is none.
   abbrev pub Answers : (IsWanted : Entity → Site → Type 0) → (path : List ℕ) → (line column : ℕ) → {E : Type 0}
       → Result (List Site) E → Type 0
   Answers IsWanted path line column (Ok sites) =
@@ -131,9 +131,9 @@ module _ {allows : Seen → Choice → Type 0} {settings : Settings} {tree : Lis
   Answers IsWanted path line column (Err miss) = (entity : Entity) → IsAt path line column entity → ⊥
 
   -- Each component of a use in a source names an entity, so that it occurs unless what it names isn't kept. Each site
-  -- is one of an entity of the files, and of no other; entities and symbols are one to one, and a declaration's entity
-  -- is its own; a site has the definition's role just where it defines its entity; and a query answers the occurrences
-  -- of the entity asked, or its definitions among them, all of them and nothing else.
+  -- is one of an entity of the files, and of no other; entities and symbols are one to one, and a declaration's
+  -- entity is its own; a site has the definition's role if and only if it defines its entity; and a query answers the
+  -- occurrences of the entity asked, or its definitions among them, all of them and nothing else.
   pub record AnswersNames : Type 0 where
     pub used : (source : ℕ) (facts : Facts) (type_use : Use) (component : Component)
         → IsSource (linked_files built.of_files.readings) source

@@ -1,5 +1,5 @@
--- What the definitions say of indexes of trees, whatever the code does. `allows` and `others` say which choices may
--- come, by one chooser and by another, or by one that is asked twice.
+-- What the definitions say about indexes of trees, whatever the code does. `allows` and `others` say which choices
+-- may come, by one chooser and by another, or by one that is asked twice.
 use Rattle.std.specs.Prelude.{◌≡◌, ◌≢◌, ◌⊎◌, ℕ, List}
 use Rattle.proto_lex.specs.declared.fault.LexFault.{LexFault}
 use Rattle.proto_decl.specs.Seen.{Seen}
@@ -20,7 +20,7 @@ pub data Reason : Type 0 where
   missing_import : (place : FilePlace) → Reason
   unresolved : (place : FilePlace) → Reason
   too_large : Reason
-  -- want of memory or of a thread, a failed read or write: nothing of the tree
+  -- lack of memory or of a thread, a failed read or write: nothing of the tree
   outside : Reason
 
 abbrev pub reason_of : Fault → Reason
@@ -43,22 +43,22 @@ OneReason allows others =
     → IsRefused allows settings tree workers fault → IsRefused others settings tree more other
     → reason_of fault ≢ outside → reason_of other ≢ outside → reason_of fault ≡ reason_of other
 
--- Where a file's text can't be lexed, that is the one fault of the tree; so no fault of syntax stands beside it. (Of
--- the faults of syntax of one file tests show which comes.)
+-- If a file's text can't be lexed, that is the one fault of the tree; so there is no fault of syntax beside it.
+-- (Which fault of syntax a file gets, tests show.)
 abbrev pub OneFileFault : (allows others : Seen → Choice → Type 0) → Type 0
 OneFileFault allows others =
     (settings : Settings) (tree : List TreeFile) (workers more number : ℕ) (because : LexFault) (other : Fault)
     → IsRefused allows settings tree workers (Lex number because) → IsRefused others settings tree more other
     → reason_of other ≢ outside → other ≡ Lex number because
 
--- a tree that is indexed has no fault, but that by other choices its index may have too many bytes
+-- a tree that is indexed has no fault; but with other choices its index may have too many bytes
 abbrev pub IndexedHasNoFault : (allows others : Seen → Choice → Type 0) → Type 0
 IndexedHasNoFault allows others =
     (settings : Settings) (tree : List TreeFile) (workers : ℕ) (recorded : Recorded) (bytes : List ℕ) (fault : Fault)
     → IsIndexed allows settings tree recorded bytes → IsRefused others settings tree workers fault
     → (reason_of fault ≡ outside) ⊎ (fault ≡ TooLarge)
 
--- for what is seen of a declaration one choice alone may come, whichever of the two is asked
+-- only one choice may come for what is seen of a declaration, whichever of the two is asked
 abbrev pub AllowOneChoice : (allows others : Seen → Choice → Type 0) → Type 0
 AllowOneChoice allows others = (seen : Seen) (choice another : Choice) → allows seen choice → others seen another
     → choice ≡ another

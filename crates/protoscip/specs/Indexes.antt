@@ -44,8 +44,8 @@ pub record IsIndexed (allows : Seen → Choice → Type 0) (settings : Settings)
   pub spelled : IsSpelled index bytes
 
 -- Why a tree isn't indexed: why it isn't built; or that the index which it has by some choices would have too many
--- bytes. A thread is refused only where one is to be started; of memory nothing is said, and reading and writing are no
--- matter of the tree.
+-- bytes. A thread is refused only if one is to be started; nothing is said about memory, and reading and writing are
+-- no matter of the tree.
 abbrev pub IsRefused : (allows : Seen → Choice → Type 0) → Settings → List TreeFile → (workers : ℕ) → Fault → Type 0
 IsRefused allows settings tree workers Spawn = 1 < workers
 IsRefused allows settings tree workers Memory = ⊤

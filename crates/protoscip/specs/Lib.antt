@@ -5,9 +5,9 @@ pub mod Faults
 pub mod Lines
 pub mod FaultLines
 pub mod Statuses
--- what is added to that line where it is to be explained
+-- what is added to that line if it is to be explained
 pub mod Explanations
--- what is said of what an index lacks
+-- what is reported of what an index lacks
 pub mod ToldLines
 -- the index of a tree and its bytes
 pub mod Indexes

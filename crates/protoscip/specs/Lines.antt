@@ -14,7 +14,7 @@ path_line path name = codes "protoscip: " ++ path ++ codes ": " ++ name
 abbrev pub line_at : List ℕ → ℕ → List ℕ → List ℕ
 line_at path at name = codes "protoscip: " ++ path ++ codes "@" ++ decimal at ++ codes ": " ++ name
 
--- a fault that stands at an offset of the file with this path, or nowhere
+-- a fault that is at an offset of the file with this path, or nowhere
 abbrev pub placed_line : List ℕ → Option ℕ → List ℕ → List ℕ
 placed_line path None name = plain_line name
 placed_line path (Some at) name = line_at path at name

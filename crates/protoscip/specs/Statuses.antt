@@ -17,7 +17,7 @@ abbrev pub syntax_status : SyntaxFault → ℕ
 syntax_status parsing.Memory = MEMORY_STATUS
 syntax_status _ = SOURCES_STATUS
 
--- the sources are refused; reading, writing or the index's size fails; or memory or a thread is wanted
+-- the sources are refused; reading, writing or the index's size fails; or memory or a thread is lacking
 abbrev pub status_of : Fault → ℕ
 status_of Spawn = MEMORY_STATUS
 status_of Memory = MEMORY_STATUS

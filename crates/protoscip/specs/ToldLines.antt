@@ -1,5 +1,5 @@
--- What is said, on standard error, of what an index lacks: a line for each of these, and one with their numbers. (The
--- texts are this project's own.)
+-- What is reported, on standard error, of what an index lacks: a line for each thing, and one with their numbers.
+-- (The texts are this project's own.)
 use Rattle.std.specs.Prelude.{◌≡◌, ℕ, ◌-◌, Bool, true, false, List, [], ◌∷◌, ◌++◌, nat_lt, codes, if◌then◌else◌}
 use Rattle.std.specs.Prelude.{Option, Some, None}
 use Rattle.std.specs.Fmt.{decimal}
@@ -38,7 +38,7 @@ told_line tree (MissingImport place) =
 told_line tree (Unresolved place) = line_at (untargeted tree place.file) place.span.start (name_of (Unresolved place))
 told_line tree fault = line_of tree fault
 
--- the same, and its explanation where that is asked for
+-- the same, and its explanation if that is asked for
 abbrev pub explained_line : (explain : Bool) → List TreeFile → Fault → List ℕ
 explained_line explain tree fault = told_line tree fault ++ (if explain then explanation_of tree fault else [])
 
@@ -72,7 +72,7 @@ numbers_line indexed skipped imports uses =
     codes "protoscip: " ++ decimal indexed ++ codes " sources indexed, " ++ decimal skipped ++ codes " skipped, "
     ++ decimal imports ++ codes " imports and " ++ decimal uses ++ codes " uses without a target"
 
--- of a tree with so many sources
+-- of a tree with this many sources
 abbrev pub counts_line : (sources : ℕ) → List BuildFault → List ℕ
 counts_line sources told =
     numbers_line (sources - count_by (is_skipped_source sources) told) (count_by is_skipped told)
@@ -88,7 +88,7 @@ ended_line explain tree fault = explained_line explain tree (fault_of_build faul
 abbrev pub told_text : (explain : Bool) → List TreeFile → (sources : ℕ) → List BuildFault → List ℕ
 told_text explain tree sources told = flat_map (ended_line explain tree) told ++ counts_line sources told
 
--- what is said of an index that lacks this: of nothing nothing; else all of it
+-- what is reported of an index that lacks this: nothing if it lacks nothing, else all of it
 abbrev pub IsTextOfLacks : (explain : Bool) → List TreeFile → List BuildFault → Option (List ℕ) → Type 0
 IsTextOfLacks explain tree [] text = text ≡ None
 IsTextOfLacks explain tree (first ∷ others) text =

@@ -7,8 +7,8 @@ use scip_query::{AnswerFault, Queries};
 use std::alloc::Global;
 use streams::{Feed, Sink};
 
-/// Answers commands about an index, one a line, as `Queries::answer_all` does. Where memory doesn't suffice
-/// for the tables, nothing is read or written.
+/// Answers commands about an index, one a line, as `Queries::answer_all` does. If there is no memory for the tables,
+/// nothing is read or written.
 pub fn answer_commands<F: Feed, W: Sink>(
     alloc: Global,
     index: Index,

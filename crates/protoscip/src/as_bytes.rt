@@ -1,4 +1,4 @@
-//! The documents of an index as they stand in its bytes.
+//! The documents of an index as its bytes have them.
 
 use scip_build::DocumentForm;
 use scip_model::Document;
@@ -6,7 +6,7 @@ use scip_wire::spell_document;
 use sequences::Sequence;
 use std::alloc::{AllocError, Global};
 
-/// Of each document its record in the bytes of the index is kept.
+/// For each document, its record in the bytes of the index is kept.
 #[derive(Clone, Copy, Debug)]
 pub(crate) struct AsBytes;
 

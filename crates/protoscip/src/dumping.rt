@@ -33,7 +33,7 @@ use std::sync::Wait;
 use std::thread::Threads;
 use streams::{Feed, Sink};
 
-/// The path under which a dump, and what is said of its fault, shows its source.
+/// The path that the source of a dump has, also in fault lines.
 pub const SOURCE_PATH: &str = "input.proto";
 
 /// Keeps each declaration, with its leading text.
@@ -141,13 +141,13 @@ pub fn dump_and_keep<R: Threads + Wait, F: Feed, W: Sink>(
     write_text(out, listing.as_str())
 }
 
-/// Reads a source to its end, and writes a line for each occurrence of its index: it is a tree of
-/// itself, of which each declaration is kept, with its leading text.
+/// Reads a source to its end, and writes a line for each occurrence of its index. The source is a tree of its own, in
+/// which each declaration is kept, with its leading text.
 ///
 /// - `Read`: a read failed, or `MAX_READS` reads met no end.
-/// - `Lex`, `Syntax`, `Duplicate`, `MissingImport`, `Unresolved`, `TooLarge`: why the source has no
-///   listing, the first that holds.
-/// - `Write`: a write failed before all of the listing was written.
+/// - `Lex`, `Syntax`, `Duplicate`, `MissingImport`, `Unresolved`, `TooLarge`: the first reason why the source has no
+///   listing.
+/// - `Write`: a write failed before the whole listing was written.
 pub fn dump<R: Threads + Wait, F: Feed, W: Sink>(
     rt: &R,
     alloc: Global,

@@ -1,4 +1,4 @@
-//! What is added to the line of a fault where it is to be explained.
+//! What is added to the line of a fault if it is to be explained.
 
 ghost use Rattle.std.specs.Prelude.{◌≡◌, ◌++◌, IfOk, OnOk, drop, string_bytes};
 ghost use Rattle.protoscip.specs.Explanations.{
@@ -41,9 +41,9 @@ fn shown_file(tree: &Tree, file: usize) -> ShownFile<'_>
     }
 }
 
-/// The line, without its end, that says why a run over the tree stops; and, where that is asked for,
-/// what explains it: a place of a source as editors show it, a sentence, and the place's line with the
-/// place marked. Nothing explains want of memory.
+/// The line, without its end, that says why a run over the tree stops; and, if that is asked for, what explains it: a
+/// place of a source as editors show it, a sentence, and the place's line with the place marked. Nothing explains a
+/// lack of memory.
 pub fn fault_text(
     alloc: Global,
     tree: &Tree,
@@ -103,7 +103,7 @@ pub(crate) fn push_explanation(
     }
 }
 
-/// Appends a place of a file, a sentence about it, and its line with so many bytes marked.
+/// Appends a place of a file, a sentence about it, and its line with this many bytes marked.
 fn push_explained(
     alloc: Global,
     out: &mut String,

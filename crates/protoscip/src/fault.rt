@@ -15,21 +15,20 @@ use std::alloc::AllocError;
 use std::error::Error;
 use std::fmt;
 
-/// Why a run stops short of its answer. The first of those that hold is answered, in this order; but
-/// `Spawn` and `Memory` also come again, before what the same step would answer.
+/// Why a run stops short of its answer. If several of these hold, the first in this order is answered; but `Spawn`
+/// and `Memory` may also come later, before what the same step would answer.
 ///
-/// A file is told by its number in the tree.
+/// A file is named by its number in the tree.
 #[derive(Clone, Copy, Debug, Drop, PartialEq, Eq)]
 pub enum Fault {
     /// A thread could not be started.
     Spawn,
     /// Memory ran out.
     Memory,
-    /// The number of a file, and why its bytes are no text, or a text without a lexing: of the first
-    /// source that can't be read; or, where all can be, of the first included file that some source
-    /// sees and that can't be.
+    /// The number of a file, and why its bytes are no text, or a text without a lexing. It is the first source that
+    /// can't be read; if all can, the first included file that some source sees and that can't.
     Lex(usize, LexFault),
-    /// The number of a file, and why the tokens of its text derive no tree: of the same file.
+    /// The number of that file, and why the tokens of its text derive no tree.
     Syntax(usize, SyntaxFault),
     /// Two places that give one full name.
     Duplicate(FilePlace, FilePlace),
@@ -43,7 +42,7 @@ pub enum Fault {
     Write(u64),
     /// A read failed, or `MAX_READS` reads gave no end.
     Read,
-    /// A write of answers failed after this many bytes of them, in a session.
+    /// In a session, a write of answers failed after this many bytes of them.
     Answer(u64),
 }
 
@@ -126,7 +125,7 @@ impl From<AnswerFault> for Fault {
 }
 
 impl Fault {
-    /// The name that its line has: the variant's, or that of the file's fault.
+    /// The name in its line: the variant's, or that of the file's fault.
     pub fn name(&self) -> &'static str
         ensures { result.now ≡ name_of self.now }
     {

@@ -9,8 +9,8 @@ use proto_link::FilePlace;
 use source_tree::Tree;
 use std::alloc::{AllocError, Global};
 
-/// The line, without its end, that says why a run over the tree stops. The offset of a place is in
-/// bytes from its file's start; a source that is too long is so at the first byte that may not be.
+/// The line, without its end, that says why a run over the tree stops. The offset of a place is in bytes from its
+/// file's start. The offset of a source that is too long is that of the first byte over the limit.
 pub fn fault_line(alloc: Global, tree: &Tree, fault: &Fault) -> Result<String, AllocError>
     requires { HasFilesOf tree.now fault.now }
     ensures { IfOk result (λ line. string_bytes line ≡ line_of tree.now fault.now) }

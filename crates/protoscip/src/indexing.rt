@@ -58,13 +58,13 @@ fn write_spelled<W: Sink>(
 pub struct KeptIndex<'a> {
     /// Its parts, and what was recorded beside it.
     pub built: BuiltParts<'a, Sequence<u8>>,
-    /// What is to be said of what it lacks, as `told_text` gives it; nothing if it lacks nothing.
+    /// The report of what it lacks, as `told_text` gives it; nothing if it lacks nothing.
     pub text: Option<String>,
 }
 
-/// Builds the index of a tree and writes its bytes, as `index_tree` does, and hands out all that it made. What
-/// is to be said of what the index lacks, explained where that is asked for, is made before the first write:
-/// after it nothing but a write fails.
+/// Builds the index of a tree and writes its bytes, as `index_tree` does, and hands out all that it made. The report
+/// of what the index lacks, explained if that is asked for, is made before the first write. From then on only a write
+/// can fail.
 pub fn index_and_keep<'a, R: Threads + Wait, C: Chooses + Sync, G: Gate, W: Sink>(
     run: &Run<'_, R, G>,
     tree: &'a Tree,
@@ -115,12 +115,11 @@ fn index_and_record<R: Threads + Wait, C: Chooses + Sync, G: Gate, W: Sink>(
     })
 }
 
-/// Builds the index of a tree on workers, with the gate's calls round each file, and writes its bytes. What
-/// was chosen for each declaration comes back, and what was left out. By the index that they decode to,
-/// each query for definitions or references is exact, as `headline` says.
+/// Builds the index of a tree on workers, calls the gate before and after each file, and writes the index's bytes.
+/// What was chosen for each declaration comes back, and what was left out. Each query for definitions or references
+/// over the index that the bytes decode to is exact, as `headline` says.
 ///
-/// `Fault` says why there is none, and in which order. After every fault but `Write` nothing was
-/// written.
+/// `Fault` says why there is no index, and in which order. After every fault but `Write`, nothing was written.
 pub fn index_tree<R: Threads + Wait, C: Chooses + Sync, G: Gate, W: Sink>(
     rt: &R,
     alloc: Global,

@@ -1,5 +1,5 @@
-//! Laws: what the definitions say of indexes, whatever the code does. Each is the contract of a function
-//! that does nothing.
+//! Laws: what the definitions say about indexes, whatever the code does. Each is the contract of a function that does
+//! nothing.
 
 ghost use Rattle.protoscip.specs.DumpLaws.{OneListing, ListedUnlessMemory};
 ghost use Rattle.protoscip.specs.Headline.{Headline, HeadlineOfTree};
@@ -26,8 +26,8 @@ pub fn one_reason<C: Chooses, D: Chooses>(chooser: &C, other: &D)
     built_has_no_fault(other, chooser);
 }
 
-/// Where a file's text has no lexing, that is the one fault of a tree, whatever was chosen; so no fault of
-/// syntax stands beside it.
+/// If a file's text has no lexing, that is the one fault of a tree, whatever was chosen; so there is no fault of
+/// syntax beside it.
 pub fn one_file_fault<C: Chooses, D: Chooses>(chooser: &C, other: &D)
     ensures { OneFileFault (C.allows chooser.now) (D.allows other.now) }
 {
@@ -35,16 +35,16 @@ pub fn one_file_fault<C: Chooses, D: Chooses>(chooser: &C, other: &D)
     file_faults_are_alike(chooser, other);
 }
 
-/// A tree that is indexed has no fault, whatever was chosen; but by other choices its index may have too
-/// many bytes.
+/// A tree that is indexed has no fault, whatever was chosen; but with other choices its index may have too many
+/// bytes.
 pub fn indexed_has_no_fault<C: Chooses, D: Chooses>(chooser: &C, other: &D)
     ensures { IndexedHasNoFault (C.allows chooser.now) (D.allows other.now) }
 {
     built_has_no_fault(chooser, other);
 }
 
-/// Where one choice alone may come for each declaration, the choices and the bytes of an index are one
-/// function of the tree, of what is allowed and of the settings, and nothing else is answered.
+/// If only one choice is allowed for each declaration, the choices and the bytes of an index are one function of the
+/// tree, of what is allowed and of the settings, and nothing else is answered.
 pub fn one_indexing<C: Chooses, D: Chooses>(chooser: &C, other: &D)
     ensures one { OneIndexing (C.allows chooser.now) (D.allows other.now) }
     ensures accepted { OneIndexingHasNoFault (C.allows chooser.now) (D.allows other.now) }
@@ -60,8 +60,8 @@ pub fn each_use_has_a_target()
     prefixes_are_entities();
 }
 
-/// What the headline rests on, whatever was chosen: a full name is that of one declaration, a symbol that
-/// of one entity, and a use that names a type has a target.
+/// What the headline rests on, whatever was chosen: a full name belongs to one declaration, a symbol to one entity,
+/// and a use that names a type has a target.
 pub fn laws_of_names()
     ensures { LawsOfNames }
 {
@@ -73,13 +73,13 @@ pub fn laws_of_names()
     files_are_without_clash();
 }
 
-/// The headline, for every tree and all settings. The bytes of a tree's index, which `index_tree` writes
-/// and a session answers from, decode to one index only: the one that the grammar, the scoping rules and
-/// allowed choices give the tree. Each component of a use in a source names an entity, so that it occurs
-/// unless what it names isn't kept. Each occurrence is one of exactly one entity of the tree's files, a
-/// declaration's entity is its own, and entities and symbols are one to one; so each query for references
-/// or definitions over it answers exactly the occurrences of the entity asked, or its definitions among
-/// them, each once and in the index's order, and nothing else.
+/// The headline, for every tree and all settings. The bytes of a tree's index, which `index_tree` writes and a
+/// session answers from, decode to one index only: the one that the grammar, the scoping rules and allowed choices
+/// give the tree. Each component of a use in a source names an entity, so it occurs unless what it names isn't kept.
+/// Each occurrence is one of exactly one entity of the tree's files, a declaration's entity is its own, and entities
+/// and symbols are one to one. So each query for references or definitions over these bytes answers exactly the
+/// occurrences of the entity asked about, or those that define it, each once and in the index's order, and nothing
+/// else.
 pub fn headline<C: Chooses>(chooser: &C)
     ensures { Headline (C.allows chooser.now) }
 {
@@ -102,7 +102,7 @@ pub fn one_listing()
     one_indexing(&DefaultChoices, &DefaultChoices);
 }
 
-/// A source that has a listing isn't refused, but for want of memory.
+/// A source that has a listing isn't refused, unless memory runs out.
 pub fn listed_unless_memory()
     ensures { ListedUnlessMemory }
 {

@@ -26,7 +26,7 @@ fn line_at(alloc: Global, path: &str, offset: usize, name: &str) -> Result<Strin
     format!(in alloc; "protoscip: {path}@{offset}: {name}")
 }
 
-/// `protoscip: PATH@OFFSET: NAME`; without the path where there is no offset.
+/// `protoscip: PATH@OFFSET: NAME`; without the path if there is no offset.
 pub fn placed_line(
     alloc: Global,
     path: &str,

@@ -7,7 +7,7 @@ use crate::fault::Fault;
 use proto_lex::LexFault;
 use proto_parse::SyntaxFault;
 
-/// Of a fault of a text or of its lexing; empty of want of memory.
+/// For a fault of a text or of its lexing; empty for lack of memory.
 fn lex_sentence(fault: &LexFault) -> &'static str
     ensures { result.now ≡ lex_sentence fault.now }
 {
@@ -23,7 +23,7 @@ fn lex_sentence(fault: &LexFault) -> &'static str
     }
 }
 
-/// Of a fault of the parser; empty of want of memory.
+/// For a fault of the parser; empty for lack of memory.
 fn syntax_sentence(fault: &SyntaxFault) -> &'static str
     ensures { result.now ≡ syntax_sentence fault.now }
 {
@@ -42,7 +42,7 @@ fn syntax_sentence(fault: &SyntaxFault) -> &'static str
     }
 }
 
-/// Of a run's fault; empty of want of memory. Of two places with one full name it is that of the second.
+/// For a run's fault; empty for lack of memory. If two places have one full name, it is that of the second.
 pub(crate) fn sentence_of(fault: &Fault) -> &'static str
     ensures { result.now ≡ sentence_of fault.now }
 {

@@ -37,12 +37,12 @@ fn converse<F: Feed, W: Sink>(
 }
 
 /// Builds the index of a tree, as `index_tree` does, and answers commands about it, one a line, as
-/// `Queries::answer_all` does: from the index that its bytes decode to. What was chosen for each
-/// declaration comes back, and what was left out, once all commands are answered.
+/// `Queries::answer_all` does, from the index that its bytes decode to. What was chosen for each declaration comes
+/// back, and what was left out, once all commands are answered.
 ///
-/// After `Read` the answers of the lines that had ended stand, after `Answer(count)` the first `count`
-/// bytes of what was due, and after `Memory` the answers of the commands before; after every other
-/// fault nothing was read or written.
+/// After `Read` the lines that had ended are answered, after `Answer(count)` the first `count` bytes of what was due
+/// are written, and after `Memory` the commands before are answered. After every other fault nothing was read or
+/// written.
 pub fn session<R: Threads + Wait, C: Chooses + Sync, G: Gate, F: Feed, W: Sink>(
     rt: &R,
     alloc: Global,

@@ -1,4 +1,4 @@
-//! What is said of what an index lacks.
+//! The report of what an index lacks.
 
 ghost use Rattle.std.specs.Prelude.{◌≡◌, ◌++◌, ℕ, IfOk, OnOk, string_bytes};
 ghost use Rattle.std.specs.List.{count_by, flat_map};
@@ -99,7 +99,7 @@ fn numbers_line(
     )
 }
 
-/// The line with the numbers, of a tree with so many sources.
+/// The line with the numbers, of a tree with this many sources.
 fn counts_line(alloc: Global, sources: usize, told: &[BuildFault]) -> Result<String, AllocError>
     ensures { IfOk result (λ line. string_bytes line ≡ counts_line sources told.now) }
 {
@@ -130,7 +130,7 @@ fn push_lines(
     Ok(())
 }
 
-/// That and the line with the numbers, of a tree with so many sources.
+/// That and the line with the numbers, of a tree with this many sources.
 fn text_of(
     alloc: Global,
     tree: &Tree,
@@ -148,8 +148,8 @@ fn text_of(
     Ok(text)
 }
 
-/// What is said of what an index of the tree lacks: a line for each, in this order, explained where that is
-/// asked for, and behind them one with their numbers, without its end.
+/// The report of what an index of the tree lacks: a line for each, in this order, explained if that is asked for, and
+/// then one with their numbers, without its end.
 pub fn told_text(
     alloc: Global,
     tree: &Tree,
@@ -164,7 +164,7 @@ pub fn told_text(
     text_of(alloc, tree, sources, told, explain)
 }
 
-/// The same of an index that lacks something; of one that lacks nothing there is nothing to say.
+/// The same for an index that lacks something; for one that lacks nothing there is nothing to report.
 pub(crate) fn text_of_lacks(
     alloc: Global,
     tree: &Tree,

@@ -86,8 +86,8 @@ fn untargeted_line(
     placed_line(alloc, path.as_str(), Some(place.span.start), name)
 }
 
-/// The line, without its end, that tells what an index of the tree lacks, by the fault for which the tree
-/// would be refused: with a word before the path.
+/// The line, without its end, that reports one thing that an index of the tree lacks: the line of the fault for which
+/// the tree would be refused, with words before the path.
 pub fn told_line(alloc: Global, tree: &Tree, fault: &Fault) -> Result<String, AllocError>
     requires { HasFilesOf tree.now fault.now }
     ensures { IfOk result (λ line. string_bytes line ≡ told_line tree.now fault.now) }
@@ -108,7 +108,7 @@ pub fn told_line(alloc: Global, tree: &Tree, fault: &Fault) -> Result<String, Al
     }
 }
 
-/// The same, and what explains it, where that is asked for.
+/// The same, and what explains it, if that is asked for.
 fn explained_line(
     alloc: Global,
     tree: &Tree,

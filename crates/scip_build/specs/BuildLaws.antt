@@ -1,4 +1,4 @@
--- What the definitions say of builds, whatever the code does.
+-- What the definitions say about builds, whatever the code does.
 use Rattle.std.specs.Prelude.{◌≡◌, ◌≢◌, ℕ, List, [], map, Contains}
 use Rattle.proto_parse.specs.tree.CustomOptions.{CustomOptions}
 use Rattle.proto_decl.specs.Seen.{Seen}
@@ -17,8 +17,8 @@ use Rattle.scip_build.specs.declared.fault.BuildFault.TheVariants.{Unresolved}
 use Rattle.scip_build.specs.Laws.{AreAlike}
 use Rattle.scip_build.specs.Builds.{IsBuilt, IsBuildFault}
 
--- What a fault names, as the linker would: of a file that can't be read its number. Want of memory or of a thread names
--- nothing.
+-- What a fault names, as the linker would: of a file that can't be read its number. Lack of memory or of a thread
+-- names nothing.
 abbrev pub cause_of : BuildFault → LinkFault
 cause_of Spawn = link.Memory
 cause_of Memory = link.Memory
@@ -50,8 +50,8 @@ FileFaultsAreAlike allows others =
     → IsBuildFault allows faulty custom tree workers (File number fault)
     → IsBuildFault others faulty custom tree more (File number other) → AreAlike fault other
 
--- Two that are built are alike: they have one index and one list of choices, and what is told names the same; of a file
--- that can't be read the faults are alike, and of syntax they may be two, of which tests show the one that comes.
+-- Two that are built are alike: they have one index and one list of choices, and what is told names the same. The
+-- faults of a file that can't be read are alike; two of syntax may differ, and tests show which one comes.
 pub record AreBuiltAlike (built other : Built) : Type 0 where
   pub index : built.index ≡ other.index
   pub choices : built.choices ≡ other.choices
@@ -66,13 +66,13 @@ pub record SetTheSame (settings other : Settings) : Type 0 where
   pub encoding : settings.encoding ≡ other.encoding
   pub custom_options : settings.custom_options ≡ other.custom_options
 
--- for what is seen of a declaration one choice alone may come, whichever of the two is asked
+-- only one choice may come for what is seen of a declaration, whichever of the two is asked
 abbrev pub AllowOne : (allows others : Seen → Choice → Type 0) → Type 0
 AllowOne allows others = (seen : Seen) (choice another : Choice) → allows seen choice → others seen another
     → choice ≡ another
 
--- There, what is built is one: a function of the tree, of what is allowed, and of the settings, whatever the workers;
--- and where faults are refused, and there is none, the same is built as where they are skipped.
+-- There, what is built is one: a function of the tree, of what is allowed, and of the settings, whatever the workers.
+-- If faults are refused and there is none, the same is built as if they were skipped.
 abbrev pub OneBuilt : (allows others : Seen → Choice → Type 0) → Type 0
 OneBuilt allows others =
     (settings another : Settings) (tree : List TreeFile) (built other : Built) → AllowOne allows others
@@ -80,7 +80,7 @@ OneBuilt allows others =
     → IsBuilt allows settings tree built → IsBuilt others another tree other
     → (settings.faulty ≡ Refuse → built ≡ other) × AreBuiltAlike built other
 
--- Where faults are skipped and nothing is told, there is none: the same is built where they are refused.
+-- If faults are skipped and nothing is told, there is none: the same is built as if they were refused.
 abbrev pub BuiltWhereNothingIsTold : (allows : Seen → Choice → Type 0) → Type 0
 BuiltWhereNothingIsTold allows =
     (settings another : Settings) (tree : List TreeFile) (built : Built) → SetTheSame settings another

@@ -20,7 +20,7 @@ use Rattle.scip_build.specs.Documents.{texts_of, IsLeastUnresolved}
 use Rattle.scip_build.specs.Kept.{AreKept, IsWithoutFault}
 
 -- What is built of files that were read: some are kept, and it is the index of these files, their texts, the recorded
--- choices, and the settings; of the rest it is told why. Where faults are refused nothing is told: so all files are
+-- choices, and the settings; of the rest it is told why. If faults are refused, nothing is told: so all files are
 -- kept, they can be linked, and each use of each source names a type.
 pub record IsBuiltOf (all : List ReadFile) (settings : Settings) (built : Built) : Type 0 where
   pub readings : List ReadFile
@@ -45,8 +45,8 @@ OfReadings custom allows tree Holds =
     (readings : List ReadFile) × AreReadingsOf Refuse custom allows tree readings × Holds readings
 
 -- Why a tree has no index: the first source that can't be read; else what the linking of its files refuses; else the
--- first use that names no type; all this only where faults are refused. A thread is refused only where one is to be
--- started; of memory nothing is said.
+-- first use that names no type; all this only if faults are refused. A thread is refused only if one is to be
+-- started; nothing is said about memory.
 abbrev pub IsBuildFault : (allows : Seen → Choice → Type 0) → Faulty → (custom : CustomOptions) → List TreeFile
     → (workers : ℕ) → BuildFault → Type 0
 IsBuildFault allows faulty custom tree workers Spawn = 1 < workers

@@ -28,7 +28,7 @@ use Rattle.scip_build.specs.declared.fault.BuildFault.{BuildFault}
 use Rattle.scip_build.specs.declared.fault.BuildFault.TheVariants as build
 use Rattle.scip_build.specs.Files.{FileContents, ReadFile}
 
--- a file's text; none where it has no contents
+-- a file's text; none if it has no contents
 abbrev pub text_in : Result FileContents FileFault → List ℕ
 text_in (Ok contents) = contents.text
 text_in (Err fault) = []
@@ -72,7 +72,7 @@ pub record SourceWork : Type 0 where
   pub settings : Settings
   pub count : ℕ
 
--- the document of the source with this number, and its uses that name no type; none where such are refused
+-- the document of the source with this number, and its uses that name no type; none if such are refused
 pub record IsDocumentAt (faulty : Faulty) (readings : List ReadFile) (files : List File) (chosen : Chosen)
     (ids : Packages) (encoding : Encoding) (number : ℕ) (made : SourceDocument) : Type 0 where
   pub text : List ℕ
@@ -81,7 +81,7 @@ pub record IsDocumentAt (faulty : Faulty) (readings : List ReadFile) (files : Li
   pub gaps : AreGaps files number made.unresolved
   pub refused : faulty ≡ Refuse → made.unresolved ≡ []
 
--- why a source has no document: its first use that names no type, where such are refused; of memory nothing is said
+-- why a source has no document: its first use that names no type, if such are refused; nothing is said about memory
 abbrev pub MayRefuseSource : Faulty → List File → (number : ℕ) → BuildFault → Type 0
 MayRefuseSource faulty files number build.Spawn = ⊥
 MayRefuseSource faulty files number build.Memory = ⊤
@@ -114,8 +114,8 @@ pub record IsUnresolvedAt (files : List File) (place : FilePlace) : Type 0 where
   pub stands : type_use.span ≡ place.span
   pub unresolved : IsUnresolved files place.file type_use
 
--- The documents of all sources, one of each, by path, and all uses of the sources that name no type; none where such
--- are refused.
+-- The documents of all sources, one of each, by path, and all uses of the sources that name no type; none if such are
+-- refused.
 pub record AreDocuments (faulty : Faulty) (readings : List ReadFile) (files : List File) (chosen : Chosen)
     (ids : Packages) (encoding : Encoding) (documents : List Document) (gaps : List FilePlace) : Type 0 where
   pub decided : AllAreDecided files
@@ -130,8 +130,8 @@ pub record IsLeastUnresolved (files : List File) (place : FilePlace) : Type 0 wh
   pub first : IsFirstUnresolved files place.file place.span
   pub before : (lesser : ℕ) → lesser < place.file → IsSource files lesser → UsesResolve files lesser
 
--- Why the documents aren't made: a use, where such are refused. A thread is refused only where one is to be started; of
--- memory nothing is said.
+-- Why the documents aren't made: a use, if such are refused. A thread is refused only if one is to be started;
+-- nothing is said about memory.
 abbrev pub MayRefuseDocuments : Faulty → List File → (workers : ℕ) → BuildFault → Type 0
 MayRefuseDocuments faulty files workers build.Spawn = 1 < workers
 MayRefuseDocuments faulty files workers build.Memory = ⊤

@@ -1,4 +1,4 @@
--- Why the file with a number can't be read, by the fault of the step that refuses it: want of memory is no fault of a
+-- Why the file with a number can't be read, by the fault of the step that refuses it: lack of memory is no fault of a
 -- file.
 use Rattle.std.specs.Prelude.{◌≡◌, ℕ, ⊤, List}
 use Rattle.proto_lex.specs.declared.fault.LexFault.{LexFault}
@@ -20,7 +20,7 @@ abbrev pub fault_of_parsing : ℕ → SyntaxFault → BuildFault
 fault_of_parsing number parsing.Memory = Memory
 fault_of_parsing number fault = File number (Syntax fault)
 
--- why the file with this number and these bytes has no contents; of memory nothing is said
+-- why the file with this number and these bytes has no contents; nothing is said about memory
 abbrev pub MayRefuseFile : CustomOptions → (number : ℕ) → (bytes : List ℕ) → BuildFault → Type 0
 MayRefuseFile custom number bytes Spawn = ⊥
 MayRefuseFile custom number bytes Memory = ⊤

@@ -82,7 +82,7 @@ module _ {Out : Type 0} (Is : Document → Out → Type 0) where
     pub built : IsBuiltOf all settings (record { index = index; choices = choices; told = told })
     pub are : ArePartsOf index parts
 
-  -- the same of a tree
+  -- the same for a tree
   pub record IsBuiltInForm (allows : Seen → Choice → Type 0) (settings : Settings) (tree : List TreeFile)
       (choices : Chosen) (told : List BuildFault) (parts : Parts Out) : Type 0 where
     pub index : Index

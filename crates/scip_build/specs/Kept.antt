@@ -46,7 +46,7 @@ pub data IsTold (all : List ReadFile) (omissions : Omissions) : BuildFault → T
       → IsTold all omissions (Unresolved (place_among_all omissions place))
 
 -- Where it is told: the file, the place's start and end, and whether it is a use. Of a file that is left out nothing
--- else is told, so where in it is no matter.
+-- else is told, so where in the file doesn't matter.
 abbrev pub Key : Type 0
 Key = (ℕ × ℕ) × (ℕ × Bool)
 
@@ -81,7 +81,7 @@ pub record IsWithoutFault (all readings : List ReadFile) (told : List BuildFault
   pub linked : CanBeLinked (linked_files all)
   pub resolved : AllResolve (linked_files all)
 
--- Nothing is told just where a tree wouldn't be refused.
+-- Nothing is told if and only if a tree wouldn't be refused.
 abbrev pub NothingIsToldOfAGoodTree : Type 0
 NothingIsToldOfAGoodTree = (all readings : List ReadFile) (told : List BuildFault) → AreKept all readings told
     → (told ≡ []) ↔ (CanBeLinked (linked_files all) × AllResolve (linked_files all))

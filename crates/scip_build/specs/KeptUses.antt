@@ -34,8 +34,9 @@ pub data IsFoundBy : (words : List (List ℕ)) → (name : List ℕ) → List �
   first_word : (scope : List ℕ) {word : List ℕ} {others : List (List ℕ)}
       → IsFoundBy (word ∷ others) (qualified scope (dotted (word ∷ others))) (qualified scope word)
 
--- Of what a use of a kept file names among all files nothing is of a file that is left out: the file knows it among the
--- kept files, too, by each name by which it is found; and each entity that the use names there, it can name here.
+-- Nothing that a use of a kept file names among all files belongs to a file that is left out. The file knows it among
+-- the kept files, too, by each name by which it is found, and each entity that the use names among all files is also
+-- named among the kept ones.
 pub record NamesNothingLeftOut (files kept : List File) (omissions : Omissions) (number : ℕ) (type_use : Use)
     (target : Target) (is : IsTarget files (number_among_all omissions number) type_use target) : Type 0 where
   pub known : (name : List ℕ) (kind : NameKind) → IsFoundBy (words_of type_use) target.name name

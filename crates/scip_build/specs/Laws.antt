@@ -1,4 +1,4 @@
--- What the definitions say of readings and faults, whatever the code does.
+-- What the definitions say about readings and faults, whatever the code does.
 use Rattle.std.specs.Prelude.{◌≡◌, ℕ, ⊤, List}
 use Rattle.proto_lex.specs.declared.fault.LexFault.{LexFault}
 use Rattle.proto_parse.specs.tree.CustomOptions.{CustomOptions}
@@ -24,7 +24,7 @@ OneListOfFacts =
     (custom : CustomOptions) (number : ℕ) (bytes : List ℕ) (facts other : Facts) → AreFactsIn custom number bytes facts
     → AreFactsIn custom number bytes other → facts ≡ other
 
--- and none where it can't be read,
+-- and none if it can't be read,
 abbrev pub NoFactsWhereUnreadable : Type 0
 NoFactsWhereUnreadable =
     (custom : CustomOptions) (number : ℕ) (bytes : List ℕ) (facts : Facts) (fault : FileFault)
@@ -35,8 +35,8 @@ abbrev pub LexedWhereUnparsed : Type 0
 LexedWhereUnparsed = (custom : CustomOptions) (bytes : List ℕ) (lexing : LexFault) (parsing : SyntaxFault)
     → IsUnparsed custom bytes parsing → IsUnlexed bytes lexing → ⊥
 
--- Two faults of one file are alike: of lexing they are one fault; of syntax they may be two, of which tests show the
--- one that comes.
+-- Two faults of one file are alike: two of lexing are one fault; two of syntax may differ, and tests show which one
+-- comes.
 abbrev pub AreAlike : FileFault → FileFault → Type 0
 AreAlike (Lex fault) (Lex other) = fault ≡ other
 AreAlike (Lex fault) (Syntax other) = ⊥
@@ -47,13 +47,13 @@ abbrev pub FaultsAreAlike : Type 0
 FaultsAreAlike = (custom : CustomOptions) (bytes : List ℕ) (fault other : FileFault) → IsUnreadable custom bytes fault
     → IsUnreadable custom bytes other → AreAlike fault other
 
--- Of the sources that can't be read one is the first.
+-- One of the sources that can't be read is the first.
 abbrev pub OneFirstFaulty : Type 0
 OneFirstFaulty =
     (custom : CustomOptions) (files : List TreeFile) (number other : ℕ) (fault another : FileFault)
     → IsFirstFaulty custom files number fault → IsFirstFaulty custom files other another → number ≡ other
 
--- Where there is one, the files have no readings, if it is refused.
+-- If there is one, the files have no readings, if it is refused.
 abbrev pub NoReadingsWhereFaulty : (allows : Seen → Choice → Type 0) → Type 0
 NoReadingsWhereFaulty allows =
     (custom : CustomOptions) (files : List TreeFile) (readings : List ReadFile) (number : ℕ) (fault : FileFault)

@@ -21,7 +21,7 @@ pub mod Keeping
 pub mod Telling
 -- what is built from a tree, and why nothing is
 pub mod Builds
--- the same of files that were read
+-- the same for files that were read
 pub mod Made
 pub mod Making
 -- an index in a form

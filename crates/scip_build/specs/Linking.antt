@@ -12,7 +12,7 @@ use Rattle.scip_build.specs.declared.fault.BuildFault.{BuildFault}
 use Rattle.scip_build.specs.declared.fault.BuildFault.TheVariants as build
 use Rattle.scip_build.specs.Files.{FileContents, ReadFile}
 
--- a file's facts, where it has contents
+-- a file's facts, if it has contents
 abbrev pub facts_in : Result FileContents FileFault → Option Facts
 facts_in (Ok contents) = Some contents.facts
 facts_in (Err fault) = None
@@ -25,7 +25,7 @@ linked_file reading = record
 abbrev pub linked_files : List ReadFile → List File
 linked_files readings = map linked_file readings
 
--- the choices for a file's declarations; none where it has no contents
+-- the choices for a file's declarations; none if it has no contents
 abbrev pub choices_in : Result FileContents FileFault → List Choice
 choices_in (Ok contents) = contents.choices
 choices_in (Err fault) = []
@@ -39,8 +39,9 @@ pub record HasFault (readings : List ReadFile) (number : ℕ) (fault : FileFault
   pub numbered : slice_get readings number ≡ Some reading
   pub unread : reading.contents ≡ Err fault
 
--- Why files that were read can't be linked: the least of the sources and included sources that has no contents, and the
--- fault of that; else what the linker refuses. Of memory nothing is said, and threads and uses are no matter of it.
+-- Why files that were read can't be linked: the least of the sources and included sources that has no contents, and
+-- the fault of that; else what the linker refuses. Nothing is said about memory, and threads and uses are no matter
+-- of it.
 abbrev pub MayRefuseReadings : List ReadFile → BuildFault → Type 0
 MayRefuseReadings readings build.Spawn = ⊥
 MayRefuseReadings readings build.Memory = ⊤

@@ -15,7 +15,7 @@ use Rattle.scip_build.specs.Files.{ReadFile}
 use Rattle.scip_build.specs.Linking.{linked_files, MayRefuseReadings}
 use Rattle.scip_build.specs.Documents.{texts_of, AllAreDecided, IsUnresolvedAt, IsLeastUnresolved}
 
--- The index is that of the files, and these are the uses of sources that name no type: none where such are refused.
+-- The index is that of the files, and these are the uses of sources that name no type: none if such are refused.
 pub record IsMade (readings : List ReadFile) (files : List File) (chosen : Chosen) (settings : Settings)
     (index : Index) (gaps : List FilePlace) : Type 0 where
   pub decided : AllAreDecided files

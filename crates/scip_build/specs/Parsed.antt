@@ -34,7 +34,7 @@ abbrev pub IsUnlexed : List ℕ → LexFault → Type 0
 IsUnlexed bytes fault = IsNoText bytes fault ⊎ (IsText bytes × IsFirstFault bytes fault)
 
 -- The text has a lexing, but its tokens derive no tree. Which fault it is, tests show: not Memory, and none of custom
--- options where these are read past.
+-- options if these are read past.
 pub record IsUnparsed (custom : CustomOptions) (bytes : List ℕ) (fault : SyntaxFault) : Type 0 where
   pub lexed : Lexed
   pub lexing : HasLexing bytes lexed

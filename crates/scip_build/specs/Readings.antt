@@ -45,12 +45,12 @@ abbrev pub AreContentsOf : CustomOptions → (allows : Seen → Choice → Type 
 AreContentsOf custom allows number bytes contents =
     (contents.text ≡ bytes) × IsReadAs custom allows number bytes contents.facts contents.choices
 
--- a file may be without contents where it is included, and any may where it isn't refused for it
+-- a file may be without contents if it is included, and any may if it isn't refused for it
 abbrev pub may_be_unread : Faulty → (is_included : Bool) → Bool
 may_be_unread Refuse is_included = is_included
 may_be_unread Skip is_included = true
 
--- the contents of a file, or, where it may be without, why it has none
+-- the contents of a file, or, if it may be without, why it has none
 abbrev pub HasContents : Faulty → CustomOptions → (allows : Seen → Choice → Type 0) → (number : ℕ) → TreeFile
     → Result FileContents FileFault → Type 0
 HasContents faulty custom allows number file (Ok contents) = AreContentsOf custom allows number file.bytes contents
@@ -77,7 +77,7 @@ pub record IsFaultySource (custom : CustomOptions) (file : TreeFile) (fault : Fi
   pub source : file.is_included ≡ false
   pub unreadable : IsUnreadable custom file.bytes fault
 
--- the file has facts, where it is a source
+-- the file has facts, if it is a source
 abbrev pub IsReadIfSource : CustomOptions → ℕ → TreeFile → Type 0
 IsReadIfSource custom number file = file.is_included ≡ false
     → (facts : Facts) × AreFactsIn custom number file.bytes facts
@@ -91,8 +91,8 @@ pub record IsFirstFaulty (custom : CustomOptions) (files : List TreeFile) (numbe
   pub before : (lesser : ℕ) (other : TreeFile) → lesser < number → slice_get files lesser ≡ Some other
       → IsReadIfSource custom lesser other
 
--- Why the files aren't read: a source can't be, and such sources are refused. A thread is refused only where one is to
--- be started, that is, for two workers or more; of memory nothing is said.
+-- Why the files aren't read: a source can't be, and such sources are refused. A thread is refused only if one is to
+-- be started, that is, for two workers or more; nothing is said about memory.
 abbrev pub MayRefuseFiles : Faulty → CustomOptions → List TreeFile → (workers : ℕ) → BuildFault → Type 0
 MayRefuseFiles faulty custom files workers Spawn = 1 < workers
 MayRefuseFiles faulty custom files workers Memory = ⊤
@@ -102,7 +102,7 @@ MayRefuseFiles faulty custom files workers (Duplicate first second) = ⊥
 MayRefuseFiles faulty custom files workers (MissingImport place) = ⊥
 MayRefuseFiles faulty custom files workers (Unresolved place) = ⊥
 
--- why the file with this number stops the run: it is a source that can't be read; of memory nothing is said
+-- why the file with this number stops the run: it is a source that can't be read; nothing is said about memory
 abbrev pub MayRefuseReading : Faulty → CustomOptions → (number : ℕ) → TreeFile → BuildFault → Type 0
 MayRefuseReading faulty custom number file Spawn = ⊥
 MayRefuseReading faulty custom number file Memory = ⊤

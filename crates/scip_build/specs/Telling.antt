@@ -32,7 +32,7 @@ pub record FromFront {X : Type 0} (IsOf : X → BuildFault → Type 0) (xs : Lis
 abbrev pub IsSomeOmission : List File → (number : ℕ) → Option LinkFault → Type 0
 IsSomeOmission files number omission = (omissions : Omissions) × IsOmission files omissions number omission
 
--- what a list of numbers has at a number; the number itself behind its end
+-- what a list of numbers has at a number; the number itself after its end
 abbrev pub number_in : List ℕ → ℕ → ℕ
 number_in numbers number = unwrap_or (slice_get numbers number) number
 

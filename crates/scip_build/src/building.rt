@@ -43,7 +43,7 @@ use std::sync::Wait;
 use std::thread::Threads;
 use tool::{NAME, VERSION};
 
-/// What the index says of itself.
+/// What the index says about itself.
 fn metadata(alloc: Global, project_root: &OwnedText) -> Result<Metadata, AllocError>
     ensures { IfOk result (λ made. made ≡ metadata_of project_root.now) }
 {
@@ -126,7 +126,7 @@ fn make_linked<R: Threads + Wait, G: Gate, F: DocumentForm + Sync>(
     })
 }
 
-/// What is made of all files that were read, where faults are refused.
+/// What is made of all files that were read, if faults are refused.
 fn make_whole<R: Threads + Wait, G: Gate, F: DocumentForm + Sync>(
     run: &Run<'_, R, G>,
     readings: &[Reading<'_>],
@@ -166,7 +166,7 @@ fn make_kept<R: Threads + Wait, G: Gate, F: DocumentForm + Sync>(
     Ok((made, missing))
 }
 
-/// The parts of the index of a tree that was read, where faults are refused.
+/// The parts of the index of a tree that was read, if faults are refused.
 fn build_whole<'a, R: Threads + Wait, G: Gate, F: DocumentForm + Sync>(
     run: &Run<'_, R, G>,
     all: Vec<Reading<'a>>,
@@ -251,16 +251,16 @@ fn index_of(parts: Parts<Document>) -> Index
     }
 }
 
-/// Builds the index of a tree's sources, by what the chooser chooses for each declaration and by the
-/// settings, on so many workers. The gate's calls come round each file as it is read, and then round
-/// each source as its document is made.
+/// Builds the index of a tree's sources, by what the chooser chooses for each declaration and by the settings, on
+/// this many workers. The gate's calls come round each file as it is read, and then round each source as its document
+/// is made.
 ///
-/// Where faults are skipped, the files that have one are left out, and imports and uses that then name
-/// nothing don't occur; what is told beside the index is just these, and `Spawn` and `Memory` alone are
-/// refusals. Else nothing is told, and of the refusals the first is answered: `Spawn`, `Memory`, or the
-/// first source that can't be read; then the first included file that some source sees and that can't be
-/// read; then `Duplicate`, `MissingImport`; then `Spawn`, `Memory`, or the first use of the first source in
-/// which one names no type. A refused growth ends the step that it is in with `Memory`.
+/// If faults are skipped, the files that have one are left out, and imports and uses that then name nothing don't
+/// occur; what is told beside the index is just these, and `Spawn` and `Memory` alone are refusals. Else nothing is
+/// told, and of the refusals the first is answered: `Spawn`, `Memory`, or the first source that can't be read; then
+/// the first included file that some source sees and that can't be read; then `Duplicate`, `MissingImport`; then
+/// `Spawn`, `Memory`, or the first use of the first source in which one names no type. A refused growth ends the step
+/// that it is in with `Memory`.
 pub fn build<R: Threads + Wait, C: Chooses + Sync, G: Gate>(
     rt: &R,
     alloc: Global,

@@ -11,7 +11,7 @@ pub struct Built {
     pub index: Index,
     /// For each file that is kept, by its number among these, the choice for each of its declarations.
     pub choices: Choices,
-    /// What was left out, and what has no target, each by the fault for which it would be refused, in
-    /// order of file and place; nothing where faults are refused.
+    /// What was left out, and what has no target, each by the fault for which it would be refused, in order of file
+    /// and place; nothing if faults are refused.
     pub told: Sequence<BuildFault>,
 }

@@ -7,7 +7,7 @@ use crate::reading::Reading;
 use index_hooks::Choice;
 use std::alloc::{AllocError, Global};
 
-/// The choices for the declarations of a file; none where it has no contents.
+/// The choices for the declarations of a file; none if it has no contents.
 fn choices_of(alloc: Global, reading: &Reading<'_>) -> Result<Vec<Choice>, AllocError>
     ensures { IfOk result (λ list. list.items ≡ choices_of reading.now) }
 {

@@ -9,7 +9,7 @@ use std::fmt;
 
 /// Why a file can't be read. `Lex` comes before `Syntax`: a file is lexed whole before it is parsed.
 ///
-/// Neither holds its `Memory`: want of memory is no fault of a file.
+/// Neither holds its `Memory`: lack of memory is no fault of a file.
 #[derive(Clone, Copy, Debug, Drop, PartialEq, Eq)]
 pub enum FileFault {
     /// Its bytes are no text, or the text has no lexing.
@@ -38,8 +38,8 @@ pub enum BuildFault {
     Spawn,
     /// Memory ran out.
     Memory,
-    /// The number of the first source that can't be read, and why; or, where all can be, of the first
-    /// included file that some source sees and that can't be.
+    /// The number of the first source that can't be read, and why; or, if all can be, of the first included file that
+    /// some source sees and that can't be.
     File(usize, FileFault),
     /// Two places that give one full name.
     Duplicate(FilePlace, FilePlace),

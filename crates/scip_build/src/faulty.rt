@@ -8,8 +8,8 @@ ghost use Rattle.scip_build.specs.Readings.{may_be_unread};
 pub enum Faulty {
     /// The first fault is answered, and there is no index.
     Refuse,
-    /// Files that can't be read, and those of which a name clashes with one of a file before, are left
-    /// out; imports of files that aren't there, and uses that name no type, don't occur. Each is told.
+    /// Files that can't be read, and those of which a name clashes with one of a file before, are left out; imports
+    /// of files that aren't there, and uses that name no type, don't occur. Each is reported.
     Skip,
 }
 

@@ -27,7 +27,7 @@ pub(crate) struct Reader<'c, C> {
     pub(crate) faulty: Faulty,
 }
 
-/// Why the file with this number has no lexing; want of memory is no fault of a file.
+/// Why the file with this number has no lexing; lack of memory is no fault of a file.
 fn unlexed(number: usize, fault: LexFault) -> BuildFault
     ensures { result ≡ fault_of_lexing number fault }
 {
@@ -37,7 +37,7 @@ fn unlexed(number: usize, fault: LexFault) -> BuildFault
     }
 }
 
-/// Why the file with this number has no tree; want of memory is no fault of a file.
+/// Why the file with this number has no tree; lack of memory is no fault of a file.
 fn unparsed(number: usize, fault: SyntaxFault) -> BuildFault
     ensures { result ≡ fault_of_parsing number fault }
 {

@@ -1,4 +1,4 @@
-//! Laws: what the definitions say of readings and faults, whatever the code does.
+//! Laws: what the definitions say about readings and faults, whatever the code does.
 
 ghost use Rattle.scip_build.specs.BuildLaws.{BuiltHasNoFault, OneBuildFault, FileFaultsAreAlike, OneBuilt};
 ghost use Rattle.scip_build.specs.BuildLaws.{BuiltWhereNothingIsTold};
@@ -32,8 +32,8 @@ pub fn faults_exclude_facts()
     one_first_fault();
 }
 
-/// Two faults of one file are alike: both of lexing, and then one; or both of syntax, of which tests
-/// show which comes.
+/// Two faults of one file are alike: both are of lexing, and then they are one fault; or both are of syntax, and then
+/// tests show which one comes.
 pub fn faults_are_alike()
     ensures { FaultsAreAlike }
 {
@@ -41,14 +41,14 @@ pub fn faults_are_alike()
     faults_exclude_facts();
 }
 
-/// Of the sources that can't be read one is the first.
+/// One of the sources that can't be read is the first.
 pub fn one_first_faulty()
     ensures { OneFirstFaulty }
 {
     faults_exclude_facts();
 }
 
-/// Where a source can't be read, the files have no readings, whatever is chosen.
+/// If a source can't be read, the files have no readings, whatever is chosen.
 pub fn readings_exclude_faults<C: Chooses>(chooser: &C)
     ensures { NoReadingsWhereFaulty (C.allows chooser.now) }
 {
@@ -96,8 +96,8 @@ pub fn file_faults_are_alike<C: Chooses, D: Chooses>(chooser: &C, other: &D)
     faults_are_alike();
 }
 
-/// Nothing is told of a tree just where it wouldn't be refused; and then the same is built where faults
-/// are refused as where they are skipped.
+/// Nothing is told of a tree if and only if it wouldn't be refused. Then the same is built, whether faults are
+/// refused or skipped.
 pub fn nothing_is_left_out_of_a_good_tree<C: Chooses>(chooser: &C)
     ensures told { NothingIsToldOfAGoodTree }
     ensures built { BuiltWhereNothingIsTold (C.allows chooser.now) }
@@ -110,9 +110,9 @@ pub fn kept_resolves_alike()
     ensures { KeptResolvesAlike }
 {}
 
-/// Where for what is seen of a declaration one choice alone may come, a tree has one index, one list of
-/// choices and one list of what is told by its settings, whatever the workers; and where it has no fault,
-/// the same where faults are skipped. The two choosers may be one.
+/// If only one choice may come for what is seen of a declaration, a tree has one index, one list of choices and one
+/// list of what is told by its settings, whatever the workers. If it has no fault, they are the same whether faults
+/// are refused or skipped. The two choosers may be one.
 pub fn one_built<C: Chooses, D: Chooses>(chooser: &C, other: &D)
     ensures { OneBuilt (C.allows chooser.now) (D.allows other.now) }
 {

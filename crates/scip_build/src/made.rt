@@ -19,6 +19,6 @@ pub(crate) struct Made<T> {
     pub(crate) parts: Parts<T>,
     /// For each file, by its number, the choice for each of its declarations.
     pub(crate) choices: Choices,
-    /// The places of the uses of sources that name no type; none where such are refused.
+    /// The places of the uses of sources that name no type; none if such are refused.
     pub(crate) gaps: Sequence<FilePlace>,
 }

@@ -40,13 +40,13 @@ impl<'a, 'c, C: Chooses + Sync> Job for PhaseOne<'a, 'c, C> {
     }
 }
 
-/// Reads the files of a tree, by one choice of what is done with custom options, and chooses for
-/// each declaration, on so many workers, with the gate's calls round each file.
+/// Reads the files of a tree, by one choice of what is done with custom options, and chooses for each declaration, on
+/// this many workers, with the gate's calls round each file.
 ///
-/// A source that isn't text, or has no lexing or no tree, is refused, if such are: `File` names the first
-/// of them, and memory sufficed for every file before it. An included file that has none of these is no
-/// refusal, and no file is where faulty ones are skipped: its reading has the fault. The chooser is asked
-/// once about each declaration of a file that can be read, included or not.
+/// A source that isn't text, or has no lexing or no tree, is refused, unless faulty files are skipped: `File` names
+/// the first of them, and memory sufficed for every file before it. An included file like that isn't refused, and no
+/// file is if faulty ones are skipped: its reading has the fault. The chooser is asked once about each declaration of
+/// a file that can be read, included or not.
 ///
 /// `Spawn` comes before `Memory`, and `Memory` before `File`. `Memory` is for what all files share, or
 /// for the least file that stops the run, be it an included one. `Duplicate`, `MissingImport`,

@@ -68,9 +68,9 @@ impl<'a, 'b, 'l, 'f, 'r, F: DocumentForm + Sync> Job for PhaseTwo<'a, 'b, 'l, 'f
 /// Makes the documents of the sources, by path, on workers, with the gate's calls round each, and keeps of
 /// each what the form says, and its uses that name no type.
 ///
-/// Of the refusals `Spawn` comes before `Memory`, and `Memory` before `Unresolved`, which is of the
-/// first source, and comes only where such uses are refused; but where the least source that has no
-/// document lacks memory, it is `Memory`.
+/// Of the refusals, `Spawn` comes before `Memory`, and `Memory` before `Unresolved`, which is of the first source,
+/// and comes only if such uses are refused; but if the least source that has no document lacks memory, it is
+/// `Memory`.
 pub(crate) fn make_documents<R: Threads + Wait, G: Gate, F: DocumentForm + Sync>(
     run: &Run<'_, R, G>,
     sources: &LinkedSources<'_, '_, '_, '_>,

@@ -26,8 +26,7 @@ impl<'a> Model for Contents<'a> {
     ghost view = { λ contents. record { text = contents.text; facts = contents.facts; choices = contents.choices } };
 }
 
-/// A file after it was read: its contents, or why it has none; a source is without only where such are
-/// skipped.
+/// A file after it was read: its contents, or why it has none; a source is without only if such are skipped.
 ///
 /// Contracts see its path's bytes, whether it is included, and the contents or the fault.
 #[derive(Drop)]

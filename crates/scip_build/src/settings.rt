@@ -9,7 +9,7 @@ use sequences::OwnedText;
 /// What an index is made by, beside the files and what is chosen for declarations.
 #[derive(Debug, Drop)]
 pub struct Settings {
-    /// The URI of the folder below which the paths of the documents stand.
+    /// The URI of the folder below which the paths of the documents are.
     pub project_root: OwnedText,
     /// The packages that the symbols belong to, by their files.
     pub package: FilePackages,
@@ -17,6 +17,6 @@ pub struct Settings {
     pub encoding: Encoding,
     /// Whether custom options are refused or read past, in sources and in included files.
     pub custom_options: CustomOptions,
-    /// Whether a tree with faults is refused, or what has one is left out and told.
+    /// Whether a tree with faults is refused, or what has one is left out and reported.
     pub faulty: Faulty,
 }

@@ -29,7 +29,7 @@ fn text_at<'a, 'r>(readings: &'a [Reading<'r>], number: usize) -> &'a Text<'r>
     }
 }
 
-/// The first of the uses that name no type, where such are refused.
+/// The first of the uses that name no type, if such are refused.
 fn first_refused(faulty: Faulty, unresolved: &[Span]) -> Option<Span>
     ensures { MatchOption result
         (faulty ≡ Refuse → unresolved.now ≡ [])
@@ -41,8 +41,8 @@ fn first_refused(faulty: Faulty, unresolved: &[Span]) -> Option<Span>
     }
 }
 
-/// The document of a source that was read, and its uses that name no type; `Unresolved` at the first of
-/// them, where such are refused.
+/// The document of a source that was read, and its uses that name no type; `Unresolved` at the first of them, if such
+/// are refused.
 pub(crate) fn make_document(
     sources: &LinkedSources<'_, '_, '_, '_>,
     number: usize,

@@ -22,7 +22,7 @@ abbrev pub AllResolve : List File → Type 0
 AllResolve files = (source : ℕ) (facts : Facts) (type_use : Use) → IsSource files source → HasFacts files source facts
     → Contains facts.uses type_use → IsResolved files source type_use
 
--- The first use of a file that names no type, and where it stands: uses are in order of place.
+-- The first use of a file that names no type, and where it is: uses are in order of place.
 pub record IsFirstUnresolved (files : List File) (file : ℕ) (span : Span) : Type 0 where
   pub facts : Facts
   pub known : HasFacts files file facts

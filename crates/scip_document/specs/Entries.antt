@@ -1,6 +1,5 @@
 -- The symbol entries of the document of a source, and those of included files (`scip.proto`, SymbolInformation; which
--- symbols have
--- one, and the names that they are shown by, is the profile's).
+-- symbols have one, and the names that they are shown by, is the profile's).
 use Rattle.std.specs.Prelude.{◌≡◌, ℕ, ◌+◌, true, Some, List, []}
 use Rattle.std.specs.List.{slice_get}
 use Rattle.scip_model.specs.declared.records.SymbolInformation.{SymbolInformation}
@@ -62,8 +61,7 @@ pub data HasEntry (files : List File) (chosen : Chosen) (ids : Packages) (source
       → HasEntry files chosen ids source entry
 
 -- The external entries (`scip.proto`, Index.external_symbols): each declaration of an included file that is kept, and
--- that a component
--- of a use in a source names.
+-- that a component of a use in a source names.
 pub record HasExternal (files : List File) (chosen : Chosen) (ids : Packages) (entry : SymbolInformation) : Type 0 where
   pub source : ℕ
   pub is_source : IsSource files source

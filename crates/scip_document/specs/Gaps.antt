@@ -8,11 +8,11 @@ use Rattle.proto_link.specs.Targets.{IsTarget, IsUnresolved}
 use Rattle.proto_link.specs.declared.target.Target.{Target}
 use Rattle.scip_document.specs.Conditions.{IsResolved}
 
--- what a use of a file names, where it names a type
+-- what a use of a file names, if it names a type
 abbrev pub IsFound : List File → (file : ℕ) → Use → Option Target → Type 0
 IsFound files file type_use found = MatchOption found (IsUnresolved files file type_use) (IsTarget files file type_use)
 
--- Of a list the places of those that lack something, in order, and no others: each has it, or lacks it.
+-- The places of those in a list that lack something, in order, and no others: each has it, or lacks it.
 pub data AreLacking {X : Type 0} (Has Lacks : X → Type 0) (span_of : X → Span) : List X → List Span → Type 0 where
   at_end : AreLacking Has Lacks span_of [] []
   has : {x : X} {xs : List X} {spans : List Span} → Has x → AreLacking Has Lacks span_of xs spans

@@ -50,8 +50,8 @@ pub record IsDocumentOf (files : List File) (chosen : Chosen) (ids : Packages) (
 abbrev pub AreExternals : List File → Chosen → Packages → List SymbolInformation → Type 0
 AreExternals files chosen ids = IsAscendingListOf info_cmp (HasExternal files chosen ids)
 
--- What an index says of itself (`scip.proto`, Metadata, ProtocolVersion, TextEncoding): the protocol's version 0; the
--- sources are UTF-8.
+-- What an index says about itself (`scip.proto`, Metadata, ProtocolVersion, TextEncoding): the protocol's version 0;
+-- the sources are UTF-8.
 abbrev pub metadata_of : (project_root : List ℕ) → Metadata
 metadata_of project_root = record {
   version = pos 0;

@@ -1,6 +1,5 @@
--- What the definitions say of documents, external entries and indexes, whatever the code does: there is one of each at
--- most, and no two
--- occurrences of a document tie.
+-- What the definitions say about documents, external entries and indexes, whatever the code does: there is one of
+-- each at most, and no two occurrences of a document tie.
 use Rattle.std.specs.Prelude.{◌≡◌, ℕ, Some, List}
 use Rattle.std.specs.List.{slice_get}
 use Rattle.proto_decl.specs.Facts.{Facts}

@@ -31,7 +31,7 @@ text_of id entity = symbol_text (symbol_in id entity)
 abbrev pub package_at : Facts → (count : ℕ) → symbols.Entity
 package_at facts count = OfPackage (component_names (take count facts.package_name))
 
--- a declaration: its file's package, and the way to it
+-- a declaration: its file's package, and the path to it
 abbrev pub declaration_at : Facts → Declaration → symbols.Entity
 declaration_at facts declaration = OfDeclaration (component_names facts.package_name) declaration.path
 

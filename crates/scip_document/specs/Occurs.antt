@@ -1,6 +1,5 @@
 -- What occurs in the document of a source: exactly this, whatever its order (`scip.proto`, Occurrence and SymbolRole;
--- which symbols
--- occur, and the file's own range, is the profile's).
+-- which symbols occur, and the file's own range, is the profile's).
 use Rattle.std.specs.Prelude.{◌≡◌, ℕ, ◌+◌, ℤ, pos, Some, List, Contains}
 use Rattle.std.specs.List.{slice_get}
 use Rattle.proto_lex.specs.declared.span.Span.{Span}
@@ -44,7 +43,7 @@ range_over encoding text span = record {
 abbrev pub start_of_text : RangeNumbers
 start_of_text = record { start_line = 0; start_column = 0; end_line = 0; end_column = 0 }
 
--- A package that a component names occurs always, a declaration where it is kept.
+-- A package that a component names occurs always, a declaration if it is kept.
 abbrev pub IsShown : Chosen → Entity → Type 0
 IsShown chosen (link.Package count) = Unit {0}
 IsShown chosen (link.Declared file declaration) = IsKept chosen file declaration
@@ -65,7 +64,7 @@ pub data Occurs (files : List File) (chosen : Chosen) (ids : Packages) (encoding
         symbol = text_of (package_of_file files ids source) (OfFile file.path);
         symbol_roles = definition_role;
       })
-  -- each file that it imports, over the literals, where it is there
+  -- each file that it imports, over the literals, if it is there
   of_import : {facts : Facts} {imported : Imported} → HasFacts files source facts → Contains facts.imports imported
       → HasPath files imported.path
       → Occurs files chosen ids encoding source text

@@ -1,6 +1,6 @@
--- The package that the symbols of a file belong to (`scip.proto`, Symbol and Package): that of the run, or that of the
--- included root that the file is below, where this has one of its own. A proto package is no file's own: it belongs to
--- the run.
+-- The package that the symbols of a file belong to (`scip.proto`, Symbol and Package): that of the run, or that of
+-- the included root that the file is below, if this has one of its own. A proto package is no file's own: it belongs
+-- to the run.
 use Rattle.std.specs.Prelude.{ℕ, Option, Some, None, List, [], ◌∷◌, ◌++◌, if◌then◌else◌, All}
 use Rattle.std.specs.List.{slice_get, list_any}
 use Rattle.std.specs.Str.{bytes_eq}
@@ -23,7 +23,7 @@ pub record Packages : Type 0 where
 abbrev pub with_path : List (List ℕ) → (path : List ℕ) → List (List ℕ)
 with_path paths path = if list_any (bytes_eq path) paths then paths else paths ++ path ∷ []
 
--- the package of the first root that has a file with this path; where none has, the run's
+-- the package of the first root that has a file with this path; if none has, the run's
 abbrev pub package_among : (run : Package) → (path : List ℕ) → List Root → Package
 package_among run path [] = run
 package_among run path (root ∷ roots) =

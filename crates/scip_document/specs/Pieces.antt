@@ -13,7 +13,7 @@ use Rattle.scip_document.specs.declared.merge_fault.MergeFault.TheVariants.{Stra
 abbrev pub texts : List (Bor (List ℕ)) → List (List ℕ)
 texts paths = map (λ (path : Bor (List ℕ)). path.now) paths
 
--- each path is behind those before it
+-- each path is after those before it
 abbrev pub IsRising : List (List ℕ) → Type 0
 IsRising = IsStrictlySortedBy (slice_cmp nat_cmp)
 
@@ -57,8 +57,8 @@ pub record IsFirstMissing (paths : List (List ℕ)) (pieces : List Document) (nu
   pub missing : IsMissing paths pieces number
   pub least : (other : ℕ) → other < number → IsMissing paths pieces other → ⊥
 
--- The first piece that is a stranger, or there twice; or, where there is none, the first path without a piece. Of
--- memory nothing is said.
+-- The first piece that is a stranger, or there twice; or, if there is none, the first path without a piece. Nothing
+-- is said about memory.
 abbrev pub MayRefuseMerge : (paths : List (List ℕ)) → (pieces : List Document) → MergeFault → Type 0
 MayRefuseMerge paths pieces (Stranger piece) = AreFine paths pieces piece × IsStranger paths pieces piece
 MayRefuseMerge paths pieces (Twice piece) = AreFine paths pieces piece × IsTwice pieces piece

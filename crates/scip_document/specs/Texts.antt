@@ -16,7 +16,7 @@ pub record AreOfText (text : List ℕ) (facts : Facts) : Type 0 where
 abbrev pub HasText : List File → (file : ℕ) → (text : List ℕ) → Type 0
 HasText files file text = (facts : Facts) → HasFacts files file facts → AreOfText text facts
 
--- The document of a source is refused at its first use that names no type, kept or not. Of memory nothing is said.
+-- The document of a source is refused at its first use that names no type, kept or not. Nothing is said about memory.
 abbrev pub MayRefuseDocument : List File → (source : ℕ) → LinkFault → Type 0
 MayRefuseDocument files source (Unresolved place) = (place.file ≡ source) × IsFirstUnresolved files source place.span
 MayRefuseDocument files source (Broken number) = ⊥

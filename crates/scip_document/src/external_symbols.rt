@@ -23,7 +23,7 @@ use scip_symbol::PackageId;
 use sequences::Sequence;
 use std::alloc::{AllocError, Global};
 
-// Adds a declaration, where its file is included and it is kept.
+// Adds a declaration, if its file is included and it is kept.
 fn push_declared(
     named: &mut Vec<(usize, usize)>,
     linker: &Linker<'_, '_>,
@@ -47,7 +47,7 @@ fn push_declared(
     Ok(())
 }
 
-// Adds what a component of a use names, where it is such a declaration.
+// Adds what a component of a use names, if it is such a declaration.
 fn push_part(
     named: &mut Vec<(usize, usize)>,
     linker: &Linker<'_, '_>,
@@ -238,8 +238,7 @@ fn has_included(linker: &Linker<'_, '_>) -> bool
 /// The external symbol entries of linked files, by symbol: one for each declaration of an included
 /// file that is kept by these choices and that a component of a use in a source names.
 ///
-/// A use that names no type names none of them. Where no file is included, no use is looked at, and no
-/// memory is taken.
+/// A use that names no type names none of them. If no file is included, no use is looked at, and no memory is taken.
 pub fn externals(
     alloc: Global,
     linker: &Linker<'_, '_>,

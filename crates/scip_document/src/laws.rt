@@ -39,8 +39,8 @@ pub fn no_two_occurrences_tie()
     positions_rise();
 }
 
-/// In facts without a clash, entities with one symbol's text are one entity, whatever packages the two
-/// belong to.
+/// In facts without a clash, entities whose symbols have one text are one entity, whatever packages the two belong
+/// to.
 pub fn symbols_name_one_entity_in_packages()
     ensures { SymbolsNameOne }
 {

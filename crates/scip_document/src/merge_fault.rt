@@ -5,8 +5,8 @@ use sequences::Sequence;
 use std::alloc::AllocError;
 use thiserror::Error;
 
-/// Why documents, the pieces of an index, aren't put together. Of the first two the one of the
-/// earlier piece is answered, and `Missing` where no piece has either.
+/// Why documents, the pieces of an index, aren't put together. Of the first two the one of the earlier piece is
+/// answered, and `Missing` if no piece has either.
 #[derive(Clone, Copy, Debug, Drop, PartialEq, Eq, Error)]
 pub enum MergeFault {
     /// The piece with this number has a path that isn't one of those given.

@@ -10,7 +10,7 @@ use std::alloc::{AllocError, Global};
 use std::cmp::Ordering;
 use std::collections::VecDeque;
 
-/// How the first of one list stands to that of another. Nothing stands behind everything.
+/// How the first of one list compares with that of another. Nothing comes after everything.
 fn compare_fronts(first: &VecDeque<Occurrence>, second: &VecDeque<Occurrence>) -> Ordering
     ensures { result ≡ fronts_cmp occurrence_cmp first.now.items second.now.items }
 {

@@ -86,7 +86,7 @@ fn has_file(linker: &Linker<'_, '_>, imported: &Imported) -> bool
     linker.has_path(imported.path.as_str())
 }
 
-/// Adds the occurrence of an import, over its literals, where some file has its path.
+/// Adds the occurrence of an import, over its literals, if some file has its path.
 fn add_import(
     list: &mut Vec<Occurrence>,
     maker: &DocumentMaker<'_, '_, '_, '_>,

@@ -48,7 +48,7 @@ impl RootPackage {
         }
     }
 
-    /// Adds the path of a file, unless it is there. Where memory doesn't suffice, nothing changes.
+    /// Adds the path of a file, unless it is there. If memory runs out, nothing changes.
     pub fn add(&mut self, path: String) -> Result<(), AllocError>
         ensures id { self.new.id ≡ self.old.id }
         ensures paths { OnOk result (self.new.paths ≡ with_path self.old.paths (string_bytes path)) }
@@ -105,8 +105,8 @@ impl FilePackages {
         }
     }
 
-    /// Adds a root behind those that are there: of the roots that have a file with one path the first
-    /// counts. Where memory doesn't suffice, nothing changes.
+    /// Adds a root after those that are there: of the roots that have a file with one path the first counts. If
+    /// memory runs out, nothing changes.
     pub fn add(&mut self, root: RootPackage) -> Result<(), AllocError>
         ensures run { self.new.run ≡ self.old.run }
         ensures roots { OnOk result (self.new.roots ≡ self.old.roots ++ root ∷ []) }
@@ -134,7 +134,7 @@ impl FilePackages {
     }
 }
 
-// The package of the first root that has a file with this path; where none has, the run's.
+// The package of the first root that has a file with this path; if none has, the run's.
 fn package_among<'a>(run: &'a PackageId, roots: &'a [RootPackage], path: &str) -> &'a PackageId
     ensures { result.now ≡ package_among run.now path.now roots.now }
 {

@@ -12,7 +12,7 @@ use sequences::Sequence;
 use std::alloc::{AllocError, Global};
 use std::cmp::Ordering;
 
-// The number of a path, where it is one of these.
+// The number of a path, if it is one of these.
 fn number_of(paths: &[&str], path: &str) -> Option<usize>
     requires { IsRising (texts paths.now) }
     ensures { MatchOption result (Contains (texts paths.now) path.now → ⊥)
@@ -74,7 +74,7 @@ fn compare_paths(a: &Document, b: &Document) -> Ordering
     a.relative_path.as_str().cmp(b.relative_path.as_str())
 }
 
-// Puts the pieces in the order of the paths, where each path has one.
+// Puts the pieces in the order of the paths, if each path has one.
 fn put_in_order(alloc: Global, paths: &[&str], pieces: &mut Vec<Document>) -> Result<(), MergeFault>
     requires { IsRising (texts paths.now) }
     ensures merged { OnOk result (AreMerged (texts paths.now) pieces.old.items pieces.new.items) }
@@ -95,7 +95,7 @@ fn put_in_order(alloc: Global, paths: &[&str], pieces: &mut Vec<Document>) -> Re
 /// Puts pieces together: an index with a document for each path, in the order of the paths, which
 /// have to rise.
 ///
-/// Where they aren't put together, the pieces and the external entries come back as they were.
+/// If they aren't put together, the pieces and the external entries come back as they were.
 pub fn merge(
     alloc: Global,
     paths: &[&str],

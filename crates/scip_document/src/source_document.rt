@@ -46,7 +46,7 @@ fn encoding_number(encoding: Encoding) -> i32
     }
 }
 
-/// The file's own occurrence alone.
+/// Only the file's own occurrence.
 fn own_occurrences(alloc: Global, id: &PackageId, path: &str) -> Result<Vec<Occurrence>, AllocError>
     requires { IsGoodPath path.now }
     ensures { IfOk result (λ list. list.items ≡ own_occurrence id.now path.now ∷ []) }

@@ -19,7 +19,7 @@ fn keep(found: &mut Vec<Option<Target>>, target: Option<Target>) -> Result<(), A
     Ok(())
 }
 
-/// What a use of a file names, where it names a type. `Memory` is the only fault.
+/// What a use of a file names, if it names a type. `Memory` is the only fault.
 fn target_of(
     alloc: Global,
     linker: &Linker<'_, '_>,
@@ -37,7 +37,7 @@ fn target_of(
     }
 }
 
-/// What each use of a source names, in order, where it names a type. `Memory` is the only fault.
+/// What each use of a source names, in order, if it names a type. `Memory` is the only fault.
 pub(crate) fn find_targets(
     alloc: Global,
     linker: &Linker<'_, '_>,

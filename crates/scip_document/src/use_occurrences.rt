@@ -42,7 +42,7 @@ fn components_in(alloc: Global, name: &str) -> Result<Vec<&str>, AllocError>
     name.split('.').collect(alloc)
 }
 
-/// So many of them, or all where there are fewer.
+/// This many of them, or all if there are fewer.
 fn at_most(count: usize, parts: &[&str]) -> usize
     ensures within { result ≤ length parts.now }
     ensures same { (texts : List (List ℕ)) → length texts ≡ length parts.now → take result texts ≡ take count texts }
@@ -126,8 +126,7 @@ fn is_shown(maker: &DocumentMaker<'_, '_, '_, '_>, name: &str, part: Entity) -> 
     }
 }
 
-/// Adds the occurrence of a part of a full name over a component, where there is a part and it
-/// occurs.
+/// Adds the occurrence of a part of a full name over a component, if there is a part and it occurs.
 fn add_part(
     list: &mut Vec<Occurrence>,
     maker: &DocumentMaker<'_, '_, '_, '_>,
@@ -181,7 +180,7 @@ fn add_target(
     Ok(())
 }
 
-/// Adds the occurrences of a use, where it names a type.
+/// Adds the occurrences of a use, if it names a type.
 fn add_found(
     list: &mut Vec<Occurrence>,
     maker: &DocumentMaker<'_, '_, '_, '_>,
@@ -201,8 +200,7 @@ fn add_found(
     }
 }
 
-/// Each component of a use that names a package, or a declaration that is kept; of the uses this was
-/// found.
+/// Each component of a use that names a package, or a declaration that is kept; this was found for the uses.
 pub(crate) fn use_occurrences(
     maker: &DocumentMaker<'_, '_, '_, '_>,
     found: &[Option<Target>],

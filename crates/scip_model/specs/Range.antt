@@ -1,4 +1,4 @@
--- Where an occurrence stands (`scip.proto`, Occurrence.range).
+-- Where an occurrence is (`scip.proto`, Occurrence.range).
 use Rattle.std.specs.Prelude.{ℕ, ◌≤◌}
 
 -- from a place up to, and without, another: zero-based lines and columns

@@ -1,4 +1,4 @@
-//! Where an occurrence stands.
+//! Where an occurrence is.
 
 ghost use Rattle.std.specs.Prelude.{◌≡◌, ◌≤◌, SomeIff};
 ghost use Rattle.scip_model.specs.Range.{RangeNumbers, IsRange};
@@ -36,7 +36,7 @@ impl Model for Range {
 }
 
 impl Range {
-    /// The range of four numbers, where each of them fits a SCIP `int32`.
+    /// The range of four numbers, if each of them fits a SCIP `int32`.
     pub fn new(start_line: u32, start_column: u32, end_line: u32, end_column: u32) -> Option<Range>
         ensures { SomeIff result (IsRange (record { start_line = start_line; start_column = start_column; end_line = end_line; end_column = end_column })) (record { start_line = start_line; start_column = start_column; end_line = end_line; end_column = end_column }) }
     {

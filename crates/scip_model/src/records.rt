@@ -11,7 +11,7 @@ pub struct Index {
     pub external_symbols: Sequence<SymbolInformation>,
 }
 
-/// What an index says of itself (`scip.proto`, `Metadata`).
+/// What an index says about itself (`scip.proto`, `Metadata`).
 #[derive(Debug, Drop)]
 pub struct Metadata {
     /// The protocol's version, an enum: 0 is unspecified.

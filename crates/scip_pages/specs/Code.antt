@@ -55,7 +55,7 @@ line_mark number = mark (codes "a" ++ attribute (codes "id") (codes "L" ++ decim
 abbrev pub line_code : ℕ → List Piece → List ℕ
 line_code number pieces = line_mark number ++ flat_map piece_code pieces
 
--- Lines are numbered from 1, and stand one below the other.
+-- Lines are numbered from 1, and come one below the other.
 abbrev pub line_codes : ℕ → List (List Piece) → List (List ℕ)
 line_codes number [] = []
 line_codes number (pieces ∷ lines) = line_code number pieces ∷ line_codes (number + 1) lines

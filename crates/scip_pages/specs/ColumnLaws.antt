@@ -6,7 +6,7 @@ use Rattle.scip_pages.specs.declared.columns.ColumnUnit.{ColumnUnit}
 use Rattle.scip_pages.specs.declared.columns.ColumnUnit.TheVariants.{Utf8, Utf16, Utf32}
 use Rattle.scip_pages.specs.Columns.{units_in, is_at, offset_of}
 
--- A column is at one offset at most: where an offset is at it, that is its offset.
+-- A column is at one offset at most: if an offset is at it, that is its offset.
 abbrev pub AtOneOffset : Type 0
 AtOneOffset =
     (unit : ColumnUnit) (line : List ℕ) (column offset : ℕ)

@@ -13,14 +13,14 @@ unit_of encoding =
     (cond (int_eq encoding (pos 2)) (Some Utf16)
     (cond (int_eq encoding (pos 3)) (Some Utf32) None))
 
--- In UTF-8 the bytes of a character behind its first are 128 to 191.
+-- In UTF-8 the bytes of a character after its first are 128 to 191.
 -- (Unicode Standard, section 3.9, "Unicode Encoding Forms")
 abbrev pub is_first_byte : ℕ → Bool
 is_first_byte byte = nat_lt byte 128 || nat_le 192 byte
 
--- The units that a byte counts for: in UTF-8 each byte one; in UTF-16 a character's first byte two where the
--- character is past U+FFFF, so that the byte is 240 or more, and else one; in UTF-32 a first byte one. The other
--- bytes of a character count for nothing there.
+-- The units that a byte counts for: in UTF-8 each byte one; in UTF-16 a character's first byte two if the character
+-- is past U+FFFF, so that the byte is 240 or more, and else one; in UTF-32 a first byte one. The other bytes of a
+-- character count for nothing there.
 abbrev pub units_of : ColumnUnit → ℕ → ℕ
 units_of Utf8 byte = 1
 units_of Utf16 byte = cond (is_first_byte byte) (cond (nat_lt byte 240) 1 2) 0
@@ -35,7 +35,7 @@ abbrev pub is_uncut : List ℕ → Bool
 is_uncut [] = true
 is_uncut (byte ∷ bytes) = is_first_byte byte
 
--- An offset of a line is at a column where it cuts no character, and so many units stand before it.
+-- An offset of a line is at a column if it cuts no character and so many units come before it.
 abbrev pub is_at : ColumnUnit → List ℕ → ℕ → ℕ → Bool
 is_at unit line column offset = is_uncut (drop offset line) && (units_in unit (take offset line) == column)
 

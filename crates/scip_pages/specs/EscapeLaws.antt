@@ -8,7 +8,7 @@ use Rattle.scip_pages.specs.Plain.{plain, reference_behind}
 abbrev pub ShowsTheText : Type 0
 ShowsTheText = (text : List ℕ) → plain (escape text) ≡ text
 
--- What stands behind it is shown as it would be by itself.
+-- What comes after it is shown as it would be by itself.
 abbrev pub ShowsTheRest : Type 0
 ShowsTheRest = (text rest : List ℕ) → plain (escape text ++ rest) ≡ text ++ plain rest
 

@@ -3,7 +3,7 @@
 use Rattle.std.specs.Prelude.{ℕ, ◌==◌, List, [], ◌∷◌, codes, Option, None, Some}
 use Rattle.std.specs.List.{find, flat_map}
 
--- A character reference: what stands behind its `&`, and the byte that it stands for.
+-- A character reference: what comes after its `&`, and the byte that it stands for.
 pub record Reference : Type 0 where
   pub name : List ℕ
   pub byte : ℕ
@@ -25,7 +25,7 @@ abbrev pub referred : ℕ → Option Reference → List ℕ
 referred byte None = byte ∷ []
 referred byte (Some reference) = 38 ∷ reference.name
 
--- A byte is written as its reference, where it has one, and as it stands where it has none.
+-- A byte is written as its reference, if it has one, and as it is if it has none.
 abbrev pub escape_byte : ℕ → List ℕ
 escape_byte byte = referred byte (find (λ (r : Reference). byte == r.byte) references)
 

@@ -6,7 +6,7 @@ use Rattle.std.specs.Str.{bytes_eq}
 use Rattle.scip_pages.specs.declared.paths.PathFault.{PathFault}
 use Rattle.scip_pages.specs.declared.paths.PathFault.TheVariants.{Absolute, Empty, Dot, Parent}
 
--- what stands between the slashes of a path, and before and behind them
+-- what is between the slashes of a path, and before and after them
 abbrev pub components : List ℕ → List (List ℕ)
 components path = slice_split (λ b. b == 47) path
 
@@ -24,7 +24,7 @@ path_fault path =
     (cond (has_name (codes "..") path) (Some Parent) None)))
 
 -- Where a name leads from a folder, which is the list of the names from the root to it. The root is its own parent.
--- (POSIX, XBD 4.16 "Pathname Resolution", where nothing on the way is a link)
+-- (POSIX, XBD 4.16 "Pathname Resolution", if nothing on the way is a link)
 abbrev pub entered : List (List ℕ) → List ℕ → List (List ℕ)
 entered folder name =
     cond (bytes_eq name (codes "")) folder

@@ -4,11 +4,11 @@ use Rattle.std.specs.Prelude.{ℕ, ◌+◌, ◌-◌, ◌==◌, not, cond, List, 
 use Rattle.std.specs.List.{find, prefix_len, starts_with}
 use Rattle.scip_pages.specs.Escapes.{Reference, references}
 
--- the reference that begins behind a `&`, where one does
+-- the reference that begins after a `&`, if one does
 abbrev pub reference_behind : List ℕ → Option Reference
 reference_behind behind = find (λ (r : Reference). starts_with nat_eq behind r.name) references
 
--- A mark runs from its `<` to the first `>`. How much of it stands behind the `<`.
+-- A mark runs from its `<` to the first `>`. How much of it comes after the `<`.
 abbrev pub mark_len : List ℕ → ℕ
 mark_len behind = prefix_len (λ b. not (b == 62)) behind + 1
 
@@ -21,17 +21,17 @@ abbrev pub name_len : Option Reference → ℕ
 name_len None = 0
 name_len (Some r) = length r.name
 
--- What a byte shows, with what stands behind it: a `<`, nothing; a `&`, what its reference stands for; another
--- byte, itself.
+-- What a byte shows, with what comes after it: a `<`, nothing; a `&`, what its reference stands for; another byte,
+-- itself.
 abbrev pub shown_at : ℕ → List ℕ → List ℕ
 shown_at byte behind = cond (byte == 60) []
     (cond (byte == 38) (byte_referred (reference_behind behind) ∷ []) (byte ∷ []))
 
--- How many of the bytes behind it belong to the same mark or reference.
+-- How many of the bytes after it belong to the same mark or reference.
 abbrev pub more_at : ℕ → List ℕ → ℕ
 more_at byte behind = cond (byte == 60) (mark_len behind) (cond (byte == 38) (name_len (reference_behind behind)) 0)
 
--- What is shown behind so many bytes that belong to a mark or reference.
+-- What is shown after this many bytes that belong to a mark or reference.
 abbrev pub plain_behind : ℕ → List ℕ → List ℕ
 plain_behind n [] = []
 plain_behind n (byte ∷ behind) =

@@ -4,7 +4,7 @@ use Rattle.std.specs.List.{AllByRecursion}
 use Rattle.scip_pages.specs.declared.runs.Span.{Span}
 use Rattle.scip_pages.specs.Runs.{covers, width, span_at}
 
--- Where no span is found for a byte, none covers it.
+-- If no span is found for a byte, none covers it.
 abbrev pub NoneCovers : Type 0
 NoneCovers = (spans : List Span) (at : ℕ) → span_at spans at ≡ None
     → AllByRecursion (λ (other : Span). covers other at ≡ false) spans

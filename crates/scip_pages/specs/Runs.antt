@@ -21,12 +21,12 @@ end_on unit number line range =
     cond (range.end_line == number) (offset_of unit line range.end_column)
     (cond (nat_lt number range.end_line) (Some (length line)) None)
 
--- the bytes from one offset up to, and without, another; none where there is none between them
+-- the bytes from one offset up to, and without, another; none if there is none between them
 abbrev pub span_between : ℕ → ℕ → ℕ → Option Span
 span_between occurrence from to =
     cond (nat_lt from to) (Some (record { start = from; end = to; occurrence = occurrence })) None
 
--- What a range marks of a line: nothing where it isn't there, is empty, or has a column that the line hasn't.
+-- What a range marks of a line: nothing if it isn't there, is empty, or has a column that the line hasn't.
 abbrev pub span_on : ColumnUnit → ℕ → List ℕ → ℕ → RangeNumbers → Option Span
 span_on unit number line occurrence range =
     option_and_then (λ from. option_and_then (λ to. span_between occurrence from to) (end_on unit number line range))
@@ -39,12 +39,12 @@ width span = span.end - span.start
 abbrev pub covers : Span → ℕ → Bool
 covers span at = nat_le span.start at && nat_lt at span.end
 
--- the narrower of two, and the first where they are equally wide
+-- the narrower of two, and the first if they are equally wide
 abbrev pub narrower : Option Span → Span → Span
 narrower None span = span
 narrower (Some other) span = cond (nat_lt (width span) (width other)) span other
 
--- Of the spans that cover a byte the narrowest, and of several such the first listed.
+-- The narrowest of the spans that cover a byte, and the first listed of several such.
 abbrev pub span_at : List Span → ℕ → Option Span
 span_at spans at = fold (λ (found : Option Span) (span : Span). cond (covers span at)
     (Some (narrower found span)) found) None spans

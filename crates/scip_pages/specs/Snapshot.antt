@@ -17,7 +17,7 @@ use Rattle.scip_pages.specs.declared.snapshot_fault.SnapshotFault.{SnapshotFault
 use Rattle.scip_pages.specs.declared.snapshot_fault.SnapshotFault.TheVariants.{NoDocument, NoUnit, Misfit}
 use Rattle.scip_pages.specs.Columns.{is_first_byte, offset_of, unit_of}
 
--- the lines of a text: what is between its line feeds, and before and behind them
+-- the lines of a text: what is between its line feeds, and before and after them
 abbrev pub lines_of : List ℕ → List (List ℕ)
 lines_of text = slice_split (λ b. b == 10) text
 
@@ -53,7 +53,7 @@ below_byte sign byte = cond (byte == 9) (9 ∷ []) (cond (is_first_byte byte) (s
 abbrev pub below : ℕ → List ℕ → List ℕ
 below sign bytes = flat_map (below_byte sign) bytes
 
--- the end of a line's bytes that a range covers, where it begins on that line
+-- the end of a line's bytes that a range covers, if it begins on that line
 abbrev pub end_in : ColumnUnit → List ℕ → RangeNumbers → ℕ
 end_in unit line range =
     cond (range.start_line == range.end_line) (unwrap_or (offset_of unit line range.end_column) 0) (length line)
@@ -88,7 +88,7 @@ abbrev pub caret_line : List ℕ → List ℕ → Occurrence → List ℕ
 caret_line before inside o =
     comment (below 32 before ++ below 94 inside ++ codes " " ++ role_of o ++ codes " " ++ map flat_byte o.symbol)
 
--- a text of documentation, each of its lines behind `> `
+-- a text of documentation, each of its lines after `> `
 abbrev pub note_line : List ℕ → List ℕ → List ℕ
 note_line before line = comment (below 32 before ++ codes "> " ++ line)
 
@@ -98,7 +98,7 @@ note_head before = comment (below 32 before ++ codes "documentation")
 abbrev pub note : List ℕ → List ℕ → List ℕ
 note before text = note_head before ++ flat_map (note_line before) (lines_of text)
 
--- an occurrence, and the documentation behind it where it is a definition
+-- an occurrence, and the documentation after it if it is a definition
 abbrev pub mark : List ℕ → List ℕ → List (List ℕ) → Occurrence → List ℕ
 mark before inside texts o = caret_line before inside o ++ cond (is_definition o) (flat_map (note before) texts) []
 
@@ -111,7 +111,7 @@ mark_in unit line documentation o =
 abbrev pub starts_on : ℕ → Occurrence → Bool
 starts_on number o = o.range.start_line == number
 
--- A line of the source is behind two blanks, as wide as the sign of a comment.
+-- A line of the source comes after two blanks, as wide as the sign of a comment.
 abbrev pub source_line : List ℕ → List ℕ
 source_line line = codes "  " ++ line ++ codes "\n"
 

@@ -8,7 +8,7 @@ use Rattle.scip_pages.specs.Snapshot.{lines_of, snapshot_of}
 abbrev pub ended_lines : List ℕ → List (List ℕ)
 ended_lines text = take (length (lines_of text) - 1) (lines_of text)
 
--- the source in a snapshot: of the lines that don't begin with the sign of a comment what is behind two bytes
+-- the source in a snapshot: the lines that don't begin with the sign of a comment, each without its first two bytes
 abbrev pub is_source_line : List ℕ → Bool
 is_source_line line = not (starts_with nat_eq line (codes "//"))
 

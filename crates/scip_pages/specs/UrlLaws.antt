@@ -8,7 +8,7 @@ use Rattle.scip_pages.specs.Urls.{encoded, ups, decoded, folder_of}
 abbrev pub IsDecoded : Type 0
 IsDecoded = (path : List ℕ) → AllByRecursion (λ b. b < 256) path → decoded (encoded path) ≡ path
 
--- From the folder of a page a path behind the ways up leads where it leads from the folder of all pages.
+-- From the folder of a page a path after the ways up leads where it leads from the folder of all pages.
 abbrev pub LeadsToThePage : Type 0
 LeadsToThePage =
     (root : List (List ℕ)) (from to : List ℕ) → path_fault to ≡ None

@@ -38,7 +38,7 @@ url_of from to line = ups from ++ encoded to ++ line_place line
 
 -- ---- what a reader of a URL makes of it
 
--- the value of a digit, and of the two behind a `%`
+-- the value of a digit, and of the two after a `%`
 abbrev pub digit_value : ℕ → ℕ
 digit_value digit = cond (nat_lt digit 65) (digit - 48) (digit - 55)
 
@@ -47,7 +47,7 @@ byte_of [] = []
 byte_of (high ∷ []) = []
 byte_of (high ∷ (low ∷ rest)) = (16 * digit_value high + digit_value low) ∷ []
 
--- what a byte stands for with what is behind it, and how many of those belong to it
+-- what a byte stands for with what is after it, and how many of those belong to it
 abbrev pub decoded_behind : ℕ → List ℕ → List ℕ
 decoded_behind n [] = []
 decoded_behind n (byte ∷ behind) =

@@ -107,8 +107,8 @@ fn push_line_mark(alloc: Global, page: &mut Vec<u8>, number: usize) -> Result<()
     page.extend_from_slice(b"></a>")
 }
 
-/// Appends a line of code with a number from 1. Each of its runs that has an occurrence becomes the
-/// link that has the occurrence's number; where there is none it stays text.
+/// Appends a line of code with a number from 1. Each of its runs that has an occurrence becomes the link that has the
+/// occurrence's number; if there is none it stays text.
 pub fn push_line(
     alloc: Global,
     page: &mut Vec<u8>,

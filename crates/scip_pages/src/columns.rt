@@ -57,15 +57,15 @@ fn units_of(unit: ColumnUnit, byte: u8) -> u64
     }
 }
 
-/// Whether a byte with so many units before it is at a column.
+/// Whether a byte with this many units before it is at a column.
 fn is_here(byte: u8, units: u64, column: u64) -> bool
     ensures { result ≡ (spec.is_first_byte byte && (units == column)) }
 {
     is_first_byte(byte) && units == column
 }
 
-/// The offset in bytes of a column of a line, from 0 to the line's length. None where the line has
-/// no such column, or where it is inside a character.
+/// The offset in bytes of a column of a line, from 0 to the line's length. None if the line has no such column, or if
+/// it is inside a character.
 pub fn offset_of(unit: ColumnUnit, line: &[u8], column: u32) -> Option<usize>
     ensures { result ≡ spec.offset_of unit line.now column }
 {

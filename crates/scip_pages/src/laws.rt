@@ -8,7 +8,7 @@ ghost use Rattle.scip_pages.specs.UrlLaws.{IsDecoded, LeadsToThePage};
 ghost use Rattle.scip_pages.specs.SnapshotLaws.{HasTheSource};
 ghost use Rattle.scip_pages.specs.CodeLaws.{CodeShowsTheLines, CodeShowsTheSource, PiecesHaveTheText};
 
-/// What an escaped text shows is the text, and what stands behind it shows as it would by itself.
+/// What an escaped text shows is the text, and what comes after it shows as it would by itself.
 pub fn escapes_show_the_text()
     ensures text { ShowsTheText }
     ensures rest { ShowsTheRest }
@@ -21,8 +21,7 @@ pub fn escapes_become_no_marks()
     ensures references { HasOnlyReferences }
 {}
 
-/// An offset is that of a column exactly where it cuts no character and so many units stand before
-/// it.
+/// An offset is that of a column if and only if it cuts no character and so many units come before it.
 pub fn columns_have_one_offset()
     ensures only { AtOneOffset }
     ensures found { IsAtItsOffset }
@@ -49,7 +48,7 @@ pub fn paths_stay_below()
     ensures own { HasItsOwnPlace }
 {}
 
-/// What marks a byte covers it, and nothing narrower does; where nothing marks it, nothing covers it.
+/// What marks a byte covers it, and nothing narrower does; if nothing marks it, nothing covers it.
 pub fn the_narrowest_marks()
     ensures none { NoneCovers }
     ensures narrowest { NoneIsNarrower }

@@ -86,7 +86,7 @@ fn add<'a>(table: &mut [Vec<&'a Occurrence>], occurrence: &'a Occurrence) -> Res
     Ok(())
 }
 
-/// For each of so many lines the occurrences that begin on it.
+/// For each of this many lines the occurrences that begin on it.
 pub(crate) fn by_line<'a>(
     alloc: Global,
     count: usize,

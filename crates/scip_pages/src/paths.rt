@@ -56,8 +56,8 @@ fn has_parent(path: &str) -> bool
     path.split('/').any(|name| is_parent(name))
 }
 
-/// Why a document's path is no path of a page; none where it leads to a place of its own below the
-/// folder of the pages. The faults come in the order in which `PathFault` lists them.
+/// Why a document's path is no path of a page; none if it leads to a place of its own below the folder of the pages.
+/// The faults come in the order in which `PathFault` lists them.
 pub fn path_fault(path: &str) -> Option<PathFault>
     ensures { result ≡ spec.path_fault path.now }
 {

@@ -52,9 +52,9 @@ fn end_on(unit: ColumnUnit, number: u32, line: &[u8], range: Range) -> Option<us
     }
 }
 
-/// What a range marks of the line with a number, from 0, where columns count `unit`. Of a range
-/// over several lines each has its part. None where nothing of the range is there, or where one of
-/// its columns isn't between two characters of the line.
+/// What a range marks of the line with a number, from 0, if columns count `unit`. Of a range over several lines each
+/// has its part. None if nothing of the range is there, or if one of its columns isn't between two characters of the
+/// line.
 pub fn span_on(
     unit: ColumnUnit,
     number: u32,
@@ -77,7 +77,7 @@ pub fn span_on(
     }
 }
 
-/// The narrower of two spans, and the first where they are equally wide.
+/// The narrower of two spans, and the first if they are equally wide.
 fn narrower(found: Option<Span>, span: Span) -> Span
     ensures { result ≡ spec.narrower found span }
 {
@@ -94,7 +94,7 @@ fn narrower(found: Option<Span>, span: Span) -> Span
     }
 }
 
-/// Lays a span on the bytes that it covers where it is narrower than what is there.
+/// Lays a span on the bytes that it covers if it is narrower than what is there.
 fn lay(spans: &mut [Option<Span>], span: Span)
     ensures { (at : ℕ) → at < length spans.old → get_or spans.new at None ≡ cond (spec.covers span at) (Some (spec.narrower (get_or spans.old at None) span)) (get_or spans.old at None) }
 {

@@ -4,8 +4,8 @@ use std::alloc::AllocError;
 use std::error::Error;
 use std::fmt;
 
-/// Why a document has no snapshot. Where more than one is so, the first of these in this order is
-/// given, but `Memory` at any time.
+/// Why a document has no snapshot. If more than one is so, the first of these in this order is given, but `Memory` at
+/// any time.
 #[derive(Clone, Copy, Debug, Drop, PartialEq, Eq)]
 pub enum SnapshotFault {
     /// The index has no document with the number.

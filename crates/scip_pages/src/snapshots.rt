@@ -336,11 +336,11 @@ fn snapshot_for(
     }
 }
 
-/// The snapshot of the document with a number, whose source this is: each line of the source behind
-/// two blanks, and below it for each occurrence that begins there a line with the sign of a comment
-/// `//`, carets below what it covers (of a range over several lines to the end of the first), its
-/// role, `definition`, `import` or `reference`, and its symbol. Behind a definition is its
-/// documentation. A sign is below each character, and a tab below each tab.
+/// The snapshot of the document with a number, whose source this is. Each line of the source comes after two blanks.
+/// Below it is a line for each occurrence that begins there: the sign of a comment `//`, carets below what it covers
+/// (of a range over several lines, to the end of the first), its role (`definition`, `import` or `reference`), and
+/// its symbol. After a definition comes its documentation. There is a sign below each character, and a tab below each
+/// tab.
 pub fn snapshot(
     alloc: Global,
     queries: &Queries,

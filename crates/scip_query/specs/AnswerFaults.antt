@@ -1,4 +1,4 @@
--- What is said of a fault of answering.
+-- What is said about a fault of answering.
 use Rattle.std.specs.Prelude.{ℕ, List, codes}
 use Rattle.scip_query.specs.declared.answer_fault.AnswerFault.{AnswerFault}
 use Rattle.scip_query.specs.declared.answer_fault.AnswerFault.TheVariants.{Read, Write, Memory}

@@ -33,7 +33,7 @@ line_of range roles name =
 abbrev pub site_line : Site → List ℕ
 site_line site = line_of site.occurrence.range site.occurrence.symbol_roles site.document.relative_path
 
--- a text, each of its lines behind `| `
+-- a text, each of its lines after `| `
 abbrev pub quoted_line : List ℕ → List ℕ
 quoted_line line = codes "| " ++ line ++ line_end
 

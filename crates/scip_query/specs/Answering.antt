@@ -7,12 +7,12 @@ use Rattle.scip_query.specs.AnswerText.{site_line}
 use Rattle.scip_query.specs.declared.answer_fault.AnswerFault.{AnswerFault}
 use Rattle.scip_query.specs.declared.answer_fault.AnswerFault.TheVariants.{Read, Write, Memory}
 
--- the line of a site, where there is one
+-- the line of a site, if there is one
 abbrev pub line_or_none : Option Site → List ℕ
 line_or_none None = []
 line_or_none (Some site) = site_line site
 
--- the answer goes out whole, or is cut off; where memory runs out, nothing of it goes out. (Nothing is read.)
+-- the answer goes out whole, or is cut off; if memory runs out, nothing of it goes out. (Nothing is read.)
 abbrev pub Answers : {W : Type 0} → (W → Option (List ℕ)) → (W → ℕ) → W → W → List ℕ → Result (Unit {0}) AnswerFault
     → Type 0
 Answers contents failures before after due (Ok done) = IsWritten contents failures before after due

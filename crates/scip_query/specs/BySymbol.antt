@@ -1,4 +1,5 @@
--- What is asked about a symbol by itself, in a document: of a local symbol there alone, of another everywhere.
+-- What is asked about a symbol by itself, in a document: a local symbol is looked for only there, any other
+-- everywhere.
 use Rattle.std.specs.Prelude.{ℕ, List, [], Option, map}
 use Rattle.std.specs.List.{slice_get}
 use Rattle.std.specs.Option.{option_map, unwrap_or}
@@ -10,7 +11,7 @@ use Rattle.scip_query.specs.References.{references_of, definitions_of}
 use Rattle.scip_query.specs.Documentation.{documentation_of}
 use Rattle.scip_query.specs.declared.place.Place.{Place}
 
--- a symbol, asked for in the document with a number, where there is one
+-- a symbol, asked for in the document with a number, if there is one
 abbrev pub subject_in : Index → ℕ → List ℕ → Option Subject
 subject_in index number symbol =
     option_map (λ (d : Document). record { asked = record { number = number; document = d }; symbol = symbol })

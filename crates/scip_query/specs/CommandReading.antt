@@ -1,4 +1,4 @@
--- The command of a line, as a function: where the grammar gives the line a command, that one (a law of the crate).
+-- The command of a line, as a function: that which the grammar gives the line, if any (a law of the crate).
 use Rattle.std.specs.Prelude.{ℕ, ◌==◌, Bool, nat_le, nat_lt, ◌&&◌, cond, List, [], ◌∷◌, ◌++◌, length, codes, Option}
 use Rattle.std.specs.Prelude.{None, Some}
 use Rattle.std.specs.List.{list_all}
@@ -12,7 +12,7 @@ infixl 10 ◌>>=◌
 abbrev pub ◌>>=◌ : {A B : Type 0} → Option A → (A → Option B) → Option B
 o >>= f = option_and_then f o
 
--- what stands before the first space, and behind it
+-- what comes before the first space, and after it
 pub record Parts : Type 0 where
   pub word : List ℕ
   pub behind : List ℕ

@@ -60,7 +60,7 @@ pub data IsCommand : List ℕ → Command → Type 0 where
       → IsCommand (word_of question ++ space ++ line ++ space ++ column ++ space ++ path) (Ask question p path)
   symbols : {path : List ℕ} → IsPath path → IsCommand (codes "sym" ++ space ++ path) (Symbols path)
 
--- the lines of bytes, each without the `\n` that ends it. The last may lack it, and is a line where it isn't empty
+-- the lines of bytes, each without the `\n` that ends it. The last may lack it, and is a line if it isn't empty
 abbrev pub lines_of : List ℕ → List (List ℕ)
 lines_of [] = []
 lines_of (b ∷ bytes) = cond (b == 10) ([] ∷ lines_of bytes) (onto_first b (lines_of bytes))

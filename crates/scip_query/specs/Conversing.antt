@@ -25,9 +25,8 @@ is_line_end b = b == 10
 abbrev pub ended_lines : List ℕ → List (List ℕ)
 ended_lines bytes = take (count_by is_line_end bytes) (lines_of bytes)
 
--- what is due, where `all` was left to read and `left` still is: the answers to all lines; at Read those to the lines
--- that
--- had ended; at Memory those to the lines before some line
+-- what is due, if `all` was left to read and `left` still is: the answers to all lines; at Read those to the lines
+-- that had ended; at Memory those to the lines before some line
 abbrev pub IsDue : Index → List ℕ → Option (List ℕ) → List ℕ → Result (Unit {0}) AnswerFault → Type 0
 IsDue index all left due (Ok done) = due ≡ answer_text index all
 IsDue index all left due (Err Read) =
@@ -37,9 +36,8 @@ IsDue index all left due (Err (Write count)) = due ≡ answer_text index all
 IsDue index all left due (Err Memory) =
     (k : ℕ) × (k < length (lines_of all)) × (due ≡ flat_map (answer_to index) (take k (lines_of all)))
 
--- The answers to commands, of which `known` tells all bytes before the call and `left` those after it: so much of a
--- text went out that is
--- due to them; where they aren't told, to some bytes.
+-- The answers to commands: `known` tells all bytes before the call, and `left` those after it. Of a text that is due
+-- to these bytes so much went out; if the bytes aren't told, of a text that is due to some bytes.
 pub record IsConversed {W : Type 0} (contents : W → Option (List ℕ)) (failures : W → ℕ) (index : Index)
     (before after : W) (known left : Option (List ℕ)) (result : Result (Unit {0}) AnswerFault) : Type 0 where
   pub due : List ℕ

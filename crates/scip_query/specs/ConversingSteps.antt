@@ -1,7 +1,6 @@
--- What stands while commands are read and answered, a byte at a time, and what a refusal leaves.
--- `contents` and `failures` are the sink's; `first` is the sink before the first byte, `now` the sink here, and `read`
--- the
--- bytes that were read in between.
+-- What holds while commands are read and answered, a byte at a time, and what a refusal leaves. `contents` and
+-- `failures` are the sink's; `first` is the sink before the first byte, `now` the sink here, and `read` the bytes
+-- that were read in between.
 use Rattle.std.specs.Prelude.{◌≡◌, ℕ, ◌+◌, nat_le, cond, min, List, [], ◌∷◌, ◌++◌, length, take, Option, Result, Ok}
 use Rattle.std.specs.Prelude.{Err}
 use Rattle.std.specs.List.{flat_map, count_by}
@@ -64,7 +63,7 @@ Goes contents failures index first read talk now (Err (Write count)) =
     IsCutShort contents failures index first read now count
 Goes contents failures index first read talk now (Err Memory) = IsHalted contents failures index first read now
 
--- an answer went out, as a whole or up to a failed write, and is counted behind those before it; or memory ran out
+-- an answer went out, as a whole or up to a failed write, and is counted after those before it; or memory ran out
 -- before it
 abbrev pub AnswersNext : {W : Type 0} → (W → Option (List ℕ)) → (W → ℕ) → W → W → Conversation → Conversation → List ℕ
     → Result (Unit {0}) AnswerFault → Type 0
@@ -76,7 +75,7 @@ AnswersNext contents failures before after talk next due (Err (Write count)) =
     (n : ℕ) × IsCutOff contents failures before after due n × (count ≡ more_by n talk.written)
 AnswersNext contents failures before after talk next due (Err Memory) = after ≡ before
 
--- at the end of the bytes: all lines are answered, the last one too where no `\n` ends it
+-- at the end of the bytes: all lines are answered, the last one too if no `\n` ends it
 abbrev pub Concludes : {W : Type 0} → (W → Option (List ℕ)) → (W → ℕ) → Index → W → List ℕ → W
     → Result (Unit {0}) AnswerFault → Type 0
 Concludes contents failures index first read now (Ok done) =

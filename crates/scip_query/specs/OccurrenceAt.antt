@@ -15,7 +15,7 @@ use Rattle.scip_query.specs.Sites.{Numbered, document_named}
 use Rattle.scip_query.specs.declared.miss.Miss.{Miss}
 use Rattle.scip_query.specs.declared.miss.Miss.TheVariants.{NoDocument, NothingThere}
 
--- an occurrence stands at a position where it has a symbol and its range contains the position
+-- an occurrence is at a position if it has a symbol and its range contains the position
 abbrev pub stands_at : Position → Occurrence → Bool
 stands_at p o = not (bytes_eq o.symbol []) && contains o.range p
 
@@ -26,11 +26,11 @@ innermost_cmp =
     (then_cmp (on (λ (o : Occurrence). end_of o.range) position_cmp)
     (on (λ (o : Occurrence). o.symbol) (slice_cmp nat_cmp)))
 
--- of some occurrences the innermost, and of several such the first listed: the first than which none is before
+-- the innermost of some occurrences, and the first listed of several such: the first than which none is before
 abbrev pub innermost_of : List Occurrence → Option Occurrence
 innermost_of occurrences = find (λ o. list_all (λ other. not (is_lt (innermost_cmp other o))) occurrences) occurrences
 
--- the occurrence at a position of a document: of those that stand there the innermost
+-- the occurrence at a position of a document: of those that are there the innermost
 abbrev pub occurrence_in : Document → Position → Option Occurrence
 occurrence_in document p = innermost_of (filter (stands_at p) document.occurrences)
 

@@ -9,7 +9,7 @@ abbrev pub fault_of : Miss → QueryFault
 fault_of miss.NoDocument = NoDocument
 fault_of miss.NothingThere = NothingThere
 
--- the answer, as `view` shows it, is what is due; or memory ran out, where an answer is due
+-- the answer, as `view` shows it, is what is due; or memory ran out, if an answer is due
 abbrev pub Gives : {X Y : Type 0} → (X → Y) → Result X QueryFault → Result Y Miss → Type 0
 Gives view (Ok answer) due = due ≡ Ok (view answer)
 Gives view (Err NoDocument) due = due ≡ Err miss.NoDocument

@@ -15,7 +15,8 @@ start_of range = record { line = range.start_line; column = range.start_column }
 abbrev pub end_of : RangeNumbers → Position
 end_of range = record { line = range.end_line; column = range.end_column }
 
--- a half-open range contains the positions from its start up to, and without, its end; an empty one, where it stands
+-- a half-open range contains the positions from its start up to, and without, its end; an empty one contains its own
+-- position
 abbrev pub contains : RangeNumbers → Position → Bool
 contains range p =
     (is_le (position_cmp (start_of range) p) && is_lt (position_cmp p (end_of range)))

@@ -13,17 +13,17 @@ use Rattle.scip_query.specs.OccurrenceAt.{Subject, subject_at}
 use Rattle.scip_query.specs.declared.miss.Miss.{Miss}
 use Rattle.scip_query.specs.declared.place.Place.{Place}
 
--- a local symbol is one of its document alone (`scip.proto`, Symbol: `local ` and a local id)
+-- a local symbol belongs only to its document (`scip.proto`, Symbol: `local ` and a local id)
 abbrev pub is_local : List ℕ → Bool
 is_local symbol = starts_with nat_eq symbol (codes "local ")
 
--- an occurrence is of a subject where it has its symbol: in any document, or of a local symbol in the subject's own
+-- an occurrence is of a subject if it has its symbol: in any document, or of a local symbol in the subject's own
 abbrev pub is_of : Subject → Site → Bool
 is_of subject site =
     bytes_eq site.occurrence.symbol subject.symbol
     && (not (is_local subject.symbol) || (site.place.document == subject.asked.number))
 
--- an occurrence defines its symbol where bit 1 of its roles is set (`scip.proto`, SymbolRole.Definition)
+-- an occurrence defines its symbol if bit 1 of its roles is set (`scip.proto`, SymbolRole.Definition)
 abbrev pub is_definition : Occurrence → Bool
 is_definition o = not (int_eq (int_bit_and w32 o.symbol_roles (pos 1)) (pos 0))
 

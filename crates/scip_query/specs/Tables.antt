@@ -69,7 +69,7 @@ abbrev pub entries_or : List SymbolInformation → Option Document → List Symb
 entries_or external None = external
 entries_or external (Some d) = d.symbols
 
--- the symbol entries with a list's number: those of a document, and behind the documents the external ones
+-- the symbol entries with a list's number: those of a document, and after the documents the external ones
 abbrev pub entries_listed : Index → ℕ → List SymbolInformation
 entries_listed index list = entries_or index.external_symbols (slice_get index.documents list)
 
@@ -89,7 +89,7 @@ abbrev pub is_behind : Position → Option Occurrence → Bool
 is_behind p None = true
 is_behind p (Some o) = is_gt (position_cmp (start_of o.range) p)
 
--- whether the occurrence with a number starts behind a position, or there is none
+-- whether the occurrence with a number starts after a position, or there is none
 abbrev pub starts_behind : List Occurrence → Position → ℕ → Bool
 starts_behind occurrences p number = is_behind p (slice_get occurrences number)
 
@@ -97,7 +97,7 @@ abbrev pub stands_or_not : Position → Option Occurrence → Bool
 stands_or_not p None = false
 stands_or_not p (Some o) = stands_at p o
 
--- whether the occurrence with a number stands at a position
+-- whether the occurrence with a number is at a position
 abbrev pub stands_listed : List Occurrence → Position → ℕ → Bool
 stands_listed occurrences p number = stands_or_not p (slice_get occurrences number)
 
@@ -118,7 +118,7 @@ inner_cmp occurrences = on (slice_get occurrences) (option_cmp innermost_cmp)
 
 -- ---- tables
 
--- a list in an order, where of equal ones the first listed comes first
+-- a list in an order, in which the first listed of equal ones comes first
 pub record IsTable {N : Type 0} (cmp : N → N → Ordering) (all table : List N) : Type 0 where
   pub permutation : IsPermutation all table
   pub sorted : IsSorted cmp table

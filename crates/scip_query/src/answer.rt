@@ -86,14 +86,14 @@ fn push_sites(text: &mut String, documents: &[Document], places: &[Place]) -> Re
     push_count(text, places.len())
 }
 
-/// The lines of a text: what stands between its `\n`, and before and behind them.
+/// The lines of a text: what is between its `\n`, and before and after them.
 fn lines_in(alloc: Global, text: &str) -> Result<Vec<&str>, AllocError>
     ensures { IfOk result (λ lines. map (λ (line : Bor (List ℕ)). line.now) lines.items ≡ slice_split (λ b. b == 10) text.now) }
 {
     text.split('\n').collect(alloc)
 }
 
-/// Appends lines, each behind `| `.
+/// Appends lines, each after `| `.
 fn push_lines(text: &mut String, lines: &[&str]) -> Result<(), AllocError>
     ensures { OnOk result (string_bytes text.new ≡ string_bytes text.old ++ flat_map (λ (line : Bor (List ℕ)). quoted_line line.now) lines.now) }
 {
@@ -104,7 +104,7 @@ fn push_lines(text: &mut String, lines: &[&str]) -> Result<(), AllocError>
     Ok(())
 }
 
-/// Appends a text, each of its lines behind `| `.
+/// Appends a text, each of its lines after `| `.
 fn push_quoted(alloc: Global, text: &mut String, quoted_text: &str) -> Result<(), AllocError>
     ensures { OnOk result (string_bytes text.new ≡ string_bytes text.old ++ quoted quoted_text.now) }
 {
@@ -249,15 +249,15 @@ impl Queries {
 
     /// Writes the answer to one command.
     ///
-    /// Commands are `def L C PATH`, `ref L C PATH`, `doc L C PATH` and `sym PATH`, with one space
-    /// between parts; L and C have one to ten digits and are at most 2,147,483,647, and PATH is
-    /// the rest of the line, UTF-8 and not empty. Of `def` and `ref` the answer has a line
-    /// `L C L2 E ROLE PATH` for each occurrence, of `doc` each text's lines behind `| `, of `sym`
-    /// the symbol of each entry; then `= N`, how many there are. Else it is `? no document`,
-    /// `? nothing there`, or `? bad command`, as it is of more than 65,536 bytes.
+    /// Commands are `def L C PATH`, `ref L C PATH`, `doc L C PATH` and `sym PATH`, with one space between parts. L
+    /// and C have one to ten digits and are at most 2,147,483,647; PATH is the rest of the line, UTF-8 and not empty.
+    /// For `def` and `ref` the answer has a line `L C L2 E ROLE PATH` for each occurrence, for `doc` each line of
+    /// each text after `| `, for `sym` the symbol of each entry; then `= N`, how many there are. Otherwise it is
+    /// `? no document`, `? nothing there`, or `? bad command`, also for a line of more than `MAX_COMMAND_LENGTH`
+    /// bytes.
     ///
     /// - `Memory`: nothing was written.
-    /// - `Write(count)`: a write failed when so many bytes of the answer had gone out.
+    /// - `Write(count)`: a write failed after so many bytes of the answer.
     pub fn answer<W: Sink>(
         &self,
         alloc: Global,

@@ -7,15 +7,15 @@ use std::alloc::AllocError;
 use std::error::Error;
 use std::fmt;
 
-/// Why commands aren't answered. The answers before stand.
+/// Why commands aren't answered. The answers before stay.
 #[derive(Clone, Copy, Debug, Drop, PartialEq, Eq)]
 pub enum AnswerFault {
     /// A read failed, or `MAX_READS` reads gave no end. The lines that had ended are answered.
     Read,
-    /// A write failed when so many bytes of the call's answers, from the first on, had gone out.
-    /// (The count stops at the last `u64`.)
+    /// A write failed after so many bytes of the call's answers, counted from the first. (The count stops at the last
+    /// `u64`.)
     Write(u64),
-    /// Memory ran out. Nothing of the answer at which it did was written.
+    /// Memory ran out. Nothing of that command's answer was written.
     Memory,
 }
 
@@ -32,7 +32,7 @@ impl AnswerFault {
     }
 }
 
-/// The variant's name, and its number in parentheses where it has one.
+/// The variant's name, and its number in parentheses if it has one.
 impl fmt::Display for AnswerFault {
     fn fmt<W: fmt::Write>(&self, f: &mut fmt::Formatter<W>) -> fmt::Result {
         fmt::Debug::fmt(self, f)

@@ -31,7 +31,7 @@ pub(crate) enum Command<'a> {
     Symbols(&'a str),
 }
 
-/// What stands before the first space, and behind it.
+/// What comes before the first space, and after it.
 fn parts_of(line: &[u8]) -> Option<(&[u8], &[u8])>
     ensures { option_map parts_view result ≡ parts_of line.now }
 {

@@ -24,7 +24,7 @@ struct Conversation {
     written: u64,
 }
 
-/// Keeps a byte of the line, where what is kept isn't too long for a command already.
+/// Keeps a byte of the line, if what is kept isn't too long for a command already.
 fn keep(line: &mut Vec<u8>, byte: u8) -> Result<(), AllocError>
     ensures { OnOk result (line.new.items ≡ kept_with line.old.items byte) }
 {
@@ -95,7 +95,7 @@ impl Queries {
         Ok(())
     }
 
-    /// Answers the last line, which has no `\n`, where there is one.
+    /// Answers the last line, which has no `\n`, if there is one.
     fn conclude<W: Sink>(
         &self,
         alloc: Global,
@@ -112,13 +112,12 @@ impl Queries {
         }
     }
 
-    /// Reads commands, one a line, to their end, and writes the answer to each as soon as its line
-    /// has ended, in as many writes as the sink takes. A last line without `\n` is a command where it
-    /// isn't empty. A line of more than 65,536 bytes is a bad command, and isn't kept whole.
+    /// Reads commands, one a line, to their end, and writes the answer to each as soon as its line has ended, in as
+    /// many writes as the sink takes. A last line without `\n` is a command if it isn't empty. A line of more than
+    /// `MAX_COMMAND_LENGTH` bytes is a bad command, and isn't kept whole.
     ///
-    /// - `Read`: a read failed, or `MAX_READS` reads gave no end. The lines that had ended are
-    ///   answered.
-    /// - `Write(count)`: a write failed when so many bytes of the answers had gone out.
+    /// - `Read`: a read failed, or `MAX_READS` reads gave no end. The lines that had ended are answered.
+    /// - `Write(count)`: a write failed after so many bytes of the answers.
     /// - `Memory`: the commands before are answered, and nothing of this one's answer was written.
     pub fn answer_all<R: Feed, W: Sink>(
         &self,

@@ -1,4 +1,4 @@
-//! The search for what stands at a position.
+//! The search for what is at a position.
 
 ghost use Rattle.std.specs.Prelude.{◌≡◌, option_copied, filter, length};
 ghost use Rattle.std.specs.List.{find, slice_get};
@@ -9,7 +9,7 @@ ghost use Rattle.scip_query.specs.Tables.{starts_behind, stands_listed, inner_cm
 use crate::position::{Position, compare_start, stands_at};
 use scip_model::Occurrence;
 
-/// Whether the occurrence with a number starts behind a position, or there is none.
+/// Whether the occurrence with a number starts after a position, or there is none.
 fn starts_behind(occurrences: &[Occurrence], number: usize, position: Position) -> bool
     ensures { result ≡ starts_behind occurrences.now position number }
 {
@@ -19,7 +19,7 @@ fn starts_behind(occurrences: &[Occurrence], number: usize, position: Position) 
     }
 }
 
-/// Whether the occurrence with a number stands at a position.
+/// Whether the occurrence with a number is at a position.
 fn stands_listed(occurrences: &[Occurrence], number: usize, position: Position) -> bool
     ensures { result ≡ stands_listed occurrences.now position number }
 {
@@ -29,7 +29,7 @@ fn stands_listed(occurrences: &[Occurrence], number: usize, position: Position) 
     }
 }
 
-/// The first of these numbers whose occurrence stands at a position.
+/// The first of these numbers whose occurrence is at a position.
 fn first_standing(
     occurrences: &[Occurrence],
     numbers: &[usize],
@@ -55,8 +55,8 @@ fn numbered(occurrences: &[Occurrence], number: Option<usize>) -> Option<&Occurr
     }
 }
 
-/// The innermost of a document's occurrences that stand at a position: in the table the search
-/// begins at the last start that isn't behind the position.
+/// The innermost of a document's occurrences that are at a position: in the table the search begins at the last start
+/// that isn't after the position.
 pub(crate) fn innermost_at<'a>(
     occurrences: &'a [Occurrence],
     inner: &[usize],

@@ -8,7 +8,7 @@ use crate::position::compare_innermost;
 use scip_model::{Document, Index, Occurrence, SymbolInformation};
 use std::cmp::Ordering;
 
-/// The path of the document with a number; no text where there is none.
+/// The path of the document with a number; no text if there is none.
 pub(crate) fn path_listed(documents: &[Document], number: usize) -> &str
     ensures { result.now ≡ path_listed documents.now number }
 {
@@ -18,7 +18,7 @@ pub(crate) fn path_listed(documents: &[Document], number: usize) -> &str
     }
 }
 
-/// The occurrence at a place, where there is one.
+/// The occurrence at a place, if there is one.
 pub(crate) fn occurrence_listed(documents: &[Document], place: Place) -> Option<&Occurrence>
     ensures { option_copied result ≡ occurrence_listed documents.now place }
 {
@@ -28,7 +28,7 @@ pub(crate) fn occurrence_listed(documents: &[Document], place: Place) -> Option<
     }
 }
 
-/// The symbol at a place; no text where there is none.
+/// The symbol at a place; no text if there is none.
 pub(crate) fn symbol_listed(documents: &[Document], place: Place) -> &str
     ensures { result.now ≡ symbol_listed documents.now place }
 {
@@ -38,8 +38,7 @@ pub(crate) fn symbol_listed(documents: &[Document], place: Place) -> &str
     }
 }
 
-/// The symbol entries with a list's number: those of a document, and behind the documents the
-/// external ones.
+/// The symbol entries with a list's number: those of a document, and after the documents the external ones.
 fn entries_listed(index: &Index, list: usize) -> &[SymbolInformation]
     ensures { result.now ≡ entries_listed index.now list }
 {
@@ -49,14 +48,14 @@ fn entries_listed(index: &Index, list: usize) -> &[SymbolInformation]
     }
 }
 
-/// The symbol entry at a place, where there is one.
+/// The symbol entry at a place, if there is one.
 pub(crate) fn entry_listed(index: &Index, place: EntryPlace) -> Option<&SymbolInformation>
     ensures { option_copied result ≡ entry_listed index.now place }
 {
     entries_listed(index, place.list).get(place.entry)
 }
 
-/// The symbol of the entry at a place; no text where there is none.
+/// The symbol of the entry at a place; no text if there is none.
 pub(crate) fn entry_symbol_listed(index: &Index, place: EntryPlace) -> &str
     ensures { result.now ≡ entry_symbol_listed index.now place }
 {

@@ -97,8 +97,8 @@ impl Queries {
         defining(alloc, self.documents(), self.places_about(subject))
     }
 
-    /// The entry in which a subject's documentation is: the first with its symbol, in the documents
-    /// in their order and then among the external symbols; of a local symbol in its document alone.
+    /// The entry in which a subject's documentation is: the first with its symbol, in the documents in their order
+    /// and then among the external symbols; a local symbol is looked for only in its document.
     fn entry_of(&self, subject: &Subject<'_>) -> Option<&SymbolInformation>
         requires { slice_get self.now.documents subject.now.asked.number ≡ Some subject.now.asked.document.now }
         ensures { option_copied result ≡ find (λ (entry : SymbolInformation). bytes_eq entry.symbol subject.now.symbol.now) (entries_for self.now (subject_view subject.now)) }
@@ -111,8 +111,8 @@ impl Queries {
         }
     }
 
-    /// The places of all occurrences of the symbol at a position, its definitions among them, in
-    /// the index's order. Of a local symbol those of its document alone.
+    /// The places of all occurrences of the symbol at a position, definitions included, in the index's order. A local
+    /// symbol is looked for only in its document.
     pub fn references(
         &self,
         alloc: Global,
@@ -128,8 +128,8 @@ impl Queries {
         }
     }
 
-    /// The places where the symbol at a position is defined: of its references those whose role has
-    /// the bit of a definition.
+    /// The places where the symbol at a position is defined: those of its references whose role has the bit of a
+    /// definition.
     pub fn definitions(
         &self,
         alloc: Global,
@@ -145,8 +145,7 @@ impl Queries {
         }
     }
 
-    /// The documentation of the symbol at a position: the texts of its first entry, and none where
-    /// it has no entry.
+    /// The documentation of the symbol at a position: the texts of its first entry; none if it has no entry.
     pub fn documentation(
         &self,
         alloc: Global,
@@ -172,7 +171,7 @@ impl Queries {
         }
     }
 
-    /// A symbol as it is asked for in the document with a number, where there is one.
+    /// A symbol as it is asked for in the document with a number, if there is one.
     fn subject_in<'a>(&'a self, document: usize, symbol: &'a str) -> Option<Subject<'a>>
         ensures is { option_map subject_view result ≡ subject_in self.now document symbol.now }
         ensures listed { IfSome result (λ subject. slice_get self.now.documents subject.asked.number ≡ Some subject.asked.document.now) }
@@ -189,9 +188,8 @@ impl Queries {
         }
     }
 
-    /// The places of all occurrences of a symbol that is asked for in the document with a number,
-    /// in the index's order. Of a local symbol those in that document alone; none where the index
-    /// has no such document.
+    /// The places of all occurrences of a symbol, asked for in the document with this number, in the index's order. A
+    /// local symbol is looked for only in that document; if the index has no such document, it has no places.
     pub fn references_in(&self, document: usize, symbol: &str) -> &[Place]
         ensures { result.now ≡ references_in self.now document symbol.now }
     {
@@ -201,8 +199,8 @@ impl Queries {
         }
     }
 
-    /// The places where a symbol is defined that is asked for in the document with a number: of its
-    /// references those whose role has the bit of a definition.
+    /// The places where a symbol, asked for in the document with this number, is defined: those of its references
+    /// whose role has the bit of a definition.
     pub fn definitions_in(
         &self,
         alloc: Global,
@@ -217,8 +215,8 @@ impl Queries {
         }
     }
 
-    /// The documentation of a symbol that is asked for in the document with a number: the texts of
-    /// its first entry, and none where it has no entry or the index has no such document.
+    /// The documentation of a symbol, asked for in the document with this number: the texts of its first entry; none
+    /// if it has no entry, or the index has no such document.
     pub fn documentation_in(
         &self,
         alloc: Global,

@@ -5,6 +5,6 @@
 pub(crate) enum Miss {
     /// No document has the path.
     NoDocument,
-    /// No occurrence stands at the position.
+    /// No occurrence is at the position.
     NothingThere,
 }

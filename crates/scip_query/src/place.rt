@@ -12,8 +12,8 @@ pub struct Place {
 /// Where an index lists a symbol entry.
 #[derive(Clone, Copy, Debug)]
 pub(crate) struct EntryPlace {
-    /// The number of its list: its document's, or that behind those of all documents, which the
-    /// external symbols have.
+    /// The number of its list: that of its document; for the external symbols, the number after those of all
+    /// documents.
     pub list: usize,
     /// Its own number, from 0, in the list.
     pub entry: usize,

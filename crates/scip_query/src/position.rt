@@ -1,4 +1,4 @@
-//! Positions of a document, and what stands there.
+//! Positions of a document, and what is there.
 
 ghost use Rattle.std.specs.Prelude.{◌≡◌};
 ghost use Rattle.scip_query.specs.Positions.{position_cmp, start_of, end_of, contains};
@@ -39,14 +39,14 @@ fn compare_positions(a: Position, b: Position) -> Ordering
     a.line.cmp(&b.line).then(a.column.cmp(&b.column))
 }
 
-/// How the start of an occurrence's range stands to a position.
+/// How the start of an occurrence's range compares with a position.
 pub(crate) fn compare_start(occurrence: &Occurrence, position: Position) -> Ordering
     ensures { result ≡ position_cmp (start_of occurrence.now.range) position }
 {
     compare_positions(start_of(occurrence.range), position)
 }
 
-/// Whether a half-open range contains a position; an empty one contains where it stands.
+/// Whether a half-open range contains a position; an empty one contains its own position.
 fn contains(range: Range, position: Position) -> bool
     ensures { result ≡ contains range position }
 {

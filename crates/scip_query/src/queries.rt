@@ -29,9 +29,8 @@ use std::marker::Model;
 
 /// An index, and the tables by which it is searched. Contracts see it as the index.
 ///
-/// A query costs no memory but its answer's. Paths name the first document of the index with that
-/// path. Lines and columns are zero-based, and columns count the units of the document's position
-/// encoding.
+/// A query needs memory only for its answer. Paths name the first document of the index with that path. Lines and
+/// columns are zero-based, and columns count the units of the document's position encoding.
 #[derive(Drop)]
 pub struct Queries {
     index: Index,
@@ -63,7 +62,7 @@ pub(crate) struct Subject<'a> {
     pub symbol: &'a str,
 }
 
-/// The table of the document with a number; an empty one where there is none.
+/// The table of the document with a number; an empty one if there is none.
 fn inner_listed(inner: &[Sequence<usize>], number: usize) -> &[usize]
     ensures { result.now ≡ unwrap_or (slice_get inner.now number) [] }
 {
@@ -93,8 +92,8 @@ fn occurrence_in<'a>(
 }
 
 impl Queries {
-    /// Takes an index, and makes the tables by which it is searched. Where memory doesn't suffice
-    /// for them, the index comes back as it was.
+    /// Takes an index, and makes the tables by which it is searched. If there is no memory for them, the index comes
+    /// back as it was.
     pub fn new(alloc: Global, index: Index) -> Result<Queries, AllocFailed<Index>>
         ensures { MatchResult result (λ queries. queries ≡ index) (λ refused. refused.value ≡ index) }
     {
@@ -144,11 +143,11 @@ impl Queries {
         occurrence_in(document, table, position)
     }
 
-    /// The occurrence at a position of the document that a path names, where there is one.
+    /// The occurrence at a position of the document that a path names, if there is one.
     ///
-    /// Of the document's occurrences with a symbol whose range contains the position it is the one
-    /// with the latest start, then the earliest end, then the least symbol, then the first listed
-    /// (`scip.proto`, `Occurrence.range`: half open). An empty range contains where it stands.
+    /// Among the document's occurrences with a symbol whose range contains the position, it is the one with the
+    /// latest start, then the earliest end, then the least symbol, then the first listed (`scip.proto`,
+    /// `Occurrence.range`: half open). An empty range contains the position where it is.
     pub fn at(&self, path: &str, line: u32, column: u32) -> Option<&Occurrence>
         ensures { option_copied result ≡ occurrence_at self.now path.now (record { line = line; column = column }) }
     {

@@ -8,8 +8,7 @@ use std::alloc::AllocError;
 use std::error::Error;
 use std::fmt;
 
-/// Why a query isn't answered. Where more than one is so, the first of these in this order is given,
-/// but `Memory` at any time.
+/// Why a query isn't answered. If more than one holds, the first in this order is given, but `Memory` at any time.
 #[derive(Clone, Copy, Debug, Drop, PartialEq, Eq)]
 pub enum QueryFault {
     /// No document of the index has the path.

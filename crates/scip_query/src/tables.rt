@@ -13,13 +13,13 @@ use std::alloc::{AllocError, Global};
 /// Tables of numbers over the documents and symbol entries of an index.
 #[derive(Drop)]
 pub(crate) struct Tables {
-    /// The documents by path, of one path the first listed first.
+    /// The documents by path; of those with one path, the first listed comes first.
     pub by_path: Sequence<usize>,
     /// For each document its occurrences, the innermost first.
     pub inner: Sequence<Sequence<usize>>,
-    /// All occurrences by symbol, of one symbol in the index's order.
+    /// All occurrences by symbol; those of one symbol are in the index's order.
     pub by_symbol: Sequence<Place>,
-    /// All symbol entries by symbol, of one symbol those of documents in the index's order, and
+    /// All symbol entries by symbol; of those with one symbol, first those of documents, in the index's order, and
     /// then the external ones.
     pub entries_by_symbol: Sequence<EntryPlace>,
 }

@@ -1,4 +1,4 @@
--- Why a document of an index is left out: what is said of it. (The names are this project's own.)
+-- Why a document of an index is left out: what is said about it. (The names are this project's own.)
 use Rattle.std.specs.Prelude.{ℕ, List, ◌++◌, codes}
 use Rattle.scip_pages.specs.declared.snapshot_fault.SnapshotFault.TheVariants.{NoDocument, NoUnit, Misfit, Memory}
 use Rattle.scip_snapshot.specs.declared.left_out.LeftOut.{LeftOut}

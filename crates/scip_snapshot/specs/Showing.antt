@@ -10,7 +10,7 @@ use Rattle.scip_snapshot.specs.declared.show_fault.ShowFault.{ShowFault}
 use Rattle.scip_snapshot.specs.declared.show_fault.ShowFault.TheVariants.{Write, Memory}
 use Rattle.scip_snapshot.specs.Snapshots.{Shown, Outcome, IsOutcome, AreShown, told_by, printed, filed, told}
 
--- a stream around a call, and what its trait says of it: what was written, and how many writes failed
+-- a stream around a call, and what its trait says about it: what was written, and how many writes failed
 pub record Writer (W : Type 0) : Type 0 where
   pub contents : W → Option (List ℕ)
   pub failures : W → ℕ
@@ -21,7 +21,7 @@ abbrev pub writer : {W : Type 0} → (W → Option (List ℕ)) → (failures : W
 writer contents failures before after =
     record { contents = contents; failures = failures; before = before; after = after }
 
--- a line is said, with its end: all of it where no write failed, which counts of failures tell below their limit
+-- a line is said, with its end: all of it if no write failed, which counts of failures tell below their limit
 abbrev pub IsSaid : {M : Type 0} → (contents : M → Option (List ℕ)) → (failures : M → ℕ) → List ℕ → M → M → Type 0
 IsSaid contents failures line before after = failures before < 2 ^ 64 - 1 → failures after ≡ failures before
     → Appends (contents before) (contents after) (line ++ codes "\n")
@@ -109,7 +109,7 @@ pub record AreShownBy {M : Type 0} (gives : List ℕ → Option (List ℕ) → T
   pub gone : goes shown
   pub told_are : AreTold messages (told shown)
 
--- all of them are shown; or a first part of them, the last of which is cut off; or behind a first part of them memory
+-- all of them are shown; or a first part of them, the last of which is cut off; or after a first part of them memory
 -- ran out
 abbrev pub Shows : {M : Type 0} → (gives : List ℕ → Option (List ℕ) → Type 0) → (root : List ℕ) → Index
     → (whole cut : List Shown → Type 0) → Writer M → Result (Unit {0}) ShowFault → Type 0

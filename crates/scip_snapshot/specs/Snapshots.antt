@@ -36,7 +36,7 @@ of_source index number None = Err Unreadable
 of_source index number (Some bytes) =
     cond (is_utf8 bytes) (of_snapshot (snapshot_of index number bytes)) (Err NotText)
 
--- Its source is the file with its path below the root. Where the path has a fault, nothing is read.
+-- Its source is the file with its path below the root. If the path has a fault, nothing is read.
 abbrev pub IsRead : (gives : List ℕ → Option (List ℕ) → Type 0) → (root : List ℕ) → Index → ℕ → (path : List ℕ)
     → Option PathFault → Outcome → Type 0
 IsRead gives root index number path (Some fault) outcome = outcome ≡ Err BadPath
@@ -62,7 +62,7 @@ abbrev pub filed_by : (folder path : List ℕ) → Outcome → List MadeFile
 filed_by folder path (Ok text) = record { path = path_in folder path; bytes = text } ∷ []
 filed_by folder path (Err left) = []
 
--- of a document that is left out one line is said
+-- one line is said about a document that is left out
 abbrev pub told_by : (path : List ℕ) → Outcome → List (List ℕ)
 told_by path (Ok text) = []
 told_by path (Err left) = line_of path left ∷ []

@@ -66,9 +66,9 @@ fn file_one<F: ReadFiles, O: MakeFiles, M: Sink>(
     }
 }
 
-/// Makes a file for each document of an index, in its order, below a folder, by the document's path and with
-/// its snapshot; the sources are below a root. A document whose source isn't there, or whose ranges don't
-/// fit it, is told and left out.
+/// Makes a file for each document of an index, in its order, below a folder, by the document's path and with its
+/// snapshot; the sources are below a root. A document whose source isn't there, or whose ranges don't fit it, is
+/// reported and left out.
 ///
 /// - `Write`: a file can't be made; those of the documents before it are.
 /// - `Memory`: memory ran out, after the files of a first part of the documents.

@@ -1,5 +1,5 @@
-//! The snapshots of an index's documents, whose sources are files below a root: printed, or each in a file
-//! of its own. A document whose source isn't there, or whose ranges don't fit it, is told and left out.
+//! The snapshots of an index's documents, whose sources are files below a root: printed, or each in a file of its
+//! own. A document whose source isn't there, or whose ranges don't fit it, is reported and left out.
 #![tactic(auto)]
 
 mod filing;

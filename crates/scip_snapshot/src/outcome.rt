@@ -59,7 +59,7 @@ fn outcome_with(
     }
 }
 
-/// What becomes of the document whose source is read, where its path is one below the root.
+/// What becomes of the document whose source is read, if its path is one below the root.
 fn outcome_below<F: ReadFiles>(
     alloc: Global,
     files: &F,

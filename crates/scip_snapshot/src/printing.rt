@@ -49,9 +49,8 @@ fn print_one<F: ReadFiles, W: Sink, M: Sink>(
     }
 }
 
-/// Prints the snapshot of each document of an index, in its order, below the document's path; the sources
-/// are below a root. A document whose source isn't there, or whose ranges don't fit it, is told and left
-/// out.
+/// Prints the snapshot of each document of an index, in its order, below the document's path; the sources are below a
+/// root. A document whose source isn't there, or whose ranges don't fit it, is reported and left out.
 ///
 /// - `Write`: a write failed, after a first part of what there is to print.
 /// - `Memory`: memory ran out, after the snapshots of a first part of the documents.

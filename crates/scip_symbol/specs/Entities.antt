@@ -15,7 +15,8 @@ use Rattle.scip_symbol.specs.declared.symbol.Descriptor.{Descriptor}
 use Rattle.scip_symbol.specs.declared.symbol.SymbolParts.{SymbolParts}
 use Rattle.scip_symbol.specs.declared.symbol.SymbolParts.TheVariants.{Global}
 
--- a file by its path, a package by its components, and a declaration by its package and the way to it, outermost first
+-- a file by its path, a package by its components, and a declaration by its package and the path to it, outermost
+-- first
 pub data Entity : Type 0 where
   OfFile : (path : List ℕ) → Entity
   OfPackage : (components : List (List ℕ)) → Entity

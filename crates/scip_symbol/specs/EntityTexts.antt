@@ -6,7 +6,7 @@ use Rattle.scip_symbol.specs.SymbolText.{part_text, descriptors_text}
 use Rattle.scip_symbol.specs.Package.{Package}
 use Rattle.scip_symbol.specs.Entities.{scheme_text, namespace_of, step_descriptor}
 
--- what stands before the descriptors: the scheme, and the manager, name and version of the package
+-- what comes before the descriptors: the scheme, and the manager, name and version of the package
 abbrev pub front_with : (manager name version : List ℕ) → List ℕ
 front_with manager name version =
     doubled space scheme_text ++ codes " " ++ part_text manager ++ codes " " ++ part_text name ++ codes " "

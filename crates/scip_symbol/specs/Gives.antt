@@ -4,7 +4,7 @@ use Rattle.scip_symbol.specs.Reading.{Read}
 use Rattle.scip_symbol.specs.declared.fault.SymbolFault.{SymbolFault}
 use Rattle.scip_symbol.specs.declared.fault.SymbolFault.TheVariants.{BadSymbol, Memory}
 
--- nothing is read, with so many bytes left; or memory ran out, which says nothing
+-- nothing is read, with this many bytes left; or memory ran out, which says nothing
 abbrev pub Stops : {Y : Type 0} → SymbolFault → Read Y → Type 0
 Stops (BadSymbol left) read = read ≡ Err left
 Stops Memory read = Unit {0}

@@ -5,19 +5,19 @@ use Rattle.scip_symbol.specs.declared.symbol.SymbolParts.{SymbolParts}
 use Rattle.scip_symbol.specs.declared.fault.SymbolFault.{SymbolFault}
 use Rattle.scip_symbol.specs.declared.fault.SymbolFault.TheVariants.{BadSymbol, Memory}
 
--- some text behind it makes it a spelling
+-- some text after it makes it a spelling
 pub record BeginsSymbol (front : List ℕ) : Type 0 where
   pub behind : List ℕ
   pub symbol : SymbolParts
   pub spelled : SpellsSymbol (front ++ behind) symbol
 
--- the first so many bytes are the longest front of the text that begins some symbol's spelling
+-- the first so many bytes are the longest prefix of the text that begins some symbol's spelling
 pub record IsLongestFront (text : List ℕ) (count : ℕ) : Type 0 where
   pub within : count ≤ length text
   pub begins : BeginsSymbol (take count text)
   pub longest : (n : ℕ) → n ≤ length text → BeginsSymbol (take n text) → n ≤ count
 
--- what a fault tells of the text: of a BadSymbol its offset, of want of memory nothing
+-- what a fault says about the text: BadSymbol its offset, Memory nothing
 abbrev pub IsFaultOf : (text : List ℕ) → SymbolFault → Type 0
 IsFaultOf text (BadSymbol offset) = IsLongestFront text offset
 IsFaultOf text Memory = Unit {0}

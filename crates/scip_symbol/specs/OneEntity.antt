@@ -7,7 +7,7 @@ use Rattle.proto_decl.specs.declared.declaration.DeclarationStep.{DeclarationSte
 use Rattle.proto_decl.specs.declared.declaration.Declaration.{Declaration as Declared}
 use Rattle.scip_symbol.specs.Entities.{Entity, OfFile, OfPackage, OfDeclaration}
 
--- a declaration by the components of its package and the way to it
+-- a declaration by the components of its package and the path to it
 pub record Declaration : Type 0 where
   pub components : List (List ℕ)
   pub way : List DeclarationStep
@@ -15,7 +15,7 @@ pub record Declaration : Type 0 where
 abbrev pub declaration : (components : List (List ℕ)) → (way : List DeclarationStep) → Declaration
 declaration components way = record { components = components; way = way }
 
--- the full name, component by component; a name has no dot, so that the names joined by dots are equal only where these
+-- the full name, component by component; a name has no dot, so that the names joined by dots are equal only if these
 -- are
 abbrev pub full_name : Declaration → List (List ℕ)
 full_name d = d.components ++ names_of d.way

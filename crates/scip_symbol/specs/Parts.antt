@@ -16,8 +16,8 @@ pub record IsScheme (scheme : List ℕ) : Type 0 where
   pub no_space_first : (rest : List ℕ) → scheme ≢ space ∷ rest
   pub not_local : (rest : List ℕ) → scheme ≢ codes "local" ++ rest
 
--- A manager, a name or a version, which may be empty: `.` stands for the empty one, and so is no text of one;
--- that it doesn't begin with a space is the profile's too.
+-- A manager, a name or a version, which may be empty: `.` stands for the empty one, so none is the text `.`; that it
+-- doesn't begin with a space is the profile's too.
 pub record IsPart (part : List ℕ) : Type 0 where
   pub no_space_first : (rest : List ℕ) → part ≢ space ∷ rest
   pub no_dot : part ≢ codes "."

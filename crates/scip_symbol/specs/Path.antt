@@ -1,7 +1,6 @@
 -- What a good path is, which names a source below the root of its tree (the profile's): a text of at most 4,096 bytes
--- with no character below U+0020, that ends in `.proto`, and whose components, which stand between `/`, are none of
--- them
--- empty, `.` or `..`.
+-- with no character below U+0020, that ends in `.proto`, and whose components, which are between `/`, are none of
+-- them empty, `.` or `..`.
 use Rattle.std.specs.Prelude.{◌≡◌, ◌≢◌, ℕ, ◌≤◌, List, [], ◌++◌, codes, nat_eq, length, All}
 use Rattle.std.specs.List.{slice_split}
 

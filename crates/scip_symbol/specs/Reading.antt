@@ -10,11 +10,11 @@ use Rattle.scip_symbol.specs.declared.symbol.Descriptor.{Descriptor}
 use Rattle.scip_symbol.specs.declared.symbol.SymbolParts.{SymbolParts}
 use Rattle.scip_symbol.specs.declared.symbol.SymbolParts.TheVariants.{Local, Global}
 
--- what is read, or how many bytes are left where the reader stops
+-- what is read, or how many bytes are left at the place where the reader stops
 abbrev pub Read : Type 0 → Type 0
 Read A = Result A ℕ
 
--- a value and the text behind it
+-- a value and the text after it
 abbrev pub Front : Type 0 → Type 0
 Front A = Read (A × List ℕ)
 
@@ -28,7 +28,7 @@ abbrev pub choose : {A B : Type 0} → Option A → B → (A → B) → B
 choose None otherwise next = otherwise
 choose (Some x) otherwise next = next x
 
--- the text behind a front
+-- the text after a prefix
 abbrev pub after : (front text : List ℕ) → Option (List ℕ)
 after [] text = Some text
 after (c ∷ front) [] = None
@@ -37,7 +37,7 @@ after (c ∷ front) (b ∷ text) = cond (nat_eq b c) (after front text) None
 unfoldable pub expect_at : (front text : List ℕ) → Read (List ℕ)
 expect_at front text = choose (after front text) (Err (length text)) (λ rest. Ok rest)
 
--- a text up to a mark that isn't doubled, with the doubled ones before it, and what stands behind it
+-- a text up to a mark that isn't doubled, with the doubled ones before it, and what comes after it
 abbrev pub onto : ℕ → Front (List ℕ) → Front (List ℕ)
 onto b (Ok (word, rest)) = Ok (b ∷ word, rest)
 onto b (Err left) = Err left
@@ -68,7 +68,7 @@ unfoldable pub name_at : List ℕ → Front (List ℕ)
 name_at text = choose (after (codes "`") text) (simple_at text)
     (λ inside. undoubled_at backtick false inside >>= some_at)
 
--- such a run, and the signs that close a method behind it
+-- such a run, and the signs that close a method after it
 abbrev pub closed_at : List ℕ × List ℕ → Front (List ℕ)
 closed_at run = expect_at (codes ")") run.1 >>= λ rest. expect_at (codes ".") rest >>= λ behind. Ok (run.0, behind)
 
@@ -89,7 +89,7 @@ suffix_at text =
     (λ rest. Ok (suffix.«Type», rest)))
     (λ rest. Ok (suffix.Namespace, rest))
 
--- a name in brackets, behind the opening one
+-- a name in brackets, after the opening one
 unfoldable pub enclosed_at : Suffix → (closing text : List ℕ) → Front Descriptor
 enclosed_at s closing text = name_at text >>= λ x. expect_at closing x.1 >>= λ rest. Ok (descriptor x.0 s, rest)
 

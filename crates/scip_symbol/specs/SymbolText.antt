@@ -1,4 +1,4 @@
--- The spelling of a symbol that the printer gives: backticks only where they are needed.
+-- The spelling of a symbol that the printer gives: backticks only if they are needed.
 use Rattle.std.specs.Prelude.{ℕ, List, [], ◌∷◌, ◌++◌, codes, if◌then◌else◌}
 use Rattle.std.specs.List.{flat_map}
 use Rattle.scip_symbol.specs.Names.{is_simple_identifier, doubled, space, backtick}
@@ -17,7 +17,7 @@ part_text (b ∷ others) = doubled space (b ∷ others)
 abbrev pub name_text : List ℕ → List ℕ
 name_text name = if is_simple_identifier name then name else codes "`" ++ doubled backtick name ++ codes "`"
 
--- what stands before the name
+-- what comes before the name
 abbrev pub front_text : Suffix → List ℕ
 front_text Namespace = []
 front_text «Type» = []
@@ -28,7 +28,7 @@ front_text (Method disambiguator) = []
 front_text TypeParameter = codes "["
 front_text Parameter = codes "("
 
--- what stands behind it
+-- what comes after it
 abbrev pub suffix_text : Suffix → List ℕ
 suffix_text Namespace = codes "/"
 suffix_text «Type» = codes "#"

@@ -151,8 +151,8 @@ pub fn package_symbol(
     symbol_with(alloc, id, descriptors)
 }
 
-/// The symbol of a declaration, of the components of its file's package and of the way from the
-/// package to it: a namespace for each component, and what each step's kind has.
+/// The symbol of a declaration, by the components of its file's package and the path from the package to it: a
+/// namespace for each component, and for each step the descriptor of its kind.
 pub fn symbol_of(
     alloc: Global,
     id: &PackageId,

@@ -29,7 +29,7 @@ fn push_parts(out: &mut String, manager: &str, name: &str, version: &str) -> Res
     push_part(out, version)
 }
 
-/// Appends what stands before the descriptors.
+/// Appends what comes before the descriptors.
 fn push_front(out: &mut String, id: &PackageId) -> Result<(), AllocError>
     ensures { OnOk result (string_bytes out.new ≡ string_bytes out.old ++ front_in id.now) }
 {
@@ -128,8 +128,8 @@ pub fn print_package_named(
     Ok(text)
 }
 
-/// The text of the symbol of a declaration, of the components of its file's package and of the way
-/// from the package to it.
+/// The text of the symbol of a declaration, by the components of its file's package and the path from the package to
+/// it.
 pub fn print_declaration(
     alloc: Global,
     id: &PackageId,

@@ -6,8 +6,8 @@ use thiserror::Error;
 /// Why a text gives no symbol.
 #[derive(Clone, Copy, Debug, Drop, PartialEq, Eq, Error)]
 pub enum SymbolFault {
-    /// The text spells no symbol. The offset is the length in bytes of the longest front of the text
-    /// that begins some symbol's spelling.
+    /// The text spells no symbol. The offset is the length in bytes of the longest prefix of the text that begins
+    /// some symbol's spelling.
     #[error("BadSymbol({0})")]
     BadSymbol(usize),
     /// Memory ran out.

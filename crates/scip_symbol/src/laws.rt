@@ -16,13 +16,13 @@ pub fn text_spells_one_symbol()
         → SpellsSymbol text symbol → SpellsSymbol text other → symbol ≡ other }
 {}
 
-/// Just the parts of a symbol have a spelling, and the printed text is one.
+/// Parts have a spelling if and only if they are those of a symbol; the printed text is one.
 pub fn symbols_have_spellings()
     ensures only { (text : List ℕ) (symbol : SymbolParts) → SpellsSymbol text symbol → IsSymbol symbol }
     ensures printed { (symbol : SymbolParts) → IsSymbol symbol → SpellsSymbol (symbol_text symbol) symbol }
 {}
 
-/// In facts without a clash, entities with one symbol's text are one entity.
+/// In facts without a clash, entities whose symbols have one text are one entity.
 pub fn symbols_name_one_entity()
     ensures { (id : Package) (declarations : List Declaration) → IsPackage id → IsWithoutClash declarations
         → (entity other : Entity) → IsEntity entity → IsEntity other → IsAmong declarations entity → IsAmong declarations other

@@ -10,7 +10,7 @@ ghost use Rattle.scip_symbol.specs.SpellsSymbol.{SpellsSymbol};
 use crate::symbol::{Descriptor, GlobalSymbol, Suffix, Symbol, SymbolParts};
 use std::alloc::{AllocError, Global};
 
-/// Whether `byte` may stand in a simple identifier (`scip.proto`, the comment of `Symbol`).
+/// Whether `byte` may be in a simple identifier (`scip.proto`, the comment of `Symbol`).
 pub(crate) fn is_identifier_character(byte: u8) -> bool
     ensures { result ≡ is_identifier_character byte }
 {
@@ -58,7 +58,7 @@ pub(crate) fn push_name(out: &mut String, name: &str) -> Result<(), AllocError>
     }
 }
 
-/// What stands before a descriptor's name.
+/// What comes before a descriptor's name.
 pub(crate) fn front_text(suffix: &Suffix) -> &'static str
     ensures { result.now ≡ front_text suffix.now }
 {
@@ -69,7 +69,7 @@ pub(crate) fn front_text(suffix: &Suffix) -> &'static str
     }
 }
 
-/// Appends what stands behind a descriptor's name.
+/// Appends what comes after a descriptor's name.
 pub(crate) fn push_suffix(out: &mut String, suffix: &Suffix) -> Result<(), AllocError>
     ensures { OnOk result (string_bytes out.new ≡ string_bytes out.old ++ suffix_text suffix.now) }
 {
@@ -106,7 +106,7 @@ fn push_descriptors(out: &mut String, descriptors: &[Descriptor]) -> Result<(), 
     Ok(())
 }
 
-/// Appends a manager, a name or a version and the space behind it.
+/// Appends a manager, a name or a version and the space after it.
 pub(crate) fn push_part(out: &mut String, part: &str) -> Result<(), AllocError>
     ensures { OnOk result (string_bytes out.new ≡ string_bytes out.old ++ (part_text part.now ++ space ∷ [])) }
 {
@@ -140,7 +140,7 @@ fn push_symbol(out: &mut String, symbol: &SymbolParts) -> Result<(), AllocError>
     }
 }
 
-/// The symbol as text, with backticks only where they are needed.
+/// The symbol as text, with backticks only if they are needed.
 ///
 /// It is a spelling of the symbol, and `read` gives the symbol back.
 pub fn print(alloc: Global, symbol: &Symbol) -> Result<String, AllocError>

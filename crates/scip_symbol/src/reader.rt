@@ -1,7 +1,7 @@
 //! Symbols out of text.
 //!
-//! The private readers see the rest of a text alone, so their `BadSymbol` has the number of bytes that are left where no symbol
-//! goes on so; `read` makes the offset of it.
+//! The private readers see only the rest of a text. So their `BadSymbol` has the number of bytes that are left at the
+//! place if no symbol goes on like this. `read` turns it into the offset.
 
 ghost use Rattle.std.specs.Prelude.{◌≡◌, ◌<◌, ◌++◌, [], ◌∷◌, false, length, IfOk, IfErr, OnOk, MatchOption, MatchResult};
 ghost use Rattle.std.specs.Prelude.{take, drop};
@@ -19,14 +19,14 @@ use crate::symbol::{Descriptor, GlobalSymbol, Suffix, Symbol, SymbolParts};
 use sequences::{OwnedText, Sequence};
 use std::alloc::{AllocError, Global};
 
-/// The text behind a front, where it begins with it.
+/// The text after a prefix, if it begins with that prefix.
 pub(crate) fn after<'a>(text: &'a str, front: &str) -> Option<&'a str>
     ensures { MatchOption result (after front.now text.now ≡ None) (λ rest. after front.now text.now ≡ Some rest.now) }
 {
     text.strip_prefix(front)
 }
 
-/// The text behind a front that has to be there.
+/// The text after a prefix that has to be there.
 #[tactic(auto, unfolding(crate::specs::Reading::expect_at))]
 fn expect<'a>(text: &'a str, front: &str) -> Result<&'a str, SymbolFault>
     ensures { Gives (λ rest. rest.now) result (expect_at front.now text.now) }
@@ -37,7 +37,7 @@ fn expect<'a>(text: &'a str, front: &str) -> Result<&'a str, SymbolFault>
     }
 }
 
-/// A text up to a `mark`, an ASCII character, that isn't doubled, and what stands behind that mark.
+/// A text up to a `mark`, an ASCII character, that isn't doubled, and what comes after that mark.
 fn read_undoubled<'a>(
     alloc: Global,
     text: &'a str,
@@ -61,7 +61,7 @@ fn read_undoubled<'a>(
     Err(SymbolFault::BadSymbol(0))
 }
 
-/// How many identifier characters stand at the front.
+/// How many identifier characters are at the front.
 fn run_len(bytes: &[u8]) -> usize
     ensures { result ≡ run_len bytes.now }
 {
@@ -71,7 +71,7 @@ fn run_len(bytes: &[u8]) -> usize
         .count()
 }
 
-/// The identifier characters at the front, and the text behind them.
+/// The identifier characters at the front, and the text after them.
 fn split_run(text: &str) -> (&str, &str)
     ensures run { result.0.now ≡ take (run_len text.now) text.now }
     ensures rest { result.1.now ≡ drop (run_len text.now) text.now }
@@ -80,7 +80,7 @@ fn split_run(text: &str) -> (&str, &str)
     text.split_at(len)
 }
 
-/// A simple identifier, and the text behind it, as each of the readers below gives what it reads.
+/// A simple identifier, and the text after it, as each of the readers below gives what it reads.
 #[tactic(auto, unfolding(crate::specs::Reading::simple_at))]
 fn read_simple<'a>(alloc: Global, text: &'a str) -> Result<(OwnedText, &'a str), SymbolFault>
     ensures { Gives (λ x. (x.0, x.1.now)) result (simple_at text.now) }
@@ -109,7 +109,7 @@ fn read_name<'a>(alloc: Global, text: &'a str) -> Result<(OwnedText, &'a str), S
     }
 }
 
-/// A method's disambiguator and the signs behind it.
+/// A method's disambiguator and the signs after it.
 #[tactic(auto, unfolding(crate::specs::Reading::disambiguator_at))]
 fn read_disambiguator<'a>(alloc: Global, text: &'a str) -> Result<(OwnedText, &'a str), SymbolFault>
     ensures { Gives (λ x. (x.0, x.1.now)) result (disambiguator_at text.now) }
@@ -120,7 +120,7 @@ fn read_disambiguator<'a>(alloc: Global, text: &'a str) -> Result<(OwnedText, &'
     Ok((OwnedText::copy_of(alloc, run)?, rest))
 }
 
-/// What stands behind a name that no bracket encloses.
+/// What comes after a name that no bracket encloses.
 #[tactic(auto, unfolding(crate::specs::Reading::suffix_at))]
 fn read_suffix<'a>(alloc: Global, text: &'a str) -> Result<(Suffix, &'a str), SymbolFault>
     ensures { Gives (λ x. (x.0, x.1.now)) result (suffix_at text.now) }
@@ -145,7 +145,7 @@ fn read_suffix<'a>(alloc: Global, text: &'a str) -> Result<(Suffix, &'a str), Sy
     Ok((Suffix::Method { disambiguator }, rest))
 }
 
-/// A name and the bracket that closes it, behind the opening one.
+/// A name and the bracket that closes it, after the opening one.
 #[tactic(auto, unfolding(crate::specs::Reading::enclosed_at))]
 fn read_enclosed<'a>(
     alloc: Global,
@@ -240,7 +240,7 @@ fn read_global(alloc: Global, text: &str) -> Result<SymbolParts, SymbolFault>
     }))
 }
 
-/// What stands behind `local`.
+/// What comes after `local`.
 #[tactic(auto, unfolding(crate::specs::Reading::local_at))]
 fn read_local(alloc: Global, text: &str) -> Result<SymbolParts, SymbolFault>
     ensures { Gives (λ s. s) result (local_at text.now) }
@@ -266,8 +266,8 @@ fn read_parts(alloc: Global, text: &str) -> Result<SymbolParts, SymbolFault>
 
 /// The symbol that a text spells.
 ///
-/// - `BadSymbol`: it spells none. The offset is the length in bytes of the longest front of the text
-///   that begins some symbol's spelling.
+/// - `BadSymbol`: it spells none. The offset is the length in bytes of the longest prefix of the text that begins
+///   some symbol's spelling.
 /// - `Memory`: memory ran out.
 pub fn read(alloc: Global, text: &str) -> Result<Symbol, SymbolFault>
     ensures found { IfOk result (λ symbol. SpellsSymbol text.now symbol) }

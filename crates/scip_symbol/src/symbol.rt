@@ -30,7 +30,7 @@ pub enum Suffix {
     Parameter,
 }
 
-/// One step on the way from a package to an entity of it (`scip.proto`, `Descriptor`).
+/// One step on the path from a package to an entity of it (`scip.proto`, `Descriptor`).
 #[derive(Debug, Drop)]
 pub struct Descriptor {
     /// Without backticks, and not empty in a symbol.
@@ -57,7 +57,7 @@ pub struct GlobalSymbol {
 /// What a symbol is made of.
 #[derive(Debug, Drop)]
 pub enum SymbolParts {
-    /// An entity of one document alone, by a simple identifier.
+    /// An entity of one document only, by a simple identifier.
     Local(OwnedText),
     /// An entity that other documents may name.
     Global(GlobalSymbol),

@@ -40,7 +40,7 @@ pub record IsLast {A : Type 0} (absent : A) (Values : List A → Type 0) (value 
   pub are_values : Values values
   pub is_last : value ≡ last_or absent values
 
--- the only one of the values, or None where there is none
+-- the only one of the values, or None if there is none
 pub data IsOnly {A : Type 0} (Values : List A → Type 0) : Option A → Type 0 where
   absent : Values [] → IsOnly Values None
   only : {value : A} → Values (value ∷ []) → IsOnly Values (Some value)

@@ -31,8 +31,8 @@ pub data IsVarint : ℕ → List ℕ → ℕ → List ℕ → Type 0 where
       → 128 ≤ byte → high < 2 ^ 57 → IsVarint limit bytes high rest
       → IsVarint (suc limit) (byte ∷ bytes) (byte - 128 + 128 * high) rest
 
--- A payload of a wire type: a varint, eight bytes, bytes behind their length, or four bytes.
--- Of the other types, groups (3 and 4) among them, there is none.
+-- A payload of a wire type: a varint, eight bytes, bytes after their length, or four bytes. Of the other types,
+-- groups (3 and 4) among them, there is none.
 pub data IsPayload : ℕ → List ℕ → Payload → List ℕ → Type 0 where
   varint : {value : ℕ} {bytes rest : List ℕ} → IsVarint max_varint_len bytes value rest
       → IsPayload 0 bytes (Varint value) rest

@@ -1,10 +1,10 @@
--- What a result says of what the bytes hold.
+-- What a result says about what the bytes hold.
 use Rattle.std.specs.Prelude.{◌≡◌, ◌⊎◌, ℕ, Option, Some, None, Result, Ok, Err}
 use Rattle.scip_wire.specs.declared.wire_fault.WireFault.{WireFault}
 use Rattle.scip_wire.specs.declared.wire_fault.WireFault.TheVariants.{Truncated, Varint, FieldZero, Group, WireType}
 use Rattle.scip_wire.specs.declared.wire_fault.WireFault.TheVariants.{Memory}
 
--- the fault is Memory, which says nothing of the bytes, or nothing is read
+-- the fault is Memory, which says nothing about the bytes, or nothing is read
 abbrev pub Fails : {Y : Type 0} → WireFault → Option Y → Type 0
 Fails fault read = (fault ≡ Memory) ⊎ (read ≡ None)
 

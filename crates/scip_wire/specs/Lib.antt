@@ -11,5 +11,5 @@ pub mod Gives
 -- What the writer computes and answers.
 pub mod Saturated
 pub mod Writing
--- what is said of a fault
+-- what is said about a fault
 pub mod WireFaults

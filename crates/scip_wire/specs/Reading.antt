@@ -1,4 +1,4 @@
--- What the reader computes, as functions on lists: None where it refuses.
+-- What the reader computes, as functions on lists: None if it refuses.
 use Rattle.std.specs.Prelude.{ℕ, ℤ, pos, zero, suc, ◌+◌, ◌-◌, ◌*◌, ◌/◌, ◌%◌, ◌^◌, Bool, cond, nat_eq, nat_lt, nat_le}
 use Rattle.std.specs.Prelude.{◌&&◌, List, [], ◌∷◌, ◌++◌, length, take, drop, Option, Some, None, option_and_then}
 use Rattle.std.specs.Int.{w32, cast_signed}
@@ -126,11 +126,11 @@ only_column read = column add_only (message_in read)
 abbrev pub only_after : {A : Type 0} → (List ℕ → Option A) → Option A → List ℕ → Option (Option A)
 only_after read earlier bytes = message_in read (Delimited bytes) >>= add_only earlier
 
--- the messages with one more behind them
+-- the messages with one more after them
 unfoldable pub more_after : {A : Type 0} → (List ℕ → Option A) → List A → List ℕ → Option (List A)
 more_after read messages bytes = read bytes >>= λ x. add_more messages (x ∷ [])
 
--- the texts with one more behind them
+-- the texts with one more after them
 abbrev pub text_after : List (List ℕ) → List ℕ → Option (List (List ℕ))
 text_after = more_after text_at
 
@@ -212,7 +212,7 @@ no_parts = record { numbers = []; symbol = []; symbol_roles = pos 0 }
 unfoldable pub parts_at : List ℕ → Option OccurrenceParts
 parts_at bytes = fold_at field_at occurrence_step bytes no_parts
 
--- none where it has no range numbers
+-- none if it has no range numbers
 unfoldable pub occurrence_of : OccurrenceParts → Option (List Occurrence)
 occurrence_of parts = made parts.numbers parts.symbol parts.symbol_roles where
   made : List ℕ → List ℕ → ℤ → Option (List Occurrence)

@@ -3,7 +3,7 @@ use Rattle.std.specs.Prelude.{ℕ, ◌-◌, ◌^◌, min, List, length}
 use Rattle.scip_wire.specs.Fields.{Field}
 use Rattle.scip_wire.specs.Spelling.{bytes_of}
 
--- a length, or the last u64 where it is above
+-- a length, or the last u64 if it is above
 abbrev pub saturated : ℕ → ℕ
 saturated n = min n (2 ^ 64 - 1)
 

@@ -46,7 +46,7 @@ in_64_bits (negsuc n) = 2 ^ 64 - 1 - n
 abbrev pub bytes_field : ℕ → List ℕ → Field
 bytes_field k bytes = record { number = k; payload = Delimited bytes }
 
--- a number: absent where it is 0
+-- a number: absent if it is 0
 abbrev pub number_fields : ℕ → ℕ → List Field
 number_fields k zero = []
 number_fields k (suc n) = record { number = k; payload = Varint (suc n) } ∷ []
@@ -55,7 +55,7 @@ number_fields k (suc n) = record { number = k; payload = Varint (suc n) } ∷ []
 abbrev pub int_fields : ℕ → ℤ → List Field
 int_fields k z = number_fields k (in_64_bits z)
 
--- a text: absent where it is empty
+-- a text: absent if it is empty
 abbrev pub text_fields : ℕ → List ℕ → List Field
 text_fields k [] = []
 text_fields k (b ∷ bs) = bytes_field k (b ∷ bs) ∷ []
@@ -75,7 +75,7 @@ optional_message_fields k fields (Some item) = bytes_field k (bytes_of (fields i
 
 -- ---- the messages of `scip.proto`
 
--- `Occurrence.range`: three numbers exactly where both ends are on one line
+-- `Occurrence.range`: three numbers if and only if both ends are on one line
 abbrev pub range_numbers : RangeNumbers → List ℕ
 range_numbers r =
     if nat_eq r.start_line r.end_line
@@ -131,7 +131,7 @@ spelling_of i = bytes_of (index_fields i)
 
 -- ---- an index in pieces
 
--- a document's record, as it stands in an index
+-- a document's record, as it is in an index
 abbrev pub document_record : Document → List ℕ
 document_record d = field_bytes (bytes_field 2 (bytes_of (document_fields d)))
 

@@ -1,4 +1,4 @@
--- What is said of a fault of an index's bytes.
+-- What is said about a fault of an index's bytes.
 use Rattle.std.specs.Prelude.{ℕ, List, Option, Some, None, codes}
 use Rattle.scip_wire.specs.declared.wire_fault.WireFault.{WireFault}
 use Rattle.scip_wire.specs.declared.wire_fault.WireFault.TheVariants.{Truncated, Varint, FieldZero, Group, WireType}
@@ -15,7 +15,7 @@ name_of (Utf8 at) = codes "Utf8"
 name_of (BadRange at) = codes "BadRange"
 name_of Memory = codes "Memory"
 
--- where it stands in them
+-- where it is in them
 abbrev pub offset_of : WireFault → Option ℕ
 offset_of (Truncated at) = Some at
 offset_of (Varint at) = Some at

@@ -37,7 +37,7 @@ fn spell_ends(
     Ok((front, back))
 }
 
-/// Writes bytes behind so many others, with which a fault counts.
+/// Writes bytes after this many others, which a fault counts, too.
 fn write_behind<W: Sink>(before: usize, bytes: &[u8], sink: &mut W) -> Result<(), CutOff>
     requires { before + length bytes.now ≤ max_index_len }
     ensures ok { OnOk result (IsWritten W.contents W.failures sink.old sink.new bytes.now) }
@@ -51,7 +51,7 @@ fn write_behind<W: Sink>(before: usize, bytes: &[u8], sink: &mut W) -> Result<()
     }
 }
 
-/// Writes what is in front, then the records, then what is behind.
+/// Writes what comes before the records, the records, and what comes after them.
 fn write_in_order<W: Sink>(
     front: &[u8],
     records: &[Sequence<u8>],

@@ -23,16 +23,14 @@ use crate::wire_fault::WireFault;
 use scip_model::Index;
 use std::alloc::Global;
 
-/// The index that bytes decode to (Protocol Buffers encoding, with the field numbers of
-/// `scip.proto`).
+/// The index that bytes decode to (Protocol Buffers encoding, with the field numbers of `scip.proto`).
 ///
-/// Fields come in any order, unknown ones are skipped, and varints may be longer than needed. The
-/// last of a singular number or text wins. Absent numbers are 0 and absent texts empty. An
-/// occurrence without range numbers is left out. Symbols aren't checked against the grammar of
-/// symbols. The time is linear in the bytes, and nothing is sized by a length that the bytes only
-/// claim.
+/// Fields come in any order, unknown ones are skipped, and varints may be longer than needed. The last of a singular
+/// number or text wins. Absent numbers are 0 and absent texts empty. An occurrence without range numbers is left out.
+/// Symbols aren't checked against the grammar of symbols. The time is linear in the bytes, and no size is taken from
+/// a length that the bytes only claim.
 ///
-/// Each `WireFault` but `Memory` comes only where the bytes decode to no index.
+/// Each `WireFault` but `Memory` comes only if the bytes decode to no index.
 pub fn read_index(alloc: Global, bytes: &[u8]) -> Result<Index, WireFault>
     ensures found { IfOk result (λ index. Decodes bytes.now index) }
     ensures only { (index : Index) → Decodes bytes.now index → MatchResult result (λ i. i ≡ index) (λ e. e ≡ WireFault.Memory) }

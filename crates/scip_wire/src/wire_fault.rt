@@ -30,8 +30,8 @@ pub enum WireFault {
     Repeated(usize),
     /// A known text isn't UTF-8.
     Utf8(usize),
-    /// An occurrence with one, two or more than four range numbers, or with a negative one: the
-    /// offset of the occurrence's record. It comes once all its records were read.
+    /// An occurrence with one, two or more than four range numbers, or with a negative one. The offset is that of the
+    /// occurrence's record. It comes after all its records were read.
     BadRange(usize),
     /// Memory ran out.
     Memory,
@@ -73,7 +73,7 @@ impl WireFault {
     }
 }
 
-/// The variant's name, and its number in parentheses where it has one.
+/// The variant's name, and its number in parentheses if it has one.
 impl fmt::Display for WireFault {
     fn fmt<W: fmt::Write>(&self, f: &mut fmt::Formatter<W>) -> fmt::Result {
         fmt::Debug::fmt(self, f)

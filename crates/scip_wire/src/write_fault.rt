@@ -25,7 +25,7 @@ pub enum WriteFault {
     /// The spelling is longer than `MAX_INDEX_LEN` bytes. Nothing was written.
     #[error("TooLarge")]
     TooLarge,
-    /// A write failed after this many bytes of the spelling were written, from the first on.
+    /// A write failed after this many bytes of the spelling, counted from the first.
     #[error("Write({0})")]
     Write(usize),
     /// Memory ran out. Nothing was written.

@@ -34,8 +34,7 @@ impl<T> Sequence<T> {
         Sequence { items }
     }
 
-    /// Adds an item at the end. Where memory doesn't suffice, the items stay as they were, and the
-    /// new one is handed back.
+    /// Adds an item at the end. If memory runs out, the items stay as they were, and the new one is handed back.
     pub fn push(&mut self, item: T) -> Result<(), AllocFailed<T>>
         ensures ok { OnOk result (self.new ≡ self.old ++ item ∷ []) }
         ensures err { OnErr result (self.new ≡ self.old) }

@@ -7,12 +7,12 @@ use Rattle.source_files.specs.declared.load_fault.LoadFault.{LoadFault}
 use Rattle.source_files.specs.declared.load_fault.LoadFault.TheVariants.{Unreadable, TooMany, BadPath, SamePath, Memory}
 use Rattle.source_files.specs.Roots.{AreBelow, AreBelowEach, AreFolders, IsUnreadableBelow}
 
--- the first file of all without a good path has this one
+-- this is the path of the first file of all that has no good path
 abbrev pub HasBadPath : (path : List ℕ) → (sources included : List SourceFile) → Type 0
 HasBadPath path sources included =
     (number : ℕ) × (bad : HaveBadPath sources included number) × (path ≡ bad.first.file.path)
 
--- of the sources by path the first with the path of the one before it has this one
+-- this is the path of the first source, by path, that has the path of the one before it
 abbrev pub HasSamePath : (path : List ℕ) → (sources included : List SourceFile) → Type 0
 HasSamePath path sources included =
     (number : ℕ) × (same : HaveSamePath sources included number) × (path ≡ same.first.repeats.second.path)
@@ -40,8 +40,8 @@ module _ (lists : List ℕ → Option (List (List ℕ)) → Type 0) (gives : Lis
     pub tree_is : IsTreeOf sources included files
     pub own_are : own ≡ paths_of sources
 
-  -- why there is no tree: something can't be read, the first of all; or these files make none; of memory nothing is
-  -- said
+  -- why there is no tree: something can't be read, the first of all; or these files make none; nothing is said about
+  -- memory
   abbrev pub MayNotLoad : LoadFault → Type 0
   MayNotLoad (Unreadable name) = IsUnreadableBelow lists gives (root ∷ roots) (string_bytes name)
   MayNotLoad TooMany = OfFiles AreTooMany

@@ -6,7 +6,7 @@ pub record MadeFile : Type 0 where
   pub path : List ℕ
   pub bytes : List ℕ
 
--- files are made behind those that were made before, where these are known
+-- files are made after those that were made before, if these are known
 abbrev pub MakesAll : Option (List MadeFile) → Option (List MadeFile) → List MadeFile → Type 0
 MakesAll None after files = ⊤
 MakesAll (Some made) None files = ⊥

@@ -4,7 +4,7 @@ use Rattle.source_files.specs.declared.load_fault.LoadFault.{LoadFault}
 use Rattle.source_files.specs.declared.load_fault.LoadFault.TheVariants.{Unreadable, Memory}
 use Rattle.source_files.specs.Roots.{IsUnreadable}
 
--- what can't be read is named; of memory nothing is said; and no other fault comes
+-- what can't be read is named; nothing is said about memory; and no other fault comes
 abbrev pub MayStop : (List ℕ → Option (List (List ℕ)) → Type 0) → (List ℕ → Option (List ℕ) → Type 0) → (root : List ℕ)
     → LoadFault → Type 0
 MayStop lists gives root (Unreadable name) = IsUnreadable lists gives root (string_bytes name)

@@ -37,13 +37,13 @@ impl<'a, S: Files> OutFile<'a, S> {
         }
     }
 
-    // A file that holds nothing, where the system has it.
+    // A file that holds nothing, if the system has it.
     fn nothing(&self) -> Option<S::File> {
         File::open(self.system, "/dev/null").ok()
     }
 
-    // Makes the file. The system gives it the least number that is free, which is that of a standard stream
-    // where one is closed: so what is said would be written to it. Other files take these numbers before.
+    // Makes the file. The system gives it the least number that is free, which is that of a standard stream if one is
+    // closed: so what is said would be written to it. Other files take these numbers before.
     fn make(&mut self) -> io::Result<()>
         ensures failures { self.new.failures ≡ self.old.failures }
     {
@@ -52,7 +52,7 @@ impl<'a, S: Files> OutFile<'a, S> {
         Ok(())
     }
 
-    // Makes the file where it isn't made yet, and writes to it.
+    // Makes the file if it isn't made yet, and writes to it.
     fn write_to_file(&mut self, bytes: &[u8]) -> io::Result<usize>
         ensures bound { IfOk result (λ count. count ≤ length bytes.now) }
         ensures failures { self.new.failures ≡ self.old.failures }
@@ -87,7 +87,7 @@ impl<'a, S: Files> Sink for OutFile<'a, S> {
     }
 }
 
-// Makes the folders on the way to a file. None where the system refuses that.
+// Makes the folders on the way to a file. None if the system refuses that.
 fn make_folders<S: Files>(system: &S, path: &str) -> Result<Option<()>, AllocError> {
     match path.rsplit_once('/') {
         Some((folder, _)) => given(fs::create_dir_all(system, folder)),

@@ -21,7 +21,7 @@ fn path_below(alloc: Global, root: &str, path: &str) -> Result<String, AllocErro
     Ok(below)
 }
 
-// The bytes of a source below a root. None where it can't be read.
+// The bytes of a source below a root. None if it can't be read.
 fn read_below<F: ReadFiles>(
     alloc: Global,
     files: &F,

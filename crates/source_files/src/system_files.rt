@@ -26,7 +26,7 @@ impl<'a, S: Files + AllocGlobal + Clone + Drop> SystemFiles<'a, S> {
     }
 }
 
-/// What the system gave, or none where it refused for another reason than want of memory.
+/// What the system gave, or none if it refused for another reason than lack of memory.
 pub(crate) fn given<T: Drop>(answer: io::Result<T>) -> Result<Option<T>, AllocError>
     ensures { IsGiven answer result }
 {

@@ -11,16 +11,16 @@ const ENDING: &str = ".proto";
 // So many bytes of a folder's names are read at once.
 const NAMES_LENGTH: usize = 32_768;
 
-// What stands before the names of a folder's entries: in their paths for the system, and in their
-// paths below the root. Each is empty or ends in `/`.
+// What comes before the names of a folder's entries: in their paths for the system, and in their paths below the
+// root. Each is empty or ends in `/`.
 #[derive(Drop)]
 struct Fronts {
     path: String,
     below: String,
 }
 
-// Folders that are still to be listed, among what may be none, by what would stand before the names
-// of their entries; and the paths below the root of the sources found.
+// Folders that are still to be listed, among what may be none, by what would come before the names of their entries;
+// and the paths below the root of the sources found.
 #[derive(Drop)]
 struct Walk {
     folders: Vec<Fronts>,
@@ -36,7 +36,7 @@ fn joined(alloc: Global, front: &str, name: &str, end: &str) -> Result<String, A
     Ok(path)
 }
 
-// What stands before the names of the root's entries. By the `/` a root that is a link is followed.
+// What comes before the names of the root's entries. By the `/` a root that is a link is followed.
 fn root_fronts(alloc: Global, root: &str) -> Result<Fronts, AllocError> {
     let end = if root.is_empty() || root.ends_with('/') {
         ""
@@ -169,7 +169,7 @@ pub(crate) fn list_sources<S: Files + AllocGlobal>(
     let fronts = root_fronts(alloc, root)?;
     let folder = system.open_dir(fronts.path.as_str())?;
     walk.list_names(system, folder, &fronts, &mut buffer)?;
-    // A bound for the proof: the walk ends where no folder is left.
+    // A bound for the proof: the walk ends if no folder is left.
     for _ in 0..usize::MAX {
         let Some(fronts) = walk.folders.pop() else {
             break;

@@ -34,7 +34,7 @@ path_cmp a b = slice_cmp nat_cmp a.path b.path
 abbrev pub file_cmp : TreeFile → TreeFile → Ordering
 file_cmp a b = ordering_then (bool_cmp a.is_included b.is_included) (slice_cmp nat_cmp a.path b.path)
 
--- the list sorted by path; files with one path stand in the order in which they were handed in
+-- the list sorted by path; files with one path are in the order in which they were handed in
 pub record IsByPath (files sorted : List SourceFile) : Type 0 where
   pub complete : IsPermutation files sorted
   pub ascends : IsSorted path_cmp sorted

@@ -16,13 +16,13 @@ abbrev pub OneSortingByPath : Type 0
 OneSortingByPath = (files sorted other : List SourceFile) → IsByPath files sorted → IsByPath files other
     → sorted ≡ other
 
--- two faults of the same files are one, want of memory aside
+-- two faults of the same files are one, apart from lack of memory
 abbrev pub RefusalsExcludeEachOther : Type 0
 RefusalsExcludeEachOther = (sources included : List SourceFile) (fault other : TreeFault)
     → MayRefuse sources included fault → MayRefuse sources included other
     → (fault ≡ other) ⊎ ((fault ≡ Memory) ⊎ (other ≡ Memory))
 
--- where there is a tree, no fault but want of memory holds
+-- if there is a tree, no fault holds but lack of memory
 abbrev pub TreesAreNotRefused : Type 0
 TreesAreNotRefused = (sources included : List SourceFile) (files : List TreeFile) (fault : TreeFault)
     → IsTreeOf sources included files → MayRefuse sources included fault → fault ≡ Memory

@@ -35,14 +35,14 @@ pub record HaveSamePath (sources included : List SourceFile) (number : ℕ) : Ty
   pub by_path : IsByPath sources sorted
   pub first : IsFirstRepeat sorted number
 
--- each fault comes where it holds and none of those before it does; of memory nothing is said
+-- each fault comes if it holds and none of those before it does; nothing is said about memory
 abbrev pub MayRefuse : List SourceFile → List SourceFile → TreeFault → Type 0
 MayRefuse sources included TooMany = AreTooMany sources included
 MayRefuse sources included (BadPath number) = HaveBadPath sources included number
 MayRefuse sources included (SamePath number) = HaveSamePath sources included number
 MayRefuse sources included Memory = ⊤
 
--- the sources come back sorted by path where two have one path, and else as they were
+-- the sources come back sorted by path if two have one path, and else as they were
 abbrev pub ComeBack : List SourceFile → TreeFault → List SourceFile → Type 0
 ComeBack sources TooMany back = back ≡ sources
 ComeBack sources (BadPath number) back = back ≡ sources

@@ -1,4 +1,4 @@
--- What a tree is: the sources, which are indexed, and the included files, which are linked alone (the profile's).
+-- What a tree is: the sources, which are indexed, and the included files, which are only linked (the profile's).
 use Rattle.std.specs.Prelude.{◌≡◌, ◌≢◌, ◌↔◌, ℕ, ◌+◌, ◌<◌, ◌≤◌, true, false, List, ◌∷◌, ◌++◌, Some, length, slice_get}
 use Rattle.std.specs.Prelude.{All, AllPairs, Contains}
 use Rattle.std.specs.List.Sorted.{IsStrictlySortedBy}
@@ -28,7 +28,7 @@ pub record IsSourceCount (files : List TreeFile) (count : ℕ) : Type 0 where
   pub sources : (number : ℕ) (file : TreeFile) → slice_get files number ≡ Some file → (number < count)
       ↔ (file.is_included ≡ false)
 
--- An included file counts where it is the first listed of its path, and no source has the path.
+-- An included file counts if it is the first listed of its path, and no source has the path.
 pub record Counts (sources included : List SourceFile) (file : SourceFile) : Type 0 where
   pub before : List SourceFile
   pub behind : List SourceFile

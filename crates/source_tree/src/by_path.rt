@@ -8,8 +8,7 @@ ghost use Rattle.source_tree.specs.Refusals.{IsFirstRepeat};
 use crate::source::Source;
 use std::alloc::AllocError;
 
-// Sorts files by path; those with one path keep their order. Where memory was refused, all stay
-// where they were.
+// Sorts files by path; those with one path keep their order. If memory was refused, all stay where they were.
 pub(crate) fn sort_by_path(files: &mut Vec<Source>) -> Result<(), AllocError>
     ensures ok { OnOk result (IsByPath files.old.items files.new.items) }
     ensures err { OnErr result (files.new.items ≡ files.old.items) }

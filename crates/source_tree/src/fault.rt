@@ -3,8 +3,8 @@
 use std::error::Error;
 use std::fmt;
 
-/// Why files make no tree. Where several hold, the first of them is answered; Memory may come after
-/// TooMany and BadPath, and before SamePath.
+/// Why files make no tree. If several hold, the first of them is answered; Memory may come after TooMany and BadPath,
+/// and before SamePath.
 #[derive(Clone, Copy, Debug, Drop, PartialEq, Eq)]
 pub enum TreeFault {
     /// There are more than [`MAX_FILES`](crate::MAX_FILES) files, the sources and the included ones
@@ -20,7 +20,7 @@ pub enum TreeFault {
     Memory,
 }
 
-/// The variant's name, and its number in parentheses where it has one.
+/// The variant's name, and its number in parentheses if it has one.
 impl fmt::Display for TreeFault {
     fn fmt<W: fmt::Write>(&self, f: &mut fmt::Formatter<W>) -> fmt::Result {
         fmt::Debug::fmt(self, f)

@@ -12,12 +12,12 @@ pub fn one_sorting_by_path()
     ensures { OneSortingByPath }
 {}
 
-/// Two faults of the same files are one, want of memory aside.
+/// Two faults of the same files are one, apart from lack of memory.
 pub fn refusals_exclude_each_other()
     ensures { RefusalsExcludeEachOther }
 {}
 
-/// Files that have a tree are refused for want of memory alone.
+/// Files that have a tree are refused only for lack of memory.
 pub fn trees_are_not_refused()
     ensures { TreesAreNotRefused }
 {}

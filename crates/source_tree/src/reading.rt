@@ -27,10 +27,9 @@ fn append_kept(bytes: &mut Vec<u8>, part: &[u8]) -> Result<(), AllocError>
     }
 }
 
-/// The bytes of a source, up to one more than a text may have; what lies behind them is read too,
-/// and not kept.
+/// The bytes of a source, up to one more than a text may have; what lies after them is read too, and not kept.
 ///
-/// None where a read failed, or `MAX_READS` reads gave no end.
+/// None if a read failed, or `MAX_READS` reads gave no end.
 pub fn read_source<R: Feed>(alloc: Global, source: &mut R) -> Result<Option<Vec<u8>>, AllocError>
     ensures bytes { IfOk result (λ read. IfSome read (λ bytes. (all : List ℕ) → R.remaining source.old ≡ Some all → bytes.items ≡ kept_bytes all)) }
     ensures few { IfOk result (λ read. IfSome read (λ bytes. length bytes.items ≤ max_kept_length)) }

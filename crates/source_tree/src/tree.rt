@@ -15,9 +15,9 @@ use std::marker::Model;
 /// The most files of a tree, the sources and the included ones together.
 pub const MAX_FILES: usize = 65_536;
 
-/// The files of a run, by their numbers: the sources, which are indexed, by path; then the included
-/// files that count, which are linked alone, by path. No two have one path, and each path is a good
-/// one. Paths are ordered by their bytes.
+/// The files of a run, by their numbers: the sources, which are indexed, by path; then the included files that count,
+/// which are only linked, by path. No two have one path, and each path is a good one. Paths are ordered by their
+/// bytes.
 ///
 /// Contracts see the list of the files.
 #[derive(Debug, Drop)]
@@ -40,8 +40,7 @@ impl Model for Tree {
 }
 
 impl Tree {
-    /// The tree of sources. Where they make none, they come back: after SamePath sorted by path, and
-    /// else as they were.
+    /// The tree of sources. If they make none, they come back: after SamePath sorted by path, and else as they were.
     pub fn new(alloc: Global, sources: Vec<Source>) -> Result<Tree, (Vec<Source>, TreeFault)>
         ensures tree { IfOk result (IsTreeOf sources.items []) }
         ensures refused { IfErr result (λ back. MayRefuse sources.items [] back.1) }
@@ -56,9 +55,9 @@ impl Tree {
         }
     }
 
-    /// The tree of sources and included files. Of included files with one path the first listed
-    /// counts; one whose path a source has doesn't count. Where they make no tree, both lists come
-    /// back: the sources after SamePath sorted by path, all else as it was.
+    /// The tree of sources and included files. Of included files with one path the first listed counts; one whose
+    /// path a source has doesn't count. If they make no tree, both lists come back: the sources after SamePath sorted
+    /// by path, all else as it was.
     pub fn with_included(
         alloc: Global,
         sources: Vec<Source>,

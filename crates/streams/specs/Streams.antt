@@ -1,4 +1,4 @@
--- What one write and one read do to a sink's and a feed's counts. Counts stop at the last u64, where nothing exact is
+-- What one write and one read do to a sink's and a feed's counts. Counts stop at the last u64; there nothing exact is
 -- known.
 use Rattle.std.specs.Prelude.{ℕ, zero, suc, ◌+◌, ◌-◌, ◌^◌, min, List, [], ◌∷◌, Result, Ok, Err}
 

@@ -1,4 +1,4 @@
--- What is written of a text, by any number of writes: all of it, or, where a write fails, a part of it from its start.
+-- What is written of a text, by any number of writes: all of it, or, if a write fails, a part of it from its start.
 -- `contents` and `failures` are the sink's, `before` and `after` the sink around the call.
 use Rattle.std.specs.Prelude.{◌≡◌, ℕ, ◌<◌, List, length, take, Option}
 use Rattle.std.specs.Io.KnownBytes.{Appends}

@@ -16,7 +16,7 @@ pub const MAX_READS: u32 = 16_777_216;
 /// An `Err` is a failure, whatever its cause. Reads into room for no byte aren't counted; of the
 /// others, those that give `Ok(0)` are ends.
 pub trait Feed {
-    // The bytes that it has left to give, where they are known.
+    // The bytes that it has left to give, if they are known.
     ghost remaining: { Self → Option (List ℕ) };
 
     // How many reads failed, up to `u64::MAX`.
@@ -28,8 +28,8 @@ pub trait Feed {
     // How many of them met the end of the bytes, up to `u64::MAX`.
     ghost ends: { Self → ℕ };
 
-    /// Reads some bytes to the front of the room, and gives how many: 0 only at the end of the
-    /// bytes, or where there is no room. `Failed` takes no byte from those left.
+    /// Reads some bytes to the front of the room, and gives how many: 0 only at the end of the bytes, or if there is
+    /// no room. `Failed` takes no byte from those left.
     fn read(&mut self, room: &mut [u8]) -> Result<usize, Failed>
         ensures bound { ReadsAtMost result room.new }
         ensures bytes { ReadConsumes (remaining self.old) (remaining self.new) result room.new }

@@ -12,7 +12,7 @@ use crate::failed::Failed;
 /// An `Err` is a failure, whatever its cause, and so is `Ok(0)` for bytes that aren't empty. A short
 /// write isn't.
 pub trait Sink {
-    // The bytes that it holds, where they are known.
+    // The bytes that it holds, if they are known.
     ghost contents: { Self → Option (List ℕ) };
 
     // How many writes failed, up to `u64::MAX`.

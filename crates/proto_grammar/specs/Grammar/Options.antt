@@ -12,7 +12,7 @@ use Rattle.proto_grammar.specs.Terminal.{first_is, of_kind, is_word, is_sign, is
 use Rattle.proto_grammar.specs.Grammar.Repetition.{One, Until, Passes}
 use Rattle.proto_grammar.specs.Grammar.Names.{IsName, IsTypeName}
 
--- A part of an option's name: IDENT. Where custom options are read past (the project's own), also "(" typename ")".
+-- A part of an option's name: IDENT. If custom options are read past (the project's own), also "(" typename ")".
 pub data IsOptionPart : CustomOptions → List Lexeme → List Lexeme → Type 0 where
   plain : {custom : CustomOptions} {a b : List Lexeme} {name : Span} → One (of_kind Identifier) a name b
       → IsOptionPart custom a b
@@ -39,7 +39,7 @@ pub data IsStrings : List Lexeme → List Lexeme → Type 0 where
   strings : {a b c : List Lexeme} → IsLiteral a b → Until (not_next StringLiteral) (Passes IsLiteral) tt b tt c
       → IsStrings a c
 
--- Any tokens, up to and with the `}` that closes the last of so many open braces. Only `{` and `}` count.
+-- Any tokens, up to and with the `}` that closes the last of this many open braces. Only `{` and `}` count.
 pub data IsClosed : ℕ → List Lexeme → List Lexeme → Type 0 where
   closed : {a : List Lexeme} → IsClosed zero a a
   open_brace : {depth : ℕ} {a b c : List Lexeme} {span : Span}
@@ -53,7 +53,7 @@ pub data IsClosed : ℕ → List Lexeme → List Lexeme → Type 0 where
 
 -- constant = name | [ "-" | "+" ] ( INT | FLOAT | "inf" | "nan" ) | strings. An `inf` or `nan` without a sign is a
 -- name.
--- Where custom options are read past (the project's own), also "{", any tokens with "{" and "}" balanced, "}".
+-- If custom options are read past (the project's own), also "{", any tokens with "{" and "}" balanced, "}".
 pub data IsConstant : CustomOptions → List Lexeme → List Lexeme → Type 0 where
   name : {custom : CustomOptions} {a b : List Lexeme} {components : List Span} → IsName a components b
       → IsConstant custom a b

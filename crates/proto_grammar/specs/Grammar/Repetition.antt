@@ -1,5 +1,5 @@
--- What productions are made of: single tokens, and repetition. Each relation of the grammar is between
--- the tokens before a part and those left behind it, with what the part is in the tree between them.
+-- What productions are made of: single tokens, and repetition. Each relation of the grammar is between the tokens
+-- before a part and those left after it, with what the part is in the tree between them.
 use Rattle.std.specs.Prelude.{◌≡◌, Bool, true, false, Option, List, ◌∷◌, ◌++◌, option_to_list}
 use Rattle.proto_lex.specs.declared.span.Span.{Span}
 use Rattle.proto_grammar.specs.Lexeme.{Lexeme}
@@ -15,7 +15,7 @@ pub data Until {S : Type 0} (ends : List Lexeme → Bool) (Step : S → List Lex
   more : {s t u : S} {a b c : List Lexeme} → ends a ≡ false → Step s a t b → Until ends Step t b u c
       → Until ends Step s a u c
 
--- An item, behind those before it. One that isn't kept in the tree is None.
+-- An item, after those before it. One that isn't kept in the tree is None.
 pub data Adds {A : Type 0} (Item : List Lexeme → Option A → List Lexeme → Type 0) : List A → List Lexeme → List A
     → List Lexeme → Type 0 where
   adds : {items : List A} {item : Option A} {a b : List Lexeme} → Item a item b

@@ -7,7 +7,7 @@ use Rattle.proto_grammar.specs.Terminal.{first_is, of_kind, is_word, not_next}
 use Rattle.proto_grammar.specs.Grammar.Repetition.{One, Until, Passes}
 use Rattle.proto_grammar.specs.Grammar.Options.{IsStrings}
 
--- INT. Where numbers may be negative, [ "-" ] INT.
+-- INT. If numbers may be negative, [ "-" ] INT.
 pub data IsInteger : (negative : Bool) → List Lexeme → List Lexeme → Type 0 where
   plain : {negative : Bool} {a b : List Lexeme} {number : Span} → One (of_kind Integer) a number b
       → IsInteger negative a b
@@ -27,7 +27,7 @@ pub data IsRange (negative : Bool) : List Lexeme → List Lexeme → Type 0 wher
   range : {a b c d : List Lexeme} {word : Span}
       → IsInteger negative a b → One (is_word (codes "to")) b word c → IsRangeEnd negative c d → IsRange negative a d
 
--- strings where names are reserved, a range where numbers are
+-- strings if names are reserved, a range if numbers are
 pub data IsReservedItem (negative : Bool) : (names : Bool) → List Lexeme → List Lexeme → Type 0 where
   name : {a b : List Lexeme} → IsStrings a b → IsReservedItem negative true a b
   number : {a b : List Lexeme} → IsRange negative a b → IsReservedItem negative false a b
@@ -37,8 +37,8 @@ pub data IsCommaItem (negative names : Bool) : List Lexeme → List Lexeme → T
       → IsCommaItem negative names a c
 
 -- reserved = "reserved" ( range { "," range } | strings { "," strings } ) ";", in a message
--- enumReserved = "reserved" ( enumRange { "," enumRange } | strings { "," strings } ) ";", in an enum, where numbers
--- may be negative
+-- enumReserved = "reserved" ( enumRange { "," enumRange } | strings { "," strings } ) ";", in an enum, if numbers may
+-- be negative
 pub data IsReserved (negative : Bool) : List Lexeme → List Lexeme → Type 0 where
   reserved : {names : Bool} {a b c d e : List Lexeme} {keyword semicolon : Span}
       → One (is_word (codes "reserved")) a keyword b → first_is (of_kind StringLiteral) b ≡ names

@@ -43,7 +43,7 @@ literals_at tokens = until_at (not_next StringLiteral) (passing literal_at) tt t
 unfoldable pub strings_at : Read (Unit {0})
 strings_at tokens = literal_at tokens >>= λ text. literals_at text.1
 
--- how many braces are open behind the token
+-- how many braces are open after the token
 abbrev pub depth_behind : Lexeme → ℕ → ℕ
 depth_behind t depth = cond (of_kind OpenBrace t) (depth + 1) (cond (of_kind CloseBrace t) (depth - 1) depth)
 

@@ -16,7 +16,7 @@ Read A = List Lexeme → Option (A × List Lexeme)
 unfoldable pub token_that : (Lexeme → Bool) → Read Span
 token_that test tokens = first tokens >>= λ t. cond (test t) (Some (t.span, others tokens)) None
 
--- Where the next token stands, which is left.
+-- Where the next token is. It isn't taken.
 unfoldable pub span_at : Read Span
 span_at tokens = first tokens >>= λ t. Some (t.span, tokens)
 
@@ -29,7 +29,7 @@ until_by ends step (suc n) s tokens =
 unfoldable pub until_at : {S : Type 0} → (List Lexeme → Bool) → (S → Read S) → S → Read S
 until_at ends step s tokens = until_by ends step (length tokens) s tokens
 
--- An item behind those before it.
+-- An item after those before it.
 abbrev pub adding : {A : Type 0} → Read (Option A) → List A → Read (List A)
 adding item items tokens = item tokens >>= λ x. Some (items ++ option_to_list x.0, x.1)
 

@@ -1,4 +1,4 @@
--- Each message in a body is smaller than what the body stands in.
+-- Each message in a body is smaller than what the body is in.
 use Rattle.std.specs.Prelude.{◌+◌, ◌≤◌, List, [], ◌∷◌}
 use Rattle.std.proofs.Common.{arith}
 use denote.Param.Weighed.{most}

@@ -55,7 +55,7 @@ fn escape_len(bytes: &[u8]) -> Option<usize>
 
 /// How many bytes the character `first`, or the escape that it begins, takes.
 ///
-/// It stands at `at`, before `others`, in a string that opens at `opening`.
+/// It is at `at`, before `others`, in a string that opens at `opening`.
 #[tactic(auto, unfolding(crate::specs::Reading::character_at))]
 fn character_at(first: u8, others: &[u8], opening: usize, at: usize) -> Result<usize, LexFault>
     requires { length others.now ≤ max_text_length }

@@ -37,7 +37,7 @@ fn begins_hexadecimal(bytes: &[u8]) -> bool
     }
 }
 
-/// Whether a number's run, in which `last` stands, goes on with `next`.
+/// Whether a number's run, in which `last` is, goes on with `next`.
 fn goes_on(may_hold_signs: bool, last: u8, next: u8) -> bool
     ensures { result ≡ goes_on may_hold_signs last next }
 {
@@ -46,7 +46,7 @@ fn goes_on(may_hold_signs: bool, last: u8, next: u8) -> bool
         || may_hold_signs && is_exponent_mark(last) && is_plus_or_minus(next)
 }
 
-/// How many bytes a run, in which `first` stands, takes after it.
+/// How many bytes a run, in which `first` is, takes after it.
 fn run_len_after(may_hold_signs: bool, first: u8, others: &[u8]) -> usize
     ensures value { result ≡ length (run_after may_hold_signs first others.now) }
     ensures within { result ≤ length others.now }
@@ -173,7 +173,7 @@ fn number_kind(run: &[u8]) -> Option<TokenKind>
     }
 }
 
-/// The number that begins the bytes, which stand at the offset `at`.
+/// The number that begins the bytes, which are at the offset `at`.
 #[tactic(auto, unfolding(crate::specs::Reading::number_at))]
 pub(crate) fn number_at(bytes: &[u8], at: usize) -> Result<Piece, LexFault>
     requires { length bytes.now ≤ max_text_length }

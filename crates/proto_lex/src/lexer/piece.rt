@@ -1,4 +1,4 @@
-//! What stands at a place of a text: a blank, a comment or a token.
+//! What is at a place of a text: a blank, a comment or a token.
 
 ghost use Rattle.std.specs.Prelude.{◌≡◌, ℕ, ◌+◌, ◌<◌, ◌≤◌, length, IfOk, IfSome};
 ghost use Rattle.proto_lex.specs.Comments.{begins_close};
@@ -12,7 +12,7 @@ use crate::lexer::literal::literal_at;
 use crate::lexer::number::{begins_number, number_at};
 use crate::token::{CommentKind, TokenKind};
 
-/// What stands at a place.
+/// What is at a place.
 #[derive(Clone, Copy, Debug, PartialEq, Eq)]
 pub(crate) enum PieceKind {
     Blank,
@@ -20,7 +20,7 @@ pub(crate) enum PieceKind {
     Token(TokenKind),
 }
 
-/// What stands at a place, and how many bytes it takes.
+/// What is at a place, and how many bytes it takes.
 #[derive(Clone, Copy, Debug, PartialEq, Eq)]
 pub(crate) struct Piece {
     pub kind: PieceKind,
@@ -34,7 +34,7 @@ fn begins_close(bytes: &[u8]) -> bool
     matches!(bytes, [b'*', b'/', ..])
 }
 
-/// How many bytes a block comment takes, where these stand after its `/*`.
+/// How many bytes a block comment takes, if these come after its `/*`.
 fn block_len(others: &[u8]) -> Option<usize>
     requires { length others.now ≤ max_text_length }
     ensures value { result ≡ block_at 2 others.now }
@@ -77,7 +77,7 @@ fn sign_kind(b: u8) -> Option<TokenKind>
     }
 }
 
-/// A token of this kind, which takes so many bytes.
+/// A token of this kind, which takes this many bytes.
 fn token(kind: TokenKind, len: usize) -> Piece
     ensures { result ≡ token kind len }
 {
@@ -108,7 +108,7 @@ fn slash_at(others: &[u8], at: usize) -> Result<Piece, LexFault>
     }
 }
 
-/// What these bytes begin with, which stand at `at`.
+/// What these bytes begin with, which are at `at`.
 #[tactic(auto, unfolding(crate::specs::Reading::piece_at))]
 pub(crate) fn piece_at(bytes: &[u8], at: usize) -> Result<Piece, LexFault>
     requires { at + length bytes.now ≤ max_text_length }

@@ -12,7 +12,7 @@ pub record IsSingle (files : List File) (file : ℕ) (word : List ℕ) (scopes :
   pub innermost : Innermost files file is_type word scopes start
   pub name_is : name ≡ qualified start word
 
--- the full name of the words in the innermost scope in which the first is an aggregate, where it is that of a type
+-- the full name of the words in the innermost scope in which the first is an aggregate, if it is that of a type
 pub record IsCompound (files : List File) (file : ℕ) (first words : List ℕ) (scopes : List (List ℕ))
     (name : List ℕ) : Type 0 where
   pub start : List ℕ

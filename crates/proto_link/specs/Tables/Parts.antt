@@ -16,7 +16,7 @@ pub record AreEntitiesOf (number : ℕ) (facts : Facts) (name : List ℕ) (count
       → IsEntityOf number facts (prefix_of name (length (components_of name) - count + j + 1))
       (length (components_of name) - count + j + 1) part
 
--- the same of what a file knows by the names
+-- the same for what a file knows by the names
 pub record AreNamed (files : List File) (file : ℕ) (name : List ℕ) (count : ℕ) (parts : List Entity) : Type 0 where
   pub one_each : length parts ≡ count
   pub named : (j : ℕ) (part : Entity) → slice_get parts j ≡ Some part

@@ -22,7 +22,7 @@ use Rattle.proto_grammar.specs.Grammar.Options.{IsOption}
 use Rattle.proto_parse.specs.Grammar.Messages.{IsEnum, IsExtend, IsMessage}
 use Rattle.proto_parse.specs.Grammar.Services.{IsService}
 
--- The literals that stand next, as many as there are, and what they spell when joined.
+-- The literals that are next, as many as there are, and what they spell when joined.
 pub data SpellsJoined : List Lexeme → List ℕ → List Lexeme → Type 0 where
   none : {a : List Lexeme} → not_next StringLiteral a ≡ true → SpellsJoined a [] a
   some : {t : Lexeme} {rest after : List Lexeme} {text : List ℕ}
@@ -43,7 +43,7 @@ pub data IsImportKind : List Lexeme → ImportKind → List Lexeme → Type 0 wh
   neither : {a : List Lexeme} → first_is (is_word (codes "weak")) a ≡ false
       → first_is (is_word (codes "public")) a ≡ false → IsImportKind a Plain a
 
--- A literal of a path: no `\` stands in it (the profile's).
+-- A literal of a path: it has no `\` (the profile's).
 pub data IsPathLiteral : List Lexeme → Option Span → List Lexeme → Type 0 where
   path_literal : {a b : List Lexeme} {literal : Span} → One is_plain_literal a literal b
       → IsPathLiteral a (Some literal) b

@@ -81,7 +81,7 @@ pub data IsExtendItem : List Lexeme → List Lexeme → Type 0 where
   field : {a b : List Lexeme} {field : Field} → first_is (of_kind Semicolon) a ≡ false → IsField Skip a field b
       → IsExtendItem a b
 
--- "extend" typename "{" { field | ";" } "}", only where custom options are read past (the project's own). Nothing of it
+-- "extend" typename "{" { field | ";" } "}", only if custom options are read past (the project's own). Nothing of it
 -- is kept.
 pub data IsExtend : CustomOptions → List Lexeme → List Lexeme → Type 0 where
   extend : {a b c d e f : List Lexeme} {keyword open_brace close_brace : Span} {name : TypeName}
@@ -126,7 +126,7 @@ pub data IsMessageOf (custom : CustomOptions) (Inner : List Lexeme → MessageTr
       → One (of_kind CloseBrace) c close_brace d
       → IsMessageOf custom Inner a (record { heading = heading; body = body_of items }) d
 
--- A message that takes up at most so many levels: itself one, and what its inner messages take up.
+-- A message that takes up at most this many levels: itself one, and what its inner messages take up.
 unfoldable pub IsMessage : CustomOptions → (levels : ℕ) → List Lexeme → MessageTree → List Lexeme → Type 0
 IsMessage custom zero a tree b = ⊥
 IsMessage custom (suc levels) a tree b = IsMessageOf custom (IsMessage custom levels) a tree b

@@ -15,7 +15,7 @@ use Rattle.proto_grammar.specs.Grammar.Names.{IsTypeName}
 use Rattle.proto_grammar.specs.Grammar.Options.{IsOption}
 use Rattle.proto_parse.specs.Grammar.Messages.{IsHeading}
 
--- [ "stream" ]: directly behind the parenthesis the word is the marker
+-- [ "stream" ]: directly after the parenthesis the word is the marker
 pub data IsStream : List Lexeme → List Lexeme → Type 0 where
   stream : {a b : List Lexeme} {word : Span} → One (is_word (codes "stream")) a word b → IsStream a b
   no_stream : {a : List Lexeme} → first_is (is_word (codes "stream")) a ≡ false → IsStream a a

@@ -51,7 +51,7 @@ starts_of items = map (λ item. item.place.span.start) items
 abbrev pub AreOfFile : ℕ → List Item → Type 0
 AreOfFile number items = (index : ℕ) (item : Item) → slice_get items index ≡ Some item → item.place.file ≡ number
 
--- the items with those of the package's components behind them
+-- the items with those of the package's components after them
 pub record AreWithPackage (number : ℕ) (components : List Component) (old new : List Item) : Type 0 where
   pub starts : starts_of new ≡ starts_of old ++ map (λ component. component.span.start) components
   pub of_file : AreOfFile number old → AreOfFile number new

@@ -19,12 +19,12 @@ use Rattle.proto_visibility.specs.FileNames.{IsPrefix}
 abbrev pub listed_at : {X A S : Type 0} → HashMap (Bor (List ℕ)) (Vec X A) S → (name : List ℕ) → List X
 listed_at names name = option_map_or (λ listed. listed.items) (get_by (λ key. bytes_eq name key.now) names) []
 
--- the same of a map that owns its names
+-- the same for a map that owns its names
 abbrev pub owned_at : {X A Y S : Type 0} → HashMap (String Y) (Vec X A) S → (name : List ℕ) → List X
 owned_at names name = option_map_or (λ listed. listed.items) (get_by_text names name) []
 
--- of the declarations of the file with this number the one with this index, a message, an enum or a service, has this
--- name
+-- among the declarations of the file with this number, that with this index (a message, an enum or a service) has
+-- this name
 pub record IsDeclaredOf (number : ℕ) (declarations : List Declaration) (index : ℕ) (name : List ℕ)
     (one : DeclaredAt) : Type 0 where
   pub declaration : Declaration
@@ -42,7 +42,7 @@ abbrev pub IsDeclaredBy : List File → (number : ℕ) → (name : List ℕ) →
 IsDeclaredBy files number name one =
     (file : File) × (slice_get files number ≡ Some file) × IsDeclaredIn number file name one
 
--- at each name stand the declarations that have it
+-- at each name are the declarations that have it
 abbrev pub AreDeclared : List File → (List ℕ → List DeclaredAt) → Type 0
 AreDeclared files at = (name : List ℕ) (one : DeclaredAt) → Contains (at name) one
     ↔ ((number : ℕ) × IsDeclaredBy files number name one)
@@ -53,7 +53,7 @@ HasPrefix files number name =
     (file : File) × (facts : Facts) × (slice_get files number ≡ Some file) × (file.facts ≡ Some facts)
     × IsPrefix facts.package_name name
 
--- at each name stand the files that have this package or one below it
+-- at each name are the files that have this package or one below it
 abbrev pub ArePackaged : List File → (List ℕ → List ℕ) → Type 0
 ArePackaged files at = (name : List ℕ) (number : ℕ) → Contains (at name) number ↔ HasPrefix files number name
 

@@ -43,7 +43,7 @@ pub record AreRowsBy (Imports : ℕ → Bool → ℕ → Type 0) (files : ℕ) (
   pub each : (file : ℕ) (row : List ℕ) → slice_get rows file ≡ Some row → (other : ℕ) → Contains row other
       ↔ SeesBy Imports file other
 
--- the number that stands in a map at a path
+-- the number that is in a map at a path
 abbrev pub number_in : {S : Type 0} → HashMap (Bor (List ℕ)) ℕ S → (path : List ℕ) → Option ℕ
 number_in numbers path = get_by (λ key. bytes_eq path key.now) numbers
 
@@ -60,7 +60,7 @@ imports_in (Some facts) = facts.imports
 abbrev pub imports_of : File → List Imported
 imports_of file = imports_in file.facts
 
--- the file that an import names, where it is public as asked
+-- the file that an import names, if it is public as asked
 abbrev pub target : (List ℕ → Option ℕ) → (publicly : Bool) → Imported → Option ℕ
 target number true import = if is_public import.kind then number import.path else None
 target number false import = if is_public import.kind then None else number import.path
@@ -90,7 +90,7 @@ NoneIsAbsentUpTo number included imports count = (k : ℕ) (import : Imported) �
 abbrev pub NoneIsAbsent : (List ℕ → Option ℕ) → Bool → List Imported → Type 0
 NoneIsAbsent number included imports = NoneIsAbsentUpTo number included imports (length imports)
 
--- the first such import stands at this span
+-- the first such import is at this span
 pub record IsFirstAbsent (number : List ℕ → Option ℕ) (included : Bool) (imports : List Imported)
     (span : Span) : Type 0 where
   pub index : ℕ

@@ -7,7 +7,7 @@ use Rattle.proto_visibility.specs.declared.place.FilePlace.{FilePlace}
 use Rattle.proto_visibility.specs.Items.{Before, Item}
 use Rattle.proto_visibility.specs.Tables.ImportTables.{number_in}
 
--- each item stands before those behind it
+-- each item comes before those after it
 abbrev pub AreInPlace : List Item → Type 0
 AreInPlace items = (j k : ℕ) (a b : Item) → j < k → slice_get items j ≡ Some a → slice_get items k ≡ Some b
     → Before a.place b.place
@@ -16,7 +16,7 @@ AreInPlace items = (j k : ℕ) (a b : Item) → j < k → slice_get items j ≡ 
 abbrev pub HasNone : List Item → (count : ℕ) → (name : List ℕ) → Type 0
 HasNone items count name = (k : ℕ) (item : Item) → k < count → slice_get items k ≡ Some item → item.full_name ≡ name → ⊥
 
--- the item at this index is the first with the name, and one of so many
+-- the item at this index is the first with the name, and one of this many
 pub record IsFirstNamed (items : List Item) (count : ℕ) (name : List ℕ) (index : ℕ) : Type 0 where
   pub item : Item
   pub stands : slice_get items index ≡ Some item
@@ -24,12 +24,12 @@ pub record IsFirstNamed (items : List Item) (count : ℕ) (name : List ℕ) (ind
   pub within : index < count
   pub first : HasNone items index name
 
--- the map has the first of so many items with each name
+-- the map has the first of this many items with each name
 abbrev pub AreFirst : {S : Type 0} → List Item → (count : ℕ) → HashMap (Bor (List ℕ)) ℕ S → Type 0
 AreFirst items count names = (name : List ℕ)
     → MatchOption (number_in names name) (HasNone items count name) (IsFirstNamed items count name)
 
--- the place of the earlier item, where one of the two is a declaration
+-- the place of the earlier item, if one of the two is a declaration
 abbrev pub place_if_declared : Option Item → Item → Option FilePlace
 place_if_declared None item = None
 place_if_declared (Some earlier) item =

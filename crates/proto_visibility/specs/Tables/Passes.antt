@@ -13,7 +13,7 @@ use Rattle.proto_visibility.specs.Absences.{IsUnread}
 use Rattle.proto_visibility.specs.Kept.{Omissions, IsKept, IsMet}
 use Rattle.proto_visibility.specs.Tables.ImportTables.{number_in}
 
--- of each of the first so many files, whether it is left out for want of facts
+-- of each of the first so many files, whether it is left out because it has no facts
 pub record AreUnreadOf (files : List File) (count : ℕ) (omissions : Omissions) : Type 0 where
   pub one_each : length omissions ≡ count
   pub each : (number : ℕ) (omission : Option LinkFault) → slice_get omissions number ≡ Some omission
@@ -60,7 +60,7 @@ IsTold items count omissions number fault =
     (index : ℕ) × (item : Item) × (index < count) × (slice_get items index ≡ Some item) × (item.place.file ≡ number)
     × IsClashOmission (Contains items) omissions number (Some fault)
 
--- an open item, of which the map has the index of its name, stands there or before
+-- the map has an index at the name, that of an open item, which is this one or before it
 abbrev pub IsFirst : {S : Type 0} → List Item → Omissions → HashMap (Bor (List ℕ)) ℕ S → (name : List ℕ) → (index : ℕ)
     → Type 0
 IsFirst items omissions names name index =

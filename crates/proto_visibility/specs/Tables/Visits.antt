@@ -3,7 +3,7 @@ use Rattle.std.specs.Prelude.{ℕ, ◌≡◌, ◌<◌, ◌==◌, Bool, false, Li
 use Rattle.std.specs.Prelude.{slice_index_or}
 use Rattle.std.specs.List.{list_any, IsDistinct}
 
--- of so many files these, in order of first sight
+-- of this many files these, in order of first sight
 pub record Found : Type 0 where
   pub files : ℕ
   pub numbers : List ℕ

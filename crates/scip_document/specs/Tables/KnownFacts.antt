@@ -1,4 +1,4 @@
--- What the laws of the crates below say of the facts of files and of their symbols.
+-- What the laws of the crates below say about the facts of files and of their symbols.
 use Rattle.std.specs.Prelude.{◌≢◌, List, [], All}
 use Rattle.proto_decl.specs.Facts.{Facts, AreOfSomeFile, NamesInOrder, UsesInOrder, ImportsInOrder, PackageInOrder}
 use Rattle.proto_decl.specs.Ancestors.{AreNamed, AreHeld}

@@ -8,7 +8,7 @@ use Rattle.std.specs.List.Sorted.{IsStrictlySortedBy}
 abbrev pub AreUntied : {X : Type 0} → (X → X → Ordering) → (first second : List X) → Type 0
 AreUntied cmp first second = (x y : _) → Contains first x → Contains second y → cmp x y ≡ Equal → x ≡ y
 
--- It has the items of both and no others, and ascends where both do.
+-- It has the items of both and no others, and ascends if both do.
 pub record IsMerged {X : Type 0} (cmp : X → X → Ordering) (first second both : List X) : Type 0 where
   pub all : (x : X) → Contains both x ↔ (Contains first x ⊎ Contains second x)
   pub ascends : IsStrictlySortedBy cmp first → IsStrictlySortedBy cmp second → IsStrictlySortedBy cmp both
@@ -17,7 +17,7 @@ abbrev pub first_of : {X : Type 0} → List X → Option X
 first_of [] = None
 first_of (x ∷ xs) = Some x
 
--- how the first item of one list stands to that of another; nothing stands behind everything
+-- how the first item of one list compares with that of another; nothing comes after everything
 abbrev pub fronts_cmp : {X : Type 0} → (X → X → Ordering) → List X → List X → Ordering
 fronts_cmp cmp [] ys = Greater
 fronts_cmp cmp (x ∷ xs) [] = Less

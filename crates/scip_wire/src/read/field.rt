@@ -24,7 +24,7 @@ pub struct Field<'a> {
     pub payload: Payload<'a>,
 }
 
-/// The first `size` bytes, in a record at `start` in the input, and those behind them.
+/// The first `size` bytes, in a record at `start` in the input, and those after them.
 #[tactic(auto, unfolding(crate::specs::Reading::piece_at))]
 fn piece_of(bytes: &[u8], size: u64, start: usize) -> Result<(&[u8], &[u8]), WireFault>
     ensures reads { Gives (λ x. (x.0.now, x.1.now)) result (piece_at size bytes.now) }
@@ -36,7 +36,7 @@ fn piece_of(bytes: &[u8], size: u64, start: usize) -> Result<(&[u8], &[u8]), Wir
     Ok(bytes.split_at(size as usize))
 }
 
-/// The payload of a wire type that the bytes begin with, in a record at `start` in the input, and the bytes behind it.
+/// The payload of a wire type that the bytes begin with, in a record at `start` in the input, and the bytes after it.
 #[tactic(auto, unfolding(crate::specs::Reading::payload_at))]
 fn payload_of(bytes: &[u8], wire_type: u64, start: usize) -> Result<(Payload<'_>, &[u8]), WireFault>
     ensures reads { Gives (λ x. (payload_view x.0, x.1.now)) result (payload_at wire_type bytes.now) }
@@ -65,7 +65,7 @@ fn payload_of(bytes: &[u8], wire_type: u64, start: usize) -> Result<(Payload<'_>
     }
 }
 
-/// The record that the bytes begin with, which is at `start` in the input, and the bytes behind it (Protocol Buffers
+/// The record that the bytes begin with, which is at `start` in the input, and the bytes after it (Protocol Buffers
 /// encoding, Message Structure).
 #[tactic(auto, unfolding(crate::specs::Reading::field_at))]
 pub fn read_field(bytes: &[u8], start: usize) -> Result<(Field<'_>, &[u8]), WireFault>

@@ -55,10 +55,10 @@ pub fn read_message<M: Decode>(alloc: Global, bytes: &[u8], end: usize) -> Resul
     Ok(message)
 }
 
-/// Puts the message of a field that comes at most once in its place. The bytes end at `end` in the
-/// input, and their record is at `start`.
+/// Puts the message of a field that comes at most once in its place. The bytes end at `end` in the input, and their
+/// record is at `start`.
 ///
-/// `Repeated` where there is an earlier one, whatever the bytes hold.
+/// `Repeated` if there is an earlier one, whatever the bytes hold.
 #[tactic(auto, using(crate::proofs::ColumnLemmas::only_taken, crate::proofs::ColumnLemmas::only_first))]
 pub fn take_only<M: Decode>(
     alloc: Global,

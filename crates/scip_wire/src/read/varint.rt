@@ -10,7 +10,7 @@ use crate::wire_fault::WireFault;
 pub const MAX_VARINT_LEN: usize = 10;
 
 /// The varint of at most `limit` bytes that the bytes begin with, in a record at `start` in the input, and the bytes
-/// behind it (Protocol Buffers encoding, Base 128 Varints). It may be longer than its value needs.
+/// after it (Protocol Buffers encoding, Base 128 Varints). It may be longer than its value needs.
 #[tactic(auto, unfolding(crate::specs::Reading::varint_at))]
 pub fn varint_of(bytes: &[u8], limit: usize, start: usize) -> Result<(u64, &[u8]), WireFault>
     requires { 0 < limit }

@@ -9,7 +9,7 @@ use super::varint::{encode_varint, varint_len};
 use sequences::{OwnedText, Sequence};
 use std::alloc::AllocError;
 
-/// The length of a record of so many bytes, tag and length in front included.
+/// The length of a record with so many bytes, with its tag and length.
 pub(super) fn record_len(number: u64, len: u64) -> u64
     requires { number ≤ max_field_number }
     ensures { (bytes : List ℕ) → len ≡ saturated (length bytes) → result ≡ saturated (fields_len (bytes_field number bytes ∷ [])) }

@@ -14,7 +14,7 @@ use scip_model::{Document, Metadata, SymbolInformation};
 use sequences::Sequence;
 use std::alloc::{AllocError, Global};
 
-/// A document's record, as it stands in the spelling of an index, tag and length in front included.
+/// A document's record, as in the spelling of an index, with its tag and length.
 pub fn spell_document(alloc: Global, document: &Document) -> Result<Sequence<u8>, AllocError>
     ensures bytes { IfOk result (λ bytes. bytes ≡ document_record document.now) }
     ensures known { IsFitDocument document.now }
@@ -52,7 +52,7 @@ pub(crate) fn pieces_len(
     front.saturating_add(middle).saturating_add(back)
 }
 
-/// The metadata's record; nothing where there is none.
+/// The metadata's record; nothing if there is none.
 pub(crate) fn spell_metadata(
     alloc: Global,
     metadata: &Option<Metadata>,

@@ -30,7 +30,7 @@ pub(super) fn encode_range(out: &mut Vec<u8>, number: u64, range: &Range) -> Res
     encode_numbers(out, range)
 }
 
-/// The length of a range's numbers, three of them where both ends are on one line, else four.
+/// The length of a range's numbers: three if both ends are on one line, otherwise four.
 fn numbers_len(range: &Range) -> u64
     ensures value { result ≡ length (flat_map varint (range_numbers range.now)) }
     ensures bound { result ≤ 40 }
@@ -46,7 +46,7 @@ fn numbers_len(range: &Range) -> u64
     }
 }
 
-/// Appends a range's numbers, three of them where both ends are on one line, else four.
+/// Appends a range's numbers: three if both ends are on one line, otherwise four.
 fn encode_numbers(out: &mut Vec<u8>, range: &Range) -> Result<(), AllocError>
     ensures { OnOk result (out.new.items ≡ out.old.items ++ flat_map varint (range_numbers range.now)) }
 {

@@ -3,7 +3,7 @@ use Rattle.std.proofs.Common.{◌≡◌, ℕ, ◌+◌, ◌%◌, ◌<◌, ◌≤�
 use Rattle.std.proofs.Common.{All, replicate, refl, sym, ap, ◌∙◌, subst, arith}
 use Rattle.std.proofs.Math.ListN.{length-set}
 use Rattle.std.proofs.lemmas.List.{length-map, map-set, get_or-map, set-get_or}
-use Rattle.std.proofs.lemmas.List.Sums.{sum_by-cons, get_or-le-sum_by}
+use Rattle.std.proofs.lemmas.List.Sums.{get_or-le-sum_by}
 use Rattle.std.proofs.lemmas.List.FromFn.{length-range_with_len}
 use Rattle.std.proofs.lemmas.List.Elements.{All-head, All-tail, All-set, All-get_or}
 use Rattle.std.specs.List.{range_with_len}
@@ -14,6 +14,7 @@ use Rattle.index_pool.specs.CoreMachine.{WorkerState, CoreState, idle, core_star
 use Rattle.index_pool.specs.CoreMachine.{MayHappen, queued, unqueued, taken, noted, with_worker, after_take}
 use Rattle.index_pool.specs.CoreMachine.{state_after}
 use Rattle.index_pool.specs.CoreFields.{worker_state, rooms, HasRoom, core_state, held, IsSound, IsKept}
+use Rattle.index_pool.proofs.OnceLemmas.{weighed_one}
 use Rattle.index_pool.proofs.CoreMachineLemmas.{sound_start, sound_take, sound_after, take_weighs}
 
 -- x is the worker at i, in the form that an index gives
@@ -53,10 +54,6 @@ kept_change inputs seeded seeded' ws i x v kept within is same sound =
       roomy = All-set (HasRoom inputs) ws i v room kept.roomy;
       sound = sound;
     }
-
-weighed_one : (xs : List ℕ) → sum_by (λ _. 1) xs ≡ length xs
-weighed_one [] = refl
-weighed_one (x ∷ xs) = sum_by-cons (λ (_ : ℕ). 1) x xs ∙ (ap (λ n. 1 + n) (weighed_one xs) ∙ omega arith)
 
 -- no worker has more numbers than all of them
 fits_in : (s : CoreState) (w : ℕ) → w < length s.workers

@@ -9,10 +9,10 @@ use Rattle.std.proofs.lemmas.List.Elements.{All-contains_itself, All-weaker, Con
 use Rattle.std.proofs.lemmas.List.Elements.{Contains-append_right}
 use mathlib.Core.Option.{some, some-ne-none}
 use lib.ListN.{get_elem?}
-use Rattle.crossbeam_deque.specs.Tasks.{Pushes, Takes, Finds, Forks, Merges}
+use Rattle.crossbeam_deque.specs.Tasks.{Pushes, Takes, Finds, FindsFew, Forks, Merges}
 use Rattle.crossbeam_deque.proofs.Lists.{at_set, at_snoc}
 use Rattle.index_pool.specs.declared.lanes.rule.LaneView.{LaneView}
-use Rattle.index_pool.specs.Lane.{IsLane, lane_view, more_given, more_popped, more_stolen, Fits, HoldsLane}
+use Rattle.index_pool.specs.Lane.{IsLane, lane_view, more_given, more_popped, more_stolen, IsShare, Fits, HoldsLane}
 
 at_end : (l : List LaneView) (a b : LaneView) (j : ℕ) → get_elem? l j ≢ some b → get_elem? (l ++ a ∷ []) j ≡ some b
     → j ≡ length l
@@ -173,6 +173,21 @@ finds party v views h at owns may =
     let taken : h.3 ++ h.4 ≡ v.popped ++ v.stolen =
     ap (λ l. l ++ h.4) (sym own.2) ∙ ap (λ l. v.popped ++ l) (sym rob.2) in
     subst (λ l. IsPermutation l (v.popped ++ v.stolen)) (sym given) (subst (λ l. IsPermutation h.5.0 l) taken h.5.2)
+
+none_of_few : (queue : List ℕ) (most : ℕ) → most ≡ 0 → length queue ≤ most → queue ≡ []
+none_of_few [] most none few = refl
+none_of_few (x ∷ xs) most none few = absurd (omega arith)
+
+pub finds_share : (most party : ℕ) (v : LaneView) → most ≡ 0 → v.steals ≡ true
+    → FindsFew HoldsLane most party v (IsShare v)
+finds_share most party v none may queue views few h at =
+    let rob = (h.6 party v at).1 may in
+    let empty : queue ≡ [] = none_of_few queue most none few in
+    let given : v.given ≡ h.5.0 = rob.1 ∙ (h.5.1 ∙ (ap (λ l. h.5.0 ++ l) empty ∙ append-nil h.5.0)) in (
+      h.3,
+      subst (λ l. IsPermutation l (h.3 ++ v.stolen)) (sym given)
+          (subst (λ l. IsPermutation h.5.0 (h.3 ++ l)) (sym rob.2) h.5.2),
+    )
 
 pub forks : (party : ℕ) (v : LaneView) → v.owns ≡ true → v.steals ≡ true
     → Forks HoldsLane party v (lane_view true false v.given v.popped []) (lane_view false true v.given [] v.stolen)

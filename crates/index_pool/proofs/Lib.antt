@@ -7,6 +7,7 @@ mod CoreFieldsLemmas
 -- lanes: the numbers that they are given, and the rule of a deque
 mod LaneNumbersLemmas
 mod LaneLemmas
+mod LaneOrderLemmas
 mod LaneEndsLemmas
 mod CoreLanesLemmas
 mod LaneRunsLemmas

@@ -41,6 +41,11 @@ sum_by-flat_map h f (x ∷ xs) =
     sum_by-append h (f x) (flat_map f xs)
     ∙ (ap (λ m. sum_by h (f x) + m) (sum_by-flat_map h f xs) ∙ sym (sum_by-cons (λ y. sum_by h (f y)) x xs))
 
+-- each number weighs 1
+pub weighed_one : (xs : List ℕ) → sum_by (λ _. 1) xs ≡ length xs
+weighed_one [] = refl
+weighed_one (x ∷ xs) = sum_by-cons (λ (_ : ℕ). 1) x xs ∙ (ap (λ n. 1 + n) (weighed_one xs) ∙ omega arith)
+
 -- without its first number a list weighs less by that number's weight
 pub sum_by-front : (h : ℕ → ℕ) (xs : List ℕ) → 0 < length xs → sum_by h (drop 1 xs) + h (slice_index xs 0) ≡ sum_by h xs
 sum_by-front h [] some = absurd (omega arith)

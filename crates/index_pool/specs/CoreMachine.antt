@@ -112,13 +112,13 @@ numbers_held s = flat_map (λ x. x.queue ++ x.takings) s.workers
 abbrev pub all_takings : CoreState → List ℕ
 all_takings s = flat_map (λ x. x.takings) s.workers
 
--- of a state to which some events lead from the start: each seeded number stands in one queue or in one worker's
--- takings, once
+-- of a state to which some events lead from the start: each seeded number is in one queue or in one worker's takings,
+-- once
 abbrev pub LosesNoNumber : Type 0
 LosesNoNumber = (inputs workers : ℕ) (events : List Event) (s : CoreState) → 0 < workers
     → CoreRun (core_start inputs workers) events s → HasEachOnceBelow s.seeded (numbers_held s)
 
--- and where every worker has noted that its queue is empty, the takings of all are the numbers below the bound, each
+-- and if every worker has noted that its queue is empty, the takings of all are the numbers below the bound, each
 -- once
 abbrev pub TakesEachNumber : Type 0
 TakesEachNumber = (inputs workers : ℕ) (events : List Event) (s : CoreState) → 0 < workers

@@ -1,24 +1,35 @@
 -- One lane: the deque of one worker, what that worker popped, and what the worker whose neighbour it is stole.
-use Rattle.std.specs.Prelude.{◌≡◌, ℕ, ◌%◌, Bool, true, List, ◌++◌, filter, ◌==◌}
+use Rattle.std.specs.Prelude.{◌≡◌, ℕ, ◌%◌, ◌⊎◌, Bool, true, List, [], ◌∷◌, ◌++◌, filter, ◌==◌}
 use Rattle.std.specs.List.{range_with_len}
 use Rattle.std.specs.List.Sorted.{IsPermutation}
 use mathlib.Core.Option.{some}
 use lib.ListN.{get_elem?}
 use Rattle.index_pool.specs.declared.lanes.rule.LaneView.{LaneView}
 
--- of the numbers below n those that lane w of so many gets, rising
+-- those of the numbers below n that lane w of this many lanes gets, rising
 unfoldable pub lane_numbers : ℕ → ℕ → ℕ → List ℕ
 lane_numbers n lanes w = filter (λ k. (k % lanes) == w) (range_with_len 0 n)
 
--- of the numbers given the last ones are in the queue, in order, and each of the others was popped or stolen, once
+-- the last ones of the numbers given are in the queue, in order, and each of the others was popped or stolen, once
 abbrev pub IsLane : List ℕ → List ℕ → List ℕ → List ℕ → Type 0
 IsLane given queue popped stolen = (gone : List ℕ) × (given ≡ gone ++ queue) × IsPermutation gone (popped ++ stolen)
+
+-- where of the same numbers given one more was popped, or one more stolen, it was the queue's first, and no other has
+-- left the queue
+abbrev pub GivesItsFirst : Type 0
+GivesItsFirst = (given queue left popped stolen : List ℕ) (k : ℕ) → IsLane given queue popped stolen
+    → IsLane given left (popped ++ k ∷ []) stolen ⊎ IsLane given left popped (stolen ++ k ∷ []) → queue ≡ k ∷ left
 
 -- what a party of a deque knows: whether it is the owner's, whether it is the thief's, what the deque was given, and
 -- what it popped and stole
 abbrev pub lane_view : Bool → Bool → List ℕ → List ℕ → List ℕ → LaneView
 lane_view owns steals given popped stolen =
     record { owns = owns; steals = steals; given = given; popped = popped; stolen = stolen }
+
+-- what was stolen is a share of the numbers given. Of a thief's view this is always so, but a step tells it only at a
+-- moment when the deque is empty
+abbrev pub IsShare : LaneView → Type 0
+IsShare v = (others : List ℕ) × IsPermutation v.given (others ++ v.stolen)
 
 -- the changes of a view that a step at the deque makes: more was given, popped or stolen
 abbrev pub more_given : LaneView → List ℕ → LaneView

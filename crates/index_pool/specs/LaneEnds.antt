@@ -2,7 +2,7 @@
 use Rattle.std.specs.Prelude.{ℕ, ◌-◌, Bool}
 use Rattle.std.specs.Global.{Global}
 use Rattle.atomic_blocks.specs.Lent.{RowsId}
-use Rattle.crossbeam_deque.specs.Handles.{view, worker_view, worker_deque, stealer_deque}
+use Rattle.crossbeam_deque.specs.Handles.{view, taken, worker_view, worker_deque, stealer_deque}
 use Rattle.index_pool.specs.declared.lanes.rule.LaneView.{LaneView}
 use Rattle.index_pool.specs.declared.lanes.ends.LaneOwner.{LaneOwner}
 use Rattle.index_pool.specs.declared.lanes.ends.LaneThief.{LaneThief}
@@ -27,6 +27,10 @@ thief_deque t = stealer_deque t.stealer
 -- whether the owner's last pop found the queue empty
 abbrev pub found_empty : LaneOwner → Bool
 found_empty o = o.found_empty
+
+-- how many numbers the thief knows to have left the lane
+abbrev pub known_gone : LaneThief → ℕ
+known_gone t = taken t.pass
 
 -- how many tries are left to the thief
 abbrev pub tries_left : LaneThief → ℕ

@@ -38,7 +38,7 @@ number_got (StoleNone u) = None
 number_got (AskedAgain u) = None
 
 -- what the deque of lane w asks of a step, by its queue: a number that is got is the first one, and none is got only
--- where there is none
+-- if there is none
 abbrev pub DequeAllows : ℕ → ℕ → List ℕ → LaneStep → Type 0
 DequeAllows lanes w q (Popped u k) = u ≡ w → q ≡ k ∷ drop 1 q
 DequeAllows lanes w q (PoppedNone u) = u ≡ w → q ≡ []
@@ -46,7 +46,7 @@ DequeAllows lanes w q (Stole u k) = (u + 1) % lanes ≡ w → q ≡ k ∷ drop 1
 DequeAllows lanes w q (StoleNone u) = (u + 1) % lanes ≡ w → q ≡ []
 DequeAllows lanes w q (AskedAgain u) = ⊤
 
--- the queue of lane w after a step, which is the same where the step is at another deque
+-- the queue of lane w after a step, which is the same if the step is at another deque
 abbrev pub queue_left : ℕ → ℕ → List ℕ → LaneStep → List ℕ
 queue_left lanes w q (Popped u k) = if u == w then drop 1 q else q
 queue_left lanes w q (PoppedNone u) = q

@@ -1,7 +1,7 @@
--- Lists in which each number below a bound stands once.
+-- Lists that have each number below a bound once.
 use Rattle.std.specs.Prelude.{◌≡◌, ℕ, nat_lt, ◌==◌, if◌then◌else◌, List, count_by}
 
--- how often a number stands in the list
+-- how often the list has a number
 abbrev pub times : ℕ → List ℕ → ℕ
 times number xs = count_by (λ x. x == number) xs
 

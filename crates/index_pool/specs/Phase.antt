@@ -14,8 +14,8 @@ AnswersEach {Out} gives n outs =
 abbrev pub IsLeastFault : {Out Fault : Type 0} → (ℕ → Result Out Fault → Type 0) → ℕ → ℕ → Fault → Type 0
 IsLeastFault {Out} gives n k fault = (k < n) × gives k (Err fault) × ((j : ℕ) → j < k → (out : Out) × gives j (Ok out))
 
--- a thread is refused only where one is to be started, that is, for two workers or more; of memory that is refused
--- nothing is said; an input's fault is the least one
+-- a thread is refused only if one is to be started, that is, for two workers or more; nothing is said about refused
+-- memory; an input's fault is the least one
 abbrev pub MayRefuse : {Out Fault : Type 0} → (ℕ → Result Out Fault → Type 0) → ℕ → ℕ → PoolFault Fault → Type 0
 MayRefuse gives n workers Spawn = 1 < workers
 MayRefuse gives n workers Memory = ⊤
@@ -35,14 +35,14 @@ abbrev pub AnswersRuns : {Out Fault : Type 0} → (ℕ → Result Out Fault → 
 AnswersRuns {Out} {Fault} gives n outs =
     (runs : List (ℕ × Result Out Fault)) × RanOnce gives n runs × AnswersEach (Returned runs) n outs
 
--- each input was run once, also where one has a fault, and the fault is the least of those that these runs returned
+-- each input was run once, even if one has a fault, and the fault is the least of those that these runs returned
 abbrev pub RefusesRuns : {Out Fault : Type 0} → (ℕ → Result Out Fault → Type 0) → ℕ → PoolFault Fault → Type 0
 RefusesRuns gives n Spawn = ⊤
 RefusesRuns gives n Memory = ⊤
 RefusesRuns {Out} {Fault} gives n (Job k fault) =
     (runs : List (ℕ × Result Out Fault)) × RanOnce gives n runs × IsLeastFault (Returned runs) n k fault
 
--- of the starts of so many workers' threads one is refused, by its number, from 1
+-- one of the starts of this many workers' threads is refused, by its number, from 1
 abbrev pub IsStartRefused : Option ℕ → ℕ → Type 0
 IsStartRefused (Some number) workers = (0 < number) × (number < workers)
 IsStartRefused None workers = ⊥

@@ -86,17 +86,17 @@ pub record Settles {A : Type 0} (gives : ℕ → A → Type 0) (done : Done A) (
       + (sum_by h (owner_view done.post.owner).popped + sum_by h (thief_view rest.post.thief).stolen)
       ≡ (weight h done.results.items + weight h rest.results.items) + sum_by h (owner_view done.post.owner).given
 
--- why nothing is gathered from these further lanes, where so many threads may be started: a thread is refused only
--- where one is to be started, and then the calling thread's own lane was found empty; memory is told only where all
--- were started
+-- why nothing is gathered from these further lanes, if so many threads may be started: a thread is refused only if
+-- one is to be started, and then the calling thread's own lane was found empty; memory is told only if all were
+-- started
 abbrev pub MayStop : Post → ℕ → ℕ → Stop → Type 0
 MayStop post lanes starts Lanes = ⊥
 MayStop post lanes starts (Spawn owner) =
     (0 < lanes) × (owner_deque owner ≡ owner_deque post.owner) × (found_empty owner ≡ true)
 MayStop post lanes starts Memory = lanes ≤ starts
 
--- why there are no results, where so many threads may be started: a thread is refused only for two workers or more;
--- room for the lanes may be refused; and memory is told otherwise only where all threads were started
+-- why there are no results, if so many threads may be started: a thread is refused only for two workers or more; room
+-- for the lanes may be refused; and memory is told otherwise only if all threads were started
 abbrev pub MayEnd : ℕ → ℕ → Stop → Type 0
 MayEnd workers starts Lanes = ⊤
 MayEnd workers starts (Spawn owner) = 1 < workers

@@ -10,6 +10,18 @@ IfGot (Got t) fact = fact t
 IfGot Empty fact = ⊤
 IfGot Retry fact = ⊤
 
+-- a fact that holds if the queue was empty
+abbrev pub IfEmpty : Stolen → Type 0 → Type 0
+IfEmpty (Got t) fact = ⊤
+IfEmpty Empty fact = fact
+IfEmpty Retry fact = ⊤
+
+-- a fact that holds if a further try is asked for
+abbrev pub IfRetry : Stolen → Type 0 → Type 0
+IfRetry (Got t) fact = ⊤
+IfRetry Empty fact = ⊤
+IfRetry Retry fact = fact
+
 -- a fact that holds if there is no ticket
 abbrev pub IfNotGot : Stolen → Type 0 → Type 0
 IfNotGot (Got t) fact = ⊤

@@ -1,12 +1,12 @@
 //! Lanes: the deque of one worker, from which its owner pops and its neighbour steals.
 
-ghost use Rattle.std.specs.Prelude.{◌≡◌, ◌+◌, ◌<◌, ◌≤◌, ◌%◌, ◌/◌, true, false, [], ◌∷◌, ◌++◌, Contains, IfOk, IfSome, IfNone, length};
+ghost use Rattle.std.specs.Prelude.{◌≡◌, ◌+◌, ◌<◌, ◌≤◌, ◌%◌, ◌/◌, ◌⊎◌, true, false, [], ◌∷◌, ◌++◌, Contains, IfOk, IfSome, IfNone, length};
 ghost use Rattle.std.specs.List.Sorted.{IsPermutation};
-ghost use Rattle.index_pool.specs.Lane.{lane_numbers, lane_view, more_given, more_popped, more_stolen};
+ghost use Rattle.index_pool.specs.Lane.{lane_numbers, lane_view, more_given, more_popped, more_stolen, IsShare};
 ghost use Rattle.crossbeam_deque.specs.Handles.{worker_capacity, worker_flavor, worker_index, worker_view, SameWorker};
-ghost use Rattle.index_pool.specs.StolenCases.{IfGot, IfNotGot};
+ghost use Rattle.index_pool.specs.StolenCases.{IfGot, IfEmpty, IfRetry, IfNotGot};
 ghost use Rattle.index_pool.specs.Ticket.{number_of};
-ghost use Rattle.index_pool.specs.LaneEnds.{owner_view, owner_deque, found_empty, thief_view, thief_deque, tries_left, tries_after};
+ghost use Rattle.index_pool.specs.LaneEnds.{owner_view, owner_deque, found_empty, thief_view, thief_deque, known_gone, tries_left, tries_after};
 
 mod ends;
 mod rule;
@@ -37,6 +37,7 @@ pub fn lane(
     ensures thief { IfOk result (λ ends. thief_view ends.1 ≡ lane_view false true (lane_numbers inputs workers worker) [] []) }
     ensures deque { IfOk result (λ ends. thief_deque ends.1 ≡ owner_deque ends.0) }
     ensures tries { IfOk result (λ ends. tries_left ends.1 ≡ 64) }
+    ensures unfound { IfOk result (λ ends. found_empty ends.0 ≡ false) }
 {
     let mut deque = filled(alloc, inputs, workers, worker)?;
     let stealer = deque.stealer()?;
@@ -74,7 +75,7 @@ fn filled(
     Ok(deque)
 }
 
-// Pushes a number where there is room.
+// Pushes a number if there is room.
 fn give(deque: &mut LaneWorker, number: usize)
     requires both { ((worker_view deque.old).owns ≡ true) × ((worker_view deque.old).steals ≡ true) }
     requires room { worker_index deque.old < worker_capacity deque.old }
@@ -98,6 +99,7 @@ impl LaneOwner {
         ensures none { IfNone result (owner_view self.new ≡ owner_view self.old) }
         ensures whole { IfNone result ((owner_view self.old).steals ≡ true → IsPermutation (owner_view self.old).given ((owner_view self.old).popped ++ (owner_view self.old).stolen)) }
         ensures found { IfNone result (found_empty self.new ≡ true) }
+        ensures unfound { IfSome result (λ _. found_empty self.new ≡ false) }
         ensures same { owner_deque self.new ≡ owner_deque self.old }
     {
         match self.worker.pop_as::<Pops>() {
@@ -126,10 +128,15 @@ impl LaneOwner {
 
 impl LaneThief {
     /// Tries to take the first number of the lane's queue.
+    ///
+    /// `Empty` comes only of an empty queue. `Retry` comes only if a number left the queue since the
+    /// thief last looked, or if it was empty.
     pub fn steal(&mut self) -> Stolen
         ensures got { IfGot result (λ t. thief_view self.new ≡ more_stolen (thief_view self.old) (number_of t ∷ [])) }
         ensures one_given { IfGot result (λ t. Contains (thief_view self.old).given (number_of t) × (length (thief_view self.old).stolen < length (thief_view self.old).given)) }
         ensures none { IfNotGot result (thief_view self.new ≡ thief_view self.old) }
+        ensures empty { IfEmpty result (IsShare (thief_view self.old)) }
+        ensures retry { IfRetry result ((known_gone self.old < known_gone self.new) ⊎ IsShare (thief_view self.old)) }
         ensures tries { tries_left self.new ≡ tries_after result (tries_left self.old) }
         ensures same { thief_deque self.new ≡ thief_deque self.old }
     {

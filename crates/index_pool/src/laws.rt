@@ -2,16 +2,15 @@
 
 ghost use Rattle.index_pool.specs.CoreMachine.{LosesNoNumber, TakesEachNumber};
 ghost use Rattle.index_pool.specs.CoreLanes.{ShowsLanes};
+ghost use Rattle.index_pool.specs.Lane.{GivesItsFirst};
 ghost use Rattle.index_pool.specs.LaneRuns.{LanesRunAsCore};
 
-/// In every state to which events lead, each seeded number stands in one queue or in one worker's
-/// takings, once.
+/// In every state to which events lead, each seeded number is in one queue or in one worker's takings, once.
 pub fn core_loses_no_number()
     ensures { LosesNoNumber }
 {}
 
-/// Where every worker has noted that its queue is empty, the takings of all are the numbers below
-/// the bound, each once.
+/// If every worker has noted that its queue is empty, the takings of all are the numbers below the bound, each once.
 pub fn core_takes_each_number()
     ensures { TakesEachNumber }
 {}
@@ -21,6 +20,11 @@ pub fn core_takes_each_number()
 /// known of the lanes as the push, the pop or the steal does whose event it is.
 pub fn core_shows_lanes()
     ensures { ShowsLanes }
+{}
+
+/// The rule of a lane lets a pop and a steal take the first number of the queue, and nothing else.
+pub fn lanes_give_their_first()
+    ensures { GivesItsFirst }
 {}
 
 /// However the steps of the workers at their deques come after one another, for any number of workers:

@@ -13,6 +13,9 @@ pub use core_machine::{Core, Event, NotPossible};
 pub use gate::{Gate, NoGate};
 pub use job::Job;
 pub use lanes::{LaneOwner, LaneThief, Stolen, Ticket, lane};
-pub use laws::{core_loses_no_number, core_shows_lanes, core_takes_each_number, lanes_run_as_core};
+pub use laws::{
+    core_loses_no_number, core_shows_lanes, core_takes_each_number, lanes_give_their_first,
+    lanes_run_as_core,
+};
 pub use phase::{PoolFault, Task, run_phase, run_phase_refusing};
 pub use workers::{MAX_INPUTS, MAX_WORKERS, Workers};

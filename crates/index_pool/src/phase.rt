@@ -29,17 +29,16 @@ use std::thread::Threads;
 pub use task::Task;
 use worker::{Post, Ran};
 
-/// Runs the job's inputs below `inputs`, each once, on so many workers, with the gate's calls round
-/// each run, and answers an entry for each, in order.
+/// Runs the job's inputs below `inputs`, each once, on this many workers, with the gate's calls round each run, and
+/// answers an entry for each, in order.
 ///
-/// Every input is run, also where one has a fault. The calling thread is the first worker; each
-/// further worker is a thread of its own, which has ended when the phase has. A worker pops its own
-/// lane until it is empty, and then steals from its neighbour's until that is empty, or has asked for
-/// a further try 64 times in a row. It waits for its threads, so it returns if the job's and the
-/// gate's calls do.
+/// Every input is run, even if one has a fault. The calling thread is the first worker; each further worker is a
+/// thread of its own, which has ended when the phase has. A worker pops its own lane until it is empty, and then
+/// steals from its neighbour's until that is empty, or has asked for a further try 64 times in a row. It waits for
+/// its threads, so it returns if the job's and the gate's calls do.
 ///
-/// Of the refusals `Spawn` comes before `Memory`, and `Memory` before `Job`. After `Spawn` and
-/// `Memory` inputs may not have been run.
+/// Of the refusals, `Spawn` comes before `Memory`, and `Memory` before `Job`. After `Spawn` and `Memory` inputs may
+/// not have been run.
 pub fn run_phase<R: Threads + Wait, J: Job, G: Gate>(
     rt: &R,
     alloc: Global,
@@ -61,7 +60,7 @@ pub fn run_phase<R: Threads + Wait, J: Job, G: Gate>(
     }
 }
 
-/// As `run_phase`, where the start of this number is refused. It serves tests of such a refusal.
+/// As `run_phase`, but the start of this number is refused. It serves tests of such a refusal.
 ///
 /// The starts of the threads are numbered from 1, so that of W workers the last is W - 1. If a start
 /// of this number is due, the answer is `Spawn`, whatever memory the workers lack that were started.

@@ -29,7 +29,7 @@ impl Model for Workers {
 }
 
 impl Workers {
-    /// So many workers, where they are 1 to `MAX_WORKERS`.
+    /// This many workers, if they are 1 to `MAX_WORKERS`.
     pub fn new(count: usize) -> Option<Workers>
         ensures { SomeIff result ((0 < count) × (count ≤ 16)) count }
     {

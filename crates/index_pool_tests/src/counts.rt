@@ -14,10 +14,11 @@ use std::thread::Threads;
 
 const INPUTS: usize = 100;
 
-/// Counts the calls for each input: of the gate before it, of `run` where that one was before it, and
-/// of the gate after it where both were.
+/// Counts all calls of `run`, and the calls for each input: of the gate before it, of `run` where that
+/// one was before it, and of the gate after it where both were.
 #[derive(Drop)]
 struct Counts {
+    calls: AtomicU64,
     runs: Vec<AtomicU64>,
     before: Vec<AtomicU64>,
     after: Vec<AtomicU64>,
@@ -34,6 +35,7 @@ impl Job for Counts {
 
     fn run(&self, ticket: Ticket) -> Result<usize, ()> {
         let number = ticket.number();
+        self.calls.fetch_add(1, Ordering::SeqCst);
         if is_one(&self.before, number) {
             add_one(&self.runs, number);
         }
@@ -42,12 +44,15 @@ impl Job for Counts {
 }
 
 impl Gate for Counts {
-    fn before(&self, number: usize) {
+    type Entry = usize;
+
+    fn before(&self, number: usize) -> usize {
         add_one(&self.before, number);
+        number
     }
 
-    fn after(&self, number: usize) {
-        if is_one(&self.runs, number) {
+    fn after(&self, number: usize, entry: usize) {
+        if entry == number && is_one(&self.runs, number) {
             add_one(&self.after, number);
         }
     }
@@ -73,6 +78,7 @@ fn zeros(alloc: Global) -> Result<Vec<AtomicU64>, AllocError> {
 
 fn no_counts(alloc: Global) -> Result<Counts, AllocError> {
     Ok(Counts {
+        calls: AtomicU64::new(0),
         runs: zeros(alloc)?,
         before: zeros(alloc)?,
         after: zeros(alloc)?,
@@ -111,7 +117,8 @@ fn told(answer: Result<Vec<usize>, PoolFault<()>>, inputs: usize) -> Option<bool
 }
 
 /// Whether a phase of so many inputs (`INPUTS` at most) gives twice each number, and calls the job
-/// and the gate once for each. Nothing where memory or a thread is refused.
+/// and the gate once for each. Nothing where memory or a thread is refused, and no input was called for
+/// twice.
 fn runs_each_once<R: Threads + Wait>(
     rt: &R,
     alloc: Global,
@@ -126,8 +133,13 @@ fn runs_each_once<R: Threads + Wait>(
         && once_below(&counts.after, inputs);
     match told(answer, inputs) {
         Some(right) => Ok(Some(right && once)),
-        None => Ok(None),
+        None => Ok(none_if(are_ended(&counts))),
     }
+}
+
+/// Nothing, where a test is to call again because this holds; else a wrong answer.
+fn none_if(holds: bool) -> Option<bool> {
+    if holds { None } else { Some(false) }
 }
 
 /// Whether the counts below this number are 1, and the others 0.
@@ -162,26 +174,27 @@ fn each_input_is_run_once(rt: HostRuntime) -> Result<(), Fail> {
     Ok(())
 }
 
-/// Whether a phase of the most inputs gives twice each number. Nothing where memory or a thread is
-/// refused.
+/// Whether a phase of the most inputs gives twice each number, by as many calls of `run` as there are
+/// inputs. Nothing where memory or a thread is refused, and there were no more calls.
 fn answers_the_most<R: Threads + Wait>(
     rt: &R,
     alloc: Global,
-    counts: &Counts,
     workers: Workers,
-) -> Option<bool> {
-    told(
-        run_phase(rt, alloc, counts, MAX_INPUTS, workers, &NoGate),
-        MAX_INPUTS,
-    )
+) -> Result<Option<bool>, AllocError> {
+    let counts = no_counts(alloc)?;
+    let answer = run_phase(rt, alloc, &counts, MAX_INPUTS, workers, &NoGate);
+    let calls = counts.calls.load(Ordering::SeqCst);
+    match told(answer, MAX_INPUTS) {
+        Some(right) => Ok(Some(right && calls == MAX_INPUTS as u64)),
+        None => Ok(none_if(calls <= MAX_INPUTS as u64)),
+    }
 }
 
 #[test]
 fn the_most_inputs_are_answered(rt: HostRuntime) -> Result<(), Fail> {
-    let counts = no_counts(rt.alloc())?;
     let three = workers(&rt, 3);
-    let answered = match answers_the_most(&rt, rt.alloc(), &counts, three) {
-        None => answers_the_most(&rt, rt.alloc(), &counts, three),
+    let answered = match answers_the_most(&rt, rt.alloc(), three)? {
+        None => answers_the_most(&rt, rt.alloc(), three)?,
         told => told,
     };
     see(&rt, answered == Some(true), "the most inputs");
@@ -197,7 +210,7 @@ fn are_ended(counts: &Counts) -> bool {
 
 /// Whether a phase that has no start of this number answers, and any other says that a thread is
 /// refused; whether it leaves no run half done; and answers where no start is refused after it.
-/// Nothing where memory or another thread is refused.
+/// Nothing where memory for the lanes or another thread is refused, or memory where no start is.
 fn ends_with<R: Threads + Wait>(
     rt: &R,
     alloc: Global,
@@ -212,16 +225,16 @@ fn ends_with<R: Threads + Wait>(
         gate: &counts,
     };
     let Ok(answer) = run_phase_refusing(rt, &task, INPUTS, workers, Some(refused)) else {
-        return Ok(None);
+        return Ok(none_if(how_many(&counts.before, 0) == INPUTS));
     };
-    if !are_ended(&counts) {
-        return Ok(Some(false));
-    }
     let is_refused = matches!(&answer, Err(PoolFault::Spawn));
-    match told(answer, INPUTS) {
-        None if spawned || !is_refused => return Ok(None),
-        Some(right) if !spawned || !right => return Ok(Some(false)),
-        _ => {}
+    let is_due = match told(answer, INPUTS) {
+        None if spawned => return Ok(none_if(are_ended(&counts))),
+        None => is_refused,
+        Some(right) => spawned && right,
+    };
+    if !is_due || !are_ended(&counts) {
+        return Ok(Some(false));
     }
     let again = run_phase(rt, alloc, &counts, INPUTS, workers, &NoGate);
     Ok(told(again, INPUTS))

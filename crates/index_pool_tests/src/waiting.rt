@@ -37,6 +37,13 @@ impl Tally {
         ticket
     }
 
+    /// Whether there was at most one call for each input: so many powers of two add up to a number with
+    /// as many bits only where no two are the same.
+    fn is_none_twice(&self) -> bool {
+        let bits = self.bits.load(Ordering::SeqCst).count_ones();
+        self.calls.load(Ordering::SeqCst) == u64::from(bits)
+    }
+
     /// Whether there was one call for each of the inputs: so many powers of two give all bits below
     /// `inputs` only where they are one of each.
     fn is_each_once(&self, inputs: usize) -> bool {
@@ -75,6 +82,8 @@ impl<'a, C: Clock + Sync> Job for Waiting<'a, C> {
 }
 
 impl<'a, C: Clock + Sync> Gate for Waiting<'a, C> {
+    type Entry = ();
+
     fn before(&self, number: usize) {
         let ticket = self.before.add(number);
         if number < self.order.len() {
@@ -90,7 +99,7 @@ impl<'a, C: Clock + Sync> Gate for Waiting<'a, C> {
         self.run_outs.fetch_add(1, Ordering::SeqCst);
     }
 
-    fn after(&self, number: usize) {
+    fn after(&self, number: usize, _entry: ()) {
         self.after.add(number);
     }
 }
@@ -132,6 +141,11 @@ fn is_each_once<C>(gate: &Waiting<'_, C>, inputs: usize) -> bool {
         && gate.run_outs.load(Ordering::SeqCst) == 0
 }
 
+/// Whether the job and the gate were called at most once for each input.
+fn is_none_twice<C>(gate: &Waiting<'_, C>) -> bool {
+    gate.before.is_none_twice() && gate.runs.is_none_twice() && gate.after.is_none_twice()
+}
+
 /// When the first nine inputs were entered; `u64::MAX` of those that there aren't.
 fn tickets_of(order: &Vec<AtomicU64>) -> [u64; 9] {
     let mut found = [u64::MAX; 9];
@@ -151,7 +165,8 @@ struct Seen {
     order: [u64; 9],
 }
 
-/// What a gate sees of a phase of these inputs. Nothing where memory or a thread is refused.
+/// What a gate sees of a phase of these inputs. Nothing where memory or a thread is refused, and no
+/// input was called for twice.
 fn watched_once<R: Threads + Wait + Clock + Sync>(
     rt: &R,
     alloc: Global,
@@ -163,7 +178,7 @@ fn watched_once<R: Threads + Wait + Clock + Sync>(
     let gate = waiting_gate(alloc, rt, awaited)?;
     let inputs = awaited.len();
     let answer = run_phase(rt, alloc, &gate, inputs, workers, &gate);
-    if matches!(&answer, Err(PoolFault::Memory | PoolFault::Spawn)) {
+    if matches!(&answer, Err(PoolFault::Memory | PoolFault::Spawn)) && is_none_twice(&gate) {
         return Ok(None);
     }
     Ok(Some(Seen {

@@ -3,18 +3,18 @@
 use index_pool::Gate;
 use std::alloc::{AllocError, Global};
 
-/// So many bytes are asked for at once.
+/// How many bytes are asked for at once.
 const ROOM: usize = 1_048_576;
 
-/// Before every so many of a worker's files. It is prime: the files of one worker leave one remainder
-/// when they are divided by the number of workers.
+/// A worker asks before each file whose number this divides. It is prime, because the numbers of one worker's files
+/// leave one remainder when they are divided by the number of workers.
 const FILES: usize = 17;
 
 /// A gate at which a worker asks for much memory now and then, and gives it back at once.
 ///
-/// The C library has memory apart for each thread, and makes it larger by no more than what is asked
-/// for: mostly by a page, with a call of the system for which all threads wait. After a great request it
-/// is large enough for the small ones of the next files. Nothing depends on the answer.
+/// The C library keeps memory apart for each thread. It enlarges it by no more than what is asked for, mostly by a
+/// page, in a call of the system for which all threads wait. After a large request there is room for the small ones
+/// of the next files. Nothing depends on the answer.
 #[derive(Drop)]
 pub(crate) struct AskingAhead {
     alloc: Global,
@@ -28,6 +28,8 @@ impl AskingAhead {
 }
 
 impl Gate for AskingAhead {
+    type Entry = ();
+
     /// Asks, if it is the turn of this file.
     fn before(&self, number: usize) {
         if number % FILES == 0 {
@@ -36,5 +38,5 @@ impl Gate for AskingAhead {
     }
 
     /// Does nothing.
-    fn after(&self, _number: usize) {}
+    fn after(&self, _number: usize, _entry: ()) {}
 }

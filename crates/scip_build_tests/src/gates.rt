@@ -30,6 +30,8 @@ struct Meeting<C> {
 }
 
 impl<C: Clock + Sync> Gate for Meeting<C> {
+    type Entry = ();
+
     fn before(&self, number: usize) {
         let (own, other) = if number == 0 {
             (&self.first, &self.second)
@@ -46,7 +48,7 @@ impl<C: Clock + Sync> Gate for Meeting<C> {
         self.run_outs.fetch_add(1, Ordering::SeqCst);
     }
 
-    fn after(&self, _number: usize) {
+    fn after(&self, _number: usize, _entry: ()) {
         self.left.fetch_add(1, Ordering::SeqCst);
     }
 }

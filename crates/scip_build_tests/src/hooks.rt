@@ -65,37 +65,57 @@ fn asked_for<R: Threads + Wait>(
     is_due.then_some(asking.count())
 }
 
-const ENUM: &str = "a.proto\nsyntax = \"proto3\";\nenum E { ZERO = 0; }\nmessage M { E e = 1; }\n";
+/// Files, and what is done with their faults; what is built of them, or why nothing is; and how often a registry
+/// is asked for it.
+struct Row {
+    files: &'static str,
+    faulty: Faulty,
+    due: &'static str,
+    asked: u64,
+}
 
-const WITHOUT_ENUMS: &str = "a.proto
+/// Sees that a registry is asked so often for what is due, on 1, 2 and 16 workers. After want of memory or of a
+/// thread it is asked again.
+fn see_site<R: Threads + Wait + Abort>(
+    rt: &R,
+    alloc: Global,
+    site: &Site,
+    registry: &Registry,
+    row: &Row,
+) {
+    for count in &[1, 2, 16] {
+        let workers = workers(rt, *count);
+        let asked = match asked_for(rt, alloc, site, registry, workers, row.due) {
+            None => asked_for(rt, alloc, site, registry, workers, row.due),
+            asked => asked,
+        };
+        see(rt, asked == Some(row.asked), row.due);
+    }
+}
+
+fn see_row<R: Threads + Wait + Abort>(
+    rt: &R,
+    alloc: Global,
+    registry: &Registry,
+    row: &Row,
+) -> Result<(), AllocError> {
+    let site = site_of(rt, alloc, row.files, row.faulty)?;
+    see_site(rt, alloc, &site, registry, row);
+    Ok(())
+}
+
+/// Of the four declarations the enum is left out.
+static ENUM: Row = Row {
+    files: "a.proto\nsyntax = \"proto3\";\nenum E { ZERO = 0; }\nmessage M { E e = 1; }\n",
+    faulty: Faulty::Refuse,
+    due: "a.proto
 0 0 0 0 1 `a.proto`/
 1 9 1 13 1 E#ZERO.
 2 8 2 9 1 M#
 2 14 2 15 1 M#e.
-";
-
-/// Sees that a registry leaves out the enum, and is asked about each of four declarations once, on 1, 2 and
-/// 16 workers. After want of memory or of a thread it is asked again.
-fn see_site<R: Threads + Wait + Abort>(rt: &R, alloc: Global, site: &Site, registry: &Registry) {
-    for count in &[1, 2, 16] {
-        let workers = workers(rt, *count);
-        let asked = match asked_for(rt, alloc, site, registry, workers, WITHOUT_ENUMS) {
-            None => asked_for(rt, alloc, site, registry, workers, WITHOUT_ENUMS),
-            asked => asked,
-        };
-        see(rt, asked == Some(4), "no enum, and four asked about");
-    }
-}
-
-fn see_kinds<R: Threads + Wait + Abort>(
-    rt: &R,
-    alloc: Global,
-    registry: &Registry,
-) -> Result<(), AllocError> {
-    let site = site_of(rt, alloc, ENUM, Faulty::Refuse)?;
-    see_site(rt, alloc, &site, registry);
-    Ok(())
-}
+",
+    asked: 4,
+};
 
 #[test]
 fn a_filter_by_kind(rt: HostRuntime) -> Result<(), Fail> {
@@ -105,7 +125,49 @@ fn a_filter_by_kind(rt: HostRuntime) -> Result<(), Fail> {
     if let Err((filter, _)) = registry.add_filter(filter) {
         see(&rt, registry.add_filter(filter).is_ok(), "added again");
     }
-    Ok(see_kinds(&rt, rt.alloc(), &registry)?)
+    Ok(see_row(&rt, rt.alloc(), &registry, &ENUM)?)
+}
+
+// The first row reads: besides the one declaration of the source, two of an included file that nobody sees are asked
+// about. A file with a fault is lexed whole, and nobody is asked about what is in front of the fault.
+static ASKED: [Row; 3] = [
+    Row {
+        files: "a.proto\nsyntax = \"proto3\";\nmessage A {}\n|\
++s.proto\nsyntax = \"proto3\";\nmessage S { message T {} }\n|\
++u.proto\nsyntax = \"proto2\";\n",
+        faulty: Faulty::Refuse,
+        due: "a.proto\n0 0 0 0 1 `a.proto`/\n1 8 1 9 1 A#\n",
+        asked: 3,
+    },
+    Row {
+        files: "a.proto\nsyntax = \"proto3\"; message A {} } @",
+        faulty: Faulty::Refuse,
+        due: "File(0, Lex(BadByte(34)))",
+        asked: 0,
+    },
+    Row {
+        files: "a.proto\nsyntax = \"proto3\"; message A {} } @",
+        faulty: Faulty::Skip,
+        due: "File(0, Lex(BadByte(34)))\n",
+        asked: 0,
+    },
+];
+
+fn see_rows<R: Threads + Wait + Abort>(
+    rt: &R,
+    alloc: Global,
+    registry: &Registry,
+) -> Result<(), AllocError> {
+    for row in &ASKED {
+        see_row(rt, alloc, registry, row)?;
+    }
+    Ok(())
+}
+
+#[test]
+fn what_is_asked_about(rt: HostRuntime) -> Result<(), Fail> {
+    let registry = Registry::new(rt.alloc());
+    Ok(see_rows(&rt, rt.alloc(), &registry)?)
 }
 
 const SEVEN: &str = "a.proto\nsyntax = \"proto3\";\nenum E { ZERO = 0; }\nmessage M { E e = 1; }\n|\

@@ -11,7 +11,3 @@ mod calls;
 mod gates;
 #[cfg(test)]
 mod hooks;
-#[cfg(test)]
-mod laws;
-#[cfg(test)]
-mod readings;

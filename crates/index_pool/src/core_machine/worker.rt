@@ -18,7 +18,7 @@ impl CoreWorker {
     ghost use Rattle.index_pool.specs.CoreMachine.{idle, queued, unqueued, taken, noted};
     ghost use Rattle.index_pool.specs.CoreFields.{worker_state, rooms, HasRoom};
 
-    // A worker with nothing yet, and room for so many numbers in each of its lists.
+    // A worker with nothing yet, and room for this many numbers in each of its lists.
     pub(crate) fn new(alloc: Global, room: usize) -> Result<CoreWorker, AllocError>
         ensures { IfOk result (λ w. (worker_state w ≡ idle) × HasRoom room w) }
     {

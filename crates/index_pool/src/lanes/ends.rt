@@ -32,6 +32,7 @@ pub struct LaneThief {
     pub(crate) stealer: Stealer<usize, Global, LaneView, LaneRule>,
     pub(crate) pass: Pass<usize, LaneView>,
     pub(super) tries: usize,
+    ghost fifo: { stealer_flavor stealer ≡ 0 },
     ghost seated: { IsPassOf (stealer_deque stealer) pass },
     ghost steals: { (view pass).steals ≡ true },
 }

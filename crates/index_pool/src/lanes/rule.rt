@@ -61,8 +61,8 @@ impl Outcome<usize, LaneView> for Gives {
     ghost then = { λ v xs w. w ≡ more_given v xs };
 }
 
-// A pop: the numbers popped grow by one of those given. Where an owner that is the thief too finds
-// none, each number given was popped or stolen, once.
+// A pop: the numbers popped grow by one of those given. If an owner that is the thief too finds none, each number
+// given was popped or stolen, once.
 pub(crate) struct Pops;
 
 impl Outcome<usize, LaneView> for Pops {
@@ -73,11 +73,14 @@ impl Outcome<usize, LaneView> for Pops {
     ghost empty = { λ v. v.owns ≡ true → v.steals ≡ true → IsPermutation v.given (v.popped ++ v.stolen) };
 }
 
-// A steal: the numbers stolen grow by one of those given.
+// A steal: the numbers stolen grow by one of those given. Where none is left, those stolen are a share
+// of those given.
 pub(crate) struct Steals;
 
 impl Outcome<usize, LaneView> for Steals {
-    ghost use Rattle.index_pool.specs.Lane.{more_stolen};
+    ghost use Rattle.index_pool.specs.Lane.{more_stolen, IsShare};
 
     ghost then = { λ v xs w. (w ≡ more_stolen v xs) × All (Contains v.given) xs × (length (v.stolen ++ xs) ≤ length v.given) };
+
+    ghost empty = { IsShare };
 }

@@ -3,7 +3,7 @@
 use crate::lanes::LaneOwner;
 use std::alloc::AllocError;
 
-/// Why a phase is refused. Where several hold, the first of these is answered.
+/// Why a phase is refused. If several hold, the first of these is answered.
 #[derive(Clone, Copy, Debug, Drop, PartialEq, Eq)]
 pub enum PoolFault<F> {
     /// A thread could not be started. Those that were have ended.

@@ -35,8 +35,8 @@ impl<J: Job> Promise<Done<Result<J::Out, J::Fault>>> for Duty<J> {
     ghost kept_by = { λ p r. Worked (J.gives p.job.value) p.post.value r };
 }
 
-// Starts the thread of one worker, where one more start is allowed. None where it can't be started;
-// its post is then dropped.
+// Starts the thread of one worker, if one more start is allowed. None if it can't be started; its post is then
+// dropped.
 fn start<'s, E, J: Job, G: Gate>(
     scope: &'s Scope<'s, E>,
     task: &Task<'s, J, G>,

@@ -41,9 +41,9 @@ fn run_one<J: Job, G: Gate>(task: &Task<'_, J, G>, ticket: Ticket) -> Ran<Result
     ensures given { J.gives task.now.job.now result.number result.answer }
 {
     let number = ticket.number();
-    task.gate.before(number);
+    let entry = task.gate.before(number);
     let answer = task.job.run(ticket);
-    task.gate.after(number);
+    task.gate.after(number, entry);
     Ran { number, answer }
 }
 
@@ -108,8 +108,7 @@ pub(crate) fn drain(owner: &mut LaneOwner)
     'pops: while owner.pop().is_some() {}
 }
 
-// All that one worker does. Where room for a result is refused it runs no more, and empties its own
-// lane.
+// All that one worker does. If room for a result is refused it runs no more, and empties its own lane.
 pub(crate) fn work<J: Job, G: Gate>(
     task: &Task<'_, J, G>,
     post: Post,

@@ -4,7 +4,7 @@ use Rattle.std.specs.Prelude.{◌≡◌, ◌≢◌, List, [], ◌∷◌, Option,
 use Rattle.std.specs.Option.{option_map}
 use Rattle.clap.specs.Words.{Kinds, IsAmong, Row, Text, fault_of, subcommand_of}
 use Rattle.clap.specs.declared.error.kind.ErrorKind.{ErrorKind}
-use Rattle.command_line.specs.Values.{Carries, CarriesPages, CarriesSnapshot, custom_options_of, explains_in, rows_in, text_of}
+use Rattle.command_line.specs.Values.{Carries, CarriesPages, CarriesSnapshot, custom_options_of, explains_in, quiet_in, rows_in, text_of}
 use Rattle.command_line.specs.Program.{command_line}
 use Rattle.command_line.specs.Requests.{Prints}
 use Rattle.command_line.specs.Words.{AreListed}
@@ -18,9 +18,10 @@ name_of program = option_map (λ p. p.0) program
 
 -- the program, with what it is given: `index`, `shell`, `query`, `snapshot`, `pages`, and else `dump`, the only other one
 abbrev pub Names : Option (Text × List Row) → Request → Type 0
-Names program (request.Index options out) = (name_of program ≡ Some (codes "index"))
+Names program (request.Index options out quiet) = (name_of program ≡ Some (codes "index"))
     × Carries (rows_in program) options
     × (string_bytes out ≡ text_of (codes "OUT") (rows_in program))
+    × (quiet ≡ quiet_in (rows_in program))
 Names program (request.Shell options) = (name_of program ≡ Some (codes "shell"))
     × Carries (rows_in program) options
 Names program (request.Query index explain) = (name_of program ≡ Some (codes "query"))
@@ -45,8 +46,8 @@ abbrev pub AsksBy : Kinds → Option (Text × List Row) → Request → Type 0
 AsksBy [] program r = Names program r
 AsksBy (k ∷ ks) program r = (answer : ErrorKind) × IsAmong answer (k ∷ ks) × Prints answer r
 
--- what the words ask for, of which the first is the program's name; the lists of the words that some
--- options take stand somewhere in memory
+-- what the words ask for, of which the first is the program's name; the lists of the words that some options take are
+-- somewhere in memory
 abbrev pub Asks : List Text → Request → Type 0
 Asks words r = (lists : WordLists) × AreListed lists
     × AsksBy (fault_of (command_line lists) words) (subcommand_of (command_line lists) words) r

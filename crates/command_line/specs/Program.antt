@@ -19,11 +19,11 @@ required_rule name = record (new_rule name) { required = true }
 abbrev pub option_rule : Text → Rule
 option_rule name = record (new_rule name) { long = Some name; value_names = 1 }
 
--- the option has this text where it isn't given
+-- the option has this text if it isn't given
 abbrev pub or_default : Text → Rule → Rule
 or_default text rule = record rule { defaults = text ∷ [] }
 
--- the option takes these words alone
+-- the option takes only these words
 abbrev pub taking_words : Bor (List (Bor Text)) → Rule → Rule
 taking_words words rule = record rule { parser = Some (values.Names words) }
 
@@ -60,8 +60,14 @@ abbrev pub faulty_rule : Bor (List (Bor Text)) → Rule
 faulty_rule words = or_default (codes "refuse") (taking_words words (option_rule (codes "faulty")))
 
 -- an option without a value, at most once
+abbrev pub flag_rule : Text → Rule
+flag_rule name = record (new_rule name) { long = Some name; action = Some SetTrue }
+
 abbrev pub explain_rule : Rule
-explain_rule = record (new_rule (codes "explain")) { long = Some (codes "explain"); action = Some SetTrue }
+explain_rule = flag_rule (codes "explain")
+
+abbrev pub quiet_rule : Rule
+quiet_rule = flag_rule (codes "quiet")
 
 -- the options on the run and on the package
 abbrev pub setting_rules : List Rule
@@ -107,7 +113,7 @@ line_of name rules = (with_rules (new_app name) rules).top
 
 abbrev pub index_line : WordLists → Shape
 index_line lists =
-    line_of (codes "index") (required_rule (codes "ROOT") ∷ required_rule (codes "OUT") ∷ tree_rules lists)
+    line_of (codes "index") (required_rule (codes "ROOT") ∷ required_rule (codes "OUT") ∷ quiet_rule ∷ tree_rules lists)
 
 -- `shell` wants the folder alone
 abbrev pub shell_line : WordLists → Shape

@@ -43,12 +43,12 @@ index_path _ = None
 
 -- the options of the index that is to be written
 abbrev pub index_options : Request → Option IndexOptions
-index_options (request.Index options out) = Some options
+index_options (request.Index options out quiet) = Some options
 index_options _ = None
 
 -- the path of the file that it goes to
 abbrev pub out_path : Request → Option Text
-out_path (request.Index options out) = Some (string_bytes out)
+out_path (request.Index options out quiet) = Some (string_bytes out)
 out_path _ = None
 
 -- the options of the index about which commands are to be answered, and which no file holds

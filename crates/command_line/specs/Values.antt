@@ -21,7 +21,7 @@ use Rattle.command_line.specs.declared.options.FaultyWord.{FaultyWord}
 abbrev pub rows_in : Option (Text × List Row) → List Row
 rows_in program = option_map_or (λ p. p.1) program []
 
--- the first text, the argument's default where it has one and isn't given; else the empty text
+-- the first text, the argument's default if it has one and isn't given; else the empty text
 abbrev pub text_of : Text → List Row → Text
 text_of id rows = unwrap_or (first_of id rows) []
 
@@ -53,6 +53,10 @@ faulty_of rows = faulty_word (text_of (codes "faulty") rows)
 -- whether `--explain` is given: `clap` then gives the text `true`
 abbrev pub explains_in : List Row → Bool
 explains_in rows = bytes_eq (text_of (codes "explain") rows) (codes "true")
+
+-- and whether `--quiet` is
+abbrev pub quiet_in : List Row → Bool
+quiet_in rows = bytes_eq (text_of (codes "quiet") rows) (codes "true")
 
 -- a folder, and the package that its files belong to
 pub record Folder : Type 0 where

@@ -1,4 +1,4 @@
--- The words that options take alone.
+-- The listed words that some options take.
 use Rattle.std.specs.Prelude.{◌≡◌, List, [], ◌∷◌, map, codes, if◌then◌else◌}
 use Rattle.std.specs.Str.{bytes_eq}
 use Rattle.std.specs.Borrow.{Bor}
@@ -13,7 +13,7 @@ use Rattle.command_line.specs.declared.options.CustomOptionsWord.TheVariants.{Re
 use Rattle.command_line.specs.declared.options.FaultyWord.{FaultyWord}
 use Rattle.command_line.specs.declared.options.FaultyWord.TheVariants as faulty
 
--- the texts of a list, wherever it stands in memory
+-- the texts of a list, wherever it is in memory
 abbrev pub texts_at : Bor (List (Bor Text)) → List Text
 texts_at list = map (λ (s : Bor Text). s.now) list.now
 

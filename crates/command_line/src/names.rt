@@ -50,5 +50,8 @@ pub(crate) const FAULTY: &str = "faulty";
 
 pub(crate) const EXPLAIN: &str = "explain";
 
+/// The option of `index` alone.
+pub(crate) const QUIET: &str = "quiet";
+
 /// The option of `snapshot`.
 pub(crate) const TO: &str = "to";

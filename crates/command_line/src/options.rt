@@ -7,29 +7,29 @@ ghost use Rattle.std.specs.Prelude.{◌≤◌};
 pub struct IndexOptions {
     /// The path of the folder whose sources are indexed, as it was written.
     pub root: String,
-    /// How many threads, 1 to 16; 4 where it isn't said.
+    /// How many threads, 1 to 16; 4 if it isn't given.
     pub workers: usize,
-    /// Where the sources' folder lies, as a URI; `file:///` where it isn't said.
+    /// Where the sources' folder is, as a URI; `file:///` if it isn't given.
     pub project_root: String,
-    /// The package's manager, empty where it isn't said.
+    /// The package's manager, empty if it isn't given.
     pub manager: String,
-    /// The package's name, empty where it isn't said.
+    /// The package's name, empty if it isn't given.
     pub package: String,
-    /// The package's release, empty where it isn't said.
+    /// The package's release, empty if it isn't given.
     pub release: String,
-    /// The full name below which declarations are kept; `None` where all are.
+    /// The full name below which declarations are kept; `None` if all are.
     pub only: Option<String>,
-    /// Which comments document a declaration, where it is said.
+    /// Which comments document a declaration, if it is given.
     pub doc: Option<DocWord>,
     /// The paths of the folders with included files, in the order of the words.
     pub include: Vec<String>,
     /// The folders with included files that have a package of their own, in the order of the words.
     pub include_packages: Vec<PackageFolder>,
-    /// The unit of columns; UTF-8 where it isn't said.
+    /// The unit of columns; UTF-8 if it isn't given.
     pub positions: PositionsWord,
-    /// What is done about custom options; they are refused where it isn't said.
+    /// What is done about custom options; they are refused if it isn't given.
     pub custom_options: CustomOptionsWord,
-    /// What is done about a tree with faults; it is refused where it isn't said.
+    /// What is done about a tree with faults; it is refused if it isn't given.
     pub faulty: FaultyWord,
     /// Whether a fault is explained.
     pub explain: bool,
@@ -43,7 +43,7 @@ pub struct SnapshotOptions {
     pub index: String,
     /// The folder below which the sources of its documents are.
     pub root: String,
-    /// The folder below which each snapshot goes to a file of its own; they are printed where it isn't said.
+    /// The folder below which each snapshot goes to a file of its own; they are printed if it isn't given.
     pub to: Option<String>,
     /// Whether a fault is explained.
     pub explain: bool,
@@ -80,9 +80,9 @@ pub struct PackageFolder {
 pub enum DocWord {
     /// `leading`: the comments before a declaration.
     Leading,
-    /// `trailing`: the comments behind it.
+    /// `trailing`: the comments after it.
     Trailing,
-    /// `both`: first those before it, then those behind it.
+    /// `both`: first those before it, then those after it.
     Both,
     /// `nothing`: no comments.
     Nothing,
@@ -111,6 +111,6 @@ pub enum CustomOptionsWord {
 pub enum FaultyWord {
     /// `refuse`: a tree with a fault is refused.
     Refuse,
-    /// `skip`: what has one is left out and told.
+    /// `skip`: what has one is left out and reported.
     Skip,
 }

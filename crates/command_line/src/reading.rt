@@ -13,7 +13,8 @@ use crate::options::CustomOptionsWord;
 use crate::program::program;
 use crate::request::Request;
 use crate::values::{
-    custom_options_of, explains_in, options_of, pages_options_of, snapshot_options_of, text_of,
+    custom_options_of, explains_in, options_of, pages_options_of, quiet_in, snapshot_options_of,
+    text_of,
 };
 use crate::words::WordLists;
 use clap::error::ErrorKind;
@@ -40,7 +41,8 @@ fn named(alloc: Global, matches: &ArgMatches<'_>) -> Result<Request, AllocError>
 {
     if let Some(given) = matches.subcommand_matches(INDEX) {
         let options = options_of(alloc, given)?;
-        return Ok(Request::Index(options, text_of(alloc, given, OUT)?));
+        let out = text_of(alloc, given, OUT)?;
+        return Ok(Request::Index(options, out, quiet_in(given)));
     }
     if let Some(given) = matches.subcommand_matches(SHELL) {
         return Ok(Request::Shell(options_of(alloc, given)?));
@@ -59,7 +61,7 @@ fn named(alloc: Global, matches: &ArgMatches<'_>) -> Result<Request, AllocError>
     Ok(Request::Dump(custom_options, explain))
 }
 
-/// What `dump` is given, where it is the program that is named: what is done about custom options, and whether a fault
+/// What `dump` is given, if it is the program that is named: what is done about custom options, and whether a fault
 /// is explained.
 fn dump_options(matches: &ArgMatches<'_>) -> (CustomOptionsWord, bool)
     ensures custom_options { result.0 ≡ custom_options_of (rows_in (subcommand_rows_of matches.now)) }
@@ -71,8 +73,8 @@ fn dump_options(matches: &ArgMatches<'_>) -> (CustomOptionsWord, bool)
     }
 }
 
-/// What the words of a command line ask for, the first of them the program's name. Where the system
-/// gives an error in their place, a word isn't UTF-8, which is refused, or memory ran out.
+/// What the words of a command line ask for, the first of them the program's name. If the system gives an error in
+/// their place, a word isn't UTF-8, which is refused, or memory ran out.
 pub fn request_of_process(
     alloc: Global,
     words: io::Result<Vec<String>>,

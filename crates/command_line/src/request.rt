@@ -14,8 +14,8 @@ pub enum Request {
     Snapshot(SnapshotOptions),
     /// The program `pages`.
     Pages(PagesOptions),
-    /// The program `index`, whose index goes to the file with this path.
-    Index(IndexOptions, String),
+    /// The program `index`, whose index goes to the file with this path, and whether it doesn't show how far it is.
+    Index(IndexOptions, String, bool),
     /// The program `shell`, about the index of the tree that the options tell.
     Shell(IndexOptions),
     /// A text for standard output: help or the version.

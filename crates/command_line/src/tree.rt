@@ -9,12 +9,14 @@ ghost use Rattle.command_line.specs.Program.{
   doc_rule,
   explain_rule,
   faulty_rule,
+  flag_rule,
   include_package_rule,
   include_rule,
   option_rule,
   or_default,
   positions_rule,
   project_root_rule,
+  quiet_rule,
   required_rule,
   setting_rules,
   taking_threads,
@@ -25,7 +27,7 @@ ghost use Rattle.command_line.specs.Program.{
 
 use crate::names::{
     CUSTOM_OPTIONS, DOC, EXPLAIN, FAULTY, INCLUDE, INCLUDE_PACKAGE, MANAGER, ONLY, PACKAGE,
-    PACKAGE_FOLDER, POSITIONS, PROJECT_ROOT, RELEASE, WORKERS,
+    PACKAGE_FOLDER, POSITIONS, PROJECT_ROOT, QUIET, RELEASE, WORKERS,
 };
 use crate::words::WordLists;
 use clap::{Arg, ArgAction, value_parser};
@@ -50,6 +52,17 @@ pub(crate) fn option<'a>(alloc: Global, name: &'a str, value: &'a str, help: &'a
         .help(help)
 }
 
+/// An option `--name` without a value.
+fn flag<'a>(alloc: Global, name: &'a str, help: &'a str) -> Arg<'a>
+    ensures rule { rule_of result ≡ flag_rule name.entry.now }
+    ensures local { result.global ≡ false }
+{
+    Arg::new(alloc, name)
+        .long(name)
+        .help(help)
+        .action(ArgAction::SetTrue)
+}
+
 /// The option, with this text where it isn't given.
 fn or_default<'a>(option: Arg<'a>, text: &'a str) -> Arg<'a>
     ensures rule { rule_of result ≡ or_default text.entry.now (rule_of option.entry) }
@@ -58,7 +71,7 @@ fn or_default<'a>(option: Arg<'a>, text: &'a str) -> Arg<'a>
     option.default_value(text)
 }
 
-/// The option, with these words alone for its value.
+/// The option, with only these words for its value.
 fn taking_words<'a>(option: Arg<'a>, words: &'a [&'a str]) -> Arg<'a>
     ensures rule { rule_of result ≡ taking_words words.entry (rule_of option.entry) }
     ensures local { result.global ≡ option.entry.global }
@@ -187,10 +200,17 @@ pub(crate) fn explain<'a>(alloc: Global) -> Arg<'a>
     ensures rule { rule_of result ≡ explain_rule }
     ensures local { result.global ≡ false }
 {
-    Arg::new(alloc, EXPLAIN)
-        .long(EXPLAIN)
-        .help("Explains a fault: adds its line and column, a sentence, and the text of that line")
-        .action(ArgAction::SetTrue)
+    let help = "Explains a fault: adds its line and column, a sentence, and the text of that line";
+    flag(alloc, EXPLAIN, help)
+}
+
+/// Whether it isn't shown how far a run is.
+pub(crate) fn quiet<'a>(alloc: Global) -> Arg<'a>
+    ensures rule { rule_of result ≡ quiet_rule }
+    ensures local { result.global ≡ false }
+{
+    let help = "Shows no progress; without it, a terminal shows some after a second";
+    flag(alloc, QUIET, help)
 }
 
 /// The options on the run and on the package.

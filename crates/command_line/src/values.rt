@@ -14,13 +14,14 @@ ghost use Rattle.command_line.specs.Values.{
   folder_of,
   folders_in,
   positions_of,
+  quiet_in,
   text_of,
   workers_of,
 };
 
 use crate::names::{
     CUSTOM_OPTIONS, DOC, EXPLAIN, FAULTY, INCLUDE, INCLUDE_PACKAGE, INDEX_FILE, MANAGER, ONLY, OUT,
-    PACKAGE, POSITIONS, PROJECT_ROOT, RELEASE, ROOT, TO, WORKERS,
+    PACKAGE, POSITIONS, PROJECT_ROOT, QUIET, RELEASE, ROOT, TO, WORKERS,
 };
 use crate::options::{
     CustomOptionsWord, DocWord, FaultyWord, IndexOptions, PackageFolder, PagesOptions,
@@ -30,7 +31,7 @@ use clap::ArgMatches;
 use index_pool::MAX_WORKERS;
 use std::alloc::{AllocError, Global};
 
-/// How many threads work, where `clap` gives no number.
+/// How many threads work, if `clap` gives no number.
 const DEFAULT_WORKERS: usize = 4;
 
 /// The first text of an argument or option: what it is given, or its default.
@@ -40,7 +41,7 @@ fn first_of<'a>(given: &ArgMatches<'a>, id: &str) -> Option<&'a str>
     given.get_str(id)
 }
 
-/// That text, which is empty where there is none.
+/// That text, which is empty if there is none.
 fn given_text<'a>(given: &ArgMatches<'a>, id: &str) -> &'a str
     ensures { result.now ≡ text_of id.now (rows_of (found_of given.now)) }
 {
@@ -197,6 +198,13 @@ pub(crate) fn explains_in(given: &ArgMatches<'_>) -> bool
     ensures { result ≡ explains_in (rows_of (found_of given.now)) }
 {
     given_text(given, EXPLAIN) == "true"
+}
+
+/// Whether `--quiet` is given.
+pub(crate) fn quiet_in(given: &ArgMatches<'_>) -> bool
+    ensures { result ≡ quiet_in (rows_of (found_of given.now)) }
+{
+    given_text(given, QUIET) == "true"
 }
 
 /// What a program about a tree is given.

@@ -1,4 +1,4 @@
-//! The words that options take alone.
+//! The listed words that some options take.
 
 ghost use Rattle.std.specs.Prelude.{◌≡◌};
 ghost use Rattle.command_line.specs.Words.{
@@ -11,7 +11,7 @@ ghost use Rattle.command_line.specs.Words.{
 
 use crate::options::{CustomOptionsWord, DocWord, FaultyWord, PositionsWord};
 
-/// The lists of words of the options that take listed words alone.
+/// The lists of words of the options that take only listed words.
 #[derive(Clone, Copy)]
 pub(crate) struct WordLists<'a> {
     pub(crate) doc: &'a [&'a str],

@@ -3,16 +3,12 @@
 use crate::asked::{By, asked, see};
 use std::test::Fail;
 
-/// A command line that asks for help or the version, and the parts of the text that is printed.
-struct Printed {
-    words: &'static str,
-    parts: [&'static str; 3],
-}
+/// A command line that asks for help or the version; the text that is printed, or, where `OPTIONS` follow, what is
+/// in front of them; and then what is behind them.
+type Printed = (&'static str, &'static str, Option<&'static str>);
 
 /// The options of `index` and of `shell`.
-const OPTIONS: &str = "
-Options:
-      --workers <N>
+const OPTIONS: &str = "      --workers <N>
           How many threads to use, 1 to 16; the index is the same for any number [default: 4]
       --project-root <URI>
           Where the sources' folder is, for the index's metadata [default: file:///]
@@ -44,10 +40,9 @@ Options:
 
 // The last row reads: `protoscip --version` prints one line.
 static PRINTED: [Printed; 8] = [
-    Printed {
-        words: "--help",
-        parts: [
-            "Indexes proto3 sources and writes SCIP
+    (
+        "--help",
+        "Indexes proto3 sources and writes SCIP
 
 Usage: protoscip <COMMAND>
 
@@ -64,40 +59,42 @@ Options:
   -h, --help     Print help
   -V, --version  Print version
 ",
-            "",
-            "",
-        ],
-    },
-    Printed {
-        words: "index --help",
-        parts: [
-            "Indexes the sources below a folder and writes the index to a file
+        None,
+    ),
+    (
+        "index --help",
+        "Indexes the sources below a folder and writes the index to a file
 
 Usage: protoscip index [OPTIONS] <ROOT> <OUT>
 
 Arguments:
   <ROOT>  The folder whose sources are indexed
   <OUT>   The file to which the index is written
+
+Options:
+      --quiet
+          Shows no progress; without it, a terminal shows some after a second
 ",
-            OPTIONS,
+        Some(
             "
 Example: index the sources below api, with those below vendor for their imports:
 
   protoscip index --include vendor --package api --release 1.2 api api.scip
 ",
-        ],
-    },
-    Printed {
-        words: "shell --help",
-        parts: [
-            "Indexes the sources below a folder and answers commands from standard input
+        ),
+    ),
+    (
+        "shell --help",
+        "Indexes the sources below a folder and answers commands from standard input
 
 Usage: protoscip shell [OPTIONS] <ROOT>
 
 Arguments:
   <ROOT>  The folder whose sources are indexed
+
+Options:
 ",
-            OPTIONS,
+        Some(
             "
 Example session. The lines that begin with a word are typed; Ctrl-D ends the session:
 
@@ -109,12 +106,11 @@ Example session. The lines that begin with a word are typed; Ctrl-D ends the ses
   | The days from the first to the last, both included.
   = 1
 ",
-        ],
-    },
-    Printed {
-        words: "query --help",
-        parts: [
-            "Answers commands from standard input about an index
+        ),
+    ),
+    (
+        "query --help",
+        "Answers commands from standard input about an index
 
 Usage: protoscip query [OPTIONS] <INDEX>
 
@@ -129,14 +125,11 @@ Example: list the symbols of a document:
 
   echo 'sym shop/order.proto' | protoscip query api.scip
 ",
-            "",
-            "",
-        ],
-    },
-    Printed {
-        words: "snapshot --help",
-        parts: [
-            "Shows the sources of an index, and below each line what the index says about it
+        None,
+    ),
+    (
+        "snapshot --help",
+        "Shows the sources of an index, and below each line what the index says about it
 
 Usage: protoscip snapshot [OPTIONS] <INDEX> <ROOT>
 
@@ -153,14 +146,11 @@ Example: show the sources below api with what the index says about them:
 
   protoscip snapshot api.scip api
 ",
-            "",
-            "",
-        ],
-    },
-    Printed {
-        words: "pages --help",
-        parts: [
-            "Makes pages of the sources of an index, to be read in a browser
+        None,
+    ),
+    (
+        "pages --help",
+        "Makes pages of the sources of an index, to be read in a browser
 
 Usage: protoscip pages [OPTIONS] <INDEX> <ROOT> <OUT>
 
@@ -177,14 +167,11 @@ Example: make pages of the sources below api; then open pages/index.html in a br
 
   protoscip pages api.scip api pages
 ",
-            "",
-            "",
-        ],
-    },
-    Printed {
-        words: "dump --help",
-        parts: [
-            "Indexes one source from standard input and prints its occurrences
+        None,
+    ),
+    (
+        "dump --help",
+        "Indexes one source from standard input and prints its occurrences
 
 Usage: protoscip dump [OPTIONS]
 
@@ -197,30 +184,25 @@ Example: print the occurrences of a source, past its custom options:
 
   protoscip dump --custom-options skip < order.proto
 ",
-            "",
-            "",
-        ],
-    },
-    Printed {
-        words: "--version",
-        parts: ["protoscip 1\n", "", ""],
-    },
+        None,
+    ),
+    ("--version", "protoscip 1\n", None),
 ];
 
-/// Whether a text is these parts, one behind the other.
-fn has_parts(text: &str, parts: &[&str; 3]) -> bool {
-    let [first, second, third] = *parts;
-    let rest = text
-        .strip_prefix(first)
-        .and_then(|rest| rest.strip_prefix(second));
-    rest == Some(third)
+/// Whether a text is this front, and, where there is more, the options and that.
+fn has_parts(text: &str, front: &str, more: Option<&str>) -> bool {
+    let rest = text.strip_prefix(front);
+    match more {
+        Some(more) => rest.and_then(|rest| rest.strip_prefix(OPTIONS)) == Some(more),
+        None => rest == Some(""),
+    }
 }
 
 #[test]
 fn help_and_version_are_printed(rt: HostRuntime) -> Result<(), Fail> {
-    for row in &PRINTED {
-        let text = asked(rt.alloc(), row.words, By::List)?;
-        see(&rt, has_parts(text.as_str(), &row.parts), row.words);
+    for (words, front, more) in &PRINTED {
+        let text = asked(rt.alloc(), words, By::List)?;
+        see(&rt, has_parts(text.as_str(), front, *more), words);
     }
     Ok(())
 }

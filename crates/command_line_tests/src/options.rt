@@ -11,7 +11,7 @@ struct Asked {
 
 // The fourth row reads: `dump --explain --custom-options skip` asks for a dump that reads past custom options, and
 // explains a fault.
-static ASKED: [Asked; 14] = [
+static ASKED: [Asked; 12] = [
     Asked {
         words: "query a.scip",
         request: "Query(\"a.scip\", false)",
@@ -30,27 +30,19 @@ static ASKED: [Asked; 14] = [
     },
     Asked {
         words: "index api out",
-        request: "Index(IndexOptions { root: \"api\", workers: 4, project_root: \"file:///\", manager: \"\", package: \"\", release: \"\", only: None, doc: None, include: [], include_packages: [], positions: Utf8, custom_options: Refuse, faulty: Refuse, explain: false }, \"out\")",
+        request: "Index(IndexOptions { root: \"api\", workers: 4, project_root: \"file:///\", manager: \"\", package: \"\", release: \"\", only: None, doc: None, include: [], include_packages: [], positions: Utf8, custom_options: Refuse, faulty: Refuse, explain: false }, \"out\", false)",
     },
     Asked {
-        words: "index --workers 2 --project-root u --manager m --package p --release r --only o --doc both --include j --include i --positions utf16 --custom-options skip --faulty skip --explain api out",
-        request: "Index(IndexOptions { root: \"api\", workers: 2, project_root: \"u\", manager: \"m\", package: \"p\", release: \"r\", only: Some(\"o\"), doc: Some(Both), include: [\"j\", \"i\"], include_packages: [], positions: Utf16, custom_options: Skip, faulty: Skip, explain: true }, \"out\")",
+        words: "index --workers 2 --quiet --project-root u --manager m --package p --release r --only o --doc both --include j --include i --positions utf16 --custom-options skip --faulty skip --explain api out",
+        request: "Index(IndexOptions { root: \"api\", workers: 2, project_root: \"u\", manager: \"m\", package: \"p\", release: \"r\", only: Some(\"o\"), doc: Some(Both), include: [\"j\", \"i\"], include_packages: [], positions: Utf16, custom_options: Skip, faulty: Skip, explain: true }, \"out\", true)",
     },
     Asked {
         words: "shell --workers 16 --project-root=u --manager=m --package=p --release=r --only=o --doc=trailing --include=i --positions=utf8 --custom-options=refuse --faulty=refuse -- -api",
         request: "Shell(IndexOptions { root: \"-api\", workers: 16, project_root: \"u\", manager: \"m\", package: \"p\", release: \"r\", only: Some(\"o\"), doc: Some(Trailing), include: [\"i\"], include_packages: [], positions: Utf8, custom_options: Refuse, faulty: Refuse, explain: false })",
     },
     Asked {
-        words: "index --include-package git shop/base 1.4.0 base api out",
-        request: "Index(IndexOptions { root: \"api\", workers: 4, project_root: \"file:///\", manager: \"\", package: \"\", release: \"\", only: None, doc: None, include: [], include_packages: [PackageFolder { manager: \"git\", name: \"shop/base\", release: \"1.4.0\", folder: \"base\" }], positions: Utf8, custom_options: Refuse, faulty: Refuse, explain: false }, \"out\")",
-    },
-    Asked {
         words: "index api --include a --include-package m n r d --include b out --include-package '' '' '' e --include c",
-        request: "Index(IndexOptions { root: \"api\", workers: 4, project_root: \"file:///\", manager: \"\", package: \"\", release: \"\", only: None, doc: None, include: [\"a\", \"b\", \"c\"], include_packages: [PackageFolder { manager: \"m\", name: \"n\", release: \"r\", folder: \"d\" }, PackageFolder { manager: \"\", name: \"\", release: \"\", folder: \"e\" }], positions: Utf8, custom_options: Refuse, faulty: Refuse, explain: false }, \"out\")",
-    },
-    Asked {
-        words: "index --faulty skip --include-package m n r d api out",
-        request: "Index(IndexOptions { root: \"api\", workers: 4, project_root: \"file:///\", manager: \"\", package: \"\", release: \"\", only: None, doc: None, include: [], include_packages: [PackageFolder { manager: \"m\", name: \"n\", release: \"r\", folder: \"d\" }], positions: Utf8, custom_options: Refuse, faulty: Skip, explain: false }, \"out\")",
+        request: "Index(IndexOptions { root: \"api\", workers: 4, project_root: \"file:///\", manager: \"\", package: \"\", release: \"\", only: None, doc: None, include: [\"a\", \"b\", \"c\"], include_packages: [PackageFolder { manager: \"m\", name: \"n\", release: \"r\", folder: \"d\" }, PackageFolder { manager: \"\", name: \"\", release: \"\", folder: \"e\" }], positions: Utf8, custom_options: Refuse, faulty: Refuse, explain: false }, \"out\", false)",
     },
     Asked {
         words: "snapshot a.scip api",

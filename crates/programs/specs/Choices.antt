@@ -15,7 +15,7 @@ choice_of_word word.Trailing = Trailing
 choice_of_word word.Both = Both
 choice_of_word word.Nothing = Nothing
 
--- which texts document a declaration by that answer; where there is none, the text before it
+-- which texts document a declaration by that answer; if there is none, the text before it
 abbrev pub documented_by : Option DocChoice → DocChoice
 documented_by None = Leading
 documented_by (Some Pass) = Leading
@@ -24,7 +24,7 @@ documented_by (Some Leading) = Leading
 documented_by (Some Trailing) = Trailing
 documented_by (Some Both) = Both
 
--- whether a declaration is kept by a full name of `--only`: exactly where it is its own or one above it; where there is
+-- whether a declaration is kept by a full name of `--only`: if and only if it is its own or one above it; if there is
 -- none, it is kept
 abbrev pub IsKeptBy : Option (List ℕ) → Seen → Bool → Type 0
 IsKeptBy None seen keep = keep ≡ true

@@ -8,7 +8,7 @@ use Rattle.protoscip.specs.declared.fault.Fault.{Fault}
 use Rattle.programs.specs.Messages.{SaysOfSuccess}
 use Rattle.programs.specs.TreeRuns.{Ends}
 
--- as a run over the tree of what is kept of the source: of the bytes that the reader tells that it has left; where it
+-- as a run over the tree of what is kept of the source: of the bytes that the reader tells that it has left; if it
 -- tells none, of some bytes
 pub record EndsDump {R M : Type 0} (remaining : R → Option (List ℕ)) (said : M → Option (List ℕ)) (unsaid : M → ℕ)
     (explain : Bool) (reader : R) (done : Result (Unit {0}) Fault) (before after : M) (status : ℕ) : Type 0 where

@@ -45,7 +45,7 @@ pub record IsRootOf (wanted root : Root) : Type 0 where
   pub id_is : root.id ≡ wanted.id
   pub has : (path : List ℕ) → list_any (bytes_eq path) root.paths ≡ list_any (bytes_eq path) wanted.paths
 
--- folders are added behind those that are there
+-- folders are added after those that are there
 pub record AddsRoots (wanted : List Root) (before after : Packages) : Type 0 where
   pub added : List Root
   pub are : AllZip IsRootOf wanted added

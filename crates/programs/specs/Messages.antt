@@ -4,7 +4,7 @@ use Rattle.std.specs.Io.KnownBytes.{Appends}
 use Rattle.protoscip.specs.Lines.{plain_line}
 use Rattle.protoscip.specs.declared.statuses.TheConstants.{MEMORY_STATUS}
 
--- P holds where no write failed, which the writer's counts of failures tell below their limit
+-- P holds if no write failed, which the writer's counts of failures show as long as they are below their limit
 abbrev pub Heard : ℕ → ℕ → Type 0 → Type 0
 Heard before after P = before < 2 ^ 64 - 1 → after ≡ before → P
 
@@ -16,27 +16,26 @@ Says contents failures line due before after status =
     (status ≡ due) × Heard (failures before) (failures after)
     (Appends (contents before) (contents after) (line ++ codes "\n"))
 
--- what is said where memory doesn't suffice, and the status of that
+-- what is said if there is no memory for a line, and its status
 abbrev pub memory_line : List ℕ
 memory_line = plain_line (codes "Memory")
 
 abbrev pub memory_status : ℕ
 memory_status = MEMORY_STATUS
 
--- where a program stops, the line that is due is said, with the status that is due; or, where memory doesn't suffice
--- for it, that of want
--- of memory, with that status
+-- if a program stops, the line that is due is said, with the status that is due; or, if there is no memory for it,
+-- the line and the status of Memory
 abbrev pub Tells : {M : Type 0} → (contents : M → Option (List ℕ)) → (failures : M → ℕ) → (line : List ℕ) → (due : ℕ)
     → M → M → (status : ℕ) → Type 0
 Tells contents failures line due before after status =
     Says contents failures line due before after status
     ⊎ Says contents failures memory_line memory_status before after status
 
--- of a success nothing is said, and the exit status is 0
+-- after a success nothing is said, and the exit status is 0
 abbrev pub IsSilent : {M : Type 0} → M → M → (status : ℕ) → Type 0
 IsSilent before after status = (after ≡ before) × (status ≡ 0)
 
--- of a success this text is said,
+-- after a success this text is said,
 abbrev pub SaysOfSuccess : {M : Type 0} → (contents : M → Option (List ℕ)) → (failures : M → ℕ) → (text : List ℕ) → M
     → M → (status : ℕ) → Type 0
 SaysOfSuccess contents failures text before after status = Says contents failures text 0 before after status
@@ -47,7 +46,7 @@ abbrev pub SaysIfAny : {M : Type 0} → (contents : M → Option (List ℕ)) →
 SaysIfAny contents failures None before after status = IsSilent before after status
 SaysIfAny contents failures (Some text) before after status = SaysOfSuccess contents failures text before after status
 
--- it is said; or, where memory doesn't suffice for it, that of want of memory is, with its status
+-- it is said; or, if there is no memory for it, the line of Memory, with its status
 abbrev pub TellsOfSuccess : {M : Type 0} → (contents : M → Option (List ℕ)) → (failures : M → ℕ) → (text : List ℕ) → M
     → M → (status : ℕ) → Type 0
 TellsOfSuccess contents failures text before after status = Tells contents failures text 0 before after status

@@ -1,7 +1,6 @@
 -- Printing a text.
 -- `contents` and `failures` are the output's, `said` and `unsaid` those of the stream of messages; `first` and `now`
--- are the output,
--- `before` and `after` the stream, around the call.
+-- are the output, `before` and `after` the stream, around the call.
 use Rattle.std.specs.Prelude.{ℕ, ◌⊎◌, List, Option, codes}
 use Rattle.streams.specs.WholeWrites.{IsWritten, IsCutOff}
 use Rattle.programs.specs.Messages.{IsSilent, Tells}

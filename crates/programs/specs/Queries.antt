@@ -33,8 +33,7 @@ abbrev pub AreUnused : {R W : Type 0} → Reader R → Writer W → Type 0
 AreUnused commands answers = AreUntouched commands.before commands.after answers.before answers.after
 
 -- all commands are answered; or reading them or writing answers stops; or memory ran out before an answer, or before
--- the first; or there
--- is no index
+-- the first; or there is no index
 abbrev pub Queried : {R W : Type 0} → (Option (List ℕ) → Type 0) → Reader R → Writer W → Result (Unit {0}) QueryFault
     → Type 0
 Queried gives commands answers (Ok done) = IsAnswered gives commands answers (Ok done)

@@ -1,4 +1,4 @@
--- What is added to the line of why commands about the index of a file aren't answered, where that is to be explained.
+-- What is added to the line of why commands about the index of a file aren't answered, if that is to be explained.
 -- (The texts are this project's own.)
 use Rattle.std.specs.Prelude.{Bool, ℕ, List, [], ◌++◌, codes, if◌then◌else◌}
 use Rattle.scip_query.specs.declared.answer_fault.AnswerFault.{AnswerFault}
@@ -9,7 +9,7 @@ use Rattle.programs.specs.declared.query_fault.QueryFault.{QueryFault}
 use Rattle.programs.specs.declared.query_fault.QueryFault.TheVariants.{Unreadable, Wire, Answers}
 use Rattle.programs.specs.QueryFaults.{line_of}
 
--- nothing of want of memory
+-- nothing for lack of memory
 abbrev pub wire_explanation : WireFault → List ℕ
 wire_explanation (wire.Truncated at) =
     codes "\nthis file is no SCIP index, or was cut off: the record here runs past the end"
@@ -32,6 +32,6 @@ explanation_of Unreadable = codes "\nit isn't there, or is a folder, or can't be
 explanation_of (Wire fault) = wire_explanation fault
 explanation_of (Answers fault) = answer_explanation fault
 
--- the line of a fault of the index with this path, and its explanation where that is asked for
+-- the line of a fault of the index with this path, and its explanation if that is asked for
 abbrev pub told : (explain : Bool) → (path : List ℕ) → QueryFault → List ℕ
 told explain path fault = line_of path fault ++ (if explain then explanation_of fault else [])

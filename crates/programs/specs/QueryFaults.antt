@@ -1,6 +1,5 @@
--- Why commands about the index of a file aren't answered: what is said of it, and the exit status. (Texts and statuses
--- are this
--- project's own.)
+-- Why commands about the index of a file aren't answered: what is said about it, and the exit status. (Texts and
+-- statuses are this project's own.)
 use Rattle.std.specs.Prelude.{ℕ, List, codes}
 use Rattle.scip_query.specs.AnswerFaults.{name_of as answer_name}
 use Rattle.scip_query.specs.declared.answer_fault.AnswerFault.{AnswerFault}
@@ -33,13 +32,13 @@ abbrev pub answer_status : AnswerFault → ℕ
 answer_status answer.Memory = MEMORY_STATUS
 answer_status _ = STREAM_STATUS
 
--- the exit status: 3 where a stream or the file fails, 5 where the file holds no index, 4 for want of memory
+-- the exit status: 3 if a stream or the file fails, 5 if the file holds no index, 4 if memory runs out
 abbrev pub status_of : QueryFault → ℕ
 status_of Unreadable = STREAM_STATUS
 status_of (Wire fault) = wire_status fault
 status_of (Answers fault) = answer_status fault
 
--- want of memory is one fault, whichever step it comes in
+-- lack of memory is one fault, whichever step it comes in
 abbrev pub fault_of_wire : WireFault → QueryFault
 fault_of_wire wire.Memory = Answers answer.Memory
 fault_of_wire fault = Wire fault

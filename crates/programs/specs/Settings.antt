@@ -1,4 +1,4 @@
--- What the options of `index` and `shell` say of the run.
+-- What the options of `index` and `shell` say about the run.
 use Rattle.std.specs.Prelude.{string_bytes}
 use Rattle.std.specs.Option.{option_map}
 use Rattle.proto_lex.specs.declared.position.Encoding.{Encoding}
@@ -44,7 +44,7 @@ package_in options = record {
   version = string_bytes options.release;
 }
 
--- what the options say of an index whose symbols belong to these packages
+-- what the options say about an index whose symbols belong to these packages
 abbrev pub settings_in : IndexOptions → Packages → Settings
 settings_in options ids = record {
   project_root = string_bytes options.project_root;

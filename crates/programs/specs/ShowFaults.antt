@@ -1,12 +1,12 @@
--- Why the documents of an index aren't all shown: what is said of it, and the exit status. (Texts and statuses are this
--- project's own.)
+-- Why the documents of an index aren't all shown: what is said about it, and the exit status. (Texts and statuses are
+-- this project's own.)
 use Rattle.std.specs.Prelude.{Bool, ℕ, List, [], ◌++◌, codes, if◌then◌else◌}
 use Rattle.scip_snapshot.specs.declared.show_fault.ShowFault.{ShowFault}
 use Rattle.scip_snapshot.specs.declared.show_fault.ShowFault.TheVariants.{Write, Memory}
 use Rattle.protoscip.specs.Lines.{plain_line}
 use Rattle.protoscip.specs.declared.statuses.TheConstants.{MEMORY_STATUS, STREAM_STATUS}
 
--- what explains it, where that is asked for; nothing of want of memory
+-- what explains it, if that is asked for; nothing for lack of memory
 abbrev pub explanation_of : ShowFault → List ℕ
 explanation_of Write = codes "\nstandard output took a first part alone, or a file couldn't be made"
 explanation_of Memory = []
@@ -15,7 +15,7 @@ abbrev pub name_of : ShowFault → List ℕ
 name_of Write = codes "Write"
 name_of Memory = codes "Memory"
 
--- its line, explained where that is asked for
+-- its line, explained if that is asked for
 abbrev pub told : (explain : Bool) → ShowFault → List ℕ
 told explain fault = plain_line (name_of fault) ++ (if explain then explanation_of fault else [])
 

@@ -13,7 +13,7 @@ use Rattle.programs.specs.QueryExplanations.{told as query_told}
 use Rattle.programs.specs.QueryFaults.{status_of as query_status}
 use Rattle.programs.specs.ShowFaults.{told, status_of}
 
--- nothing more is said of a success; of a fault its line is, explained where that is asked for, with its status
+-- nothing more is said after a success; after a fault its line is, explained if that is asked for, with its status
 abbrev pub EndsShown : {M : Type 0} → (said : M → Option (List ℕ)) → (unsaid : M → ℕ) → (explain : Bool)
     → Result (Unit {0}) ShowFault → M → M → (status : ℕ) → Type 0
 EndsShown said unsaid explain (Ok done) before after status = IsSilent before after status

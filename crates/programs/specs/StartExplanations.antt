@@ -1,12 +1,12 @@
--- What is added to the line of why a program about a tree doesn't start, where that is to be explained.
--- (The texts are this project's own.)
+-- What is added to the line of why a program about a tree doesn't start, if that is to be explained. (The texts are
+-- this project's own.)
 use Rattle.std.specs.Prelude.{Bool, ℕ, List, [], ◌++◌, codes, if◌then◌else◌}
 use Rattle.source_files.specs.declared.load_fault.LoadFault.TheVariants.{Unreadable, TooMany, BadPath, SamePath, Memory}
 use Rattle.programs.specs.declared.start_fault.StartFault.{StartFault}
 use Rattle.programs.specs.declared.start_fault.StartFault.TheVariants.{BadPart, BadFolder, Load}
 use Rattle.programs.specs.StartFaults.{line_of}
 
--- nothing of a fault of the command line, and of want of memory
+-- nothing for a fault of the command line, and for lack of memory
 abbrev pub explanation_of : StartFault → List ℕ
 explanation_of BadPart = []
 explanation_of (BadFolder path) = []

@@ -1,4 +1,4 @@
--- Why a program about a tree doesn't start: what is said of it, and the exit status.
+-- Why a program about a tree doesn't start: what is said about it, and the exit status.
 use Rattle.std.specs.Prelude.{ℕ, List, codes, string_bytes}
 use Rattle.source_files.specs.declared.load_fault.LoadFault.TheVariants.{Unreadable, TooMany, BadPath, SamePath, Memory}
 use Rattle.programs.specs.declared.start_fault.StartFault.{StartFault}

@@ -26,7 +26,7 @@ IsBadFolder folder (BadFolder path) =
 IsBadFolder folder (Load load.Memory) = Unit {0}
 IsBadFolder folder (Load fault) = ⊥
 
--- of folders the first whose package isn't one is named; or memory ran out
+-- the first of the folders whose package isn't one is named; or memory ran out
 abbrev pub HasNoPackage : List PackageFolder → StartFault → Type 0
 HasNoPackage folders BadPart = ⊥
 HasNoPackage folders (BadFolder path) = HasBadFolder folders (string_bytes path)
@@ -34,8 +34,7 @@ HasNoPackage folders (Load load.Memory) = Unit {0}
 HasNoPackage folders (Load fault) = ⊥
 
 -- the options name no package of the run, or none of a folder; or memory ran out; or they name packages, and there is
--- no
--- tree of the files
+-- no tree of the files
 abbrev pub MayNotStart : (lists : List ℕ → Option (List (List ℕ)) → Type 0)
     → (gives : List ℕ → Option (List ℕ) → Type 0) → IndexOptions → StartFault → Type 0
 MayNotStart lists gives options BadPart = IsPackage (package_in options) → ⊥

@@ -1,9 +1,8 @@
 -- What a call does with a reader and with a writer.
 use Rattle.std.specs.Prelude.{ℕ, List, Option}
 
--- a reader before and after a call, and what its trait says of it: the bytes that remain, and how many reads failed,
--- were made, and gave the
--- end
+-- a reader before and after a call, and what its trait says about it: the bytes that remain, and how many reads
+-- failed, were made, and gave the end
 pub record Reader (R : Type 0) : Type 0 where
   pub remaining : R → Option (List ℕ)
   pub failures : R → ℕ
@@ -16,7 +15,7 @@ abbrev pub reader : {R : Type 0} → (R → Option (List ℕ)) → (failures rea
 reader remaining failures reads ends before after =
     record { remaining = remaining; failures = failures; reads = reads; ends = ends; before = before; after = after }
 
--- a writer before and after a call, and what its trait says of it: what it was given, and how many writes failed
+-- a writer before and after a call, and what its trait says about it: what it was given, and how many writes failed
 pub record Writer (W : Type 0) : Type 0 where
   pub contents : W → Option (List ℕ)
   pub failures : W → ℕ

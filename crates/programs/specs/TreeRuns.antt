@@ -20,8 +20,8 @@ use Rattle.programs.specs.StartExplanations.{told as start_told}
 use Rattle.programs.specs.StartFaults.{status_of as start_status}
 use Rattle.programs.specs.Starting.{MayNotStart}
 
--- the end of a run that made an index which lacks this, by how a text of a success is said: of nothing nothing is said;
--- else a line for each, and their numbers
+-- the end of a run that made an index which lacks this; `says` says how a text is written after a success. If it
+-- lacks nothing, nothing is said; else a line for each, and their numbers
 abbrev pub Lacks : {M : Type 0} → (says : List ℕ → M → M → (status : ℕ) → Type 0) → (explain : Bool) → List TreeFile
     → List BuildFault → M → M → (status : ℕ) → Type 0
 Lacks says explain tree [] before after status = IsSilent before after status
@@ -29,9 +29,8 @@ Lacks says explain tree (first ∷ others) before after status =
     (sources : ℕ) × IsSourceCount tree sources
     × says (told_text explain tree sources (first ∷ others)) before after status
 
--- the end of a run over a tree, by what is told of a success: that is said; of a fault its line is, explained where
--- that
--- is asked for, with its status
+-- the end of a run over a tree: after a success, what is told of it is said; after a fault, the line of the fault,
+-- explained if that is asked for, with its status
 abbrev pub Ends : {M A : Type 0} → (said : M → Option (List ℕ)) → (unsaid : M → ℕ)
     → (says : List ℕ → M → M → (status : ℕ) → Type 0) → (explain : Bool) → List TreeFile
     → (A → List BuildFault) → Result A Fault → M → M → (status : ℕ) → Type 0
@@ -40,9 +39,8 @@ Ends said unsaid says explain tree told_of (Ok done) before after status =
 Ends said unsaid says explain tree told_of (Err fault) before after status =
     Tells said unsaid (told explain tree fault) (status_of fault) before after status
 
--- The program doesn't start, with all but the stream of messages `untouched`, and says why; or there is a tree of the
--- files, and the
--- run over it ends, of which `runs` says what it answers.
+-- Either the program doesn't start, leaves all but the stream of messages `untouched`, and says why; or there is a
+-- tree of the files, and the run over it ends. `runs` says what the run answers.
 pub data IsRun {M : Type 0} (lists : List ℕ → Option (List (List ℕ)) → Type 0)
     (gives : List ℕ → Option (List ℕ) → Type 0)
     (said : M → Option (List ℕ)) (unsaid : M → ℕ) (says : List ℕ → M → M → (status : ℕ) → Type 0)

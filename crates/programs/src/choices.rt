@@ -12,9 +12,8 @@ use index_hooks::{
 use proto_decl::DeclView;
 use std::alloc::{AllocError, Global};
 
-/// What is chosen for each declaration: by `--only` whether it is kept, and by `--doc` which comment
-/// texts document it. Without the first all are kept, and without the second the text before each
-/// documents it.
+/// What is chosen for each declaration. `--only` says whether it is kept, and `--doc` which comment texts document
+/// it. Without `--only` all are kept, and without `--doc` the text before a declaration documents it.
 #[derive(Drop)]
 pub struct OptionChoices {
     filter: Option<Filter<NamePrefix, NamePrefix>>,
@@ -58,7 +57,7 @@ fn filter_of(
 }
 
 impl OptionChoices {
-    /// The choices by a full name of `--only` and a word of `--doc`.
+    /// The choices for a full name of `--only` and a word of `--doc`.
     pub fn new(
         alloc: Global,
         only: Option<&str>,

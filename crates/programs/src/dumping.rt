@@ -17,8 +17,8 @@ use std::sync::Wait;
 use std::thread::Threads;
 use streams::{Feed, Sink};
 
-/// Reads one source, prints the occurrences of its index, and gives the exit status. Why it stops, if
-/// it does, is said, and explained where that is asked for.
+/// Reads one source, prints the occurrences of its index, and gives the exit status. If it stops early, it reports
+/// why, explained if that is asked for.
 pub(crate) fn dump_source<R: Threads + Wait, F, I: Feed, W: Sink, M: Sink>(
     host: &Host<'_, R, F>,
     word: CustomOptionsWord,

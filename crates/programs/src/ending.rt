@@ -42,7 +42,7 @@ pub(crate) fn say_text<M: Sink>(text: Option<String>, messages: &mut M) -> u8
     }
 }
 
-/// Says why a run over a tree stopped, explained where that is asked for, and gives the exit status.
+/// Says why a run over a tree stopped, explained if that is asked for, and gives the exit status.
 pub(crate) fn stop<M: Sink>(
     alloc: Global,
     tree: &Tree,

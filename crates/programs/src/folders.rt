@@ -41,7 +41,7 @@ fn package_of_folder(alloc: Global, folder: &PackageFolder) -> Result<PackageId,
     }
 }
 
-/// Adds a package behind those that are there.
+/// Adds a package after those that are there.
 fn push_package(ids: &mut Vec<PackageId>, id: PackageId) -> Result<(), AllocError>
     ensures { OnOk result (ids.new.items ≡ ids.old.items ++ id ∷ []) }
 {

@@ -2,7 +2,7 @@
 
 use std::alloc::Global;
 
-/// What a program runs over, beside its streams: threads, memory and files.
+/// What a program runs over besides its streams: threads, memory and files.
 #[derive(Drop)]
 pub struct Host<'a, R, F> {
     /// The runtime whose threads work.
@@ -11,4 +11,6 @@ pub struct Host<'a, R, F> {
     pub alloc: Global,
     /// The system of files.
     pub files: &'a F,
+    /// Whether standard error is a terminal, which may show how far a run is.
+    pub is_watched: bool,
 }

@@ -9,10 +9,10 @@ ghost use Rattle.programs.specs.Messages.{SaysOfSuccess};
 ghost use Rattle.programs.specs.Streams.{writer};
 ghost use Rattle.programs.specs.TreeRuns.{Ends};
 
-use crate::asking_ahead::AskingAhead;
 use crate::ending::{say_text, stop};
 use crate::host::Host;
 use crate::messages::report;
+use crate::progress::Progress;
 use crate::start_explanations::start_text;
 use crate::starting::start;
 use command_line::IndexOptions;
@@ -24,6 +24,7 @@ use std::alloc::Global;
 use std::mem::forget;
 use std::sync::Wait;
 use std::thread::Threads;
+use std::time::{Clock, Instant};
 use streams::Sink;
 
 /// Says what an index that is written lacks, or why there is none, and gives the exit status. The memory of what
@@ -52,6 +53,14 @@ fn end<M: Sink>(
     }
 }
 
+/// When a run begins, if it is to be shown how far it is.
+fn beginning<R: Clock, F>(host: &Host<'_, R, F>, quiet: bool) -> Option<Instant> {
+    if quiet || !host.is_watched {
+        return None;
+    }
+    Instant::now(host.rt).ok()
+}
+
 /// Reads the sources below the root of the options and the files below their included roots, builds
 /// the index of the sources, writes it to `out`, and gives the exit status. What the index lacks is said; or
 /// why it stops, if it does: after every fault but a failed write nothing was written. The memory of the tree
@@ -59,15 +68,22 @@ fn end<M: Sink>(
 ///
 /// Of the faults the first is said: a bad part of the package; what can't be read; that the files make
 /// no tree; and those of `index_tree`. Want of memory may come at any step.
-pub(crate) fn index<R: Threads + Wait, F: ReadFiles, W: Sink, M: Sink>(
+///
+/// Where standard error is a terminal, and it isn't to be `quiet`, a line there shows after a second how far the
+/// run is; it is wiped before anything is said.
+pub(crate) fn index<R, F: ReadFiles, W: Sink, M: Sink>(
     host: &Host<'_, R, F>,
     options: &IndexOptions,
+    quiet: bool,
     out: &mut W,
     messages: &mut M,
 ) -> u8
+where
+    R: Threads + Wait + Clock + Eprint + Sync,
     ensures { Indexed (F.lists host.now.files.now) (F.gives host.now.files.now) options.now (writer W.contents
         W.failures out.old out.new) (writer M.contents M.failures messages.old messages.new) result }
 {
+    let begun = beginning(host, quiet);
     let run = match start(host.alloc, options, host.files) {
         Ok(start) => start,
         Err(fault) => {
@@ -75,7 +91,7 @@ pub(crate) fn index<R: Threads + Wait, F: ReadFiles, W: Sink, M: Sink>(
             return report(text, fault.status(), messages);
         }
     };
-    let gate = AskingAhead::new(host.alloc);
+    let gate = Progress::new(host.alloc, host.rt, begun, run.tree.file_count());
     let work = Run {
         rt: host.rt,
         alloc: host.alloc,
@@ -90,6 +106,7 @@ pub(crate) fn index<R: Threads + Wait, F: ReadFiles, W: Sink, M: Sink>(
         options.explain,
         out,
     );
+    gate.wipe();
     let status = end(host.alloc, &run.tree, done, options.explain, messages);
     forget(run);
     status

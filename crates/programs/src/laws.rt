@@ -1,4 +1,4 @@
-//! Laws: what the definitions say of an index by options, whatever the code does.
+//! Laws: what the definitions say about an index by options, whatever the code does.
 
 ghost use Rattle.protoscip.specs.Headline.{Headline};
 ghost use Rattle.programs.specs.OptionLaws.{HeadlineOfFiles};
@@ -8,8 +8,8 @@ use command_line::IndexOptions;
 use protoscip::laws_of_names;
 use source_files::ReadFiles;
 
-/// The headline, of the choices that options allow, and of the tree of the files that they name: so of
-/// the bytes that `index` writes.
+/// The headline for the choices that options allow and the tree of the files that they name, and so for the bytes
+/// that `index` writes.
 pub fn headline_of_options<F: ReadFiles>(files: &F, options: &IndexOptions)
     ensures choices { Headline (allowed_by options.now) }
     ensures files { HeadlineOfFiles (F.lists files.now) (F.gives files.now) options.now }

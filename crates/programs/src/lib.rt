@@ -13,7 +13,7 @@ mod query_explanations;
 mod query_fault;
 mod querying;
 
-// `snapshot`: the sources of an index, with what the index says of them, are printed, or go to files.
+// `snapshot`: the sources of an index, with what the index says about them, are printed, or go to files.
 mod show_faults;
 mod snapshotting;
 
@@ -33,6 +33,7 @@ mod starting;
 // `index`: the index of a tree goes to a file.
 mod asking_ahead;
 mod indexing;
+mod progress;
 
 // `shell`: the index of a tree answers commands.
 mod serving;
@@ -49,6 +50,7 @@ pub use choices::OptionChoices;
 pub use host::Host;
 pub use laws::headline_of_options;
 pub use messages::report;
+pub use progress::Progress;
 pub use query_fault::QueryFault;
 pub use querying::query;
 pub use running::{out_path, run};

@@ -8,9 +8,9 @@ use protoscip::MEMORY_STATUS;
 use std::alloc::AllocError;
 use streams::{Sink, write_all};
 
-/// Says in one line why a program stops, and gives the exit status: this one; or, where memory didn't
-/// suffice for the line, that of want of memory, of which it is said instead. What the stream doesn't
-/// take is lost; where the line is cut off, no line end follows it, which tests show.
+/// Says in one line why a program stops, and gives this exit status. If there is no memory for the line, it says that
+/// memory ran out, and gives that status. What the stream doesn't take is lost. If the line is cut off, no line end
+/// follows it; tests show this.
 pub fn report<M: Sink>(line: Result<String, AllocError>, status: u8, messages: &mut M) -> u8
     ensures { MatchResult line
         (λ text. Says M.contents M.failures (string_bytes text) status messages.old messages.new result)

@@ -7,7 +7,7 @@ use protoscip::{STREAM_STATUS, plain_line};
 use std::alloc::Global;
 use streams::{Sink, write_all};
 
-/// Prints a text, and gives the exit status. Where a write fails, that is said.
+/// Prints a text, and gives the exit status. If a write fails, it says so.
 pub(crate) fn print<W: Sink, M: Sink>(
     alloc: Global,
     text: &str,

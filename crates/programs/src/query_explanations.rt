@@ -8,7 +8,7 @@ use scip_query::AnswerFault;
 use scip_wire::WireFault;
 use std::alloc::{AllocError, Global};
 
-/// Of bytes that decode to no index: a sentence behind a line end; nothing of want of memory.
+/// For bytes that decode to no index: a sentence after a line end; nothing for lack of memory.
 fn wire_explanation(fault: &WireFault) -> &'static str
     ensures { result.now ≡ wire_explanation fault.now }
 {
@@ -29,7 +29,7 @@ fn wire_explanation(fault: &WireFault) -> &'static str
     }
 }
 
-/// Of commands that can't be read, and of answers that can't be written; nothing of want of memory.
+/// For commands that can't be read, and for answers that can't be written; nothing for lack of memory.
 fn answer_explanation(fault: &AnswerFault) -> &'static str
     ensures { result.now ≡ answer_explanation fault.now }
 {
@@ -42,7 +42,7 @@ fn answer_explanation(fault: &AnswerFault) -> &'static str
     }
 }
 
-/// A sentence behind a line end; nothing of want of memory.
+/// A sentence after a line end; nothing for lack of memory.
 fn explanation_of(fault: &QueryFault) -> &'static str
     ensures { result.now ≡ explanation_of fault.now }
 {
@@ -53,8 +53,7 @@ fn explanation_of(fault: &QueryFault) -> &'static str
     }
 }
 
-/// The line, without its end, that says this of the index with this path, explained where that is
-/// asked for.
+/// The line, without its end, that says this of the index with this path, explained if that is asked for.
 pub(crate) fn query_text(
     alloc: Global,
     fault: &QueryFault,

@@ -11,8 +11,8 @@ use std::alloc::{AllocError, Global};
 use std::error::Error;
 use std::fmt;
 
-/// Why commands about the index that a file holds aren't answered. The first of those that hold, but want
-/// of memory, which may come at any step.
+/// Why commands about the index that a file holds aren't answered: the first of those that hold. Memory may run out
+/// at any step.
 #[derive(Clone, Copy, Debug, Drop, PartialEq, Eq)]
 pub enum QueryFault {
     /// The file can't be read.
@@ -67,7 +67,7 @@ impl From<AnswerFault> for QueryFault {
 }
 
 impl QueryFault {
-    /// The name that its line has: the variant's, or that of what it holds.
+    /// The name in its line: the variant's, or that of what it holds.
     pub fn name(&self) -> &'static str
         ensures { result.now ≡ name_of self.now }
     {
@@ -78,7 +78,7 @@ impl QueryFault {
         }
     }
 
-    /// The line, without its end, that says this of the index with this path. Offsets are in bytes.
+    /// The line, without its end, that says this about the index with this path. Offsets are in bytes.
     pub fn line(&self, alloc: Global, path: &str) -> Result<String, AllocError>
         ensures { IfOk result (λ line. string_bytes line ≡ line_of path.now self.now) }
     {

@@ -49,6 +49,7 @@ use source_files::{EmptyFolders, MakeFiles, ReadFiles};
 use std::alloc::AllocError;
 use std::sync::Wait;
 use std::thread::Threads;
+use std::time::Clock;
 use streams::{Feed, Sink, write_all};
 
 /// Says why a command line is refused. What the stream of messages doesn't take is lost.
@@ -61,8 +62,8 @@ fn refuse<M: Sink>(text: &str, messages: &mut M) -> u8
     COMMAND_LINE_STATUS
 }
 
-/// Answers commands about the index that a file holds, and gives the exit status. Why it stops, if it
-/// does, is said, and explained where that is asked for.
+/// Answers commands about the index that a file holds, and gives the exit status. If it stops early, it reports why,
+/// explained if that is asked for.
 fn answer<R, F: ReadFiles, I: Feed, W: Sink, M: Sink>(
     host: &Host<'_, R, F>,
     path: &str,
@@ -85,12 +86,12 @@ fn answer<R, F: ReadFiles, I: Feed, W: Sink, M: Sink>(
     }
 }
 
-/// The path of the file that an index is asked for; empty where none is.
+/// The path of the file that the index is to be written to; empty if no index is asked for.
 pub fn out_path(asked: &Result<Request, AllocError>) -> &str
     ensures { IfOk asked.now (λ request. IfSome (out_path request) (λ path. result.now ≡ path)) }
 {
     match asked {
-        Ok(Request::Index(_, path)) => path.as_str(),
+        Ok(Request::Index(_, path, _)) => path.as_str(),
         _ => "",
     }
 }
@@ -107,13 +108,13 @@ pub fn run<R, F, I: Feed, W: Sink, O: Sink + MakeFiles, M: Sink>(
     messages: &mut M,
 ) -> u8
 where
-    R: Threads + Wait,
+    R: Threads + Wait + Clock + Eprint + Sync,
     F: ReadFiles + EmptyFolders,
     // Help and the version are printed.
     ensures printed { IfOk asked.now (λ request. IfSome (printed_text request) (λ text.
         Prints W.contents W.failures M.contents M.failures text out.old out.new messages.old messages.new result
         × (input.new ≡ input.old) × (file.new ≡ file.old))) }
-    // Of a refused command line it is said why.
+    // It says why a command line is refused.
     ensures refused { IfOk asked.now (λ request. IfSome (refused_text request) (λ text. (result ≡ COMMAND_LINE_STATUS)
         × Heard (M.failures messages.old) (M.failures messages.new)
         (Appends (M.contents messages.old) (M.contents messages.new) text)
@@ -168,7 +169,7 @@ where
             }
             Request::Snapshot(options) => snapshot(host, options, out, file, messages),
             Request::Pages(options) => pages(host, options, file, messages),
-            Request::Index(options, _) => index(host, options, file, messages),
+            Request::Index(options, _, quiet) => index(host, options, *quiet, file, messages),
             Request::Shell(options) => shell(host, options, input, out, messages),
             Request::Print(text) => print(host.alloc, text.as_str(), out, messages),
             Request::Refuse(text) => refuse(text.as_str(), messages),

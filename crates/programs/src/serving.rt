@@ -22,8 +22,7 @@ use std::sync::Wait;
 use std::thread::Threads;
 use streams::{Feed, Sink};
 
-/// Says what the index lacked about which commands were answered, or why they weren't, and gives the exit
-/// status.
+/// Reports what the index lacked about which commands were answered, or why they weren't, and gives the exit status.
 fn end<M: Sink>(
     alloc: Global,
     tree: &Tree,
@@ -42,12 +41,12 @@ fn end<M: Sink>(
     }
 }
 
-/// Reads the sources below the root of the options and the files below their included roots, builds
-/// the index of the sources, answers commands about it, one a line, as `session` does, and gives the
-/// exit status. What the index lacks is said once all are answered; or why it stops, if it does.
+/// Reads the sources below the root of the options and the files below their included roots, builds the index of the
+/// sources, answers commands about it, one a line, as `session` does, and gives the exit status. Once all commands
+/// are answered, it reports what the index lacks. If it stops early, it reports why.
 ///
-/// Of the faults the first is said: those of `index` in its order, up to `TooLarge`, after which nothing
-/// was read or written; and then `Read` or `Answer`. Want of memory may come at any step.
+/// If there are several faults, it reports the first: those of `index` in its order, up to `TooLarge`, after which
+/// nothing was read or written; then `Read` or `Answer`. Memory may run out at any step.
 pub(crate) fn shell<R: Threads + Wait, F: ReadFiles, I: Feed, W: Sink, M: Sink>(
     host: &Host<'_, R, F>,
     options: &IndexOptions,

@@ -1,4 +1,4 @@
-//! What options say of the run.
+//! What options say about the run.
 
 ghost use Rattle.std.specs.Prelude.{◌≡◌, IfOk};
 ghost use Rattle.std.specs.Option.{option_map};
@@ -61,7 +61,7 @@ pub(crate) fn settings_of(
     })
 }
 
-/// So many workers as options say.
+/// As many workers as the options say.
 pub(crate) fn workers_of(options: &IndexOptions) -> Workers
     ensures { result ≡ options.now.workers }
 {

@@ -17,7 +17,7 @@ fn name_of(fault: ShowFault) -> &'static str
     }
 }
 
-/// A sentence behind a line end; nothing of want of memory.
+/// A sentence after a line end; nothing for lack of memory.
 fn explanation_of(fault: ShowFault) -> &'static str
     ensures { result.now ≡ explanation_of fault }
 {
@@ -27,7 +27,7 @@ fn explanation_of(fault: ShowFault) -> &'static str
     }
 }
 
-/// The line, without its end, that says this, explained where that is asked for.
+/// The line, without its end, that says this, explained if that is asked for.
 pub(crate) fn show_text(
     alloc: Global,
     fault: ShowFault,

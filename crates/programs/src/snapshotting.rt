@@ -1,4 +1,4 @@
-//! The program `snapshot`: the sources of an index, and below each line what the index says of it.
+//! The program `snapshot`: the sources of an index, and below each line what the index says about it.
 
 ghost use Rattle.scip_snapshot.specs.Showing.{maker, writer};
 ghost use Rattle.programs.specs.Queries.{IsReadFrom};
@@ -81,9 +81,8 @@ fn show<R, F: ReadFiles, W: Sink, O: MakeFiles, M: Sink>(
     }
 }
 
-/// Reads the index that a file holds, prints the snapshots of its documents or makes a file of each, as the
-/// options say, and gives the exit status. Each document that is left out is told. Why it stops, if it does,
-/// is said.
+/// Reads the index that a file holds, prints the snapshots of its documents or makes a file of each, as the options
+/// say, and gives the exit status. It reports each document that is left out. If it stops early, it reports why.
 pub(crate) fn snapshot<R, F: ReadFiles, W: Sink, O: MakeFiles, M: Sink>(
     host: &Host<'_, R, F>,
     options: &SnapshotOptions,

@@ -7,7 +7,7 @@ use crate::start_fault::StartFault;
 use source_files::LoadFault;
 use std::alloc::{AllocError, Global};
 
-/// A sentence behind a line end; nothing of a fault of the command line, and of want of memory.
+/// A sentence after a line end; nothing for a fault of the command line, and for lack of memory.
 fn explanation_of(fault: &StartFault) -> &'static str
     ensures { result.now ≡ explanation_of fault.now }
 {
@@ -27,7 +27,7 @@ fn explanation_of(fault: &StartFault) -> &'static str
     }
 }
 
-/// The line, without its end, that says this, explained where that is asked for.
+/// The line, without its end, that says this, explained if that is asked for.
 pub(crate) fn start_text(
     alloc: Global,
     fault: &StartFault,

@@ -8,13 +8,12 @@ use protoscip::{MEMORY_STATUS, SOURCES_STATUS, STREAM_STATUS, path_line, plain_l
 use source_files::LoadFault;
 use std::alloc::{AllocError, Global};
 
-/// Why a program about a tree doesn't start: the first of those that hold, but want of memory, which may
-/// come at any step.
+/// Why a program about a tree doesn't start: the first of those that hold. Memory may run out at any step.
 #[derive(Debug, Drop)]
 pub(crate) enum StartFault {
     /// The manager, the name or the release of the package begins with a space or is `.`.
     BadPart,
-    /// The same of the package of the included folder with this path.
+    /// The same for the package of the included folder with this path.
     BadFolder(String),
     /// There is no tree of the files, or memory ran out.
     Load(LoadFault),

@@ -28,12 +28,12 @@ pub(crate) struct TreeRun {
     pub(crate) choices: OptionChoices,
     /// Who works.
     pub(crate) workers: Workers,
-    /// What the index says of the package and of columns.
+    /// What the index says about the package and columns.
     pub(crate) settings: Settings,
 }
 
-/// The tree of the sources below the root of the options and of the files below their included roots, and
-/// what they say of the run over it.
+/// The tree of the sources below the root of the options and of the files below their included roots, and what the
+/// options say about the run over it.
 pub(crate) fn start<F: ReadFiles>(
     alloc: Global,
     options: &IndexOptions,

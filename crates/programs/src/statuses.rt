@@ -1,4 +1,4 @@
-//! The exit statuses that a program stops with, beside those of a run's faults. Of a success it is 0.
+//! The exit statuses that a program stops with, besides those of a run's faults. If all goes well, it is 0.
 
 /// The command line is refused.
 pub(crate) const COMMAND_LINE_STATUS: u8 = 2;

@@ -6,83 +6,55 @@ use std::alloc::{AllocError, Global};
 use streams::Std;
 
 /// A file: the root that it is below, its path there, and what it holds, where it can be read.
-struct Entry {
-    root: &'static str,
-    path: &'static str,
-    text: Option<&'static str>,
-}
+type Entry = (&'static str, &'static str, Option<&'static str>);
 
 // The first row reads: below `api` is one source, `a.proto`, with a message `A`.
 static ENTRIES: [Entry; 13] = [
-    Entry {
-        root: "api",
-        path: "a.proto",
-        text: Some("syntax = \"proto3\";\nmessage A {}\n"),
-    },
-    Entry {
-        root: "one",
-        path: "a.proto",
-        text: Some(
+    (
+        "api",
+        "a.proto",
+        Some("syntax = \"proto3\";\nmessage A {}\n"),
+    ),
+    (
+        "one",
+        "a.proto",
+        Some(
             "syntax = \"proto3\";\npackage p;\nmessage Foo {}\nmessage M { string Foo = 1; Foo x = 2; }\n",
         ),
-    },
-    Entry {
-        root: "said",
-        path: "a.proto",
-        text: Some(
+    ),
+    (
+        "said",
+        "a.proto",
+        Some(
             "syntax = \"proto3\";\noption (x) = 1;\n// One.\nmessage A { // Two.\n}\n/* é */ message B {}\n",
         ),
-    },
-    Entry {
-        root: "holes",
-        path: "a.proto",
-        text: Some("@"),
-    },
-    Entry {
-        root: "holes",
-        path: "b.proto",
-        text: None,
-    },
-    Entry {
-        root: "bad",
-        path: "a\n.proto",
-        text: Some("@"),
-    },
-    Entry {
-        root: "twice",
-        path: "c.proto",
-        text: Some("@"),
-    },
-    Entry {
-        root: "twice",
-        path: "c.proto",
-        text: Some("@"),
-    },
-    Entry {
-        root: "own",
-        path: "a.proto",
-        text: Some("syntax = \"proto3\";\nimport \"t.proto\";\nmessage A { T t = 1; }\n"),
-    },
-    Entry {
-        root: "base",
-        path: "a.proto",
-        text: Some("@"),
-    },
-    Entry {
-        root: "base",
-        path: "t.proto",
-        text: Some("syntax = \"proto3\";\nmessage T {}\n"),
-    },
-    Entry {
-        root: "clash",
-        path: "a.proto",
-        text: Some("syntax = \"proto3\";\nimport \"no.proto\";\nmessage A {}\n"),
-    },
-    Entry {
-        root: "clash",
-        path: "b.proto",
-        text: Some("syntax = \"proto3\";\nmessage A {}\n"),
-    },
+    ),
+    ("holes", "a.proto", Some("@")),
+    ("holes", "b.proto", None),
+    ("bad", "a\n.proto", Some("@")),
+    ("twice", "c.proto", Some("@")),
+    ("twice", "c.proto", Some("@")),
+    (
+        "own",
+        "a.proto",
+        Some("syntax = \"proto3\";\nimport \"t.proto\";\nmessage A { T t = 1; }\n"),
+    ),
+    ("base", "a.proto", Some("@")),
+    (
+        "base",
+        "t.proto",
+        Some("syntax = \"proto3\";\nmessage T {}\n"),
+    ),
+    (
+        "clash",
+        "a.proto",
+        Some("syntax = \"proto3\";\nimport \"no.proto\";\nmessage A {}\n"),
+    ),
+    (
+        "clash",
+        "b.proto",
+        Some("syntax = \"proto3\";\nmessage A {}\n"),
+    ),
 ];
 
 /// An index of three documents: `a.txt` with a definition that is documented; one whose source can't be read; and
@@ -99,12 +71,12 @@ pub(crate) struct Files;
 
 /// What the source with a path holds.
 fn text_at(path: &str) -> Option<&'static str> {
-    for entry in &ENTRIES {
-        let below = path
-            .strip_prefix(entry.root)
+    for (root, below, text) in &ENTRIES {
+        let rest = path
+            .strip_prefix(*root)
             .and_then(|rest| rest.strip_prefix("/"));
-        if below == Some(entry.path) {
-            return entry.text;
+        if rest == Some(*below) {
+            return *text;
         }
     }
     None
@@ -112,9 +84,9 @@ fn text_at(path: &str) -> Option<&'static str> {
 
 fn listed(alloc: Global, root: &str) -> Result<Vec<String>, AllocError> {
     let mut paths = Vec::new(alloc);
-    for entry in &ENTRIES {
-        if entry.root == root {
-            paths.push(String::from_str(alloc, entry.path)?)?;
+    for (above, path, _) in &ENTRIES {
+        if *above == root {
+            paths.push(String::from_str(alloc, *path)?)?;
         }
     }
     Ok(paths)

@@ -2,13 +2,13 @@
 #![tactic(auto)]
 
 #[cfg(test)]
-mod faults;
-#[cfg(test)]
 mod files;
 #[cfg(test)]
 mod laws;
 #[cfg(test)]
 mod pages;
+#[cfg(test)]
+mod progress;
 #[cfg(test)]
 mod report;
 #[cfg(test)]

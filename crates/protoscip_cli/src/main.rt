@@ -4,6 +4,7 @@
 use command_line::request_of_process;
 use programs::{Host, out_path, run};
 use source_files::{OutFile, SystemFiles};
+use std::io::IsTerminal;
 use std::process::ExitCode;
 use streams::Std;
 
@@ -21,6 +22,7 @@ fn main(rt: HostRuntime) -> ExitCode {
         rt: &rt,
         alloc: rt.alloc(),
         files: &files,
+        is_watched: rt.stderr().is_terminal(),
     };
     let status = run(
         &host,

@@ -5,7 +5,7 @@ use index_hooks::{DocChoice, Registry};
 use std::sync::atomic::Ordering;
 use std::test::Fail;
 
-// Answers of filters, and what a call of each adds.
+// Answers of filters, and what a call of each adds. The second reads: it keeps nothing, and a call counts 0x10.
 const FILTERED: [(bool, u64); 3] = [(true, 1), (false, 0x10), (true, 0x100)];
 
 #[test]
@@ -29,7 +29,7 @@ fn the_first_false_ends_the_asking(rt: HostRuntime) -> Result<(), Fail> {
     Ok(())
 }
 
-// Answers of rules, and what a call of each adds.
+// Answers of rules, and what a call of each adds. The first reads: it leaves the choice to others, and a call counts 1.
 const DOCUMENTED: [(DocChoice, u64); 3] = [
     (DocChoice::Pass, 1),
     (DocChoice::Trailing, 0x10),

@@ -47,43 +47,6 @@ impl FilterPromise for OnlyCommented {
     }
 }
 
-/// A declaration, and what is chosen for it.
-struct Row {
-    kind: DeclarationKind,
-    leading: &'static str,
-    keep: bool,
-    doc: DocChoice,
-}
-
-/// The first reads: a value of an enum with a comment before it is kept, with the text behind it.
-static ROWS: [Row; 2] = [
-    Row {
-        kind: DeclarationKind::Value,
-        leading: "A value.",
-        keep: true,
-        doc: DocChoice::Trailing,
-    },
-    Row {
-        kind: DeclarationKind::Enum,
-        leading: "",
-        keep: false,
-        doc: DocChoice::Leading,
-    },
-];
-
-/// Whether the registry chooses for each declaration as its row says, and the promise allows that.
-fn chooses_as_listed(registry: &Registry) -> bool {
-    for row in &ROWS {
-        let view = DeclView::new(row.kind, "A", "a.A", row.leading, "");
-        let (keep, doc) = (row.keep, row.doc);
-        let is_promised = OnlyCommented.allows(&view, keep);
-        if !is_promised || registry.choose(&view) != (Choice { keep, doc }) {
-            return false;
-        }
-    }
-    true
-}
-
 #[test]
 fn a_filter_a_rule_and_a_promise_of_ones_own(rt: HostRuntime) -> Result<(), Fail> {
     let alloc = rt.alloc();
@@ -96,6 +59,14 @@ fn a_filter_a_rule_and_a_promise_of_ones_own(rt: HostRuntime) -> Result<(), Fail
     if let Err((rule, _)) = registry.add_doc(rule) {
         see_added(&rt, registry.add_doc(rule));
     }
-    see(&rt, chooses_as_listed(&registry), "the choices listed");
+    let view = DeclView::new(DeclarationKind::Value, "A", "a.A", "A value.", "");
+    let (keep, doc) = (true, DocChoice::Trailing);
+    let is_promised = OnlyCommented.allows(&view, keep);
+    let is_chosen = registry.choose(&view) == Choice { keep, doc };
+    see(
+        &rt,
+        is_promised && is_chosen,
+        "kept, with the text behind it",
+    );
     Ok(())
 }

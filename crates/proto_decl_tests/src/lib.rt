@@ -4,6 +4,6 @@
 #[cfg(test)]
 mod calls;
 #[cfg(test)]
-mod laws;
-#[cfg(test)]
 mod listed;
+#[cfg(test)]
+mod scopes;

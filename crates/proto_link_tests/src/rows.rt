@@ -2,11 +2,6 @@
 
 use crate::drafts::Draft;
 use crate::trees::see_tree;
-use proto_link::{
-    kept_files_are_clear, nothing_is_left_out_of_good_files, one_broken_file,
-    one_declaration_a_name, one_kept, one_name_a_use, one_omission_list, one_refusal,
-    one_target_a_use,
-};
 use std::alloc::{AllocError, Global};
 use std::test::Fail;
 
@@ -167,17 +162,4 @@ fn chains(rt: HostRuntime) -> Result<(), Fail> {
         see_tree(&rt, rt.alloc(), plain, chain.as_str(), due)?;
     }
     Ok(())
-}
-
-#[test]
-fn laws(_rt: HostRuntime) {
-    one_broken_file();
-    one_name_a_use();
-    one_declaration_a_name();
-    one_target_a_use();
-    one_refusal();
-    one_kept();
-    one_omission_list();
-    nothing_is_left_out_of_good_files();
-    kept_files_are_clear();
 }

@@ -1,7 +1,6 @@
 //! Calls that are made again after `Memory`, and how a test tells what it saw. One function has the
 //! tree of a source, and all others borrow it.
 
-use crate::trees::Look;
 use proto_lex::{LexFault, Text, Tokens, lex};
 use proto_parse::{CustomOptions, File, SyntaxFault, parse, parse_with};
 use std::alloc::{AllocError, Global};
@@ -54,42 +53,27 @@ fn tree_of(
     }
 }
 
-/// Why tokens have no tree such as a look wants, if so. A tree that is another counts as none that
-/// memory was there for.
-fn fault_of_tokens(
+/// Why tokens have no tree, if they have none.
+pub fn fault_of_tokens(
     alloc: Global,
     tokens: &Tokens<'_, '_>,
     custom: CustomOptions,
-    look: Look,
 ) -> Option<SyntaxFault> {
-    match tree_of(alloc, tokens, custom) {
-        Ok(file) => look.fault_of(&file),
-        Err(fault) => Some(fault),
-    }
+    tree_of(alloc, tokens, custom).err()
 }
 
-fn fault_of_text(
-    alloc: Global,
-    text: &Text<'_>,
-    custom: CustomOptions,
-    look: Look,
-) -> Option<SyntaxFault> {
+fn fault_of_text(alloc: Global, text: &Text<'_>, custom: CustomOptions) -> Option<SyntaxFault> {
     match tokens_of(alloc, text) {
-        Ok(tokens) => fault_of_tokens(alloc, &tokens, custom, look),
+        Ok(tokens) => fault_of_tokens(alloc, &tokens, custom),
         Err(_) => Some(SyntaxFault::Memory),
     }
 }
 
-/// Why a source has no tree such as a look wants, if so. One with no tokens counts as one that memory
-/// ran out for, which no test wants.
-pub fn fault_of_source(
-    alloc: Global,
-    source: &str,
-    custom: CustomOptions,
-    look: Look,
-) -> Option<SyntaxFault> {
+/// Why a source has no tree, if it has none. One with no tokens counts as one that memory ran out for,
+/// which no test wants.
+fn fault_of_source(alloc: Global, source: &str, custom: CustomOptions) -> Option<SyntaxFault> {
     match text_of(alloc, source.as_bytes()) {
-        Ok(text) => fault_of_text(alloc, &text, custom, look),
+        Ok(text) => fault_of_text(alloc, &text, custom),
         Err(_) => Some(SyntaxFault::Memory),
     }
 }
@@ -108,7 +92,7 @@ pub fn fault_of(
     custom: CustomOptions,
 ) -> Option<SyntaxFault> {
     match joined(alloc, front, middle, end) {
-        Ok(source) => fault_of_source(alloc, source.as_str(), custom, Look::Nothing),
+        Ok(source) => fault_of_source(alloc, source.as_str(), custom),
         Err(_) => Some(SyntaxFault::Memory),
     }
 }
@@ -118,6 +102,15 @@ pub fn offset_of(fault: SyntaxFault) -> usize {
     fault.offset().unwrap_or(0)
 }
 
+/// Whether a fault is printed by its name and its offset, where there is memory for the texts.
+fn is_printed(alloc: Global, fault: SyntaxFault, name: &str, offset: usize) -> bool {
+    let due = format!(in alloc; "{name}({offset})");
+    match (format!(in alloc; "{fault}"), due) {
+        (Ok(text), Ok(due)) => text.as_str() == due.as_str(),
+        _ => true,
+    }
+}
+
 /// Whether a source, behind a front, has the fault with this name where its `^` is.
 fn is_refused(alloc: Global, front: &str, marked: &str, name: &str, custom: CustomOptions) -> bool {
     let Some((before, behind)) = marked.split_once('^') else {
@@ -125,7 +118,11 @@ fn is_refused(alloc: Global, front: &str, marked: &str, name: &str, custom: Cust
     };
     let offset = front.len().wrapping_add(before.len());
     match fault_of(alloc, front, before, behind, custom) {
-        Some(fault) => fault.name() == name && fault.offset() == Some(offset),
+        Some(fault) => {
+            fault.name() == name
+                && fault.offset() == Some(offset)
+                && is_printed(alloc, fault, name, offset)
+        }
         None => false,
     }
 }

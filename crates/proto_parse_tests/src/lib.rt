@@ -4,8 +4,8 @@
 #[cfg(test)]
 mod calls;
 #[cfg(test)]
+mod prefixes;
+#[cfg(test)]
 mod refused;
 #[cfg(test)]
 mod rich;
-#[cfg(test)]
-mod trees;

@@ -201,12 +201,6 @@ const READ_PAST: [&str; 30] = [
     "extend B { /* c */ extend D ^{} }",
 ];
 
-/// The only row reads: the literal of a path has a `\\`, at 26.
-const ESCAPES_READ_PAST: [&str; 1] = ["import ^'a\\n';"];
-
-/// The only row reads: the word of the second package statement, at 30.
-const PACKAGES_READ_PAST: [&str; 1] = ["package a;\n^package b;"];
-
 /// The first source behind `SYNTAX` that isn't refused so where custom options are read past.
 fn first_not_past(alloc: Global, name: &str, sources: &[&str]) -> Option<usize> {
     first_other(alloc, SYNTAX, sources, name, CustomOptions::Skip)
@@ -218,11 +212,11 @@ fn faults_where_custom_options_are_read_past(rt: HostRuntime) {
     see(&rt, first_not_past(alloc, "Grammar", &READ_PAST));
     see(
         &rt,
-        first_not_past(alloc, "ImportEscape", &ESCAPES_READ_PAST),
+        first_not_past(alloc, "ImportEscape", &["import ^'a\\n';"]),
     );
     see(
         &rt,
-        first_not_past(alloc, "TwoPackages", &PACKAGES_READ_PAST),
+        first_not_past(alloc, "TwoPackages", &["package a;\n^package b;"]),
     );
 }
 

@@ -2,7 +2,7 @@
 
 ghost use Rattle.protoscip.specs.FaultLines.{HasFilesOf, HaveFilesOf};
 
-use crate::faulty_streams::Failing;
+use crate::faulty_streams::{AT_ONCE, Failing, PACES, Pace};
 use index_hooks::Registry;
 use index_pool::{NoGate, Workers};
 use proto_lex::Encoding;
@@ -112,11 +112,7 @@ pub(crate) fn is_want(answer: &Option<Fault>) -> bool {
 }
 
 /// The line and the status of a fault, but for want of memory or of a thread.
-pub(crate) fn said(
-    alloc: Global,
-    tree: &Tree,
-    fault: &Fault,
-) -> Result<Option<(String, u8)>, AllocError>
+fn said(alloc: Global, tree: &Tree, fault: &Fault) -> Result<Option<(String, u8)>, AllocError>
     requires files { HasFilesOf tree.now fault.now }
 {
     let status = fault.status();
@@ -181,37 +177,81 @@ pub(crate) fn indexed<R: Threads + Wait>(
     }
 }
 
-/// Whether these bytes are what `index_tree` writes.
-pub(crate) fn is_indexed<R: Threads + Wait>(
-    rt: &R,
-    alloc: Global,
-    registry: &Registry,
-    given: &Given,
-    workers: Workers,
-    due: &[u8],
-) -> Result<bool, AllocError> {
-    let mut out = writer(alloc, due.len())?;
-    let is_ok = indexed(rt, alloc, registry, given, workers, &mut out)?.is_none();
-    Ok(is_ok && out.into_inner().bytes.as_slice() == due)
-}
-
-/// A writer that takes so many bytes, at most `most` a call, and then fails at each call or takes nothing
-/// more. It has the memory for them.
-pub(crate) fn slow_writer(
+/// A writer that takes so many bytes, in this way. It has the memory for them.
+pub(crate) fn paced_writer(
     alloc: Global,
     room: usize,
-    most: usize,
-    takes_nothing: bool,
+    pace: Pace,
 ) -> Result<Std<Failing>, AllocError> {
     Ok(Std::new(Failing {
         bytes: Vec::with_capacity(alloc, room)?,
         before: room,
-        most,
-        takes_nothing,
+        pace,
+        rests: false,
     }))
 }
 
 /// A writer that takes so many bytes, and then fails at each call.
 pub(crate) fn writer(alloc: Global, room: usize) -> Result<Std<Failing>, AllocError> {
-    slow_writer(alloc, room, usize::MAX, false)
+    paced_writer(alloc, room, AT_ONCE)
+}
+
+/// A writer's room and its pace, and what is due: the fault that is answered, and what the writer then has.
+#[derive(Clone, Copy, Drop)]
+pub(crate) struct Due<'a> {
+    pub(crate) room: usize,
+    pub(crate) pace: Pace,
+    pub(crate) fault: Option<Fault>,
+    pub(crate) written: &'a [u8],
+}
+
+/// The whole text is due, to a writer that takes it and no more.
+pub(crate) fn whole(text: &[u8]) -> Due<'_> {
+    Due {
+        room: text.len(),
+        pace: AT_ONCE,
+        fault: None,
+        written: text,
+    }
+}
+
+/// What is due of a text that is written at once, to such a writer. In a session the fault is `Answer`.
+fn due_of(text: &[u8], room: usize, pace: Pace, in_session: bool) -> Due<'_> {
+    let (most, _, each_second) = pace;
+    let first = if each_second { most } else { usize::MAX };
+    let taken = text.len().min(room).min(first);
+    let fault = match in_session {
+        _ if taken == text.len() => None,
+        true => Some(Fault::Answer(taken as u64)),
+        false => Some(Fault::Write(taken as u64)),
+    };
+    Due {
+        room,
+        pace,
+        fault,
+        written: text.split_at(taken).0,
+    }
+}
+
+/// The same of writers that take each number of its bytes, at each pace.
+pub(crate) fn dues_of(
+    alloc: Global,
+    text: &[u8],
+    in_session: bool,
+) -> Result<Vec<Due<'_>>, AllocError> {
+    let mut dues = Vec::new(alloc);
+    for room in 0..=text.len() {
+        for pace in &PACES {
+            dues.push(due_of(text, room, *pace, in_session))?;
+        }
+    }
+    Ok(dues)
+}
+
+/// Whether a call answered what is due, and its writer has that; none after want of memory or of a thread.
+pub(crate) fn is_due(answer: Option<Fault>, out: Std<Failing>, due: &Due<'_>) -> Option<bool> {
+    if is_want(&answer) {
+        return None;
+    }
+    Some(answer == due.fault && out.into_inner().bytes.as_slice() == due.written)
 }

@@ -1,13 +1,9 @@
-//! Sources dumped, by lines worked out by hand, and readers and writers that fail.
+//! Sources dumped, by lines worked out by hand, and streams that fail.
 
-ghost use Rattle.std.specs.Prelude.{[]};
-ghost use Rattle.protoscip.specs.Dump.{dump_tree};
-ghost use Rattle.protoscip.specs.FaultLines.{HasFilesOf};
-
-use crate::calls::{is_said, is_want, said, see, writer};
-use crate::faulty_streams::{Dripping, Endless, Failing};
-use proto_parse::CustomOptions;
-use protoscip::{Fault, dump, dump_tree};
+use crate::calls::{Due, dues_of, is_due, paced_writer, see, whole, writer};
+use crate::faulty_streams::{AT_ONCE, Endless, drip, resting};
+use proto_parse::{CustomOptions, SyntaxFault};
+use protoscip::{Fault, dump};
 use std::alloc::{AllocError, Global};
 use std::io::Read;
 use std::process::Abort;
@@ -15,29 +11,6 @@ use std::sync::Wait;
 use std::test::Fail;
 use std::thread::Threads;
 use streams::Std;
-
-/// What `dump` is due to answer, and to write to a writer with this room.
-#[derive(Clone, Copy, Drop)]
-struct Due<'a> {
-    room: usize,
-    fault: Option<Fault>,
-    written: &'a [u8],
-}
-
-/// What one call of `dump` answers, and what its writer then has. It gets the memory for that first, so
-/// that writing takes none.
-fn dumped_once<R: Threads + Wait, S: Read + Drop>(
-    rt: &R,
-    alloc: Global,
-    custom: CustomOptions,
-    reader: S,
-    room: usize,
-) -> Result<(Option<Fault>, Vec<u8>), AllocError> {
-    let mut input = Std::new(reader);
-    let mut output = writer(alloc, room)?;
-    let answer = dump(rt, alloc, custom, &mut input, &mut output).err();
-    Ok((answer, output.into_inner().bytes))
-}
 
 /// Whether `dump` answers as is due; none after `Memory`.
 fn is_dumped<R: Threads + Wait, S: Read + Drop>(
@@ -47,11 +20,10 @@ fn is_dumped<R: Threads + Wait, S: Read + Drop>(
     reader: S,
     due: Due<'_>,
 ) -> Result<Option<bool>, AllocError> {
-    let (answer, written) = dumped_once(rt, alloc, custom, reader, due.room)?;
-    if is_want(&answer) {
-        return Ok(None);
-    }
-    Ok(Some(answer == due.fault && written.as_slice() == due.written))
+    let mut input = Std::new(reader);
+    let mut output = paced_writer(alloc, due.room, due.pace)?;
+    let answer = dump(rt, alloc, custom, &mut input, &mut output).err();
+    Ok(is_due(answer, output, &due))
 }
 
 /// Sees that `dump` answers as is due. After `Memory` it is called again with a new reader and writer, and
@@ -102,100 +74,159 @@ static ROWS: [Row; 3] = [
 #[test]
 fn sources_that_have_a_listing(rt: HostRuntime) -> Result<(), Fail> {
     for row in &ROWS {
-        let due = Due {
-            room: row.listing.len(),
-            fault: None,
-            written: row.listing.as_bytes(),
-        };
+        let due = whole(row.listing.as_bytes());
         let source = row.source.as_bytes();
         see_dump(&rt, rt.alloc(), row.custom, source, due, row.source)?;
     }
     Ok(())
 }
 
-/// The line and the status of a fault of `dump`, but for want of memory.
-fn said_of_dump(alloc: Global, fault: &Fault) -> Result<Option<(String, u8)>, AllocError>
-    requires files { HasFilesOf (dump_tree []) fault.now }
-{
-    let tree = dump_tree(alloc, Vec::new(alloc))?;
-    said(alloc, &tree, fault)
-}
+/// A file without a declaration, and its listing.
+const NONE: &[u8] = b"syntax = \"proto3\";";
 
-/// The line and the status of why a source isn't dumped.
-fn refused_once<R: Threads + Wait>(
-    rt: &R,
-    alloc: Global,
-    source: &[u8],
-    out: &mut Std<Failing>,
-) -> Result<Option<(String, u8)>, AllocError> {
-    let mut input = Std::new(source);
-    match dump(rt, alloc, CustomOptions::Refuse, &mut input, out) {
-        Ok(()) => Ok(None),
-        Err(fault) => said_of_dump(alloc, &fault),
-    }
-}
-
-/// Sees that this line is said of a source, with status 1.
-fn see_refused<R: Threads + Wait + Abort>(
-    rt: &R,
-    alloc: Global,
-    source: &[u8],
-    line: &str,
-) -> Result<(), AllocError> {
-    let mut out = writer(alloc, 0)?;
-    let answer = match refused_once(rt, alloc, source, &mut out) {
-        Ok(answer) => answer,
-        Err(_) => refused_once(rt, alloc, source, &mut out)?,
-    };
-    see(rt, is_said(answer, line, 1), line);
-    Ok(())
-}
-
-/// Sources that have no listing, and the lines that say why.
-static REFUSALS: [(&[u8], &str); 2] = [
-    (b"\xFF", "protoscip: input.proto@0: NotUtf8"),
-    (
-        b"syntax = \"proto3\";\nmessage A {}\nmessage A { int32 x = 1; int32 x = 2; }\n",
-        "protoscip: input.proto@40: Duplicate of input.proto@27",
-    ),
-];
+const OF_NONE: &[u8] = b"0 0 0 0 1 scip-protobuf . . . `input.proto`/\n= 1\n";
 
 #[test]
-fn sources_that_have_none(rt: HostRuntime) -> Result<(), Fail> {
-    for (source, line) in &REFUSALS {
-        see_refused(&rt, rt.alloc(), source, line)?;
+fn writers_that_fail(rt: HostRuntime) -> Result<(), Fail> {
+    let custom = CustomOptions::Refuse;
+    let dues = dues_of(rt.alloc(), OF_NONE, false)?;
+    for due in &dues {
+        see_dump(&rt, rt.alloc(), custom, NONE, *due, "a write fails")?;
     }
     Ok(())
 }
-
-/// The listing of a file without a declaration.
-const OF_NONE: &[u8; 49] = b"0 0 0 0 1 scip-protobuf . . . `input.proto`/\n= 1\n";
 
 /// What is due where nothing can be read to the end.
 const UNREAD: Due<'static> = Due {
     room: 49,
+    pace: AT_ONCE,
     fault: Some(Fault::Read),
     written: b"",
 };
 
+/// The most bytes that a reader gives a call, and how many calls come to the end of the file.
+const READERS: [(usize, usize); 3] = [(1, 19), (7, 4), (usize::MAX, 2)];
+
+/// Sees what is due of a reader that fails at each of its calls, and of one that doesn't.
+fn see_reads<R: Threads + Wait + Abort>(
+    rt: &R,
+    alloc: Global,
+    most: usize,
+    to_end: usize,
+) -> Result<(), AllocError> {
+    let custom = CustomOptions::Refuse;
+    for calls in 0..20 {
+        let due = if calls < to_end {
+            UNREAD
+        } else {
+            whole(OF_NONE)
+        };
+        see_dump(
+            rt,
+            alloc,
+            custom,
+            drip(NONE, most, calls),
+            due,
+            "a read fails",
+        )?;
+    }
+    Ok(())
+}
+
 #[test]
 fn readers_that_fail(rt: HostRuntime) -> Result<(), Fail> {
+    for (most, to_end) in &READERS {
+        see_reads(&rt, rt.alloc(), *most, *to_end)?;
+    }
+    Ok(())
+}
+
+/// The most bytes that a reader gives a call, of which the second gives nothing; and why what is read is refused, if it
+/// is. The second row reads: behind the word `syntax` and a space tokens are missing.
+const ENDED: [(usize, Option<Fault>, &[u8]); 3] = [
+    (1, Some(Fault::Syntax(0, SyntaxFault::NotProto3(0))), b""),
+    (7, Some(Fault::Syntax(0, SyntaxFault::Grammar(7))), b""),
+    (usize::MAX, None, OF_NONE),
+];
+
+#[test]
+fn readers_that_rest(rt: HostRuntime) -> Result<(), Fail> {
     let custom = CustomOptions::Refuse;
-    for calls_left in 0..20 {
-        let reader = Dripping {
-            bytes: b"syntax = \"proto3\";",
-            calls_left,
+    for (most, fault, written) in &ENDED {
+        let due = Due {
+            room: 49,
+            pace: AT_ONCE,
+            fault: *fault,
+            written: *written,
         };
-        let due = if calls_left == 19 {
-            Due {
-                room: 49,
-                fault: None,
-                written: OF_NONE,
-            }
-        } else {
-            UNREAD
+        see_dump(&rt, rt.alloc(), custom, resting(NONE, *most), due, "an end")?;
+    }
+    Ok(())
+}
+
+/// Sources, and how many of their beginnings have a listing: each has of which the statements are whole and, in the
+/// third, no name is given twice.
+const SOURCES: [(&str, usize); 4] = [
+    (
+        "syntax = \"proto3\";\npackage p;\nmessage Foo {}\nmessage M { string Foo = 1; Foo x = 2; }\n",
+        8,
+    ),
+    (
+        "syntax = \"proto3\";\nmessage Foo {}\nservice S { rpc Foo(Foo) returns (stream Foo); }\n",
+        6,
+    ),
+    (
+        "syntax = \"proto3\";\nmessage M {\n  enum A { ZERO = 0; }\n  enum B { ZERO = 0; }\n}\n",
+        2,
+    ),
+    (
+        "syntax = \"proto3\";\n// One.\n// Two.\nmessage A { // tail\n  int32 x = 1; /* unit */\n}\n",
+        18,
+    ),
+];
+
+/// Whether a source has a listing, or is refused by name with nothing written; none where neither is so.
+fn is_listed<R: Threads + Wait>(
+    rt: &R,
+    alloc: Global,
+    source: &[u8],
+) -> Result<Option<bool>, AllocError> {
+    let mut input = Std::new(source);
+    let mut output = writer(alloc, 512)?;
+    let answer = dump(rt, alloc, CustomOptions::Refuse, &mut input, &mut output).err();
+    let bytes = output.into_inner().bytes;
+    Ok(match answer {
+        None if bytes.as_slice().ends_with(b"\n") => Some(true),
+        Some(fault) if fault.status() == 1 && bytes.is_empty() => Some(false),
+        _ => None,
+    })
+}
+
+/// Sees how many beginnings of a source have a listing. After want of memory one is dumped again.
+fn see_beginnings<R: Threads + Wait + Abort>(
+    rt: &R,
+    alloc: Global,
+    source: &str,
+    due: usize,
+) -> Result<(), AllocError> {
+    let mut listed = 0usize;
+    for end in 0..=source.len() {
+        let front = source.as_bytes().split_at(end.min(source.len())).0;
+        let is = match is_listed(rt, alloc, front)? {
+            None => is_listed(rt, alloc, front)?,
+            is => is,
         };
-        see_dump(&rt, rt.alloc(), custom, reader, due, "a read fails")?;
+        see(rt, is.is_some(), source);
+        listed = listed.wrapping_add(usize::from(is == Some(true)));
+    }
+    see(rt, listed == due, source);
+    Ok(())
+}
+
+#[test]
+fn each_beginning_of_a_source(rt: HostRuntime) -> Result<(), Fail> {
+    for (source, due) in &SOURCES {
+        see_beginnings(&rt, rt.alloc(), *source, *due)?;
     }
     Ok(())
 }
@@ -204,18 +235,4 @@ fn readers_that_fail(rt: HostRuntime) -> Result<(), Fail> {
 fn a_source_without_an_end(rt: HostRuntime) -> Result<(), Fail> {
     let custom = CustomOptions::Refuse;
     Ok(see_dump(&rt, rt.alloc(), custom, Endless, UNREAD, "no end")?)
-}
-
-#[test]
-fn writers_that_fail(rt: HostRuntime) -> Result<(), Fail> {
-    let (custom, source) = (CustomOptions::Refuse, b"syntax = \"proto3\";".as_slice());
-    for room in 0..OF_NONE.len() {
-        let due = Due {
-            room,
-            fault: Some(Fault::Write(room as u64)),
-            written: &OF_NONE[..room],
-        };
-        see_dump(&rt, rt.alloc(), custom, source, due, "a full writer")?;
-    }
-    Ok(())
 }

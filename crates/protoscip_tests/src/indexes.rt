@@ -1,15 +1,17 @@
 //! Trees indexed, by whole bytes, as an encoder of another hand writes them.
 
-use crate::calls::{COUNTS, Given, given_of, indexed, is_indexed, see, slow_writer, workers};
-use crate::faulty_streams::Failing;
+use crate::calls::{
+    COUNTS, Due, Given, dues_of, given_of, is_due, paced_writer, see, whole, workers,
+};
 use index_hooks::Registry;
+use index_pool::{NoGate, Workers};
 use proto_lex::Encoding;
+use protoscip::index_tree;
 use std::alloc::{AllocError, Global};
 use std::process::Abort;
 use std::sync::Wait;
 use std::test::Fail;
 use std::thread::Threads;
-use streams::Std;
 
 /// The index of no files.
 const NO_FILES: &[u8; 30] = b"\n\x1C\x12\x0E\n\x09protoscip\x12\x011\x1A\x08file:/// \x01";
@@ -131,6 +133,42 @@ a.proto\nsyntax = \"proto3\";\nimport \"t.proto\";\nmessage M { lib.T t = 1; }\n
     },
 ];
 
+/// Whether the index of a tree is written as is due; none after want of memory or of a thread.
+fn is_written<R: Threads + Wait>(
+    rt: &R,
+    alloc: Global,
+    registry: &Registry,
+    given: &Given,
+    workers: Workers,
+    due: &Due<'_>,
+) -> Result<Option<bool>, AllocError> {
+    let (tree, settings) = (&given.tree, &given.settings);
+    let mut out = paced_writer(alloc, due.room, due.pace)?;
+    let answer = index_tree(
+        rt, alloc, tree, registry, workers, settings, &NoGate, &mut out,
+    )
+    .err();
+    Ok(is_due(answer, out, due))
+}
+
+/// Sees that it is, by so many workers. After want of memory or of a thread it is written again, to a new writer.
+fn see_written<R: Threads + Wait + Abort>(
+    rt: &R,
+    alloc: Global,
+    registry: &Registry,
+    given: &Given,
+    count: usize,
+    due: &Due<'_>,
+) -> Result<(), AllocError> {
+    let workers = workers(rt, count);
+    let is_so = match is_written(rt, alloc, registry, given, workers, due)? {
+        None => is_written(rt, alloc, registry, given, workers, due)?,
+        is_so => is_so,
+    };
+    see(rt, is_so == Some(true), "the bytes of an index");
+    Ok(())
+}
+
 /// Sees that the index of a row's tree has the bytes that are due, on 1, 2 and 16 workers.
 fn see_bytes<R: Threads + Wait + Abort>(
     rt: &R,
@@ -140,9 +178,7 @@ fn see_bytes<R: Threads + Wait + Abort>(
     row: &Row,
 ) -> Result<(), AllocError> {
     for count in &COUNTS {
-        let workers = workers(rt, *count);
-        let is = is_indexed(rt, alloc, registry, given, workers, row.due)?;
-        see(rt, is, row.files);
+        see_written(rt, alloc, registry, given, *count, &whole(row.due))?;
     }
     Ok(())
 }
@@ -174,46 +210,15 @@ fn bytes_of_indexes(rt: HostRuntime) -> Result<(), Fail> {
     Ok(see_rows(&rt, rt.alloc(), &registry)?)
 }
 
-/// Sees whether the writer of an index fails.
-fn see_fails<R: Threads + Wait + Abort>(
+fn see_dues<R: Threads + Wait + Abort>(
     rt: &R,
     alloc: Global,
     registry: &Registry,
     given: &Given,
-    out: &mut Std<Failing>,
-    fails: bool,
+    dues: &[Due<'_>],
 ) -> Result<(), AllocError> {
-    let answer = indexed(rt, alloc, registry, given, workers(rt, 1), out)?;
-    see(rt, answer.is_some() == fails, "a write fails");
-    Ok(())
-}
-
-/// Sees that a writer with so much room has the first bytes of the index of no files, and what is answered.
-fn see_cut<R: Threads + Wait + Abort>(
-    rt: &R,
-    alloc: Global,
-    registry: &Registry,
-    given: &Given,
-    room: usize,
-    most: usize,
-) -> Result<(), AllocError> {
-    let mut out = slow_writer(alloc, room, most, room % 2 == 0)?;
-    see_fails(rt, alloc, registry, given, &mut out, room < 30)?;
-    let is_front = out.into_inner().bytes.as_slice() == &NO_FILES[..room.min(30)];
-    see(rt, is_front, "the first bytes");
-    Ok(())
-}
-
-fn see_cuts<R: Threads + Wait + Abort>(
-    rt: &R,
-    alloc: Global,
-    registry: &Registry,
-    given: &Given,
-) -> Result<(), AllocError> {
-    for room in 0..31 {
-        see_cut(rt, alloc, registry, given, room, 1)?;
-        see_cut(rt, alloc, registry, given, room, 7)?;
-        see_cut(rt, alloc, registry, given, room, usize::MAX)?;
+    for due in dues {
+        see_written(rt, alloc, registry, given, 1, due)?;
     }
     Ok(())
 }
@@ -223,8 +228,9 @@ fn see_writers<R: Threads + Wait + Abort>(
     alloc: Global,
     registry: &Registry,
 ) -> Result<(), AllocError> {
+    let dues = dues_of(alloc, NO_FILES, false)?;
     let given = given_of(rt, alloc, "", Encoding::Utf8)?;
-    see_cuts(rt, alloc, registry, &given)
+    see_dues(rt, alloc, registry, &given, &dues)
 }
 
 #[test]

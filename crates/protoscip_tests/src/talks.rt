@@ -1,7 +1,9 @@
 //! Sessions: commands about the index of a tree, and their answers.
 
-use crate::calls::{COUNTS, Given, given_of, is_want, see, workers, writer};
-use crate::faulty_streams::Dripping;
+use crate::calls::{
+    COUNTS, Due, Given, dues_of, given_of, is_due, paced_writer, see, whole, workers,
+};
+use crate::faulty_streams::{Dripping, drip, resting};
 use index_hooks::{DocAlways, DocChoice, Registry};
 use index_pool::{NoGate, Workers};
 use proto_lex::Encoding;
@@ -13,27 +15,25 @@ use std::test::Fail;
 use std::thread::Threads;
 use streams::Std;
 
-/// What a session is held over, and what it is due to answer and to write to a writer with this room.
+/// What a session is held over, and what is due of it.
 #[derive(Clone, Copy, Drop)]
 struct Talk<'a> {
-    commands: Dripping,
-    room: usize,
-    fault: Option<Fault>,
-    answers: &'a str,
+    commands: Dripping<'a>,
+    due: Due<'a>,
 }
 
-/// What one session answers, and what its writer then has.
-fn served_once<R: Threads + Wait>(
+/// Whether a session answers as is due; none after want of memory or of a thread.
+fn is_served<R: Threads + Wait>(
     rt: &R,
     alloc: Global,
     registry: &Registry,
     given: &Given,
     workers: Workers,
     talk: &Talk<'_>,
-) -> Result<(Option<Fault>, Vec<u8>), AllocError> {
+) -> Result<Option<bool>, AllocError> {
     let (tree, settings) = (&given.tree, &given.settings);
     let mut input = Std::new(talk.commands);
-    let mut output = writer(alloc, talk.room)?;
+    let mut output = paced_writer(alloc, talk.due.room, talk.due.pace)?;
     let answer = session(
         rt,
         alloc,
@@ -46,23 +46,7 @@ fn served_once<R: Threads + Wait>(
         &mut output,
     )
     .err();
-    Ok((answer, output.into_inner().bytes))
-}
-
-/// Whether a session answers as is due; none after want of memory or of a thread.
-fn is_served<R: Threads + Wait>(
-    rt: &R,
-    alloc: Global,
-    registry: &Registry,
-    given: &Given,
-    workers: Workers,
-    talk: &Talk<'_>,
-) -> Result<Option<bool>, AllocError> {
-    let (answer, written) = served_once(rt, alloc, registry, given, workers, talk)?;
-    if is_want(&answer) {
-        return Ok(None);
-    }
-    Ok(Some(answer == talk.fault && written.as_slice() == talk.answers.as_bytes()))
+    Ok(is_due(answer, output, &talk.due))
 }
 
 /// Sees that a session answers as is due, by so many workers. After want of memory or of a thread it is
@@ -80,28 +64,24 @@ fn see_served<R: Threads + Wait + Abort>(
         None => is_served(rt, alloc, registry, given, workers, talk)?,
         is_so => is_so,
     };
-    see(rt, is_so == Some(true), talk.answers);
+    see(rt, is_so == Some(true), "a session");
     Ok(())
 }
 
 /// Files, as `tree_of` takes them, commands, and the answers that are due.
-struct Row {
-    files: &'static str,
-    commands: &'static str,
-    answers: &'static str,
+#[derive(Drop)]
+struct Row<'a> {
+    files: &'a str,
+    commands: &'a str,
+    answers: &'a str,
 }
 
-// The fourth row reads: the text before `A`, which stands at line 3, is that of both comments.
-static ROWS: [Row; 5] = [
+// The third row reads: the text before `A`, which stands at line 3, is that of both comments.
+static ROWS: [Row<'static>; 4] = [
     Row {
         files: "",
         commands: "",
         answers: "",
-    },
-    Row {
-        files: "",
-        commands: "sym a.proto",
-        answers: "? no document\n",
     },
     Row {
         files: FIELDS,
@@ -147,17 +127,12 @@ fn see_row<R: Threads + Wait + Abort>(
     rt: &R,
     alloc: Global,
     registry: &Registry,
-    row: &Row,
+    row: &Row<'_>,
     counts: &[usize],
 ) -> Result<(), AllocError> {
     let talk = Talk {
-        commands: Dripping {
-            bytes: row.commands.as_bytes(),
-            calls_left: usize::MAX,
-        },
-        room: row.answers.len(),
-        fault: None,
-        answers: row.answers,
+        commands: drip(row.commands.as_bytes(), 1, usize::MAX),
+        due: whole(row.answers.as_bytes()),
     };
     let given = given_of(rt, alloc, row.files, Encoding::Utf8)?;
     see_talk(rt, alloc, registry, &given, &talk, counts)
@@ -180,7 +155,7 @@ fn answers_to_commands(rt: HostRuntime) -> Result<(), Fail> {
     Ok(see_rows(&rt, rt.alloc(), &registry)?)
 }
 
-static COMPOUND_NAME: Row = Row {
+static COMPOUND_NAME: Row<'static> = Row {
     files: "t.proto\nsyntax = \"proto3\";\npackage google.protobuf;\nmessage Timestamp {}\n|\
 a.proto\nsyntax = \"proto3\";\npackage acme;\nimport \"b.proto\";\nimport \"t.proto\";\nmessage M { .google.protobuf.Timestamp t = 1; }\n|\
 b.proto\nsyntax = \"proto3\";\npackage acme.google;\n",
@@ -195,7 +170,7 @@ fn a_compound_name_on_1_and_4_workers(rt: HostRuntime) -> Result<(), Fail> {
     Ok(see_row(&rt, rt.alloc(), &registry, &COMPOUND_NAME, &[1, 4])?)
 }
 
-static BOTH_TEXTS: Row = Row {
+static BOTH_TEXTS: Row<'static> = Row {
     files: COMMENTS,
     commands: "doc 3 8 a.proto\ndoc 4 8 a.proto\n",
     answers: "| One.\n| Two.\n| tail\n= 2\n|  unit \n= 1\n",
@@ -211,62 +186,147 @@ fn texts_that_a_rule_takes(rt: HostRuntime) -> Result<(), Fail> {
     Ok(see_row(&rt, rt.alloc(), &registry, &BOTH_TEXTS, &COUNTS)?)
 }
 
-const DEFINITION: &str = "2 8 2 11 1 a.proto\n= 1\n";
+/// The longest path, for which `@` stands, with 4,090 letters before its ending; a name of 10,000 letters, `^`; and a
+/// word `~` with which a command has the greatest length.
+static LONG: Row<'static> = Row {
+    files: "@.proto\nsyntax = \"proto3\";\nmessage ^ {}\n",
+    commands: "sym @.proto\ndef 1 8 @.proto\ndef 1 8 ~\ndef 1 8 ~b\n",
+    answers: "scip-protobuf . . . ^#\nscip-protobuf . . . `@.proto`/\n= 2\n1 8 1 10008 1 @.proto\n= 1\n? no document\n? bad command\n",
+};
 
-/// A command whose answers are cut off behind so many bytes.
-fn cut_off(room: usize) -> Talk<'static> {
-    Talk {
-        commands: Dripping {
-            bytes: b"def 3 28 a.proto",
-            calls_left: usize::MAX,
-        },
-        room,
-        fault: if room == 23 {
-            None
-        } else {
-            Some(Fault::Answer(room as u64))
-        },
-        answers: DEFINITION.split_at(room.min(23)).0,
+/// Adds a letter so often.
+fn add_times(text: &mut String, letter: char, count: usize) -> Result<(), AllocError> {
+    for _ in 0..count {
+        text.push(letter)?;
     }
+    Ok(())
 }
 
-const BOTH_ANSWERS: &str =
-    "2 8 2 11 1 a.proto\n= 1\n2 8 2 11 1 a.proto\n3 28 3 31 0 a.proto\n= 2\n";
+/// A text with what its marks stand for.
+fn spelled_out(alloc: Global, marked: &str) -> Result<String, AllocError> {
+    let mut text = String::new(alloc);
+    for mark in marked.chars() {
+        let (letter, count) = match mark {
+            '@' => ('a', 4_090),
+            '^' => ('M', 10_000),
+            '~' => ('b', 65_528),
+            _ => (mark, 1),
+        };
+        add_times(&mut text, letter, count)?;
+    }
+    Ok(text)
+}
 
-/// Two commands, of 17 and 18 bytes, whose reading fails at a call, each of a byte.
-fn read_until(calls_left: usize) -> Talk<'static> {
-    let (fault, answers) = match calls_left {
-        0..17 => (Some(Fault::Read), ""),
-        17..34 => (Some(Fault::Read), DEFINITION),
-        34 => (Some(Fault::Read), BOTH_ANSWERS),
-        _ => (None, BOTH_ANSWERS),
+fn see_long<R: Threads + Wait + Abort>(
+    rt: &R,
+    alloc: Global,
+    registry: &Registry,
+) -> Result<(), AllocError> {
+    let files = spelled_out(alloc, LONG.files)?;
+    let commands = spelled_out(alloc, LONG.commands)?;
+    let answers = spelled_out(alloc, LONG.answers)?;
+    let row = Row {
+        files: files.as_str(),
+        commands: commands.as_str(),
+        answers: answers.as_str(),
     };
-    Talk {
-        commands: Dripping {
-            bytes: b"def 3 28 a.proto\nref 3 28 a.proto\n",
-            calls_left,
-        },
-        room: 100,
-        fault,
-        answers,
-    }
+    see_row(rt, alloc, registry, &row, &[1])
 }
 
-/// Sees what is answered where a reader or a writer fails, at each call and at each byte.
-fn see_parts<R: Threads + Wait + Abort>(
+#[test]
+fn a_long_path_a_long_name_and_long_commands(rt: HostRuntime) -> Result<(), Fail> {
+    let registry = Registry::new(rt.alloc());
+    Ok(see_long(&rt, rt.alloc(), &registry)?)
+}
+
+const DEFINITION: &[u8] = b"2 8 2 11 1 a.proto\n= 1\n";
+
+const BOTH_ANSWERS: &[u8] =
+    b"2 8 2 11 1 a.proto\n= 1\n2 8 2 11 1 a.proto\n3 28 3 31 0 a.proto\n= 2\n";
+
+/// Two commands, of 17 and 18 bytes.
+const COMMANDS: &[u8] = b"def 3 28 a.proto\nref 3 28 a.proto\n";
+
+/// Sees what is due of a command to writers that fail.
+fn see_writers<R: Threads + Wait + Abort>(
     rt: &R,
     alloc: Global,
     registry: &Registry,
     given: &Given,
-    reads: bool,
+    dues: &[Due<'_>],
 ) -> Result<(), AllocError> {
-    for count in 0..36 {
-        let talk = if reads {
-            read_until(count)
-        } else {
-            cut_off(count.min(23))
+    for due in dues {
+        let talk = Talk {
+            commands: drip(b"def 3 28 a.proto", usize::MAX, usize::MAX),
+            due: *due,
         };
         see_served(rt, alloc, registry, given, 1, &talk)?;
+    }
+    Ok(())
+}
+
+/// The most bytes that a reader gives a call, and how many calls come to the end of the commands.
+const READERS: [(usize, usize); 3] = [(1, 35), (7, 6), (usize::MAX, 2)];
+
+/// The commands by a reader that fails behind so many calls, if it doesn't come to the end by then: the lines that have
+/// ended are answered.
+fn read_until(most: usize, to_end: usize, calls: usize) -> Talk<'static> {
+    let answers = match most.saturating_mul(calls) {
+        0..17 => b"".as_slice(),
+        17..34 => DEFINITION,
+        _ => BOTH_ANSWERS,
+    };
+    let fault = if calls < to_end {
+        Some(Fault::Read)
+    } else {
+        None
+    };
+    Talk {
+        commands: drip(COMMANDS, most, calls),
+        due: Due {
+            fault,
+            ..whole(answers)
+        },
+    }
+}
+
+/// The commands by a reader whose second call gives nothing: the line that ends there is answered, too.
+fn rested(most: usize) -> Talk<'static> {
+    let answers = if most < 16 {
+        b"? bad command\n".as_slice()
+    } else {
+        BOTH_ANSWERS
+    };
+    Talk {
+        commands: resting(COMMANDS, most),
+        due: whole(answers),
+    }
+}
+
+/// Sees what is due of a reader that fails behind each of its calls, of one that doesn't, and of one that rests.
+fn see_reads<R: Threads + Wait + Abort>(
+    rt: &R,
+    alloc: Global,
+    registry: &Registry,
+    given: &Given,
+    most: usize,
+    to_end: usize,
+) -> Result<(), AllocError> {
+    for calls in 0..36 {
+        let talk = read_until(most, to_end, calls);
+        see_served(rt, alloc, registry, given, 1, &talk)?;
+    }
+    see_served(rt, alloc, registry, given, 1, &rested(most))
+}
+
+fn see_readers<R: Threads + Wait + Abort>(
+    rt: &R,
+    alloc: Global,
+    registry: &Registry,
+    given: &Given,
+) -> Result<(), AllocError> {
+    for (most, to_end) in &READERS {
+        see_reads(rt, alloc, registry, given, *most, *to_end)?;
     }
     Ok(())
 }
@@ -275,20 +335,15 @@ fn see_streams<R: Threads + Wait + Abort>(
     rt: &R,
     alloc: Global,
     registry: &Registry,
-    reads: bool,
 ) -> Result<(), AllocError> {
+    let dues = dues_of(alloc, DEFINITION, true)?;
     let given = given_of(rt, alloc, FIELDS, Encoding::Utf8)?;
-    see_parts(rt, alloc, registry, &given, reads)
+    see_writers(rt, alloc, registry, &given, &dues)?;
+    see_readers(rt, alloc, registry, &given)
 }
 
 #[test]
-fn writers_of_answers_that_fail(rt: HostRuntime) -> Result<(), Fail> {
+fn streams_that_fail_or_rest(rt: HostRuntime) -> Result<(), Fail> {
     let registry = Registry::new(rt.alloc());
-    Ok(see_streams(&rt, rt.alloc(), &registry, false)?)
-}
-
-#[test]
-fn readers_of_commands_that_fail(rt: HostRuntime) -> Result<(), Fail> {
-    let registry = Registry::new(rt.alloc());
-    Ok(see_streams(&rt, rt.alloc(), &registry, true)?)
+    Ok(see_streams(&rt, rt.alloc(), &registry)?)
 }

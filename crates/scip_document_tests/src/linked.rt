@@ -72,10 +72,7 @@ fn add_made(
             Ok(true)
         }
         Err(LinkFault::Memory) => Err(AllocError),
-        Err(fault) => {
-            listing.add_fault(fault);
-            Ok(false)
-        }
+        Err(_) => Ok(false),
     }
 }
 

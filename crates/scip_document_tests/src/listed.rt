@@ -1,12 +1,10 @@
-//! Documents, refusals and external entries, as texts.
+//! Documents and external entries, as texts.
 //!
 //! A document has a line with its path, its language and its encoding, and what occurs in it: the range,
 //! the role and the symbol. Another line has its symbol entries: the symbol, the display name, and each
-//! text of the documentation. Behind each stands `;`. A refusal has a line with the file and the place of
-//! a use. External entries have a line that begins with `+`. Symbols stand without the scheme and the
-//! empty package.
+//! text of the documentation. Behind each stands `;`. External entries have a line that begins with `+`.
+//! Symbols stand without the scheme and the empty package.
 
-use proto_link::LinkFault;
 use scip_model::{Document, Occurrence, SymbolInformation};
 use sequences::OwnedText;
 use std::alloc::{AllocError, Global};
@@ -85,17 +83,6 @@ impl Listing {
         self.add("\n");
         for info in document.symbols.as_slice() {
             self.add_entry(info);
-        }
-        self.add("\n");
-    }
-
-    /// Adds the refusal of a document.
-    pub(crate) fn add_fault(&mut self, fault: LinkFault) {
-        if let LinkFault::Unresolved(place) = fault {
-            self.add("unresolved ");
-            self.add_number(i64::try_from(place.file).unwrap_or(-1));
-            self.add_number(i64::try_from(place.span.start).unwrap_or(-1));
-            self.add_number(i64::try_from(place.span.end).unwrap_or(-1));
         }
         self.add("\n");
     }

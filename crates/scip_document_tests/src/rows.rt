@@ -1,25 +1,14 @@
-//! Worked rows, and the laws of documents.
+//! Worked rows.
 
 use crate::documents::{Row, see_row};
-use scip_document::{
-    no_two_occurrences_tie, one_document_a_source, one_index, symbols_meet,
-    symbols_name_one_entity_in_packages,
-};
 use std::test::Fail;
 
-/// Each with everything kept, and the leading text. The third reads: the document `a.proto`, with columns in
+/// Each with everything kept, and the leading text. The second reads: the document `a.proto`, with columns in
 /// UTF-8 (1), has the file's own empty range, with role 1, and `p/` from 8 to 9 in line 1 with role 1; the use
 /// of `Foo` in line 3 has no role. `p/M#` has the name `M`, and the file's symbol that of its path. Nothing
 /// external is named. In the last, an included file and what it declares have the package of the first
 /// root that has the file, or else that of the run, which is also that of the proto package `lib`.
-static ROWS: [Row; 4] = [
-    Row {
-        sources: "a.proto\nsyntax = \"proto3\";\npackage acme;\nimport \"b.proto\";\nimport \"t.proto\";\nmessage M { google.protobuf.Timestamp t = 1; }\n|\
-b.proto\nsyntax = \"proto3\";\npackage acme.google;\n|\
-t.proto\nsyntax = \"proto3\";\npackage google.protobuf;\nmessage Timestamp {}\n",
-        roots: "",
-        listed: "unresolved 0 81 106 \n",
-    },
+static ROWS: [Row; 3] = [
     Row {
         sources: "a.proto\nsyntax = \"proto3\";\npackage acme;\nimport \"b.proto\";\nimport \"t.proto\";\nmessage M { .google.protobuf.Timestamp t = 1; }\n|\
 b.proto\nsyntax = \"proto3\";\npackage acme.google;\n|\
@@ -65,13 +54,4 @@ fn worked_rows(rt: HostRuntime) -> Result<(), Fail> {
         see_row(&rt, rt.alloc(), row)?;
     }
     Ok(())
-}
-
-#[test]
-fn laws(_rt: HostRuntime) {
-    one_document_a_source();
-    one_index();
-    no_two_occurrences_tie();
-    symbols_meet();
-    symbols_name_one_entity_in_packages();
 }

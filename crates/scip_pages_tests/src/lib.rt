@@ -4,12 +4,8 @@
 #[cfg(test)]
 mod columns;
 #[cfg(test)]
-mod lines;
-#[cfg(test)]
 mod paths;
 #[cfg(test)]
 mod see;
-#[cfg(test)]
-mod snapshots;
 #[cfg(test)]
 mod urls;

@@ -4,19 +4,12 @@ use crate::see::see;
 use scip_pages::{PathFault, path_fault};
 use std::test::Fail;
 
-const FAULTS: [(&str, Option<PathFault>); 12] = [
-    ("a.proto", None),
+/// The last row reads: by its second `..` the path leads out of the folder that it is below.
+const FAULTS: [(&str, Option<PathFault>); 4] = [
     ("a/b c/%#.proto", None),
-    ("...", None),
-    ("a/..b", None),
-    ("", Some(PathFault::Empty)),
-    ("/", Some(PathFault::Absolute)),
-    ("/../a", Some(PathFault::Absolute)),
     ("a//b", Some(PathFault::Empty)),
-    ("a/", Some(PathFault::Empty)),
-    ("./a", Some(PathFault::Dot)),
+    ("/../a", Some(PathFault::Absolute)),
     ("a/../..", Some(PathFault::Parent)),
-    ("..", Some(PathFault::Parent)),
 ];
 
 #[test]

@@ -1,6 +1,5 @@
 //! Calls that are made again after `Memory`, where the second answer counts.
 
-use crate::faulty_streams::{Dripping, Limits, Narrow};
 use scip_model::{Index, SymbolInformation};
 use scip_query::{AnswerFault, Place, Queries, QueryFault};
 use scip_wire::{WireFault, read_index};
@@ -86,69 +85,53 @@ pub fn symbols(alloc: Global, asked: &Queries) -> Result<Vec<&SymbolInformation>
     }
 }
 
-/// What is asked: one command, or all that a reader gives.
-#[derive(Clone, Copy)]
-pub enum Ask<'a> {
-    One(&'a [u8]),
-    All(Dripping<'a>),
-}
-
-/// What one call answers, and how many bytes its writer then has.
-fn asked_once(
+/// What `answer` gives to a command, or `answer_all` to commands that are read, and how many bytes the writer then
+/// has.
+fn answered_once(
     alloc: Global,
     asked: &Queries,
-    ask: Ask<'_>,
+    commands: &[u8],
+    are_read: bool,
     room: &mut [u8],
-    limits: Limits,
 ) -> (Result<(), AnswerFault>, usize) {
     let size = room.len();
-    let mut sink = Std::new(Narrow { room, limits });
-    let answer = match ask {
-        Ask::One(command) => asked.answer(alloc, command, &mut sink),
-        Ask::All(reader) => asked.answer_all(alloc, &mut Std::new(reader), &mut sink),
+    let mut sink = Std::new(room);
+    let answer = if are_read {
+        asked.answer_all(alloc, &mut Std::new(commands), &mut sink)
+    } else {
+        asked.answer(alloc, commands, &mut sink)
     };
-    let left = sink.into_inner().room.len();
+    let left = sink.into_inner().len();
     (answer, size.saturating_sub(left))
 }
 
 /// The same, asked again after `Memory`.
-fn asked_again(
+fn answered(
     alloc: Global,
     asked: &Queries,
-    ask: Ask<'_>,
+    commands: &[u8],
+    are_read: bool,
     room: &mut [u8],
-    limits: Limits,
 ) -> (Result<(), AnswerFault>, usize) {
-    let (answer, count) = asked_once(alloc, asked, ask, room, limits);
+    let (answer, count) = answered_once(alloc, asked, commands, are_read, room);
     if answer != Err(AnswerFault::Memory) {
         return (answer, count);
     }
-    asked_once(alloc, asked, ask, room, limits)
+    answered_once(alloc, asked, commands, are_read, room)
 }
 
-/// What is due: the answer, and the bytes that a writer has which has room for them alone.
-#[derive(Clone, Copy)]
-pub struct Due<'a> {
-    pub answer: Result<(), AnswerFault>,
-    pub written: &'a [u8],
-}
-
-/// Sees what is answered and written, of 256 bytes at most.
-pub fn see_asked(
+/// Sees what is written, of 256 bytes at most, as the answer to a command, or to commands that are read.
+pub fn see_answered(
     rt: &impl Abort,
     alloc: Global,
     asked: &Queries,
-    ask: Ask<'_>,
-    limits: Limits,
-    due: Due<'_>,
+    commands: &str,
+    are_read: bool,
+    due: &str,
 ) {
     let mut room = [0u8; 256];
-    let (room, _) = room.split_at_mut(due.written.len().min(256));
-    let (answer, count) = asked_again(alloc, asked, ask, room, limits);
-    see(rt, answer == due.answer, "answered");
-    see(
-        rt,
-        count == due.written.len() && *room == *due.written,
-        "written",
-    );
+    let (room, _) = room.split_at_mut(due.len().min(256));
+    let (answer, count) = answered(alloc, asked, commands.as_bytes(), are_read, room);
+    see(rt, answer == Ok(()), "answered");
+    see(rt, count == due.len() && *room == *due.as_bytes(), due);
 }

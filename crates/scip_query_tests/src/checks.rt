@@ -1,9 +1,7 @@
 //! What the tests see of the queries of an index. One function has the queries, and all others borrow
 //! them.
 
-use crate::asked::{Ask, Due, queries, see_asked};
-use crate::conversations::{see_no_end, see_reads, see_writers};
-use crate::faulty_streams::ALL_AT_ONCE;
+use crate::asked::{queries, see_answered};
 use crate::lookups::{see_innermost, see_places, see_texts};
 use scip_query::Queries;
 use std::alloc::{AllocError, Global};
@@ -12,46 +10,29 @@ use std::process::Abort;
 /// What is seen.
 #[derive(Clone, Copy)]
 pub enum Check<'a> {
-    /// The answer to a command.
-    Answer(&'a str, &'a str),
+    /// The answers to commands that are read, one a line; to a single one, also given as it is.
+    Answers(&'a str, &'a str),
     /// Places of references and of definitions.
     Places,
     /// Texts and symbols.
     Texts,
     /// What is at positions.
     Innermost,
-    /// Readers that fail.
-    Reads,
-    /// A reader without an end.
-    NoEnd,
-    /// Writers that take little, or fail.
-    Writers,
 }
 
-fn see_answer(rt: &impl Abort, alloc: Global, asked: &Queries, command: &str, answer: &str) {
-    let due = Due {
-        answer: Ok(()),
-        written: answer.as_bytes(),
-    };
-    see_asked(
-        rt,
-        alloc,
-        asked,
-        Ask::One(command.as_bytes()),
-        ALL_AT_ONCE,
-        due,
-    );
+fn see_answers(rt: &impl Abort, alloc: Global, asked: &Queries, commands: &str, answers: &str) {
+    if commands.split_once('\n').is_none() {
+        see_answered(rt, alloc, asked, commands, false, answers);
+    }
+    see_answered(rt, alloc, asked, commands, true, answers);
 }
 
 fn see_check(rt: &impl Abort, alloc: Global, asked: &Queries, check: Check<'_>) {
     match check {
-        Check::Answer(command, answer) => see_answer(rt, alloc, asked, command, answer),
+        Check::Answers(commands, answers) => see_answers(rt, alloc, asked, commands, answers),
         Check::Places => see_places(rt, alloc, asked),
         Check::Texts => see_texts(rt, alloc, asked),
         Check::Innermost => see_innermost(rt, asked),
-        Check::Reads => see_reads(rt, alloc, asked),
-        Check::NoEnd => see_no_end(rt, alloc, asked),
-        Check::Writers => see_writers(rt, alloc, asked),
     }
 }
 

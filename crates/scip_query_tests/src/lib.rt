@@ -6,10 +6,6 @@ mod asked;
 #[cfg(test)]
 mod checks;
 #[cfg(test)]
-mod conversations;
-#[cfg(test)]
-mod faulty_streams;
-#[cfg(test)]
 mod indexes;
 #[cfg(test)]
 mod lookups;

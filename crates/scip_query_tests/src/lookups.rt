@@ -66,7 +66,7 @@ pub fn see_texts(rt: &impl Abort, alloc: Global, asked: &Queries) {
     );
 }
 
-/// Columns of line 0, and the symbol there.
+/// Columns of line 0, and the symbol there. The third row reads: at column 5 is `w`, whose range is empty.
 const COLUMNS: [(u32, Option<&str>); 5] = [
     (2, Some("y")),
     (4, Some("y")),

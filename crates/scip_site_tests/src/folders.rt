@@ -1,14 +1,11 @@
 //! Folders of pages.
 
 use crate::files::{Files, Made};
-use crate::see::see;
-use scip_model::Index;
+use crate::see::{queries, see};
 use scip_query::Queries;
 use scip_site::make_pages;
 use scip_snapshot::{Folders, ShowFault};
-use scip_wire::{WireFault, read_index};
-use std::alloc::{AllocError, Global};
-use std::process::Abort;
+use std::alloc::Global;
 use std::test::Fail;
 use streams::Std;
 
@@ -36,18 +33,8 @@ protoscip: unit: NoUnit
 protoscip: short: Misfit
 ";
 
-/// The folder that files go to; what they hold, for which there is room alone, but that a `\0` is room for a byte that
-/// doesn't come; and what is answered.
-struct Case {
-    to: &'static str,
-    made: &'static str,
-    answer: Result<(), ShowFault>,
-}
-
-static CASES: [Case; 3] = [
-    Case {
-        to: "out",
-        made: "[out/src/b/x.html]<!DOCTYPE html>
+/// What the files hold, for which there is room alone, but that the `\0` is room for a byte that doesn't come.
+const MADE: &str = "[out/src/b/x.html]<!DOCTYPE html>
 <html lang=\"en\">
 <head>
 <meta charset=\"utf-8\">
@@ -120,34 +107,15 @@ static CASES: [Case; 3] = [
 <script src=\"search.js\"></script>
 </body>
 </html>
-\0",
-        answer: Ok(()),
-    },
-    // The first page can't be made.
-    Case {
-        to: "",
-        made: "[src/b/x.html]<!DOCTYPE",
-        answer: Err(ShowFault::Write),
-    },
-    Case {
-        to: "/",
-        made: "",
-        answer: Err(ShowFault::Write),
-    },
-];
+\0";
 
-/// Makes pages as a case says; gives the answer, and whether what is due is said.
-fn pages(
-    alloc: Global,
-    queries: &Queries,
-    case: &Case,
-    room: &mut [u8],
-) -> (Result<(), ShowFault>, bool) {
+/// Makes the pages; gives the answer, and whether what is due is said.
+fn pages(alloc: Global, queries: &Queries, room: &mut [u8]) -> (Result<(), ShowFault>, bool) {
     let mut told = [0u8; ROOM];
     let mut messages = Std::new(told.as_mut_slice());
     let folders = Folders {
         root: "src",
-        to: case.to,
+        to: "out",
     };
     let mut made = Made {
         room: Std::new(room),
@@ -157,57 +125,25 @@ fn pages(
     (answer, told.split_at(count).0 == TOLD.as_bytes())
 }
 
-/// Whether a case is as it is due; none after want of memory.
-fn is_so(alloc: Global, queries: &Queries, case: &Case) -> Option<bool> {
+/// Whether the files are made that are due; none after want of memory.
+fn is_so(alloc: Global, queries: &Queries) -> Option<bool> {
     let mut room = [0u8; ROOM];
-    let room = room.split_at_mut(case.made.len().min(ROOM)).0;
-    let (answer, is_said) = pages(alloc, queries, case, room);
+    let room = room.split_at_mut(MADE.len().min(ROOM)).0;
+    let (answer, is_said) = pages(alloc, queries, room);
     if answer == Err(ShowFault::Memory) {
         return None;
     }
-    Some(answer == case.answer && is_said && *room == *case.made.as_bytes())
+    Some(answer.is_ok() && is_said && *room == *MADE.as_bytes())
 }
 
-/// Sees that each case is so. After want of memory it is tried again, and the second answer counts.
-fn see_cases(rt: &impl Abort, alloc: Global, queries: &Queries) {
-    for case in &CASES {
-        let is_so = match is_so(alloc, queries, case) {
-            None => is_so(alloc, queries, case),
-            is_so => is_so,
-        };
-        see(rt, is_so == Some(true), case.made);
-    }
-}
-
-fn index_again(alloc: Global) -> Result<Index, WireFault> {
-    match read_index(alloc, INDEX) {
-        Err(WireFault::Memory) => read_index(alloc, INDEX),
-        answer => answer,
-    }
-}
-
-/// The index.
-fn index(rt: &impl Abort, alloc: Global) -> Result<Index, AllocError> {
-    match index_again(alloc) {
-        Ok(index) => Ok(index),
-        Err(fault) => {
-            see(rt, fault == WireFault::Memory, "bytes of an index");
-            Err(AllocError)
-        }
-    }
-}
-
-/// Its queries.
-fn queries(rt: &impl Abort, alloc: Global) -> Result<Queries, AllocError> {
-    match Queries::new(alloc, index(rt, alloc)?) {
-        Ok(queries) => Ok(queries),
-        Err(_) => Err(AllocError),
-    }
-}
-
+/// After want of memory they are made again, and the second answer counts.
 #[test]
 fn folders_have_the_pages_due(rt: HostRuntime) -> Result<(), Fail> {
-    let queries = queries(&rt, rt.alloc())?;
-    see_cases(&rt, rt.alloc(), &queries);
+    let queries = queries(&rt, rt.alloc(), INDEX)?;
+    let is_so = match is_so(rt.alloc(), &queries) {
+        None => is_so(rt.alloc(), &queries),
+        is_so => is_so,
+    };
+    see(&rt, is_so == Some(true), "the pages");
     Ok(())
 }

@@ -1,5 +1,4 @@
-//! The symbols of a file, a package and a declaration, their texts made with and without the symbols,
-//! and the parts of a package.
+//! The symbols of a file, a package and a declaration, their texts, and the parts of a package.
 
 ghost use Rattle.std.specs.Prelude.{◌≡◌, ◌∷◌, [], IfOk};
 ghost use Rattle.proto_decl.specs.declared.kind.DeclarationKind.TheVariants.{Message};
@@ -9,8 +8,7 @@ use lent_texts::LentText;
 use proto_decl::{Component, DeclarationKind, DeclarationPath, DeclarationStep};
 use proto_lex::Span;
 use scip_symbol::{
-    BadPart, PackageId, Symbol, SymbolParts, file_symbol, package_symbol, print_below,
-    print_declaration, print_file, print_package, print_package_named, symbol_of,
+    BadPart, PackageId, Symbol, SymbolParts, file_symbol, package_symbol, symbol_of,
 };
 use sequences::{OwnedText, Sequence};
 use std::alloc::{AllocError, Global};
@@ -63,41 +61,18 @@ fn message_text(alloc: Global, id: &PackageId) -> Result<String, AllocError> {
     text_of_symbol(alloc, symbol_of(alloc, id, &[], &a))
 }
 
-fn printed_package(alloc: Global, id: &PackageId) -> Result<String, AllocError> {
-    let a = component("a");
-    let b = component("b");
-    print_package(alloc, id, &[a, b])
-}
-
-fn printed_message(alloc: Global, id: &PackageId) -> Result<String, AllocError> {
-    let a = way(alloc, "A")?;
-    print_declaration(alloc, id, &[], &a)
-}
-
-fn printed_below(alloc: Global, id: &PackageId) -> Result<String, AllocError> {
-    let b = component("b");
-    let front = print_package(alloc, id, &[b])?;
-    let a = way(alloc, "A")?;
-    print_below(alloc, front.as_str(), &a)
-}
-
 fn local_text(alloc: Global) -> Result<String, AllocError> {
     let name = OwnedText::copy_of(alloc, "x9")?;
     text_of_symbol(alloc, Ok(Symbol::from_parts(SymbolParts::Local(name))))
 }
 
-/// What a text is made of: of a symbol, or without one (`Printed`).
+/// What the symbol is that a text is made of.
 #[derive(Clone, Copy)]
 enum Of {
     File,
     Package,
     Message,
     Local,
-    PrintedFile,
-    PrintedPackage,
-    PrintedNames,
-    PrintedMessage,
-    PrintedBelow,
 }
 
 fn text_of(alloc: Global, id: &PackageId, of: Of) -> Result<String, AllocError> {
@@ -106,26 +81,16 @@ fn text_of(alloc: Global, id: &PackageId, of: Of) -> Result<String, AllocError> 
         Of::Package => package_text(alloc, id),
         Of::Message => message_text(alloc, id),
         Of::Local => local_text(alloc),
-        Of::PrintedFile => print_file(alloc, id, "a b.proto"),
-        Of::PrintedPackage => printed_package(alloc, id),
-        Of::PrintedNames => print_package_named(alloc, id, &["a", "b"]),
-        Of::PrintedMessage => printed_message(alloc, id),
-        Of::PrintedBelow => printed_below(alloc, id),
     }
 }
 
 // The first case: of the file `a b.proto` in a package of the manager `my mgr`, without a name, of the
 // version 1.0, the symbol has two spaces for the manager's one, and backticks around the path.
-const CASES: [(Of, &str); 9] = [
+const CASES: [(Of, &str); 4] = [
     (Of::File, "scip-protobuf my  mgr . 1.0 `a b.proto`/"),
     (Of::Package, "scip-protobuf my  mgr . 1.0 a/b/"),
     (Of::Message, "scip-protobuf my  mgr . 1.0 A#"),
     (Of::Local, "local x9"),
-    (Of::PrintedFile, "scip-protobuf my  mgr . 1.0 `a b.proto`/"),
-    (Of::PrintedPackage, "scip-protobuf my  mgr . 1.0 a/b/"),
-    (Of::PrintedNames, "scip-protobuf my  mgr . 1.0 a/b/"),
-    (Of::PrintedMessage, "scip-protobuf my  mgr . 1.0 A#"),
-    (Of::PrintedBelow, "scip-protobuf my  mgr . 1.0 b/A#"),
 ];
 
 /// Whether a package has its parts, and what is made in it is a text.

@@ -1,13 +1,10 @@
 //! Worked symbols. The texts and the offsets are those that the grammar in `scip.proto`'s comment
-//! gives by hand. And the laws, which do nothing and end.
+//! gives by hand.
 
 use crate::calls::see;
-use proto_decl::declarations_stand_in_declarations;
-use scip_symbol::{
-    GlobalSymbol, Suffix, Symbol, SymbolFault, SymbolParts, files_are_without_clash, print, read,
-    symbols_have_spellings, symbols_name_one_entity, text_spells_one_symbol,
-};
+use scip_symbol::{Symbol, SymbolFault, print, read};
 use std::alloc::Global;
+use std::test::Fail;
 
 fn printed(alloc: Global, symbol: &Symbol) -> Result<String, SymbolFault> {
     match print(alloc, symbol) {
@@ -58,47 +55,19 @@ fn texts_are_read_and_printed_or_refused_where_no_symbol_goes_on(rt: HostRuntime
     }
 }
 
-/// Whether a symbol has the parts of the first text.
-fn has_parts(symbol: &GlobalSymbol) -> bool {
-    symbol.scheme.as_str() == "scip-protobuf"
-        && symbol.manager.as_str() == "my mgr"
-        && symbol.name.as_str().is_empty()
-        && symbol.version.as_str() == "1.0"
-}
-
-/// Whether a symbol has these parts, and is that of a type `A`.
-fn is_type(symbol: &Symbol) -> bool {
-    match symbol.parts() {
-        SymbolParts::Global(global) => match global.descriptors.as_slice() {
-            [a] => {
-                matches!(a.suffix, Suffix::Type) && a.name.as_str() == "A" && has_parts(global)
-            }
-            _ => false,
-        },
-        SymbolParts::Local(_) => false,
-    }
-}
-
-fn read_again(alloc: Global, text: &str) -> Result<Symbol, SymbolFault> {
-    match read(alloc, text) {
-        Err(SymbolFault::Memory) => read(alloc, text),
-        answer => answer,
-    }
-}
-
 #[test]
-fn message_of_a_package_with_a_spaced_manager(rt: HostRuntime) {
-    match read_again(rt.alloc(), READ[0]) {
-        Ok(symbol) => see(&rt, is_type(&symbol), "parts"),
-        Err(_) => see(&rt, false, "read"),
-    }
+fn faults_are_printed_by_their_names(rt: HostRuntime) -> Result<(), Fail> {
+    let text = format!(in rt.alloc(); "{} {}", SymbolFault::BadSymbol(7), SymbolFault::Memory)?;
+    see(&rt, text.as_str() == "BadSymbol(7) Memory", "texts");
+    Ok(())
 }
 
+/// A name of 10,000 letters.
 #[test]
-fn laws_are_called() {
-    text_spells_one_symbol();
-    symbols_have_spellings();
-    symbols_name_one_entity();
-    files_are_without_clash();
-    declarations_stand_in_declarations();
+fn a_long_symbol(rt: HostRuntime) -> Result<(), Fail> {
+    let name = "x".repeat(rt.alloc(), 10_000)?;
+    let text = ["scip-protobuf . . . ", name.as_str(), "#"].join(rt.alloc(), "")?;
+    let printed = reprinted_again(rt.alloc(), text.as_str()).unwrap_or(name);
+    see(&rt, printed.as_str() == text.as_str(), "as it was");
+    Ok(())
 }

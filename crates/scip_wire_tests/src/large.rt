@@ -2,7 +2,7 @@
 //! asks for no more memory than it needs.
 
 use crate::calls::{decoded, is_spelled, see};
-use crate::writers::{ALL_AT_ONCE, written};
+use crate::writers::written;
 use scip_model::Index;
 use std::alloc::{AllocError, Global};
 use std::process::Abort;
@@ -28,7 +28,7 @@ fn bytes_of_index(alloc: Global) -> Result<Vec<u8>, AllocError> {
 fn see_index(rt: &impl Abort, alloc: Global, index: &Index, bytes: &mut [u8]) {
     see(rt, is_spelled(alloc, index, bytes), "spelled");
     let size = bytes.len();
-    let found = written(alloc, index, bytes, ALL_AT_ONCE);
+    let found = written(alloc, index, bytes);
     see(rt, found.answer == Ok(()) && found.count == size, "written");
     see(rt, found.calls == 1, "one write");
 }

@@ -10,6 +10,8 @@ mod indexes;
 #[cfg(test)]
 mod large;
 #[cfg(test)]
+mod nested;
+#[cfg(test)]
 mod refusals;
 #[cfg(test)]
 mod spellings;

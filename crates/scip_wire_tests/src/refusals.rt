@@ -1,19 +1,29 @@
 //! Bytes that are refused, with the fault that comes first, worked out by hand from the Protocol
 //! Buffers encoding and `scip.proto`.
 
-use crate::calls::{decoded, see_all};
+use crate::calls::{decoded, see, see_all};
 use crate::indexes::{MESSAGE, UNPACKED};
-use scip_wire::WireFault;
+use scip_wire::{SpellFault, WireFault, WriteFault};
 use std::alloc::Global;
+use std::test::Fail;
 
 /// Bytes, and the fault that they are refused with.
 type Refusal<'a> = (&'a [u8], WireFault);
 
+/// Whether a fault is printed by its name and its offset, where there is memory for the texts.
+fn is_printed(alloc: Global, fault: WireFault) -> bool {
+    let due = format!(in alloc; "{}({})", fault.name(), fault.offset().unwrap_or(0));
+    match (format!(in alloc; "{fault}"), due) {
+        (Ok(text), Ok(due)) => text.as_str() == due.as_str(),
+        _ => true,
+    }
+}
+
 /// Whether bytes are refused with this fault.
-fn is_refused(alloc: Global, bytes: &[u8], want: WireFault) -> bool {
+pub(crate) fn is_refused(alloc: Global, bytes: &[u8], want: WireFault) -> bool {
     match decoded(alloc, bytes) {
         Ok(_) => false,
-        Err(fault) => fault == want,
+        Err(fault) => fault == want && is_printed(alloc, fault),
     }
 }
 
@@ -49,7 +59,7 @@ fn cut_bytes_are_refused(rt: HostRuntime) {
 }
 
 // The first row: a byte 0x0B is the tag of field 1 with the start of a group, which is refused at byte 0.
-static REFUSALS: [Refusal<'static>; 29] = [
+static REFUSALS: [Refusal<'static>; 27] = [
     // Of tags.
     (b"\x0B", WireFault::Group(0)),
     (b"\x0C", WireFault::Group(0)),
@@ -68,7 +78,6 @@ static REFUSALS: [Refusal<'static>; 29] = [
     // Of messages.
     (b"\x0A\x00\x0A\x00", WireFault::Repeated(2)),
     (b"\x0A\x04\x12\x00\x12\x00", WireFault::Repeated(4)),
-    (b"\x12\x03\x0A\x01\xFF", WireFault::Utf8(2)),
     (b"\x12\x06\x12\x04\x0A\x02\x01\x08", WireFault::BadRange(2)),
     (
         b"\x12\x09\x12\x07\x0A\x05\x01\x02\x03\x04\x05",
@@ -102,7 +111,6 @@ static REFUSALS: [Refusal<'static>; 29] = [
         b"\x12\x08\x12\x06\x0A\x01\x01\x12\x01\xFF",
         WireFault::Utf8(7),
     ),
-    (b"\x12\x05\x12\x03\x12\x01\xFF", WireFault::Utf8(4)),
     // A text that a later one replaces has to be UTF-8 too.
     (b"\x12\x06\x0A\x01\xFF\x0A\x01a", WireFault::Utf8(2)),
 ];
@@ -110,4 +118,18 @@ static REFUSALS: [Refusal<'static>; 29] = [
 #[test]
 fn the_first_fault_of_bytes(rt: HostRuntime) {
     see_all(&rt, first_other(rt.alloc(), &REFUSALS));
+}
+
+#[test]
+fn faults_are_printed_by_their_names(rt: HostRuntime) -> Result<(), Fail> {
+    let (large, cut, memory) = (
+        WriteFault::TooLarge,
+        WriteFault::Write(9),
+        WriteFault::Memory,
+    );
+    let text = format!(in rt.alloc(); "{large} {cut} {memory}")?;
+    see(&rt, text.as_str() == "TooLarge Write(9) Memory", "writing");
+    let text = format!(in rt.alloc(); "{} {}", SpellFault::TooLarge, SpellFault::Memory)?;
+    see(&rt, text.as_str() == "TooLarge Memory", "spelling");
+    Ok(())
 }

@@ -1,4 +1,4 @@
-//! Tests of `source_files`, by its public calls, on files of the folder that they run in and on files in memory.
+//! Tests of `source_files`, by its public calls, on files of the folder that they run in.
 #![tactic(auto)]
 
 #[cfg(test)]
@@ -6,10 +6,6 @@ mod closed_streams;
 #[cfg(test)]
 mod free_folders;
 #[cfg(test)]
-mod loads;
-#[cfg(test)]
 mod outputs;
 #[cfg(test)]
 mod roots;
-#[cfg(test)]
-mod table;

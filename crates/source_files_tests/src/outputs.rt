@@ -48,7 +48,8 @@ fn makes<S: Files>(files: &mut OutFile<'_, S>, path: &str, bytes: &[u8]) -> Opti
     }
 }
 
-/// Paths, in the order in which files are made there, and whether they can be.
+/// Paths, in the order in which files are made there, and whether they can be. The fourth reads: below a file there
+/// can't be one.
 const MADE: [(&str, bool); 6] = [
     ("shelf.txt", true),
     ("shelf/one.txt", true),

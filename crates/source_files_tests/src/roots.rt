@@ -9,12 +9,12 @@ use std::test::Fail;
 use std::{fs, io};
 
 /// Sees that a text is what is due.
-pub(crate) fn see_text(rt: &impl Abort, found: &str, due: &str) {
+fn see_text(rt: &impl Abort, found: &str, due: &str) {
     assert!(rt; found == due, "{found} in place of {due}");
 }
 
 /// The paths, each with a space behind it.
-pub(crate) fn listing(alloc: Global, paths: &[String]) -> Result<String, AllocError> {
+fn listing(alloc: Global, paths: &[String]) -> Result<String, AllocError> {
     let mut text = String::new(alloc);
     for path in paths {
         text.push_str(path.as_str())?;

@@ -1,10 +1,7 @@
 //! A tree of sources and included files, and what is refused.
 
 use crate::calls::{fault_of, see, sources};
-use source_tree::{
-    Tree, TreeFault, one_sorting_by_path, one_tree, refusals_exclude_each_other,
-    trees_are_not_refused,
-};
+use source_tree::{Tree, TreeFault};
 use std::alloc::{AllocError, Global};
 use std::test::Fail;
 
@@ -83,15 +80,9 @@ fn bad_paths_and_two_sources_with_one_path(rt: HostRuntime) -> Result<(), Fail> 
     see(&rt, fault == Some(TreeFault::SamePath(1)), "one path");
     let told = format!(in rt.alloc(); "{} {}", TreeFault::SamePath(1), TreeFault::BadPath(2))?;
     see(&rt, told.as_str() == "SamePath(1) BadPath(2)", "texts");
+    let told = format!(in rt.alloc(); "{} {}", TreeFault::TooMany, TreeFault::Memory)?;
+    see(&rt, told.as_str() == "TooMany Memory", "other texts");
     let fault = fault_again(rt.alloc(), "a.proto", "b.proto")?;
     see(&rt, fault.is_none(), "two paths");
     Ok(())
-}
-
-#[test]
-fn laws_are_called() {
-    one_tree();
-    one_sorting_by_path();
-    refusals_exclude_each_other();
-    trees_are_not_refused();
 }

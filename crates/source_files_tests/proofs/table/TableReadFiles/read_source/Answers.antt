@@ -1,5 +1,0 @@
-use Rattle.source_files.proofs.KeptLemmas.{kept_whole}
-use Rattle.source_files_tests.proofs.table.TableReadFiles.read_source.Goals as goal
-
-pub returns-in-Some : goal.returns-in-Some
-returns-in-Some c = kept_whole (λ bytes. bytes.items) c.read_source.result c.read_source.ensures.few

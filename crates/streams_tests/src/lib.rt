@@ -1,5 +1,0 @@
-//! Tests of `streams`, by its public calls.
-#![tactic(auto)]
-
-#[cfg(test)]
-mod std_streams;

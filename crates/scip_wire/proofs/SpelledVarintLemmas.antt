@@ -55,9 +55,3 @@ groups_le (suc further) n =
 
 pub length-varint-le : (n : ℕ) → length (varint n) ≤ 10
 length-varint-le n = groups_le 9 n
-
--- a byte goes from the front of what is to come to the end of what stands
-pub pushed : (out items whole target : List ℕ) (b : ℕ) (tail : List ℕ) → items ≡ out ++ b ∷ [] → whole ≡ b ∷ tail
-    → out ++ whole ≡ target → items ++ tail ≡ target
-pushed out items whole target b tail e w t =
-    ap (λ l. l ++ tail) e ∙ append_assoc out (b ∷ []) tail ∙ ap (λ l. out ++ l) (sym w) ∙ t

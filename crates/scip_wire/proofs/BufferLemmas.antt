@@ -2,7 +2,7 @@
 use Rattle.std.proofs.Common.{◌≡◌, ℕ, zero, suc, ◌+◌, ◌*◌, ◌-◌, ◌^◌, ◌<◌, ◌≤◌, min, List, [], ◌∷◌, ◌++◌, length, take}
 use Rattle.std.proofs.Common.{drop, map, get_or, refl, sym, ap, ◌∙◌, arith, subst, Option, append_assoc, append-nil}
 use Rattle.std.proofs.Common.{length-append, length-drop, take-append-drop, Bool, true, false, cond, nat_eq, ℤ, ◌==◌}
-use Rattle.std.proofs.Common.{Result, Ok, Err, is_ok, OnOk, OnErr, IfErr, Unit, tt}
+use Rattle.std.proofs.Common.{Result, Ok, Err, is_ok, OnOk, OnErr, IfErr}
 use Rattle.std.proofs.Math.Seq.{take-append_seam}
 use Rattle.std.proofs.lemmas.List.{at_drop_more, at_drop_all, length-take-le}
 use Rattle.std.proofs.KnownBytes.{Appends-nil, Appends-trans}
@@ -234,10 +234,10 @@ records_done record_of xs i past = sym (at_drop_all (λ ys. bytes_of (map record
 pub texts_more : (xs : List (List ℕ)) (i : ℕ) (x : List ℕ) → i < length xs → x ≡ get_or xs i x
     → x ++ concat (drop (i + 1) xs) ≡ concat (drop i xs)
 texts_more xs i x inside is =
-    ap (λ l. l ++ concat (drop (i + 1) xs)) is ∙ sym (at_drop_more concat xs i x inside)
+    ap (λ l. l ++ concat (drop (i + 1) xs)) is ∙ sym (at_drop_more (λ ys. concat ys) xs i x inside)
 
 pub texts_done : (xs : List (List ℕ)) (i : ℕ) → length xs ≤ i → [] ≡ concat (drop i xs)
-texts_done xs i past = sym (at_drop_all concat xs i past)
+texts_done xs i past = sym (at_drop_all (λ ys. concat ys) xs i past)
 
 -- ---- results
 

@@ -149,23 +149,25 @@ module _ {W : Type 0} {contents : W → Option (List ℕ)} {failures : W → ℕ
   same_int k e s = alike (ap (λ n. bytes_of (int_fields k n)) e) s
 
   -- a text was put into an empty buffer, and what then waited went out: all of it, or a front
-  pub all_written : {a b c : W} {u v : List ℕ} {p q : Progress} (x : List ℕ) (result : Result (Unit {0}) CutOff)
+  pub all_written : {a b : W} {u v : List ℕ} {p q : Progress} (c : W) (x : List ℕ)
+      (result : Result (Unit {0}) CutOff)
       → u ≡ [] → p ≡ Going 0 → Passes contents failures a u p b v q x
       → OnOk result ((n : ℕ) × Passes contents failures b v q c [] (Going n) [])
       → OnOk result (IsWritten contents failures a c x)
-  all_written {a} {b} {c} {u} {v} {p} {q} x (Ok done) none start s t =
+  all_written {a} {b} {u} {v} {p} {q} c x (Ok done) none start s t =
       let n = t.0 in
       let whole : Passes contents failures a u p c [] (Going n) x = alike (append-nil x) (both s t.1) in
       all_out contents failures a c u [] n x none refl
       (subst (λ o. Passes contents failures a u o c [] (Going n) x) start whole)
-  all_written {a} {b} {c} {u} {v} {p} {q} x (Err e) none start s t = tt
+  all_written {a} {b} {u} {v} {p} {q} c x (Err e) none start s t = tt
 
-  pub part_written : {a b c : W} {u v : List ℕ} {p q : Progress} (x : List ℕ) (result : Result (Unit {0}) CutOff)
+  pub part_written : {a b : W} {u v : List ℕ} {p q : Progress} (c : W) (x : List ℕ)
+      (result : Result (Unit {0}) CutOff)
       → u ≡ [] → p ≡ Going 0 → length x ≤ max_index_len → Passes contents failures a u p b v q x
       → IfErr result (λ e. Passes contents failures b v q c [] (Stopped e.written) [])
       → IfErr result (λ e. IsCutOff contents failures a c x e.written)
-  part_written {a} {b} {c} {u} {v} {p} {q} x (Ok done) none start short s t = tt
-  part_written {a} {b} {c} {u} {v} {p} {q} x (Err e) none start short s t =
+  part_written {a} {b} {u} {v} {p} {q} c x (Ok done) none start short s t = tt
+  part_written {a} {b} {u} {v} {p} {q} c x (Err e) none start short s t =
       let whole : Passes contents failures a u p c [] (Stopped e.written) x = alike (append-nil x) (both s t) in
       cut_off contents failures a c u [] e.written x none short
       (subst (λ o. Passes contents failures a u o c [] (Stopped e.written) x) start whole)

@@ -4,5 +4,5 @@ use Rattle.scip_wire.proofs.spell.pieces.write_document.Goals as goal
 
 pub returns : goal.returns
 returns g c =
-    all_written _ c.finish.result c.new-out.ensures.empty c.new-out.ensures.progress
+    all_written c.finish.new.sink _ c.finish.result c.new-out.ensures.empty c.new-out.ensures.progress
     (alike (append-nil _) c.encode_message.ensures) c.finish.ensures.ok

@@ -6,6 +6,6 @@ use Rattle.scip_wire.proofs.spell.range.encode_three.Goals as goal
 pub returns : goal.returns
 returns g c =
     let line = alike (ap varint (c.from.ensures ∙ c.start_line.ensures.value)) c.encode_varint.ensures in
-    let column = alike (ap varint (c.from-2.ensures ∙ c.start_column.ensures.value)) c.encode_varint-2.ensures in
-    let end_column = alike (ap varint (c.from-3.ensures ∙ c.end_column.ensures.value)) c.encode_varint-3.ensures in
+    let column = alike (ap varint (c.from-2.ensures ∙ c.start_column.ensures)) c.encode_varint-2.ensures in
+    let end_column = alike (ap varint (c.from-3.ensures ∙ c.end_column.ensures)) c.encode_varint-3.ensures in
     both line (both column end_column)

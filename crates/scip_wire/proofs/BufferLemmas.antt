@@ -5,8 +5,7 @@ use Rattle.std.proofs.Common.{length-append, length-drop, take-append-drop, Bool
 use Rattle.std.proofs.Common.{Result, Ok, Err, is_ok, OnOk, OnErr, IfErr}
 use Rattle.std.proofs.Math.Seq.{take-append_seam}
 use Rattle.std.proofs.lemmas.List.{at_drop_more, at_drop_all, length-take-le}
-use Rattle.std.proofs.KnownBytes.{Appends-nil, Appends-trans}
-use Rattle.std.specs.Io.KnownBytes.{Appends}
+use Rattle.std.proofs.KnownBytes.{Appends-trans}
 use Rattle.std.specs.List.{flat_map, concat}
 use Rattle.scip_model.specs.Range.{RangeNumbers}
 use Rattle.streams.specs.Streams.{one_more}

@@ -1,4 +1,4 @@
-use Rattle.std.proofs.Common.{sym, ap, ◌∙◌, length, ◌==◌, List, ℕ}
+use Rattle.std.proofs.Common.{sym, ap, ◌∙◌}
 use Rattle.scip_wire.specs.Spelling.{bytes_of, text_fields}
 use Rattle.scip_wire.proofs.BufferLemmas.{alike, nothing, text_none}
 use Rattle.scip_wire.proofs.spell.fields.encode_text.Goals as goal

@@ -1,4 +1,4 @@
-use Rattle.std.proofs.Common.{arith, ◌≡◌, ◌++◌, length, sym, ap, append-nil}
+use Rattle.std.proofs.Common.{arith, ◌≡◌, length, sym, ap, append-nil}
 use Rattle.scip_wire.specs.Spelling.{bytes_of, varint}
 use Rattle.scip_wire.proofs.BufferLemmas.{alike, both}
 use Rattle.scip_wire.proofs.spell.message.encode_message.Goals as goal

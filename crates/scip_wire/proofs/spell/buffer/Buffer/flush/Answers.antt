@@ -1,5 +1,3 @@
-use Rattle.std.proofs.Common.{subst, [], List, ℕ}
-use Rattle.scip_wire.specs.Buffered.{Passes}
 use Rattle.scip_wire.proofs.BufferLemmas.{Passes-out, alike}
 use Rattle.scip_wire.proofs.spell.buffer.Buffer.flush.Goals as goal
 

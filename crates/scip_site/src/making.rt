@@ -1,34 +1,30 @@
 //! A folder of pages.
 
-ghost use Rattle.std.specs.Prelude.{◌≡◌, ◌++◌, [], ◌∷◌, ℕ, List, IfOk, OnOk, length, map, string_bytes};
+ghost use Rattle.std.specs.Prelude.{◌≡◌, ◌++◌, [], ◌∷◌, ℕ, List, IfOk, OnOk, length, map};
 ghost use Rattle.std.specs.Borrow.{Bor};
 ghost use Rattle.std.specs.Option.{option_map};
 ghost use Rattle.scip_query.specs.Tables.{numbers};
-ghost use Rattle.scip_snapshot.specs.Snapshots.{path_in};
 ghost use Rattle.scip_snapshot.specs.Showing.{maker, writer};
-ghost use Rattle.scip_site.specs.Facts.{AreRight};
-ghost use Rattle.scip_site.specs.Ids as ids;
-ghost use Rattle.scip_site.specs.Page.{page_of, firsts_of};
+ghost use Rattle.source_page.specs.Facts.{AreRight};
+ghost use Rattle.source_page.specs.Ids as ids;
+ghost use Rattle.source_page.specs.Page.{page_of, firsts_of};
 ghost use Rattle.scip_site.specs.Script.{listing_text};
 ghost use Rattle.scip_site.specs.Tree as tree_spec;
 ghost use Rattle.scip_site.specs.Making as spec;
 ghost use Rattle.scip_pages.specs.Snapshot.{lines_of};
 
-use crate::document_page::{Asked, listed_page};
-use crate::facts::Facts;
+use crate::listing::listed_page;
 use crate::order::by_path;
-use crate::outcome::path_below;
-use crate::places::path_listed;
 use crate::reading::read_all;
-use crate::site::{Site, has_page, page_path};
 use crate::styles::{SEARCH, STYLE};
 use crate::tree::first_page;
 use scip_model::Document;
 use scip_pages::{ColumnUnit, lines_of, unit_of};
 use scip_query::Queries;
-use scip_snapshot::{Folders, ShowFault};
+use scip_snapshot::{Folders, ShowFault, path_in};
 use sequences::OwnedText;
 use source_files::{MakeFiles, ReadFiles};
+use source_page::{Asked, Facts, Site, has_page, page_path, path_listed};
 use std::alloc::{AllocError, Global};
 use streams::Sink;
 
@@ -101,17 +97,6 @@ fn page_at(
     match source_at(site.sources, number) {
         Some(source) => Ok(Some(page_in(alloc, site, number, document, source, listed)?)),
         None => Ok(None),
-    }
-}
-
-/// A path in a folder, for the system; an empty name is that of the folder where the program runs.
-fn path_in(alloc: Global, folder: &str, path: &str) -> Result<String, AllocError>
-    ensures { IfOk result (λ file. string_bytes file ≡ path_in folder.now path.now) }
-{
-    if folder.is_empty() {
-        Ok(String::from_str(alloc, path)?)
-    } else {
-        path_below(alloc, folder, path)
     }
 }
 

@@ -129,7 +129,7 @@ fn number_of(span: Option<Span>) -> Option<usize>
 fn numbers_of(alloc: Global, found: &[Option<Span>]) -> Result<Vec<Option<usize>>, AllocError>
     ensures { IfOk result (λ numbers. numbers.items ≡ map spec.number_of found.now) }
 {
-    let mut numbers = Vec::new(alloc);
+    let mut numbers = Vec::with_capacity(alloc, found.len())?;
     for span in found {
         numbers.push(number_of(*span))?;
     }

@@ -1,7 +1,7 @@
 use Rattle.std.proofs.Common.{◌≡◌, ◌∙◌, ap}
 use Rattle.std.specs.Ordering.{is_eq}
 use Rattle.scip_query.proofs.RunLemmas.{answer_of}
-use Rattle.scip_query.proofs.run.fn.run_of.partition_point+2.Goals as goal
+use Rattle.scip_query.proofs.run.fn.equal_len.partition_point+2.Goals as goal
 
 pub returns : goal.returns
 returns g c =

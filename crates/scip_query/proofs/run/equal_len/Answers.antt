@@ -5,13 +5,13 @@ use Rattle.std.proofs.lemmas.List.Sorted.{IsPartitionPoint-from_clause}
 use Rattle.scip_query.proofs.RunLemmas.{parted_take, near_point, length-few}
 use Rattle.scip_query.proofs.run.equal_len.Goals as goal
 
-pub returns-then-clause-bound : goal.returns-then-clause-bound
-returns-then-clause-bound g c =
+pub returns-then-near-lt-FEW-clause-bound : goal.returns-then-near-lt-FEW-clause-bound
+returns-then-near-lt-FEW-clause-bound g c =
     let bound = rw c.few_of.ensures at c.partition_point-near.ensures.bound in
     omega (arith, length-few 8 c.args.run.now, bound)
 
-pub returns-then-clause-parted : goal.returns-then-clause-parted
-returns-then-clause-parted g c =
+pub returns-then-near-lt-FEW-clause-parted : goal.returns-then-near-lt-FEW-clause-parted
+returns-then-near-lt-FEW-clause-parted g c =
     λ to by parted.
     let run = c.args.run.now in
     let near = c.partition_point-near.result in

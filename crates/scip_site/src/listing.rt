@@ -12,10 +12,10 @@ use std::alloc::{AllocError, Global};
 
 /// The page of a document; what it defines first is appended to the list of symbols. What is known of the index's
 /// symbols is kept for the next page.
-pub(crate) fn listed_page(
+pub(crate) fn listed_page<'a>(
     alloc: Global,
-    site: &Site<'_>,
-    facts: &mut Facts,
+    site: &Site<'a>,
+    facts: &mut Facts<'a>,
     asked: &Asked<'_>,
     script: &mut Vec<u8>,
 ) -> Result<Vec<u8>, AllocError>

@@ -30,8 +30,8 @@ use streams::Sink;
 
 /// What is known of symbols while pages are made, and the list of symbols so far.
 #[derive(Drop)]
-struct Listed {
-    facts: Facts,
+struct Listed<'a> {
+    facts: Facts<'a>,
     script: Vec<u8>,
 }
 
@@ -56,13 +56,13 @@ fn source_at(sources: &[Option<OwnedText>], number: usize) -> Option<&str>
 }
 
 /// The page of a document with a number and a source. Its symbols are listed.
-fn page_in(
+fn page_in<'a>(
     alloc: Global,
-    site: &Site<'_>,
+    site: &Site<'a>,
     number: usize,
     document: &Document,
     source: &str,
-    listed: &mut Listed,
+    listed: &mut Listed<'a>,
 ) -> Result<Vec<u8>, AllocError>
     requires { AreRight site.now.queries.now site.now.sources.now listed.old.facts.facts.items }
     ensures right { AreRight site.now.queries.now site.now.sources.now listed.new.facts.facts.items }
@@ -80,11 +80,11 @@ fn page_in(
 }
 
 /// The page of the document with a number, if it has one. Its symbols are listed.
-fn page_at(
+fn page_at<'a>(
     alloc: Global,
-    site: &Site<'_>,
+    site: &Site<'a>,
     number: usize,
-    listed: &mut Listed,
+    listed: &mut Listed<'a>,
 ) -> Result<Option<Vec<u8>>, AllocError>
     requires { AreRight site.now.queries.now site.now.sources.now listed.old.facts.facts.items }
     ensures right { AreRight site.now.queries.now site.now.sources.now listed.new.facts.facts.items }
@@ -138,12 +138,12 @@ fn make_if_some<O: MakeFiles>(
 }
 
 /// Makes the file of the page of the document with a number, if it has one. Its symbols are listed.
-fn make_page<O: MakeFiles>(
+fn make_page<'a, O: MakeFiles>(
     alloc: Global,
     folder: &str,
-    site: &Site<'_>,
+    site: &Site<'a>,
     number: usize,
-    listed: &mut Listed,
+    listed: &mut Listed<'a>,
     made: &mut O,
 ) -> Result<(), ShowFault>
     requires { AreRight site.now.queries.now site.now.sources.now listed.old.facts.facts.items }
@@ -157,11 +157,11 @@ fn make_page<O: MakeFiles>(
 }
 
 /// Makes the files of all pages. All symbols are listed.
-fn make_each<O: MakeFiles>(
+fn make_each<'a, O: MakeFiles>(
     alloc: Global,
     folder: &str,
-    site: &Site<'_>,
-    listed: &mut Listed,
+    site: &Site<'a>,
+    listed: &mut Listed<'a>,
     made: &mut O,
 ) -> Result<(), ShowFault>
     requires { AreRight site.now.queries.now site.now.sources.now listed.old.facts.facts.items }
@@ -231,7 +231,7 @@ fn first_of(alloc: Global, site: &Site<'_>, order: &[usize]) -> Result<Vec<u8>, 
 }
 
 /// Nothing is known, and nothing is listed.
-fn nothing_listed(alloc: Global, queries: &Queries) -> Result<Listed, AllocError>
+fn nothing_listed<'a>(alloc: Global, queries: &Queries) -> Result<Listed<'a>, AllocError>
     ensures facts { IfOk result (λ listed. listed.facts.facts.items ≡ []) }
     ensures script { IfOk result (λ listed. listed.script.items ≡ spec.script_start) }
 {

@@ -35,45 +35,49 @@ fn push_start(alloc: Global, page: &mut Vec<u8>, path: &str) -> Result<(), Alloc
 }
 
 /// Appends what is below the head of a page.
-fn push_main(
+fn push_main<'a>(
     alloc: Global,
     page: &mut Vec<u8>,
-    site: &Site<'_>,
+    site: &Site<'a>,
+    facts: &Facts<'a>,
     code: &Code<'_>,
     firsts: &[Place],
 ) -> Result<(), AllocError>
+    requires { AreRight site.now.queries.now site.now.sources.now facts.now.facts.items }
     ensures { OnOk result (page.new.items ≡ page.old.items ++ spec.main_text site.now.queries.now site.now.sources.now code.now.unit code.now.occurrences.now code.now.links.now (map (λ (l : Bor (List ℕ)). l.now) code.now.lines.now) firsts.now) }
 {
     page.extend_from_slice(b"<main>\n<pre>")?;
     push_code(alloc, page, code)?;
     page.extend_from_slice(b"</pre>\n")?;
-    push_all_defined(alloc, page, site, code, firsts)?;
+    push_all_defined(alloc, page, site, facts, code, firsts)?;
     page.extend_from_slice(b"</main>\n</body>\n</html>\n")?;
     Ok(())
 }
 
 /// The page of a document with a path, whose code and first definitions are known.
-fn page_with(
+fn page_with<'a>(
     alloc: Global,
-    site: &Site<'_>,
+    site: &Site<'a>,
+    facts: &Facts<'a>,
     path: &str,
     code: &Code<'_>,
     firsts: &[Place],
 ) -> Result<Vec<u8>, AllocError>
+    requires { AreRight site.now.queries.now site.now.sources.now facts.now.facts.items }
     ensures { IfOk result (λ page. page.items ≡ spec.start_text path.now ++ spec.main_text site.now.queries.now site.now.sources.now code.now.unit code.now.occurrences.now code.now.links.now (map (λ (l : Bor (List ℕ)). l.now) code.now.lines.now) firsts.now) }
 {
     let mut page = Vec::new(alloc);
     push_start(alloc, &mut page, path)?;
-    push_main(alloc, &mut page, site, code, firsts)?;
+    push_main(alloc, &mut page, site, facts, code, firsts)?;
     Ok(page)
 }
 
 /// The page of a document. The places of what it defines first are appended to a list, and what is known of the index's
 /// symbols is kept for the next page.
-pub fn page_and_firsts(
+pub fn page_and_firsts<'a>(
     alloc: Global,
-    site: &Site<'_>,
-    facts: &mut Facts,
+    site: &Site<'a>,
+    facts: &mut Facts<'a>,
     asked: &Asked<'_>,
     defined: &mut Vec<Place>,
 ) -> Result<Vec<u8>, AllocError>
@@ -93,14 +97,14 @@ pub fn page_and_firsts(
     let path = asked.document.relative_path.as_str();
     let firsts = linked.firsts.as_slice();
     defined.extend_from_slice(firsts)?;
-    page_with(alloc, site, path, &code, firsts)
+    page_with(alloc, site, facts, path, &code, firsts)
 }
 
 /// The page of a document. What is known of the index's symbols is kept for the next page.
-pub fn page(
+pub fn page<'a>(
     alloc: Global,
-    site: &Site<'_>,
-    facts: &mut Facts,
+    site: &Site<'a>,
+    facts: &mut Facts<'a>,
     asked: &Asked<'_>,
 ) -> Result<Vec<u8>, AllocError>
     requires { AreRight site.now.queries.now site.now.sources.now facts.old.facts.items }

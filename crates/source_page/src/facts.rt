@@ -1,42 +1,46 @@
 //! What is known of symbols, found once for each.
 
-ghost use Rattle.std.specs.Prelude.{◌≡◌, ◌++◌, ℕ, List, [], IfOk, OnOk, Some, length, map, option_copied};
+ghost use Rattle.std.specs.Prelude.{◌≡◌, ◌++◌, ℕ, List, [], IfOk, IfSome, OnOk, map};
 ghost use Rattle.std.specs.Borrow.{Bor};
 ghost use Rattle.std.specs.List.{flat_map};
 ghost use Rattle.scip_query.specs.References.{is_local};
+ghost use Rattle.scip_query.specs.BySymbol.{references_in, documentation_in};
 ghost use Rattle.source_page.specs.Targets as spec;
-ghost use Rattle.source_page.specs.Facts.{AreRight, known_in};
+ghost use Rattle.source_page.specs.Facts.{AreRight, IsFact, Tells};
 ghost use Rattle.source_page.specs.Facts as served;
 
-use crate::definitions::definition_of;
+use crate::definitions::definition_among;
 use crate::site::Site;
 use scip_query::{Place, Queries};
-use sequences::{OwnedText, Sequence};
+use sequences::Sequence;
 use std::alloc::{AllocError, Global};
 
 /// What is known of a symbol.
 #[derive(Drop)]
-pub struct Known {
+pub(crate) struct Known {
     /// The place of its first definition that has a page.
     pub definition: Option<Place>,
     /// The symbol, and its documentation below.
     pub label: Sequence<u8>,
 }
 
-/// What is known of a symbol that is asked for in a document.
-#[derive(Drop)]
-pub struct Fact {
+/// Where the occurrences are of a symbol that is asked for in a document.
+#[derive(Clone, Copy)]
+pub struct Fact<'a> {
     /// The document's number.
     pub document: usize,
-    pub symbol: OwnedText,
-    pub known: Known,
+    pub symbol: &'a str,
+    /// The places of all its occurrences.
+    pub places: &'a [Place],
+    /// The first of them where it is defined and that has a page.
+    pub definition: Option<Place>,
 }
 
-/// What is known of an index's symbols so far, and for each occurrence where that of its symbol may be. So each symbol
-/// is looked up once, however many occurrences it has.
+/// Where an index's symbols are, as far as that is known, and for each occurrence where the fact of its symbol may be.
+/// So each symbol is looked up once, however many occurrences it has.
 #[derive(Drop)]
-pub struct Facts {
-    pub facts: Vec<Fact>,
+pub struct Facts<'a> {
+    pub facts: Vec<Fact<'a>>,
     hints: Vec<Vec<usize>>,
 }
 
@@ -61,20 +65,68 @@ fn is_asked_alike(count: usize, symbol: &str, a: usize, b: usize) -> bool
 }
 
 /// Whether a fact is of a symbol that is asked for in the document with a number, of so many.
-fn serves(fact: &Fact, count: usize, document: usize, symbol: &str) -> bool
+fn serves(fact: &Fact<'_>, count: usize, document: usize, symbol: &str) -> bool
     ensures { result ≡ served.serves fact.now count document symbol.now }
 {
-    fact.symbol.as_str() == symbol && is_asked_alike(count, symbol, fact.document, document)
+    fact.symbol == symbol && is_asked_alike(count, symbol, fact.document, document)
 }
 
-/// Whether the fact with a number is.
-fn is_served(facts: &[Fact], number: usize, count: usize, document: usize, symbol: &str) -> bool
-    ensures { result ≡ served.is_served facts.now number count document symbol.now }
+/// A fact, if it is of a symbol that is asked for in the document with a number.
+fn serving<'a>(site: &Site<'_>, fact: &Fact<'a>, document: usize, symbol: &str) -> Option<Fact<'a>>
+    requires { IsFact site.now.queries.now site.now.sources.now fact.now }
+    ensures { IfSome result (λ told. Tells site.now.queries.now site.now.sources.now document symbol.now told) }
+{
+    let count = site.queries.documents().len();
+    if serves(fact, count, document, symbol) {
+        Some(*fact)
+    } else {
+        None
+    }
+}
+
+/// The fact with a number, if there is one, and it is of such a symbol.
+fn fact_for<'a>(
+    site: &Site<'_>,
+    facts: &[Fact<'a>],
+    number: usize,
+    document: usize,
+    symbol: &str,
+) -> Option<Fact<'a>>
+    requires { AreRight site.now.queries.now site.now.sources.now facts.now }
+    ensures { IfSome result (λ told. Tells site.now.queries.now site.now.sources.now document symbol.now told) }
 {
     match facts.get(number) {
-        Some(fact) => serves(fact, count, document, symbol),
-        None => false,
+        Some(fact) => serving(site, fact, document, symbol),
+        None => None,
     }
+}
+
+/// Finds where a symbol is that is asked for in the document with a number.
+fn new_fact<'a>(site: &Site<'a>, document: usize, symbol: &'a str) -> Fact<'a>
+    ensures right { IsFact site.now.queries.now site.now.sources.now result }
+    ensures tells { Tells site.now.queries.now site.now.sources.now document symbol.now result }
+{
+    let places = site.queries.references_in(document, symbol);
+    Fact {
+        document,
+        symbol,
+        places,
+        definition: definition_among(site, places),
+    }
+}
+
+/// Appends a fact.
+fn push_fact<'a>(
+    site: &Site<'_>,
+    facts: &mut Vec<Fact<'a>>,
+    fact: Fact<'a>,
+) -> Result<(), AllocError>
+    requires facts { AreRight site.now.queries.now site.now.sources.now facts.old.items }
+    requires fact { IsFact site.now.queries.now site.now.sources.now fact }
+    ensures { AreRight site.now.queries.now site.now.sources.now facts.new.items }
+{
+    facts.push(fact)?;
+    Ok(())
 }
 
 /// The number that is noted for a place.
@@ -136,21 +188,18 @@ fn push_below(label: &mut Vec<u8>, text: &str) -> Result<(), AllocError>
     label.extend_from_slice(text.as_bytes())
 }
 
-/// Finds what is known of a symbol that is asked for in the document with a number.
-fn known_of(
+/// A symbol that is asked for in the document with a number, and its documentation below.
+fn label_in(
     alloc: Global,
     site: &Site<'_>,
     document: usize,
     symbol: &str,
-) -> Result<Known, AllocError>
-    ensures { IfOk result (λ known. known ≡ spec.known_of site.now.queries.now site.now.sources.now document symbol.now) }
+) -> Result<Sequence<u8>, AllocError>
+    ensures { IfOk result (λ label. label ≡ spec.label_of symbol.now (documentation_in site.now.queries.now document symbol.now)) }
 {
     let documentation = site.queries.documentation_in(alloc, document, symbol)?;
     let label = label_of(alloc, symbol, &documentation)?;
-    Ok(Known {
-        definition: definition_of(site, document, symbol),
-        label: Sequence::from_vec(label),
-    })
+    Ok(Sequence::from_vec(label))
 }
 
 /// Numbers, all 0, as many as a document has occurrences.
@@ -162,30 +211,9 @@ fn no_hints(alloc: Global, queries: &Queries) -> Result<Vec<Vec<usize>>, AllocEr
     Ok(hints)
 }
 
-/// Appends a fact.
-fn push_fact(
-    alloc: Global,
-    site: &Site<'_>,
-    facts: &mut Vec<Fact>,
-    document: usize,
-    symbol: &str,
-) -> Result<(), AllocError>
-    requires { AreRight site.now.queries.now site.now.sources.now facts.old.items }
-    ensures right { AreRight site.now.queries.now site.now.sources.now facts.new.items }
-    ensures found { OnOk result (known_in facts.new.items (length facts.old.items) ≡ Some (spec.known_of site.now.queries.now site.now.sources.now document symbol.now)) }
-{
-    let known = known_of(alloc, site, document, symbol)?;
-    facts.push(Fact {
-        document,
-        symbol: OwnedText::copy_of(alloc, symbol)?,
-        known,
-    })?;
-    Ok(())
-}
-
-impl Facts {
+impl<'a> Facts<'a> {
     /// Nothing is known yet.
-    pub fn new(alloc: Global, queries: &Queries) -> Result<Facts, AllocError>
+    pub fn new(alloc: Global, queries: &Queries) -> Result<Facts<'a>, AllocError>
         ensures { IfOk result (λ facts. facts.facts.items ≡ []) }
     {
         Ok(Facts {
@@ -194,37 +222,68 @@ impl Facts {
         })
     }
 
-    /// The number of the fact of the symbol at a place.
-    pub(crate) fn number_for(
+    /// Finds where the symbol at a place is, and notes it for all its places.
+    fn found(
         &mut self,
-        alloc: Global,
-        site: &Site<'_>,
-        place: Place,
-        symbol: &str,
-    ) -> Result<usize, AllocError>
+        site: &Site<'a>,
+        document: usize,
+        symbol: &'a str,
+    ) -> Result<Option<Place>, AllocError>
         requires { AreRight site.now.queries.now site.now.sources.now self.old.facts.items }
         ensures right { AreRight site.now.queries.now site.now.sources.now self.new.facts.items }
-        ensures found { IfOk result (λ number. known_in self.new.facts.items number ≡ Some (spec.known_of site.now.queries.now site.now.sources.now place.document symbol.now)) }
+        ensures found { IfOk result (λ definition. definition ≡ spec.definition_of site.now.queries.now site.now.sources.now document symbol.now) }
     {
-        let hinted = hint_at(&self.hints, place);
-        let count = site.queries.documents().len();
-        if is_served(&self.facts, hinted, count, place.document, symbol) {
-            return Ok(hinted);
-        }
+        let fact = new_fact(site, document, symbol);
         let number = self.facts.len();
-        push_fact(alloc, site, &mut self.facts, place.document, symbol)?;
-        let places = site.queries.references_in(place.document, symbol);
-        hint_all(&mut self.hints, places, number);
-        Ok(number)
+        push_fact(site, &mut self.facts, fact)?;
+        hint_all(&mut self.hints, fact.places, number);
+        Ok(fact.definition)
     }
 
-    /// What the fact with a number tells.
-    pub(crate) fn known(&self, number: usize) -> Option<&Known>
-        ensures { option_copied result ≡ known_in self.now.facts.items number }
+    /// The first definition that has a page, of the symbol at a place.
+    fn definition_for(
+        &mut self,
+        site: &Site<'a>,
+        place: Place,
+        symbol: &'a str,
+    ) -> Result<Option<Place>, AllocError>
+        requires { AreRight site.now.queries.now site.now.sources.now self.old.facts.items }
+        ensures right { AreRight site.now.queries.now site.now.sources.now self.new.facts.items }
+        ensures found { IfOk result (λ definition. definition ≡ spec.definition_of site.now.queries.now site.now.sources.now place.document symbol.now) }
     {
-        match self.facts.get(number) {
-            Some(fact) => Some(&fact.known),
-            None => None,
+        let hinted = hint_at(&self.hints, place);
+        match fact_for(site, &self.facts, hinted, place.document, symbol) {
+            Some(fact) => Ok(fact.definition),
+            None => self.found(site, place.document, symbol),
+        }
+    }
+
+    /// What is known of the symbol at a place.
+    pub(crate) fn known_for(
+        &mut self,
+        alloc: Global,
+        site: &Site<'a>,
+        place: Place,
+        symbol: &'a str,
+    ) -> Result<Known, AllocError>
+        requires { AreRight site.now.queries.now site.now.sources.now self.old.facts.items }
+        ensures right { AreRight site.now.queries.now site.now.sources.now self.new.facts.items }
+        ensures found { IfOk result (λ known. known ≡ spec.known_of site.now.queries.now site.now.sources.now place.document symbol.now) }
+    {
+        let definition = self.definition_for(site, place, symbol)?;
+        let label = label_in(alloc, site, place.document, symbol)?;
+        Ok(Known { definition, label })
+    }
+
+    /// The places of all occurrences of the symbol at a place.
+    pub(crate) fn places_for(&self, site: &Site<'a>, place: Place, symbol: &'a str) -> &'a [Place]
+        requires { AreRight site.now.queries.now site.now.sources.now self.now.facts.items }
+        ensures { result.now ≡ references_in site.now.queries.now place.document symbol.now }
+    {
+        let hinted = hint_at(&self.hints, place);
+        match fact_for(site, &self.facts, hinted, place.document, symbol) {
+            Some(fact) => fact.places,
+            None => site.queries.references_in(place.document, symbol),
         }
     }
 }

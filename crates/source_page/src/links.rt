@@ -80,26 +80,20 @@ fn target_of(
 }
 
 /// The link of the occurrence at a place, of whose symbol this is known.
-fn link_with(
-    alloc: Global,
-    site: &Site<'_>,
-    place: Place,
-    known: &Known,
-) -> Result<Link, AllocError>
-    ensures { IfOk result (λ link. link ≡ spec.link_with site.now.queries.now place known.now) }
+fn link_with(alloc: Global, site: &Site<'_>, place: Place, known: Known) -> Result<Link, AllocError>
+    ensures { IfOk result (λ link. link ≡ spec.link_with site.now.queries.now place known) }
 {
-    let label = Sequence::from_vec(Vec::from_slice(alloc, known.label.as_slice())?);
     match known.definition {
         Some(definition) => {
             let url = target_of(alloc, site, place, definition)?;
             Ok(Link {
                 target: Some(Sequence::from_vec(url)),
-                label,
+                label: known.label,
             })
         }
         None => Ok(Link {
             target: None,
-            label,
+            label: known.label,
         }),
     }
 }
@@ -129,10 +123,10 @@ fn push_first(
 }
 
 /// Appends the link of a place.
-fn push_linked(
+fn push_linked<'a>(
     alloc: Global,
-    site: &Site<'_>,
-    facts: &mut Facts,
+    site: &Site<'a>,
+    facts: &mut Facts<'a>,
     linked: &mut Linked,
     place: Place,
 ) -> Result<(), AllocError>
@@ -142,20 +136,18 @@ fn push_linked(
     ensures firsts { OnOk result (linked.new.firsts.items ≡ linked.old.firsts.items ++ cond (spec.is_first site.now.queries.now site.now.sources.now place) (place ∷ []) []) }
 {
     let symbol = symbol_listed(site.queries.documents(), place);
-    let number = facts.number_for(alloc, site, place, symbol)?;
-    let Some(known) = facts.known(number) else {
-        return Err(AllocError);
-    };
+    let known = facts.known_for(alloc, site, place, symbol)?;
+    let definition = known.definition;
     linked.links.push(link_with(alloc, site, place, known)?)?;
-    push_first(&mut linked.firsts, place, known.definition)?;
+    push_first(&mut linked.firsts, place, definition)?;
     Ok(())
 }
 
 /// The links of places.
-pub(crate) fn linked_of(
+pub(crate) fn linked_of<'a>(
     alloc: Global,
-    site: &Site<'_>,
-    facts: &mut Facts,
+    site: &Site<'a>,
+    facts: &mut Facts<'a>,
     places: &[Place],
 ) -> Result<Linked, AllocError>
     requires { AreRight site.now.queries.now site.now.sources.now facts.old.facts.items }

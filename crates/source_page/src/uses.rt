@@ -6,9 +6,11 @@ ghost use Rattle.std.specs.Borrow.{Bor};
 ghost use Rattle.std.specs.List.{flat_map};
 ghost use Rattle.scip_query.specs.Tables.{path_listed};
 ghost use Rattle.source_page.specs.Site.{line_listed};
+ghost use Rattle.source_page.specs.Facts.{AreRight};
 ghost use Rattle.source_page.specs.Uses as spec;
 
 use crate::code::{Code, line_at};
+use crate::facts::Facts;
 use crate::marks::push_link;
 use crate::places::{line_listed, occurrence_listed, path_listed, symbol_listed};
 use crate::site::{Site, has_page, same_place};
@@ -82,16 +84,18 @@ fn push_if_use(
 }
 
 /// Appends the uses of what is defined at a place.
-fn push_uses(
+fn push_uses<'a>(
     alloc: Global,
     page: &mut Vec<u8>,
-    site: &Site<'_>,
+    site: &Site<'a>,
+    facts: &Facts<'a>,
     definition: Place,
 ) -> Result<(), AllocError>
+    requires { AreRight site.now.queries.now site.now.sources.now facts.now.facts.items }
     ensures { OnOk result (page.new.items ≡ page.old.items ++ spec.uses_text site.now.queries.now site.now.sources.now definition) }
 {
     let symbol = symbol_listed(site.queries.documents(), definition);
-    let places = site.queries.references_in(definition.document, symbol);
+    let places = facts.places_for(site, definition, symbol);
     for place in places {
         push_if_use(alloc, page, site, definition, *place)?;
     }
@@ -163,46 +167,52 @@ fn push_defined_head(
 }
 
 /// Appends what is defined at a place, and its uses.
-fn push_defined(
+fn push_defined<'a>(
     alloc: Global,
     page: &mut Vec<u8>,
-    site: &Site<'_>,
+    site: &Site<'a>,
+    facts: &Facts<'a>,
     code: &Code<'_>,
     place: Place,
 ) -> Result<(), AllocError>
+    requires { AreRight site.now.queries.now site.now.sources.now facts.now.facts.items }
     ensures { OnOk result (page.new.items ≡ page.old.items ++ spec.defined_text site.now.queries.now site.now.sources.now code.now.unit (map (λ (l : Bor (List ℕ)). l.now) code.now.lines.now) code.now.links.now place) }
 {
     push_defined_head(alloc, page, site, code, place)?;
-    push_uses(alloc, page, site, place)
+    push_uses(alloc, page, site, facts, place)
 }
 
 /// Appends what is defined at places.
-fn push_each_defined(
+fn push_each_defined<'a>(
     alloc: Global,
     page: &mut Vec<u8>,
-    site: &Site<'_>,
+    site: &Site<'a>,
+    facts: &Facts<'a>,
     code: &Code<'_>,
     firsts: &[Place],
 ) -> Result<(), AllocError>
+    requires { AreRight site.now.queries.now site.now.sources.now facts.now.facts.items }
     ensures { OnOk result (page.new.items ≡ page.old.items ++ flat_map (spec.defined_text site.now.queries.now site.now.sources.now code.now.unit (map (λ (l : Bor (List ℕ)). l.now) code.now.lines.now) code.now.links.now) firsts.now) }
 {
     for place in firsts {
-        push_defined(alloc, page, site, code, *place)?;
+        push_defined(alloc, page, site, facts, code, *place)?;
     }
     Ok(())
 }
 
 /// Appends what a page defines.
-pub(crate) fn push_all_defined(
+pub(crate) fn push_all_defined<'a>(
     alloc: Global,
     page: &mut Vec<u8>,
-    site: &Site<'_>,
+    site: &Site<'a>,
+    facts: &Facts<'a>,
     code: &Code<'_>,
     firsts: &[Place],
 ) -> Result<(), AllocError>
+    requires { AreRight site.now.queries.now site.now.sources.now facts.now.facts.items }
     ensures { OnOk result (page.new.items ≡ page.old.items ++ spec.all_defined site.now.queries.now site.now.sources.now code.now.unit (map (λ (l : Bor (List ℕ)). l.now) code.now.lines.now) code.now.links.now firsts.now) }
 {
     page.extend_from_slice(b"<aside><h2>Definitions and their uses</h2>\n<dl>\n")?;
-    push_each_defined(alloc, page, site, code, firsts)?;
+    push_each_defined(alloc, page, site, facts, code, firsts)?;
     page.extend_from_slice(b"</dl>\n</aside>\n")
 }

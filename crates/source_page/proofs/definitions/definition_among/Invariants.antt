@@ -1,7 +1,7 @@
 use Rattle.std.proofs.Common.{◌≡◌, drop}
 use Rattle.std.specs.List.{find}
 use Rattle.source_page.specs.Targets.{is_shown_definition}
-use Rattle.source_page.proofs.definitions.definition_of.Given as goal
+use Rattle.source_page.proofs.definitions.definition_among.Given as goal
 
 -- none so far
 abbrev pub invariant-loop-place : goal.invariant-loop-place

@@ -156,7 +156,7 @@ parted_take p k xs parted i j d before inside passes =
 pub near_point : {X : Type 0} (p : X → Bool) (k : ℕ) (xs : List X) (n : ℕ) → IsPartitionedBy p xs
     → IsPartitionPoint (λ x. p x ≡ true) (λ x. p x ≡ false) (take k xs) n → n < k
     → IsPartitionPoint (λ x. p x ≡ true) (λ x. p x ≡ false) xs n
-near_point p k xs n parted point few = (before, behind)
+near_point {X = X} p k xs n parted point few = (before, behind)
   where
     before : AllWithin (λ x. p x ≡ true) xs 0 n
     before j d low high =

@@ -7,6 +7,7 @@ use Rattle.std.proofs.lemmas.Bool.Decides.{eqb_tells}
 use Rattle.std.proofs.lemmas.Bool.{eqb-false}
 use Rattle.scip_pages.specs.Escapes.{escape_byte, escape}
 use Rattle.scip_pages.specs.Plain.{plain, reference_behind}
+use Rattle.scip_pages.specs.Plainly.{is_plain}
 use Rattle.scip_pages.specs.EscapeLaws.{ShowsTheText, ShowsTheRest, HasNoMarks, HasOnlyReferences}
 
 -- what holds of a number, and of each other number, holds of all
@@ -27,6 +28,15 @@ by_byte P amp lt gt quot apos cr other byte =
     is_or_not P 39 byte apos (λ e e'.
     is_or_not P 13 byte cr (λ f f'.
     other byte a b (rw (a, b, c, d, e, f) refl) b' c' d' e' f'))))))
+
+-- a byte that has no reference is written as it is
+pub plain_byte : (byte : ℕ) → is_plain byte ≡ true → escape_byte byte ≡ byte ∷ []
+plain_byte = by_byte (λ byte. is_plain byte ≡ true → escape_byte byte ≡ byte ∷ [])
+    (λ e. never e) (λ e. never e) (λ e. never e) (λ e. never e) (λ e. never e) (λ e. never e)
+    (λ byte a b same c d e f g is. same)
+  where
+    never : {X : Type 0} → false ≡ true → X
+    never e = absurd cc
 
 shows_byte : (rest : List ℕ) (byte : ℕ) → plain (escape_byte byte ++ rest) ≡ byte ∷ plain rest
 shows_byte rest = by_byte (λ byte. plain (escape_byte byte ++ rest) ≡ byte ∷ plain rest) refl refl refl refl refl refl

@@ -1,3 +1,4 @@
+pub mod PlainLemmas
 pub mod EscapeLemmas
 pub mod ColumnLemmas
 pub mod OffsetLemmas

@@ -1,16 +1,16 @@
 -- Spans laid over bytes, and runs of marks.
 use Rattle.std.proofs.Common.{◌≡◌, ◌≢◌, ◌∙◌, sym, refl, ap, subst, ℕ, suc, zero, ◌+◌, ◌-◌, ◌<◌, ◌≤◌, ◌==◌, ◌&&◌, Bool}
 use Rattle.std.proofs.Common.{true, false, cond, nat_lt, nat_le, List, [], ◌∷◌, length, take, drop, set, get_or, inl}
-use Rattle.std.proofs.Common.{inr, ◌⊎◌, arith, get_or-set_other, get_or-set_same}
+use Rattle.std.proofs.Common.{inr, ◌⊎◌, arith, get_or-set_other, get_or-set_same, map}
 use Rattle.std.specs.Prelude.{Option, None, Some}
-use Rattle.std.specs.List.{prefix_len}
+use Rattle.std.specs.List.{prefix_len, range_with_len}
 use Rattle.std.proofs.lemmas.List.Sums.{fold_more}
 use Rattle.std.proofs.lemmas.List.{take_all}
 use Rattle.std.proofs.lemmas.Bool.{cases_lt, eqb-true, eq-eqb, lt-ltb, le-ltb, le-leb, lt-leb}
 use Rattle.std.proofs.Math.Bool.{and-true, and-false}
 use Rattle.scip_pages.specs.declared.runs.Span.{Span}
 use Rattle.scip_pages.specs.declared.runs.Run.{Run}
-use Rattle.scip_pages.specs.Runs.{covers, narrower, span_at, same_mark, onto_runs, runs_of}
+use Rattle.scip_pages.specs.Runs.{covers, narrower, span_at, number_of, marks_of, same_mark, onto_runs, runs_of}
 
 -- what is there once a span is laid on the bytes before an offset
 abbrev pub laid : Span → ℕ → Option Span → ℕ → Option Span
@@ -122,3 +122,15 @@ pub runs_next : (marks : List (Option ℕ)) (d : Option ℕ) → 1 ≤ length ma
     ∷ runs_of (drop (prefix_len (same_mark (get_or marks 0 d)) (behind marks)) (behind marks))
 runs_next [] d some = absurd (omega (arith, some))
 runs_next (mark ∷ marks) d some = rw (behind-cons mark marks) (runs_step mark marks)
+
+-- bytes that nothing marks are one run
+unmarked_from : (a n : ℕ)
+    → runs_of (map number_of (map (span_at []) (range_with_len a (suc n)))) ≡ run (suc n) None ∷ []
+unmarked_from a zero = refl
+unmarked_from a (suc n) =
+    let one : 1 + suc n ≡ suc (suc n) = omega arith in
+    ap (onto_runs 1 None) (unmarked_from (a + 1) n) ∙ ap (λ (k : ℕ). run k None ∷ []) one
+
+pub unmarked_runs : (len : ℕ) → (len ≡ 0 → ⊥) → runs_of (marks_of [] len) ≡ run len None ∷ []
+unmarked_runs zero some = absurd (some refl)
+unmarked_runs (suc n) some = unmarked_from 0 n

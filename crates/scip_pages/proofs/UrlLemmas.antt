@@ -37,6 +37,10 @@ not_percent b kept = by (b == 37) refl
     by true e = let clash : false ≡ true = subst (λ (n : ℕ). is_kept n ≡ true) (eqb-true b 37 e) kept in cc
     by false e = refl
 
+-- a byte that is kept is written as it is
+pub kept_byte : (b : ℕ) → is_kept b ≡ true → encoded_byte b ≡ b ∷ []
+kept_byte b kept = rw kept refl
+
 decodes_byte : (b : ℕ) (rest : List ℕ) → b < 256 → decoded (encoded_byte b ++ rest) ≡ b ∷ decoded rest
 decodes_byte b rest small = by (is_kept b) refl
   where

@@ -1,4 +1,5 @@
 pub mod Escapes
+pub mod Plainly
 pub mod Plain
 pub mod EscapeLaws
 pub mod Columns

@@ -1,6 +1,6 @@
 //! What of a line occurrences mark.
 
-ghost use Rattle.std.specs.Prelude.{◌≡◌, ◌≤◌, ◌<◌, ◌==◌, ℕ, length, map, cond, get_or, IfOk, None, Some, drop};
+ghost use Rattle.std.specs.Prelude.{◌≡◌, ◌≤◌, ◌<◌, ◌==◌, [], ℕ, length, map, cond, get_or, IfOk, None, Some, drop};
 ghost use Rattle.std.specs.List.{prefix_len, range_with_len};
 ghost use Rattle.scip_pages.specs.Runs as spec;
 
@@ -129,7 +129,7 @@ fn number_of(span: Option<Span>) -> Option<usize>
 fn numbers_of(alloc: Global, found: &[Option<Span>]) -> Result<Vec<Option<usize>>, AllocError>
     ensures { IfOk result (λ numbers. numbers.items ≡ map spec.number_of found.now) }
 {
-    let mut numbers = Vec::new(alloc);
+    let mut numbers = Vec::with_capacity(alloc, found.len())?;
     for span in found {
         numbers.push(number_of(*span))?;
     }
@@ -183,11 +183,38 @@ fn runs_of(alloc: Global, marks: &[Option<usize>]) -> Result<Vec<Run>, AllocErro
     Ok(runs)
 }
 
+/// The run of a line of `len` bytes that nothing marks; none of an empty line.
+fn unmarked(alloc: Global, len: usize) -> Result<Vec<Run>, AllocError>
+    ensures { IfOk result (λ runs. runs.items ≡ spec.runs_of (spec.marks_of [] len)) }
+{
+    if len == 0 {
+        Ok(Vec::new(alloc))
+    } else {
+        Vec::from_slice(
+            alloc,
+            &[Run {
+                len,
+                occurrence: None,
+            }],
+        )
+    }
+}
+
+/// The runs of a line of `len` bytes that spans mark.
+fn marked(alloc: Global, spans: &[Span], len: usize) -> Result<Vec<Run>, AllocError>
+    ensures { IfOk result (λ runs. runs.items ≡ spec.runs_of (spec.marks_of spans.now len)) }
+{
+    let marks = marks_of(alloc, spans, len)?;
+    runs_of(alloc, &marks)
+}
+
 /// The runs of a line of `len` bytes on which spans lie, which may overlap: of those on a byte the
 /// narrowest marks it, and of several such the first.
 pub fn line_runs(alloc: Global, spans: &[Span], len: usize) -> Result<Vec<Run>, AllocError>
     ensures { IfOk result (λ runs. runs.items ≡ spec.runs_of (spec.marks_of spans.now len)) }
 {
-    let marks = marks_of(alloc, spans, len)?;
-    runs_of(alloc, &marks)
+    match spans {
+        [] => unmarked(alloc, len),
+        [_, ..] => marked(alloc, spans, len),
+    }
 }

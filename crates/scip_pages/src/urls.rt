@@ -1,6 +1,7 @@
 //! URLs by which one page names a line of another.
 
-ghost use Rattle.std.specs.Prelude.{◌≡◌, ◌++◌, ◌<◌, OnOk};
+ghost use Rattle.std.specs.Prelude.{◌≡◌, ◌≤◌, ◌++◌, ◌<◌, IfOk, OnOk, length};
+ghost use Rattle.std.specs.List.{prefix_len};
 ghost use Rattle.scip_pages.specs.Urls as spec;
 
 use std::alloc::{AllocError, Global};
@@ -31,13 +32,33 @@ fn push_encoded_byte(url: &mut Vec<u8>, byte: u8) -> Result<(), AllocError>
     }
 }
 
+/// How many of the first bytes of a path a URL has as they are.
+fn kept_len(path: &[u8]) -> usize
+    ensures len { result ≡ prefix_len spec.is_kept path.now }
+    ensures within { result ≤ length path.now }
+{
+    path.iter().take_while(|byte| is_kept(**byte)).count()
+}
+
+/// Appends the first bytes of a path that a URL has as they are, and gives what is behind them.
+fn push_kept<'a>(url: &mut Vec<u8>, path: &'a [u8]) -> Result<&'a [u8], AllocError>
+    ensures path { IfOk result (λ behind. url.new.items ++ spec.encoded behind.now ≡ url.old.items ++ spec.encoded path.now) }
+    ensures within { IfOk result (λ behind. length behind.now ≤ length path.now) }
+{
+    let (kept, behind) = path.split_at(kept_len(path));
+    url.extend_from_slice(kept)?;
+    Ok(behind)
+}
+
 /// Appends a path, so that what has a meaning in a URL is text of the path (RFC 3986, 2.1
 /// "Percent-Encoding").
 pub fn push_encoded(url: &mut Vec<u8>, path: &[u8]) -> Result<(), AllocError>
     ensures { OnOk result (url.new.items ≡ url.old.items ++ spec.encoded path.now) }
 {
-    for byte in path {
+    let mut rest = push_kept(url, path)?;
+    while let [byte, others @ ..] = rest {
         push_encoded_byte(url, *byte)?;
+        rest = push_kept(url, others)?;
     }
     Ok(())
 }

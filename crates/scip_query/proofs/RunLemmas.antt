@@ -1,5 +1,5 @@
 -- A run of a table: what compares as equal, which stands together where the table rises.
-use Rattle.std.proofs.Common.{◌≡◌, ℕ, zero, suc, ◌+◌, ◌≤◌, Bool, true, false, not, ◌&&◌, List, [], ◌∷◌, length, take}
+use Rattle.std.proofs.Common.{◌≡◌, ℕ, zero, suc, ◌+◌, ◌≤◌, ◌<◌, Bool, true, false, not, ◌&&◌, List, [], ◌∷◌, length, take}
 use Rattle.std.proofs.Common.{drop, get_or, refl, sym, ◌∙◌, ap, subst, arith}
 use Rattle.std.specs.List.{filter, find, slice_get, All, AllWithin}
 use Rattle.std.specs.List.Sorted.{IsPermutation, IsSortedBy, IsStableBy, ties, IsPartitionedBy, IsPartitionPoint}
@@ -11,7 +11,7 @@ use Rattle.std.specs.Ordering.{nat_cmp, is_lt, is_gt, is_eq, ordering_reverse, o
 use Rattle.std.proofs.lemmas.Cmp.{nat_cmp_total}
 use Rattle.std.proofs.lemmas.Bool.Decides.{nat_tests}
 use Rattle.std.specs.Cmp.{IsTotalOrder}
-use Rattle.std.proofs.lemmas.List.{get_or-drop, length-drop}
+use Rattle.std.proofs.lemmas.List.{get_or-drop, get_or-take, length-drop}
 use Rattle.std.proofs.lemmas.List.Elements.{filter_passes}
 use Rattle.std.proofs.lemmas.List.Sorted.{ranks_by, sorted_far, All-permutation}
 use Rattle.scip_query.specs.Runs.{Rises}
@@ -124,6 +124,57 @@ filter_swap p q (x ∷ xs) = by (filter_swap p q xs) (p x) refl (q x) refl where
   by rest true e false f = rw (e, f) rest
   by rest false e true f = rw (e, f, e) rest
   by rest false e false f = rw (e, f) rest
+
+-- ---- the first few of a list
+
+pub length-few : {X : Type 0} (k : ℕ) (xs : List X) → length (take k xs) ≤ length xs
+length-few zero xs = omega arith
+length-few (suc k) [] = omega arith
+length-few (suc k) (x ∷ xs) = omega (arith, length-few k xs)
+
+within_few : {X : Type 0} (k : ℕ) (xs : List X) (j : ℕ) → j < k → j < length xs → j < length (take k xs)
+within_few zero xs j few inside = absurd (omega (arith, few))
+within_few (suc k) [] j few inside = absurd (omega (arith, inside))
+within_few (suc k) (x ∷ xs) zero few inside = omega arith
+within_few (suc k) (x ∷ xs) (suc j) few inside =
+    omega (arith, within_few k xs j (omega (arith, few)) (omega (arith, inside)))
+
+few_within : {X : Type 0} (k : ℕ) (xs : List X) (j : ℕ) → j < length (take k xs) → (j < k) × (j < length xs)
+few_within zero xs j inside = absurd (omega (arith, inside))
+few_within (suc k) [] j inside = absurd (omega (arith, inside))
+few_within (suc k) (x ∷ xs) zero inside = (omega arith, omega arith)
+few_within (suc k) (x ∷ xs) (suc j) inside =
+    let two = few_within k xs j (omega (arith, inside)) in (omega (arith, two.0), omega (arith, two.1))
+
+pub parted_take : {X : Type 0} (p : X → Bool) (k : ℕ) (xs : List X) → IsPartitionedBy p xs → IsPartitionedBy p (take k xs)
+parted_take p k xs parted i j d before inside passes =
+    let two = few_within k xs j inside in
+    rw (get_or-take k xs i d (omega (arith, before, two.0)))
+    (parted i j d before two.1 (subst (λ x. p x ≡ true) (get_or-take k xs j d two.0) passes))
+
+-- where they end among the first few, they end in all
+pub near_point : {X : Type 0} (p : X → Bool) (k : ℕ) (xs : List X) (n : ℕ) → IsPartitionedBy p xs
+    → IsPartitionPoint (λ x. p x ≡ true) (λ x. p x ≡ false) (take k xs) n → n < k
+    → IsPartitionPoint (λ x. p x ≡ true) (λ x. p x ≡ false) xs n
+near_point {X = X} p k xs n parted point few = (before, behind)
+  where
+    before : AllWithin (λ x. p x ≡ true) xs 0 n
+    before j d low high =
+        subst (λ x. p x ≡ true) (get_or-take k xs j d (omega (arith, high, few))) (point.0 j d low high)
+
+    fails : (d : X) → n < length xs → p (get_or xs n d) ≡ false
+    fails d inside =
+        subst (λ x. p x ≡ false) (get_or-take k xs n d few)
+        (point.1 n d (omega arith) (within_few k xs n few inside))
+
+    behind : AllWithin (λ x. p x ≡ false) xs n (length xs)
+    behind j d low high = by (p (get_or xs j d)) refl
+      where
+        by : (b : Bool) → p (get_or xs j d) ≡ b → p (get_or xs j d) ≡ false
+        by true e =
+            let first : p (get_or xs n d) ≡ true = parted n j d low high e in
+            let clash : true ≡ false = sym first ∙ fails d (omega (arith, low, high)) in absurd cc
+        by false e = e
 
 -- what one call answers
 pub answer_of : {F X R : Type 0} (g : Mut F X R) (P : X → R → Type 0) (f : F) (a : X) (r : R) (f' : F)

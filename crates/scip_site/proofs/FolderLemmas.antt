@@ -9,13 +9,13 @@ use Rattle.scip_pages.specs.Code.{attribute}
 use Rattle.scip_pages.specs.Escapes.{escape}
 use Rattle.scip_pages.specs.Paths.{components}
 use Rattle.scip_pages.specs.Urls.{folder_of}
-use Rattle.scip_site.specs.Ids.{HasId}
-use Rattle.scip_site.specs.Crumbs.{head_text}
+use Rattle.source_page.specs.Ids.{HasId}
+use Rattle.source_page.specs.Crumbs.{head_text}
 use Rattle.scip_site.specs.Tree.{common, closes, is_open, open_text, open_or_none, opens, folders_on, leaf_with, but_last}
 use Rattle.scip_site.specs.Tree.{step, tree, search_text, first_page}
 use Rattle.scip_site.specs.Laws.{FoldersHavePlaces}
-use Rattle.scip_site.proofs.ElementLemmas.{In, in_at}
-use Rattle.scip_site.proofs.IdLemmas.{has_own, has_behind, has_before}
+use Rattle.source_page.proofs.ElementLemmas.{In, in_at}
+use Rattle.source_page.proofs.IdLemmas.{has_own, has_behind, has_before}
 
 abbrev place : List ℕ → List ℕ
 place folder = codes "d/" ++ folder

@@ -21,9 +21,9 @@ use Rattle.scip_pages.specs.Paths.{path_fault}
 use Rattle.scip_pages.specs.Snapshot.{lines_of, misfit}
 use Rattle.scip_site.specs.declared.no_page.NoPage.{NoPage}
 use Rattle.scip_site.specs.declared.no_page.NoPage.TheVariants.{NotText}
-use Rattle.scip_site.specs.Ids.{unit_in, AllFit}
+use Rattle.source_page.specs.Ids.{unit_in, AllFit}
 use Rattle.scip_site.specs.Repeats.{has_path, is_repeated}
-use Rattle.scip_site.specs.Site.{Sources, page_path}
+use Rattle.source_page.specs.Site.{Sources, page_path}
 use Rattle.scip_site.specs.Reading.{Outcome, fit_or_misfit, in_unit, of_source, IsRead, fault_of, Read, AreRead, none, next}
 use Rattle.scip_site.specs.Reading.{source_or_none, sources_of}
 use Rattle.scip_site.specs.Making.{page_or_none, page_at, source_at, page_file, page_file_at, pages, shared, site_files}

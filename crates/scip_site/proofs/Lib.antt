@@ -1,9 +1,3 @@
-mod TextLemmas
-mod CodeLemmas
-mod FactLemmas
-mod LawLemmas
-mod ElementLemmas
-mod IdLemmas
 mod PagePathLemmas
 mod RepeatLemmas
 mod TreeLemmas

@@ -12,12 +12,12 @@ use Rattle.scip_snapshot.specs.declared.show_fault.ShowFault.{ShowFault}
 use Rattle.scip_snapshot.specs.declared.show_fault.ShowFault.TheVariants.{Write, Memory}
 use Rattle.scip_snapshot.specs.Showing.{maker, writer, silent}
 use Rattle.scip_snapshot.proofs.ShowLemmas.{makes_none, makes_false}
-use Rattle.scip_site.specs.Site.{Sources}
+use Rattle.source_page.specs.Site.{Sources}
 use Rattle.scip_site.specs.Tree.{first_page}
 use Rattle.scip_site.specs.Reading.{ReadsInto, AllAreKept, none}
 use Rattle.scip_site.specs.Making.{AllOf, PartOf, MakesFiles, Makes, file, in_folder, pages, shared, script_text}
 use Rattle.scip_site.specs.Making.{paths_in, site_files}
-use Rattle.scip_site.proofs.CodeLemmas.{range_more}
+use Rattle.source_page.proofs.CodeLemmas.{range_more}
 
 -- ---- some files, and others behind them
 

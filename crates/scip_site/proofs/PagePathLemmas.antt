@@ -8,7 +8,7 @@ use Rattle.std.proofs.lemmas.List.{append_cancel_left, append_cancel_right, leng
 use Rattle.std.proofs.lemmas.Slice.Eq.{bytes_eq-Decides}
 use Rattle.scip_pages.specs.declared.paths.PathFault.TheVariants.{Absolute, Empty, Dot, Parent}
 use Rattle.scip_pages.specs.Paths.{components, has_name, path_fault}
-use Rattle.scip_site.specs.Site.{page_path}
+use Rattle.source_page.specs.Site.{page_path}
 use Rattle.scip_site.specs.Laws.{HasAGoodPath, HasItsOwnPath}
 
 -- The last component of a path is the longer one of a longer path.

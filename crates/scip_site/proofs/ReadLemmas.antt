@@ -21,7 +21,7 @@ use Rattle.scip_snapshot.proofs.ShowLemmas.{said_more}
 use Rattle.scip_site.specs.declared.no_page.NoPage.{NoPage}
 use Rattle.scip_site.specs.declared.no_page.NoPage.TheVariants.{NotText}
 use Rattle.scip_site.specs.Repeats.{is_repeated}
-use Rattle.scip_site.specs.Site.{Sources}
+use Rattle.source_page.specs.Site.{Sources}
 use Rattle.scip_site.specs.Reading.{Outcome, in_unit, of_source, IsRead, IsOutcome, fault_of, Read, AreRead, none, next}
 use Rattle.scip_site.specs.Reading.{source_or_none, sources_of, name_of, told_by, told, Keeps, IsReadBy, ReadsOne, AreReadBy}
 use Rattle.scip_site.specs.Reading.{AreKept, ReadsAll, ReadsInto}

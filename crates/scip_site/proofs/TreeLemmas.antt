@@ -8,7 +8,7 @@ use Rattle.std.specs.Str.{bytes_eq}
 use Rattle.std.proofs.lemmas.Grind.{flat_map-append}
 use Rattle.std.proofs.lemmas.List.{take-map, length-map, drop_all}
 use Rattle.scip_site.specs.Tree.{common, is_name, same_or_not, same_at, closes, opens, but_last, leaf_with, step_with}
-use Rattle.scip_site.proofs.CodeLemmas.{range_more}
+use Rattle.source_page.proofs.CodeLemmas.{range_more}
 
 -- ---- names that are the same
 

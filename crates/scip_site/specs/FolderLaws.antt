@@ -6,12 +6,12 @@ use Rattle.scip_model.specs.declared.records.Document.{Document}
 use Rattle.source_files.specs.Made.{MadeFile}
 use Rattle.scip_pages.specs.Paths.{path_fault}
 use Rattle.scip_pages.specs.Snapshot.{lines_of, misfit}
-use Rattle.scip_site.specs.Ids.{unit_in, AllFit}
+use Rattle.source_page.specs.Ids.{unit_in, AllFit}
 use Rattle.scip_site.specs.Making.{site_files}
 use Rattle.scip_site.specs.Reading.{AreRead, sources_of, Read}
 use Rattle.scip_site.specs.Repeats.{is_repeated}
 use Rattle.scip_site.specs.Script.{quoted_byte, read_behind}
-use Rattle.scip_site.specs.Site.{Sources, page_path}
+use Rattle.source_page.specs.Site.{Sources, page_path}
 
 -- What is known of a document with a number that has a page: its path has no fault, no document before it has its
 -- path, and its ranges are ranges of its source.
@@ -32,7 +32,7 @@ ReadsAreGood gives =
     (root : List ℕ) (documents : List Document) (reads : List Read)
     → AreRead gives root documents reads → AllAreGood documents (sources_of reads)
 
--- so that each link leads to a place (`LinksLead`, `UsesLead`, `DefinitionsLead`),
+-- so that each link leads to a place (`LinksLead`, `UsesLead`, `DefinitionsLead` of `source_page`),
 abbrev pub GoodSourcesFit : Type 0
 GoodSourcesFit = (index : Index) (sources : Sources) → AllAreGood index.documents sources → AllFit index sources
 

@@ -1,13 +1,3 @@
-pub mod Marks
-pub mod Site
-pub mod Targets
-pub mod Facts
-pub mod CodeText
-pub mod Listed
-pub mod Crumbs
-pub mod Uses
-pub mod Page
-pub mod Ids
 pub mod Tree
 pub mod Repeats
 pub mod Script

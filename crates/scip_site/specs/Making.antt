@@ -13,9 +13,9 @@ use Rattle.scip_snapshot.specs.declared.show_fault.ShowFault.TheVariants.{Write,
 use Rattle.scip_snapshot.specs.Snapshots.{path_in}
 use Rattle.scip_snapshot.specs.Showing.{Maker, Writer}
 use Rattle.scip_site.specs.declared.styles.TheConstants.{STYLE, SEARCH}
-use Rattle.scip_site.specs.Ids.{unit_in}
-use Rattle.scip_site.specs.Site.{Sources, has_page, page_path}
-use Rattle.scip_site.specs.Page.{firsts_of, page_of}
+use Rattle.source_page.specs.Ids.{unit_in}
+use Rattle.source_page.specs.Site.{Sources, has_page, page_path}
+use Rattle.source_page.specs.Page.{firsts_of, page_of}
 use Rattle.scip_site.specs.Reading.{AreReadBy, AllAreKept}
 use Rattle.scip_site.specs.Script.{listing_text}
 use Rattle.scip_site.specs.Tree.{first_page}

@@ -19,7 +19,7 @@ use Rattle.scip_snapshot.specs.Showing.{Writer, AreTold, IsUntouched}
 use Rattle.scip_site.specs.declared.no_page.NoPage.{NoPage}
 use Rattle.scip_site.specs.declared.no_page.NoPage.TheVariants.{BadPath, Repeated, Unreadable, NotText, NoUnit, Misfit}
 use Rattle.scip_site.specs.Repeats.{is_repeated}
-use Rattle.scip_site.specs.Site.{Sources}
+use Rattle.source_page.specs.Site.{Sources}
 
 -- ---- one document
 

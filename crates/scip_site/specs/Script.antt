@@ -8,8 +8,8 @@ use Rattle.scip_query.specs.Tables.{occurrence_listed}
 use Rattle.scip_query.specs.declared.place.Place.{Place}
 use Rattle.scip_pages.specs.declared.columns.ColumnUnit.{ColumnUnit}
 use Rattle.scip_pages.specs.Urls.{encoded}
-use Rattle.scip_site.specs.Site.{line_listed, page_path}
-use Rattle.scip_site.specs.Uses.{name_of}
+use Rattle.source_page.specs.Site.{line_listed, page_path}
+use Rattle.source_page.specs.Uses.{name_of}
 
 -- a byte of a text between quotes: what ends the text or a script, and what isn't shown, is `\u` and its digits
 abbrev pub digit : ℕ → ℕ

@@ -1,41 +1,37 @@
 //! A folder of pages.
 
-ghost use Rattle.std.specs.Prelude.{◌≡◌, ◌++◌, [], ◌∷◌, ℕ, List, IfOk, OnOk, length, map, string_bytes};
+ghost use Rattle.std.specs.Prelude.{◌≡◌, ◌++◌, [], ◌∷◌, ℕ, List, IfOk, OnOk, length, map};
 ghost use Rattle.std.specs.Borrow.{Bor};
 ghost use Rattle.std.specs.Option.{option_map};
 ghost use Rattle.scip_query.specs.Tables.{numbers};
-ghost use Rattle.scip_snapshot.specs.Snapshots.{path_in};
 ghost use Rattle.scip_snapshot.specs.Showing.{maker, writer};
-ghost use Rattle.scip_site.specs.Facts.{AreRight};
-ghost use Rattle.scip_site.specs.Ids as ids;
-ghost use Rattle.scip_site.specs.Page.{page_of, firsts_of};
+ghost use Rattle.source_page.specs.Facts.{AreRight};
+ghost use Rattle.source_page.specs.Ids as ids;
+ghost use Rattle.source_page.specs.Page.{page_of, firsts_of};
 ghost use Rattle.scip_site.specs.Script.{listing_text};
 ghost use Rattle.scip_site.specs.Tree as tree_spec;
 ghost use Rattle.scip_site.specs.Making as spec;
 ghost use Rattle.scip_pages.specs.Snapshot.{lines_of};
 
-use crate::document_page::{Asked, listed_page};
-use crate::facts::Facts;
+use crate::listing::listed_page;
 use crate::order::by_path;
-use crate::outcome::path_below;
-use crate::places::path_listed;
 use crate::reading::read_all;
-use crate::site::{Site, has_page, page_path};
 use crate::styles::{SEARCH, STYLE};
 use crate::tree::first_page;
 use scip_model::Document;
 use scip_pages::{ColumnUnit, lines_of, unit_of};
 use scip_query::Queries;
-use scip_snapshot::{Folders, ShowFault};
+use scip_snapshot::{Folders, ShowFault, path_in};
 use sequences::OwnedText;
 use source_files::{MakeFiles, ReadFiles};
+use source_page::{Asked, Facts, Site, has_page, page_path, path_listed};
 use std::alloc::{AllocError, Global};
 use streams::Sink;
 
 /// What is known of symbols while pages are made, and the list of symbols so far.
 #[derive(Drop)]
-struct Listed {
-    facts: Facts,
+struct Listed<'a> {
+    facts: Facts<'a>,
     script: Vec<u8>,
 }
 
@@ -60,13 +56,13 @@ fn source_at(sources: &[Option<OwnedText>], number: usize) -> Option<&str>
 }
 
 /// The page of a document with a number and a source. Its symbols are listed.
-fn page_in(
+fn page_in<'a>(
     alloc: Global,
-    site: &Site<'_>,
+    site: &Site<'a>,
     number: usize,
     document: &Document,
     source: &str,
-    listed: &mut Listed,
+    listed: &mut Listed<'a>,
 ) -> Result<Vec<u8>, AllocError>
     requires { AreRight site.now.queries.now site.now.sources.now listed.old.facts.facts.items }
     ensures right { AreRight site.now.queries.now site.now.sources.now listed.new.facts.facts.items }
@@ -84,11 +80,11 @@ fn page_in(
 }
 
 /// The page of the document with a number, if it has one. Its symbols are listed.
-fn page_at(
+fn page_at<'a>(
     alloc: Global,
-    site: &Site<'_>,
+    site: &Site<'a>,
     number: usize,
-    listed: &mut Listed,
+    listed: &mut Listed<'a>,
 ) -> Result<Option<Vec<u8>>, AllocError>
     requires { AreRight site.now.queries.now site.now.sources.now listed.old.facts.facts.items }
     ensures right { AreRight site.now.queries.now site.now.sources.now listed.new.facts.facts.items }
@@ -101,17 +97,6 @@ fn page_at(
     match source_at(site.sources, number) {
         Some(source) => Ok(Some(page_in(alloc, site, number, document, source, listed)?)),
         None => Ok(None),
-    }
-}
-
-/// A path in a folder, for the system; an empty name is that of the folder where the program runs.
-fn path_in(alloc: Global, folder: &str, path: &str) -> Result<String, AllocError>
-    ensures { IfOk result (λ file. string_bytes file ≡ path_in folder.now path.now) }
-{
-    if folder.is_empty() {
-        Ok(String::from_str(alloc, path)?)
-    } else {
-        path_below(alloc, folder, path)
     }
 }
 
@@ -153,12 +138,12 @@ fn make_if_some<O: MakeFiles>(
 }
 
 /// Makes the file of the page of the document with a number, if it has one. Its symbols are listed.
-fn make_page<O: MakeFiles>(
+fn make_page<'a, O: MakeFiles>(
     alloc: Global,
     folder: &str,
-    site: &Site<'_>,
+    site: &Site<'a>,
     number: usize,
-    listed: &mut Listed,
+    listed: &mut Listed<'a>,
     made: &mut O,
 ) -> Result<(), ShowFault>
     requires { AreRight site.now.queries.now site.now.sources.now listed.old.facts.facts.items }
@@ -172,11 +157,11 @@ fn make_page<O: MakeFiles>(
 }
 
 /// Makes the files of all pages. All symbols are listed.
-fn make_each<O: MakeFiles>(
+fn make_each<'a, O: MakeFiles>(
     alloc: Global,
     folder: &str,
-    site: &Site<'_>,
-    listed: &mut Listed,
+    site: &Site<'a>,
+    listed: &mut Listed<'a>,
     made: &mut O,
 ) -> Result<(), ShowFault>
     requires { AreRight site.now.queries.now site.now.sources.now listed.old.facts.facts.items }
@@ -246,7 +231,7 @@ fn first_of(alloc: Global, site: &Site<'_>, order: &[usize]) -> Result<Vec<u8>, 
 }
 
 /// Nothing is known, and nothing is listed.
-fn nothing_listed(alloc: Global, queries: &Queries) -> Result<Listed, AllocError>
+fn nothing_listed<'a>(alloc: Global, queries: &Queries) -> Result<Listed<'a>, AllocError>
     ensures facts { IfOk result (λ listed. listed.facts.facts.items ≡ []) }
     ensures script { IfOk result (λ listed. listed.script.items ≡ spec.script_start) }
 {

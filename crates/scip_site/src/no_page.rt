@@ -1,13 +1,13 @@
 //! Why a document of an index has no page.
 
-ghost use Rattle.std.specs.Prelude.{◌≡◌, IfOk, string_bytes};
+ghost use Rattle.std.specs.Prelude.{◌≡◌};
 ghost use Rattle.scip_snapshot.specs.LeftOuts.{line_with};
-ghost use Rattle.scip_snapshot.specs.Showing.{IsSaid, SaysLine, writer};
+ghost use Rattle.scip_snapshot.specs.Showing.{SaysLine, writer};
 ghost use Rattle.scip_site.specs.Reading.{name_of};
 
-use scip_snapshot::ShowFault;
-use std::alloc::{AllocError, Global};
-use streams::{Sink, write_all};
+use scip_snapshot::{ShowFault, line_with, say};
+use std::alloc::Global;
+use streams::Sink;
 
 /// Why a document of an index has no page. The first of those that hold.
 #[derive(Clone, Copy, Debug, Drop, PartialEq, Eq)]
@@ -39,22 +39,6 @@ impl NoPage {
             NoPage::NoUnit => "NoUnit",
             NoPage::Misfit => "Misfit",
         }
-    }
-}
-
-/// The line that says a name of the document with a path.
-fn line_with(alloc: Global, path: &str, name: &str) -> Result<String, AllocError>
-    ensures { IfOk result (λ line. string_bytes line ≡ line_with path.now name.now) }
-{
-    format!(in alloc; "protoscip: {path}: {name}")
-}
-
-/// Writes a line and its end. What the stream doesn't take is lost.
-fn say<M: Sink>(messages: &mut M, line: &str)
-    ensures { IsSaid M.contents M.failures line.now messages.old messages.new }
-{
-    if write_all(messages, line.as_bytes()).is_ok() {
-        let _ = write_all(messages, b"\n");
     }
 }
 

@@ -3,9 +3,8 @@
 ghost use Rattle.std.specs.Prelude.{◌≡◌, IfOk};
 ghost use Rattle.scip_query.specs.Tables.{path_cmp, IsByPath};
 
-use crate::code::numbers;
-use crate::places::path_listed;
 use scip_model::Document;
+use source_page::{numbers, path_listed};
 use std::alloc::{AllocError, Global};
 use std::cmp::Ordering;
 

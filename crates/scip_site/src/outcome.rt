@@ -1,6 +1,6 @@
 //! The source of a document, or why the document has no page.
 
-ghost use Rattle.std.specs.Prelude.{◌≡◌, ℕ, List, Option, Some, IfOk, string_bytes};
+ghost use Rattle.std.specs.Prelude.{◌≡◌, ℕ, List, Option, Some, IfOk};
 ghost use Rattle.source_files.specs.Roots.{path_below};
 ghost use Rattle.scip_pages.specs.Columns.{unit_of};
 ghost use Rattle.scip_pages.specs.Snapshot.{lines_of, misfit};
@@ -9,6 +9,7 @@ ghost use Rattle.scip_site.specs.Reading as spec;
 use crate::no_page::NoPage;
 use scip_model::Document;
 use scip_pages::{ColumnUnit, lines_of, misfit, path_fault, unit_of};
+use scip_snapshot::path_below;
 use sequences::OwnedText;
 use source_files::ReadFiles;
 use std::alloc::{AllocError, Global};
@@ -19,16 +20,6 @@ pub(crate) struct Wanted<'a> {
     pub root: &'a str,
     pub document: &'a Document,
     pub repeated: bool,
-}
-
-/// A path below a folder, for the system.
-pub(crate) fn path_below(alloc: Global, folder: &str, path: &str) -> Result<String, AllocError>
-    ensures { IfOk result (λ below. string_bytes below ≡ path_below folder.now path.now) }
-{
-    let mut below = String::from_str(alloc, folder)?;
-    below.push('/')?;
-    below.push_str(path)?;
-    Ok(below)
 }
 
 /// A source, if its document's ranges fit it.

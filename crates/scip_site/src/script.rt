@@ -5,12 +5,9 @@ ghost use Rattle.std.specs.Borrow.{Bor};
 ghost use Rattle.std.specs.List.{flat_map};
 ghost use Rattle.scip_site.specs.Script as spec;
 
-use crate::code::Code;
-use crate::places::{line_listed, occurrence_listed};
-use crate::site::{Site, page_path};
-use crate::uses::name_of;
 use scip_pages::push_encoded;
 use scip_query::Place;
+use source_page::{Asked, Site, line_listed, name_of, occurrence_listed, page_path};
 use std::alloc::{AllocError, Global};
 
 /// A hexadecimal digit.
@@ -94,13 +91,13 @@ fn push_named(
     alloc: Global,
     script: &mut Vec<u8>,
     site: &Site<'_>,
-    code: &Code<'_>,
+    asked: &Asked<'_>,
     place: Place,
 ) -> Result<(), AllocError>
-    ensures { OnOk result (script.new.items ≡ script.old.items ++ spec.named_text site.now.queries.now code.now.unit (map (λ (l : Bor (List ℕ)). l.now) code.now.lines.now) place) }
+    ensures { OnOk result (script.new.items ≡ script.old.items ++ spec.named_text site.now.queries.now asked.now.unit (map (λ (l : Bor (List ℕ)). l.now) asked.now.lines.now) place) }
 {
     let documents = site.queries.documents();
-    let name = name_of(code, occurrence_listed(documents, place));
+    let name = name_of(asked.unit, asked.lines, occurrence_listed(documents, place));
     push_name(alloc, script, line_listed(documents, place), name)
 }
 
@@ -109,13 +106,13 @@ fn push_all_named(
     alloc: Global,
     script: &mut Vec<u8>,
     site: &Site<'_>,
-    code: &Code<'_>,
+    asked: &Asked<'_>,
     firsts: &[Place],
 ) -> Result<(), AllocError>
-    ensures { OnOk result (script.new.items ≡ script.old.items ++ flat_map (spec.named_text site.now.queries.now code.now.unit (map (λ (l : Bor (List ℕ)). l.now) code.now.lines.now)) firsts.now) }
+    ensures { OnOk result (script.new.items ≡ script.old.items ++ flat_map (spec.named_text site.now.queries.now asked.now.unit (map (λ (l : Bor (List ℕ)). l.now) asked.now.lines.now)) firsts.now) }
 {
     for place in firsts {
-        push_named(alloc, script, site, code, *place)?;
+        push_named(alloc, script, site, asked, *place)?;
     }
     Ok(())
 }
@@ -140,12 +137,12 @@ pub(crate) fn push_listing(
     script: &mut Vec<u8>,
     site: &Site<'_>,
     path: &str,
-    code: &Code<'_>,
+    asked: &Asked<'_>,
     firsts: &[Place],
 ) -> Result<(), AllocError>
-    ensures { OnOk result (script.new.items ≡ script.old.items ++ spec.listing_text site.now.queries.now code.now.unit (map (λ (l : Bor (List ℕ)). l.now) code.now.lines.now) path.now firsts.now) }
+    ensures { OnOk result (script.new.items ≡ script.old.items ++ spec.listing_text site.now.queries.now asked.now.unit (map (λ (l : Bor (List ℕ)). l.now) asked.now.lines.now) path.now firsts.now) }
 {
     push_page(alloc, script, path)?;
-    push_all_named(alloc, script, site, code, firsts)?;
+    push_all_named(alloc, script, site, asked, firsts)?;
     script.extend_from_slice(b"]],\n")
 }

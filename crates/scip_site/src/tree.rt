@@ -5,11 +5,8 @@ ghost use Rattle.std.specs.Borrow.{Bor};
 ghost use Rattle.std.specs.List.{slice_get};
 ghost use Rattle.scip_site.specs.Tree as spec;
 
-use crate::code::line_at;
-use crate::crumbs::{components_of, push_head};
-use crate::marks::push_link;
-use crate::site::page_path;
 use scip_pages::{push_attribute, push_encoded, push_escaped};
+use source_page::{components_of, line_at, page_path, push_head, push_link};
 use std::alloc::{AllocError, Global};
 
 /// Whether a name is that with a number.

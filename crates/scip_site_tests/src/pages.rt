@@ -3,8 +3,8 @@
 use crate::see::{queries, see};
 use scip_pages::ColumnUnit;
 use scip_query::Queries;
-use scip_site::{Asked, Facts, Site, page};
 use sequences::OwnedText;
+use source_page::{Asked, Facts, Site, page};
 use std::alloc::{AllocError, Global};
 use std::process::Abort;
 use std::test::Fail;

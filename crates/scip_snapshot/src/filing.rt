@@ -21,7 +21,7 @@ pub struct Folders<'a> {
 }
 
 /// A path below a folder, for the system; an empty name is that of the folder where the program runs.
-fn path_in(alloc: Global, folder: &str, path: &str) -> Result<String, AllocError>
+pub fn path_in(alloc: Global, folder: &str, path: &str) -> Result<String, AllocError>
     ensures { IfOk result (λ file. string_bytes file ≡ path_in folder.now path.now) }
 {
     if folder.is_empty() {

@@ -36,7 +36,7 @@ fn name_of(fault: SnapshotFault) -> &'static str
 }
 
 /// The line that says a name of the document with a path.
-fn line_with(alloc: Global, path: &str, name: &str) -> Result<String, AllocError>
+pub fn line_with(alloc: Global, path: &str, name: &str) -> Result<String, AllocError>
     ensures { IfOk result (λ line. string_bytes line ≡ line_with path.now name.now) }
 {
     format!(in alloc; "protoscip: {path}: {name}")
@@ -64,7 +64,7 @@ impl LeftOut {
 }
 
 /// Writes a line and its end. What the stream doesn't take is lost.
-fn say<M: Sink>(messages: &mut M, line: &str)
+pub fn say<M: Sink>(messages: &mut M, line: &str)
     ensures { IsSaid M.contents M.failures line.now messages.old messages.new }
 {
     if write_all(messages, line.as_bytes()).is_ok() {

@@ -21,7 +21,7 @@ pub(crate) struct Asked<'a> {
 }
 
 /// A path below a root, for the system.
-pub(crate) fn path_below(alloc: Global, root: &str, path: &str) -> Result<String, AllocError>
+pub fn path_below(alloc: Global, root: &str, path: &str) -> Result<String, AllocError>
     ensures { IfOk result (λ below. string_bytes below ≡ path_below root.now path.now) }
 {
     let mut below = String::from_str(alloc, root)?;

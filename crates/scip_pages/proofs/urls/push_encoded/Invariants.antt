@@ -1,7 +1,10 @@
-use Rattle.std.proofs.Common.{◌≡◌, ◌++◌, take}
+use Rattle.std.proofs.Common.{◌≡◌, ◌++◌, length}
 use Rattle.scip_pages.specs.Urls.{encoded}
 use Rattle.scip_pages.proofs.urls.push_encoded.Given as goal
 
--- the bytes so far
-abbrev pub invariant-loop-byte : goal.invariant-loop-byte
-invariant-loop-byte l = l.url.items ≡ l.fn.url.items ++ encoded (take l.byte-index l.path)
+-- the bytes so far, and those that are left
+abbrev pub invariant-loop-rest : goal.invariant-loop-rest
+invariant-loop-rest l = l.url.items ++ encoded l.rest ≡ l.fn.url.items ++ encoded l.path
+
+abbrev pub decreases-loop-rest : goal.decreases-loop-rest
+decreases-loop-rest l = length l.rest

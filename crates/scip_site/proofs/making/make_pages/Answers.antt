@@ -3,7 +3,7 @@ use Rattle.std.proofs.lemmas.Result.{err_from_is_err_and}
 use Rattle.scip_model.specs.declared.records.Document.{Document}
 use Rattle.scip_query.specs.Tables.{IsByPath}
 use Rattle.scip_snapshot.specs.Showing.{writer}
-use Rattle.scip_site.specs.Site.{Sources}
+use Rattle.source_page.specs.Site.{Sources}
 use Rattle.scip_site.specs.Reading.{AllAreKept, ReadsInto}
 use Rattle.scip_site.proofs.MakeLemmas.{nothing_made, nothing_read, made_so}
 use Rattle.scip_site.proofs.making.make_pages.Goals as goal

@@ -1,9 +1,0 @@
-use Rattle.scip_site.proofs.CodeLemmas.{none_listed}
-use Rattle.scip_site.proofs.code.by_line.Goals as goal
-
-pub loop-number-init : goal.loop-number-init
-loop-number-init c =
-    record {
-      count = c.in_ok-table.ensures.count;
-      listed = λ line inside. none_listed c.in_ok-table.table.items c.in_ok-table.ensures.empty line;
-    }

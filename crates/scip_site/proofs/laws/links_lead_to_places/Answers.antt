@@ -1,5 +1,0 @@
-use Rattle.scip_site.proofs.IdLemmas.{links_lead, uses_lead, definitions_lead}
-use Rattle.scip_site.proofs.laws.links_lead_to_places.Goals as goal
-
-pub returns : goal.returns
-returns c = record { links = links_lead; uses = uses_lead; definitions = definitions_lead }

@@ -1,0 +1,43 @@
+//! What pages are made of, and where they are.
+
+ghost use Rattle.std.specs.Prelude.{◌≡◌, ◌++◌, IfOk};
+ghost use Rattle.std.specs.String.{string_bytes};
+ghost use Rattle.source_page.specs.Site as spec;
+
+use scip_query::{Place, Queries};
+use sequences::OwnedText;
+use std::alloc::{AllocError, Global};
+
+/// An index, and for each of its documents the source, if the document has a page.
+#[derive(Clone, Copy)]
+pub struct Site<'a> {
+    pub queries: &'a Queries,
+    pub sources: &'a [Option<OwnedText>],
+}
+
+/// Whether the document with a number has a page.
+pub fn has_page(sources: &[Option<OwnedText>], number: usize) -> bool
+    ensures { result ≡ spec.has_page sources.now number }
+{
+    match sources.get(number) {
+        Some(source) => source.is_some(),
+        None => false,
+    }
+}
+
+/// Whether two places are one.
+pub(crate) fn same_place(a: Place, b: Place) -> bool
+    ensures { result ≡ spec.same_place a b }
+{
+    a.document == b.document && a.occurrence == b.occurrence
+}
+
+/// The path of the page of a document with a path.
+pub fn page_path(alloc: Global, path: &str) -> Result<String, AllocError>
+    ensures { IfOk result (λ page. string_bytes page ≡ spec.page_path path.now) }
+{
+    let mut page = String::from_str(alloc, "src/")?;
+    page.push_str(path)?;
+    page.push_str(".html")?;
+    Ok(page)
+}

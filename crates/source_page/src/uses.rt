@@ -1,0 +1,218 @@
+//! What a page defines, and who uses it.
+
+ghost use Rattle.std.specs.Prelude.{◌≡◌, ◌++◌, ℕ, List, map, IfOk, OnOk, option_copied};
+ghost use Rattle.std.specs.String.{string_bytes};
+ghost use Rattle.std.specs.Borrow.{Bor};
+ghost use Rattle.std.specs.List.{flat_map};
+ghost use Rattle.scip_query.specs.Tables.{path_listed};
+ghost use Rattle.source_page.specs.Site.{line_listed};
+ghost use Rattle.source_page.specs.Facts.{AreRight};
+ghost use Rattle.source_page.specs.Uses as spec;
+
+use crate::code::{Code, line_at};
+use crate::facts::Facts;
+use crate::marks::push_link;
+use crate::places::{line_listed, occurrence_listed, path_listed, symbol_listed};
+use crate::site::{Site, has_page, same_place};
+use crate::urls::place_url;
+use scip_model::{Document, Occurrence};
+use scip_pages::{ColumnUnit, Link, parts_of, push_attribute, push_escaped};
+use scip_query::Place;
+use std::alloc::{AllocError, Global};
+
+/// How a use is named: by its path and its line.
+fn use_name(alloc: Global, path: &str, line: usize) -> Result<String, AllocError>
+    ensures { IfOk result (λ name. string_bytes name ≡ spec.use_name path.now line) }
+{
+    format!(in alloc; "{path}:{line}")
+}
+
+/// The name of the use at a place.
+fn name_at(alloc: Global, documents: &[Document], place: Place) -> Result<String, AllocError>
+    ensures { IfOk result (λ name. string_bytes name ≡ spec.use_name (path_listed documents.now place.document) (line_listed documents.now place)) }
+{
+    let path = path_listed(documents, place.document);
+    use_name(alloc, path, line_listed(documents, place))
+}
+
+/// Appends a use with a name, to which a URL leads.
+fn push_use_link(page: &mut Vec<u8>, url: &[u8], name: &[u8]) -> Result<(), AllocError>
+    ensures { OnOk result (page.new.items ≡ page.old.items ++ spec.use_link url.now name.now) }
+{
+    page.extend_from_slice(b"<dd>")?;
+    push_link(page, url, name)?;
+    page.extend_from_slice(b"</dd>\n")
+}
+
+/// Appends a use to the page of the document with the number `from`.
+fn push_use(
+    alloc: Global,
+    page: &mut Vec<u8>,
+    site: &Site<'_>,
+    from: usize,
+    place: Place,
+) -> Result<(), AllocError>
+    ensures { OnOk result (page.new.items ≡ page.old.items ++ spec.use_text site.now.queries.now from place) }
+{
+    let url = place_url(alloc, site.queries, from, place)?;
+    let name = name_at(alloc, site.queries.documents(), place)?;
+    push_use_link(page, &url, name.as_bytes())
+}
+
+/// Whether a place is a use of what is defined at another.
+fn is_use(site: &Site<'_>, definition: Place, place: Place) -> bool
+    ensures { result ≡ spec.is_use site.now.sources.now definition place }
+{
+    has_page(site.sources, place.document) && !same_place(definition, place)
+}
+
+/// Appends a place, if it is a use of what is defined at another.
+fn push_if_use(
+    alloc: Global,
+    page: &mut Vec<u8>,
+    site: &Site<'_>,
+    definition: Place,
+    place: Place,
+) -> Result<(), AllocError>
+    ensures { OnOk result (page.new.items ≡ page.old.items ++ spec.use_or_none site.now.queries.now site.now.sources.now definition place) }
+{
+    if is_use(site, definition, place) {
+        push_use(alloc, page, site, definition.document, place)
+    } else {
+        Ok(())
+    }
+}
+
+/// Appends the uses of what is defined at a place.
+fn push_uses<'a>(
+    alloc: Global,
+    page: &mut Vec<u8>,
+    site: &Site<'a>,
+    facts: &Facts<'a>,
+    definition: Place,
+) -> Result<(), AllocError>
+    requires { AreRight site.now.queries.now site.now.sources.now facts.now.facts.items }
+    ensures { OnOk result (page.new.items ≡ page.old.items ++ spec.uses_text site.now.queries.now site.now.sources.now definition) }
+{
+    let symbol = symbol_listed(site.queries.documents(), definition);
+    let places = facts.places_for(site, definition, symbol);
+    for place in places {
+        push_if_use(alloc, page, site, definition, *place)?;
+    }
+    Ok(())
+}
+
+/// The text that an occurrence marks on the line on which it begins.
+pub fn name_of<'a>(
+    unit: ColumnUnit,
+    lines: &'a [&'a str],
+    occurrence: Option<&Occurrence>,
+) -> &'a [u8]
+    ensures { result.now ≡ spec.name_of unit (map (λ (l : Bor (List ℕ)). l.now) lines.now) (option_copied occurrence.entry) }
+{
+    match occurrence {
+        Some(occurrence) => {
+            let line = line_at(lines, occurrence.range.start_line() as usize);
+            parts_of(unit, line.as_bytes(), occurrence.range).1
+        }
+        None => &[],
+    }
+}
+
+/// The label of the link with a number.
+fn label_at(links: &[Link], number: usize) -> &[u8]
+    ensures { result.now ≡ spec.label_at links.now number }
+{
+    match links.get(number) {
+        Some(link) => link.label.as_slice(),
+        None => &[],
+    }
+}
+
+/// Appends the attributes of what is defined at a place: its own place, and the link to its line.
+fn push_places(
+    alloc: Global,
+    page: &mut Vec<u8>,
+    occurrence: usize,
+    line: usize,
+) -> Result<(), AllocError>
+    ensures { OnOk result (page.new.items ≡ page.old.items ++ spec.places_text occurrence line) }
+{
+    let id = format!(in alloc; "U{occurrence}")?;
+    let url = format!(in alloc; "#L{line}")?;
+    page.extend_from_slice(b"<dt")?;
+    push_attribute(page, b"id", id.as_bytes())?;
+    page.extend_from_slice(b"><a")?;
+    push_attribute(page, b"href", url.as_bytes())?;
+    page.extend_from_slice(b"><b>")
+}
+
+/// Appends what is defined at a place.
+fn push_defined_head(
+    alloc: Global,
+    page: &mut Vec<u8>,
+    site: &Site<'_>,
+    code: &Code<'_>,
+    place: Place,
+) -> Result<(), AllocError>
+    ensures { OnOk result (page.new.items ≡ page.old.items ++ spec.defined_head site.now.queries.now code.now.unit (map (λ (l : Bor (List ℕ)). l.now) code.now.lines.now) code.now.links.now place) }
+{
+    let documents = site.queries.documents();
+    let name = name_of(code.unit, code.lines, occurrence_listed(documents, place));
+    push_places(alloc, page, place.occurrence, line_listed(documents, place))?;
+    push_escaped(page, name)?;
+    page.extend_from_slice(b"</b> <span>")?;
+    push_escaped(page, label_at(code.links, place.occurrence))?;
+    page.extend_from_slice(b"</span></a></dt>\n")
+}
+
+/// Appends what is defined at a place, and its uses.
+fn push_defined<'a>(
+    alloc: Global,
+    page: &mut Vec<u8>,
+    site: &Site<'a>,
+    facts: &Facts<'a>,
+    code: &Code<'_>,
+    place: Place,
+) -> Result<(), AllocError>
+    requires { AreRight site.now.queries.now site.now.sources.now facts.now.facts.items }
+    ensures { OnOk result (page.new.items ≡ page.old.items ++ spec.defined_text site.now.queries.now site.now.sources.now code.now.unit (map (λ (l : Bor (List ℕ)). l.now) code.now.lines.now) code.now.links.now place) }
+{
+    push_defined_head(alloc, page, site, code, place)?;
+    push_uses(alloc, page, site, facts, place)
+}
+
+/// Appends what is defined at places.
+fn push_each_defined<'a>(
+    alloc: Global,
+    page: &mut Vec<u8>,
+    site: &Site<'a>,
+    facts: &Facts<'a>,
+    code: &Code<'_>,
+    firsts: &[Place],
+) -> Result<(), AllocError>
+    requires { AreRight site.now.queries.now site.now.sources.now facts.now.facts.items }
+    ensures { OnOk result (page.new.items ≡ page.old.items ++ flat_map (spec.defined_text site.now.queries.now site.now.sources.now code.now.unit (map (λ (l : Bor (List ℕ)). l.now) code.now.lines.now) code.now.links.now) firsts.now) }
+{
+    for place in firsts {
+        push_defined(alloc, page, site, facts, code, *place)?;
+    }
+    Ok(())
+}
+
+/// Appends what a page defines.
+pub(crate) fn push_all_defined<'a>(
+    alloc: Global,
+    page: &mut Vec<u8>,
+    site: &Site<'a>,
+    facts: &Facts<'a>,
+    code: &Code<'_>,
+    firsts: &[Place],
+) -> Result<(), AllocError>
+    requires { AreRight site.now.queries.now site.now.sources.now facts.now.facts.items }
+    ensures { OnOk result (page.new.items ≡ page.old.items ++ spec.all_defined site.now.queries.now site.now.sources.now code.now.unit (map (λ (l : Bor (List ℕ)). l.now) code.now.lines.now) code.now.links.now firsts.now) }
+{
+    page.extend_from_slice(b"<aside><h2>Definitions and their uses</h2>\n<dl>\n")?;
+    push_each_defined(alloc, page, site, facts, code, firsts)?;
+    page.extend_from_slice(b"</dl>\n</aside>\n")
+}

@@ -42,8 +42,8 @@ pub(crate) fn start<R: Threads + Wait, F: ReadFiles + Sync>(
     options: &IndexOptions,
 ) -> Result<TreeRun, StartFault>
     ensures named { IfOk result (λ _. NamePackages options.now) }
-    ensures folders { IfOk result (λ start. AreFolders (F.lists host.now.files.now) (F.gives host.now.files.now) options.now
-        start.tree start.settings.package) }
+    ensures folders { IfOk result (λ start. AreFolders (F.lists host.now.files.now) (F.gives host.now.files.now)
+        options.now start.tree start.settings.package) }
     ensures only { IfOk result (λ start. option_map (λ f. string_bytes f.0) start.choices.filter ≡ option_map
         string_bytes options.now.only) }
     ensures doc { IfOk result (λ start. option_map (λ r. r.0) start.choices.rule ≡ option_map choice_of_word

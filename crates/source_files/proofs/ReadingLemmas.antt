@@ -1,5 +1,5 @@
 -- What a phase answers, source by source, and the parts in which sources are read.
-use Rattle.std.proofs.Common.{◌≡◌, ◌∙◌, ℕ, zero, suc, ◌<◌, ◌≤◌, List, [], ◌∷◌, ◌++◌, map, length, Option, Some, None}
+use Rattle.std.proofs.Common.{◌≡◌, ◌∙◌, ℕ, zero, suc, ◌<◌, List, [], ◌∷◌, ◌++◌, map, length, Option, Some, None}
 use Rattle.std.proofs.Common.{Result, Ok, Err, refl, sym, ap, ap₂, subst, string_bytes, append_assoc, arith}
 use Rattle.std.specs.List.{All, slice_get}
 use Rattle.std.specs.Option.{IfSome}
@@ -10,7 +10,7 @@ use Rattle.index_pool.specs.Phase.{AnswersEach, IsLeastFault}
 use Rattle.source_tree.specs.Files.{SourceFile, paths_of}
 use Rattle.source_files.specs.declared.load_fault.LoadFault.{LoadFault}
 use Rattle.source_files.specs.declared.load_fault.LoadFault.TheVariants as load
-use Rattle.source_files.specs.Roots.{path_below, IsHeld, AreBelow, IsUnreadable, of_source}
+use Rattle.source_files.specs.Roots.{path_below, IsHeld, AreBelow, of_source}
 use Rattle.source_files.specs.RootFaults.{MayStop}
 use Rattle.source_files.specs.Reading.{GivesSource, AreSourcesAt, AddsSources, IsFirstUnreadable, MayStopAt}
 
@@ -117,7 +117,8 @@ module _ (lists : List ℕ → Option (List (List ℕ)) → Type 0) (gives : Lis
             sym read.0
             ∙ (ap (λ (ps : List (List ℕ)). paths_of sources ++ ps)
             (sym parts ∙ (all ∙ append_assoc (paths_of stop.sources) (string_bytes name ∷ stop.behind) behind))
-            ∙ (sym (append_assoc (paths_of sources) (paths_of stop.sources) (string_bytes name ∷ (stop.behind ++ behind)))
+            ∙ (sym (append_assoc (paths_of sources) (paths_of stop.sources)
+            (string_bytes name ∷ (stop.behind ++ behind)))
             ∙ ap (λ (ps : List (List ℕ)). ps ++ string_bytes name ∷ (stop.behind ++ behind))
             (sym (map-append (λ (file : SourceFile). file.path) sources stop.sources))));
         held = All-append (IsHeld lists gives root) sources stop.sources read.1 stop.held;

@@ -53,8 +53,10 @@ fn add_folder<R: Threads + Wait, G: Gate, F: ReadFiles + Sync>(
     folders: &mut Folders,
     root: &str,
 ) -> Result<(), LoadFault>
-    ensures ok { OnOk result (AddsFolder (F.lists readers.now.files.now) (F.gives readers.now.files.now) root.now folders.old.files.items folders.new.files.items
-        (map (λ paths. map string_bytes paths.items) folders.old.paths.items) (map (λ paths. map string_bytes paths.items) folders.new.paths.items)) }
+    ensures ok { OnOk result (AddsFolder (F.lists readers.now.files.now) (F.gives readers.now.files.now)
+        root.now folders.old.files.items folders.new.files.items
+        (map (λ paths. map string_bytes paths.items) folders.old.paths.items)
+        (map (λ paths. map string_bytes paths.items) folders.new.paths.items)) }
     ensures err { IfErr result (MayStop (F.lists readers.now.files.now) (F.gives readers.now.files.now) root.now) }
 {
     let mut here = read_root(readers, root)?;
@@ -68,9 +70,10 @@ pub(crate) fn read_folders<R: Threads + Wait, G: Gate, F: ReadFiles + Sync>(
     readers: &Readers<'_, R, G, F>,
     roots: &[String],
 ) -> Result<Folders, LoadFault>
-    ensures ok { IfOk result (λ read. AreFolders (F.lists readers.now.files.now) (F.gives readers.now.files.now) (map string_bytes roots.now)
-        read.files.items (map (λ paths. map string_bytes paths.items) read.paths.items)) }
-    ensures err { IfErr result (MayStopBelow (F.lists readers.now.files.now) (F.gives readers.now.files.now) (map string_bytes roots.now)) }
+    ensures ok { IfOk result (λ read. AreFolders (F.lists readers.now.files.now) (F.gives readers.now.files.now)
+        (map string_bytes roots.now) read.files.items (map (λ paths. map string_bytes paths.items) read.paths.items)) }
+    ensures err { IfErr result (MayStopBelow (F.lists readers.now.files.now) (F.gives readers.now.files.now)
+        (map string_bytes roots.now)) }
 {
     let mut folders = Folders {
         files: Vec::new(readers.alloc),

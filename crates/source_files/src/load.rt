@@ -23,8 +23,10 @@ fn read_roots<R: Threads + Wait, G: Gate, F: ReadFiles + Sync>(
     readers: &Readers<'_, R, G, F>,
     roots: &[String],
 ) -> Result<Vec<Source>, LoadFault>
-    ensures ok { IfOk result (λ sources. AreBelowEach (F.lists readers.now.files.now) (F.gives readers.now.files.now) (map string_bytes roots.now) sources.items) }
-    ensures err { IfErr result (MayStopBelow (F.lists readers.now.files.now) (F.gives readers.now.files.now) (map string_bytes roots.now)) }
+    ensures ok { IfOk result (λ sources. AreBelowEach (F.lists readers.now.files.now) (F.gives readers.now.files.now)
+        (map string_bytes roots.now) sources.items) }
+    ensures err { IfErr result (MayStopBelow (F.lists readers.now.files.now) (F.gives readers.now.files.now)
+        (map string_bytes roots.now)) }
 {
     let mut sources = Vec::new(readers.alloc);
     for root in roots {
@@ -89,8 +91,10 @@ pub fn load_tree<R: Threads + Wait, G: Gate, F: ReadFiles + Sync>(
     root: &str,
     included: &[String],
 ) -> Result<Tree, LoadFault>
-    ensures tree { IfOk result (IsTreeBelow (F.lists readers.now.files.now) (F.gives readers.now.files.now) root.now (map string_bytes included.now)) }
-    ensures refused { IfErr result (MayNotLoad (F.lists readers.now.files.now) (F.gives readers.now.files.now) root.now (map string_bytes included.now)) }
+    ensures tree { IfOk result (IsTreeBelow (F.lists readers.now.files.now) (F.gives readers.now.files.now) root.now
+        (map string_bytes included.now)) }
+    ensures refused { IfErr result (MayNotLoad (F.lists readers.now.files.now) (F.gives readers.now.files.now) root.now
+        (map string_bytes included.now)) }
 {
     let sources = read_root(readers, root)?;
     let included = read_roots(readers, included)?;
@@ -114,9 +118,11 @@ pub fn load_tree_with_paths<R: Threads + Wait, G: Gate, F: ReadFiles + Sync>(
     root: &str,
     included: &[String],
 ) -> Result<LoadedTree, LoadFault>
-    ensures loaded { IfOk result (λ loaded. IsLoadedBelow (F.lists readers.now.files.now) (F.gives readers.now.files.now) root.now (map string_bytes included.now)
-        loaded.tree (map string_bytes loaded.own.items) (map (λ paths. map string_bytes paths.items) loaded.others.items)) }
-    ensures refused { IfErr result (MayNotLoad (F.lists readers.now.files.now) (F.gives readers.now.files.now) root.now (map string_bytes included.now)) }
+    ensures loaded { IfOk result (λ loaded. IsLoadedBelow (F.lists readers.now.files.now) (F.gives readers.now.files.now)
+        root.now (map string_bytes included.now) loaded.tree (map string_bytes loaded.own.items)
+        (map (λ paths. map string_bytes paths.items) loaded.others.items)) }
+    ensures refused { IfErr result (MayNotLoad (F.lists readers.now.files.now) (F.gives readers.now.files.now) root.now
+        (map string_bytes included.now)) }
 {
     let sources = read_root(readers, root)?;
     let own = paths_of(readers.alloc, &sources)?;

@@ -34,7 +34,8 @@ fn read_below<F: ReadFiles>(
     root: &str,
     path: &str,
 ) -> Result<Option<Vec<u8>>, AllocError>
-    ensures { IfOk result (λ read. MayKeep (F.gives files.now (path_below root.now path.now)) (option_map (λ bytes. bytes.items) read)) }
+    ensures { IfOk result (λ read. MayKeep (F.gives files.now (path_below root.now path.now))
+        (option_map (λ bytes. bytes.items) read)) }
 {
     let below = path_below(alloc, root, path)?;
     files.read_source(alloc, below.as_str())

@@ -21,7 +21,8 @@ pub fn read_root<R: Threads + Wait, G: Gate, F: ReadFiles + Sync>(
     readers: &Readers<'_, R, G, F>,
     root: &str,
 ) -> Result<Vec<Source>, LoadFault>
-    ensures ok { IfOk result (λ sources. AreBelow (F.lists readers.now.files.now) (F.gives readers.now.files.now) root.now sources.items) }
+    ensures ok { IfOk result (λ sources. AreBelow (F.lists readers.now.files.now) (F.gives readers.now.files.now)
+        root.now sources.items) }
     ensures err { IfErr result (MayStop (F.lists readers.now.files.now) (F.gives readers.now.files.now) root.now) }
 {
     match readers.files.list_sources(readers.alloc, root)? {

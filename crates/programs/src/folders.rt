@@ -18,11 +18,14 @@ ghost use Rattle.programs.specs.Starting.{HasNoPackage, IsBadFolder, MayNotStart
 use crate::package::package_of;
 use crate::start_fault::StartFault;
 use command_line::{IndexOptions, PackageFolder};
+use index_pool::Gate;
 use scip_document::{FilePackages, RootPackage};
 use scip_symbol::PackageId;
-use source_files::{LoadedTree, ReadFiles, load_tree, load_tree_with_paths};
+use source_files::{LoadedTree, ReadFiles, Readers, load_tree, load_tree_with_paths};
 use source_tree::Tree;
 use std::alloc::{AllocError, Global};
+use std::sync::Wait;
+use std::thread::Threads;
 
 /// The package of a folder.
 fn package_of_folder(alloc: Global, folder: &PackageFolder) -> Result<PackageId, StartFault>
@@ -164,28 +167,29 @@ fn packages_by(
 ///
 /// `BadPart`, of the run, or `BadFolder`, of the first folder whose package has a bad part; then the faults of
 /// `load_tree`.
-pub(crate) fn load_folders<F: ReadFiles>(
-    alloc: Global,
+pub(crate) fn load_folders<R: Threads + Wait, G: Gate, F: ReadFiles + Sync>(
+    readers: &Readers<'_, R, G, F>,
     options: &IndexOptions,
-    files: &F,
 ) -> Result<Folders, StartFault>
     ensures named { IfOk result (λ _. NamePackages options.now) }
-    ensures folders { IfOk result (λ made. AreFolders (F.lists files.now) (F.gives files.now) options.now made.tree
-        made.packages) }
-    ensures stops { IfErr result (MayNotStart (F.lists files.now) (F.gives files.now) options.now) }
+    ensures folders { IfOk result (λ made. AreFolders (F.lists readers.now.files.now) (F.gives readers.now.files.now)
+        options.now made.tree made.packages) }
+    ensures stops { IfErr result (MayNotStart (F.lists readers.now.files.now) (F.gives readers.now.files.now)
+        options.now) }
 {
+    let alloc = readers.alloc;
     let run = package_of(alloc, options)?;
     let ids = packages_of_folders(alloc, &options.include_packages)?;
     let root = options.root.as_str();
     if options.include_packages.is_empty() {
-        let tree = load_tree(alloc, files, root, &options.include)?;
+        let tree = load_tree(readers, root, &options.include)?;
         return Ok(Folders {
             tree,
             packages: FilePackages::of_run(alloc, run),
         });
     }
     let folders = included_folders(alloc, options)?;
-    let LoadedTree { tree, own, others } = load_tree_with_paths(alloc, files, root, &folders)?;
+    let LoadedTree { tree, own, others } = load_tree_with_paths(readers, root, &folders)?;
     let packages = packages_by(alloc, options, ids, own, others)?;
     Ok(Folders { tree, packages })
 }

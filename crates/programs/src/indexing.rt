@@ -71,7 +71,7 @@ fn beginning<R: Clock, F>(host: &Host<'_, R, F>, quiet: bool) -> Option<Instant>
 ///
 /// Where standard error is a terminal, and it isn't to be `quiet`, a line there shows after a second how far the
 /// run is; it is wiped before anything is said.
-pub(crate) fn index<R, F: ReadFiles, W: Sink, M: Sink>(
+pub(crate) fn index<R, F: ReadFiles + Sync, W: Sink, M: Sink>(
     host: &Host<'_, R, F>,
     options: &IndexOptions,
     quiet: bool,
@@ -84,7 +84,7 @@ where
         W.failures out.old out.new) (writer M.contents M.failures messages.old messages.new) result }
 {
     let begun = beginning(host, quiet);
-    let run = match start(host.alloc, options, host.files) {
+    let run = match start(host, options) {
         Ok(start) => start,
         Err(fault) => {
             let text = start_text(host.alloc, &fault, options.explain);

@@ -109,7 +109,7 @@ pub fn run<R, F, I: Feed, W: Sink, O: Sink + MakeFiles, M: Sink>(
 ) -> u8
 where
     R: Threads + Wait + Clock + Eprint + Sync,
-    F: ReadFiles + EmptyFolders,
+    F: ReadFiles + EmptyFolders + Sync,
     // Help and the version are printed.
     ensures printed { IfOk asked.now (λ request. IfSome (printed_text request) (λ text.
         Prints W.contents W.failures M.contents M.failures text out.old out.new messages.old messages.new result

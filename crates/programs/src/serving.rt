@@ -47,7 +47,7 @@ fn end<M: Sink>(
 ///
 /// If there are several faults, it reports the first: those of `index` in its order, up to `TooLarge`, after which
 /// nothing was read or written; then `Read` or `Answer`. Memory may run out at any step.
-pub(crate) fn shell<R: Threads + Wait, F: ReadFiles, I: Feed, W: Sink, M: Sink>(
+pub(crate) fn shell<R: Threads + Wait, F: ReadFiles + Sync, I: Feed, W: Sink, M: Sink>(
     host: &Host<'_, R, F>,
     options: &IndexOptions,
     commands: &mut I,
@@ -58,7 +58,7 @@ pub(crate) fn shell<R: Threads + Wait, F: ReadFiles, I: Feed, W: Sink, M: Sink>(
         I.failures I.reads I.ends commands.old commands.new) (writer W.contents W.failures answers.old answers.new)
         (writer M.contents M.failures messages.old messages.new) result }
 {
-    let run = match start(host.alloc, options, host.files) {
+    let run = match start(host, options) {
         Ok(start) => start,
         Err(fault) => {
             let text = start_text(host.alloc, &fault, options.explain);

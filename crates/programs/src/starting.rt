@@ -8,16 +8,19 @@ ghost use Rattle.programs.specs.Folders.{AreFolders, NamePackages};
 ghost use Rattle.programs.specs.Settings.{settings_in};
 ghost use Rattle.programs.specs.Starting.{MayNotStart};
 
+use crate::asking_ahead::AskingAhead;
 use crate::choices::OptionChoices;
 use crate::folders::{Folders, load_folders};
+use crate::host::Host;
 use crate::settings::{only_of, settings_of, workers_of};
 use crate::start_fault::StartFault;
 use command_line::IndexOptions;
 use index_pool::Workers;
 use scip_build::Settings;
-use source_files::ReadFiles;
+use source_files::{ReadFiles, Readers};
 use source_tree::Tree;
-use std::alloc::Global;
+use std::sync::Wait;
+use std::thread::Threads;
 
 /// What a run over a tree is given.
 #[derive(Drop)]
@@ -34,26 +37,32 @@ pub(crate) struct TreeRun {
 
 /// The tree of the sources below the root of the options and of the files below their included roots, and what the
 /// options say about the run over it.
-pub(crate) fn start<F: ReadFiles>(
-    alloc: Global,
+pub(crate) fn start<R: Threads + Wait, F: ReadFiles + Sync>(
+    host: &Host<'_, R, F>,
     options: &IndexOptions,
-    files: &F,
 ) -> Result<TreeRun, StartFault>
     ensures named { IfOk result (λ _. NamePackages options.now) }
-    ensures folders { IfOk result (λ start. AreFolders (F.lists files.now) (F.gives files.now) options.now start.tree
-        start.settings.package) }
+    ensures folders { IfOk result (λ start. AreFolders (F.lists host.now.files.now) (F.gives host.now.files.now)
+        options.now start.tree start.settings.package) }
     ensures only { IfOk result (λ start. option_map (λ f. string_bytes f.0) start.choices.filter ≡ option_map
         string_bytes options.now.only) }
     ensures doc { IfOk result (λ start. option_map (λ r. r.0) start.choices.rule ≡ option_map choice_of_word
         options.now.doc) }
     ensures workers { IfOk result (λ start. start.workers ≡ options.now.workers) }
     ensures settings { IfOk result (λ start. start.settings ≡ settings_in options.now start.settings.package) }
-    ensures stops { IfErr result (MayNotStart (F.lists files.now) (F.gives files.now) options.now) }
+    ensures stops { IfErr result (MayNotStart (F.lists host.now.files.now) (F.gives host.now.files.now) options.now) }
 {
-    let Folders { tree, packages } = load_folders(alloc, options, files)?;
-    let settings = settings_of(alloc, options, packages)?;
-    let choices = OptionChoices::new(alloc, only_of(options), options.doc)?;
     let workers = workers_of(options);
+    let readers = Readers {
+        rt: host.rt,
+        alloc: host.alloc,
+        workers,
+        gate: &AskingAhead::new(host.alloc),
+        files: host.files,
+    };
+    let Folders { tree, packages } = load_folders(&readers, options)?;
+    let settings = settings_of(host.alloc, options, packages)?;
+    let choices = OptionChoices::new(host.alloc, only_of(options), options.doc)?;
     Ok(TreeRun {
         tree,
         choices,

@@ -1,4 +1,4 @@
 pub mod KeptLemmas
-pub mod RootLemmas
+pub mod ReadingLemmas
 pub mod LoadLemmas
 pub mod FolderLemmas

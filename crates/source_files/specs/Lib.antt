@@ -4,6 +4,7 @@ pub mod SystemFiles
 -- what the sources below a root are, and which can't be read
 pub mod Roots
 pub mod RootFaults
+pub mod Reading
 -- the tree below a root and included roots, and why there is none
 pub mod Loads
 pub mod LoadFaults

@@ -8,9 +8,13 @@ ghost use Rattle.source_files.specs.LoadFaults.{MayStopBelow};
 
 use crate::load_fault::LoadFault;
 use crate::read_files::ReadFiles;
+use crate::readers::Readers;
 use crate::root::read_root;
+use index_pool::Gate;
 use source_tree::Source;
 use std::alloc::{AllocError, Global};
+use std::sync::Wait;
+use std::thread::Threads;
 
 /// Files below folders, folder by folder, and the paths of those below each.
 #[derive(Drop)]
@@ -44,38 +48,39 @@ fn add_paths(
 }
 
 // Adds the files below a folder.
-fn add_folder<F: ReadFiles>(
-    alloc: Global,
+fn add_folder<R: Threads + Wait, G: Gate, F: ReadFiles + Sync>(
+    readers: &Readers<'_, R, G, F>,
     folders: &mut Folders,
-    files: &F,
     root: &str,
 ) -> Result<(), LoadFault>
-    ensures ok { OnOk result (AddsFolder (F.lists files.now) (F.gives files.now) root.now folders.old.files.items folders.new.files.items
-        (map (λ paths. map string_bytes paths.items) folders.old.paths.items) (map (λ paths. map string_bytes paths.items) folders.new.paths.items)) }
-    ensures err { IfErr result (MayStop (F.lists files.now) (F.gives files.now) root.now) }
+    ensures ok { OnOk result (AddsFolder (F.lists readers.now.files.now) (F.gives readers.now.files.now)
+        root.now folders.old.files.items folders.new.files.items
+        (map (λ paths. map string_bytes paths.items) folders.old.paths.items)
+        (map (λ paths. map string_bytes paths.items) folders.new.paths.items)) }
+    ensures err { IfErr result (MayStop (F.lists readers.now.files.now) (F.gives readers.now.files.now) root.now) }
 {
-    let mut here = read_root(alloc, files, root)?;
-    add_paths(alloc, &mut folders.paths, &here)?;
+    let mut here = read_root(readers, root)?;
+    add_paths(readers.alloc, &mut folders.paths, &here)?;
     folders.files.append(&mut here)?;
     Ok(())
 }
 
 /// The files below folders, which are read in order.
-pub(crate) fn read_folders<F: ReadFiles>(
-    alloc: Global,
-    files: &F,
+pub(crate) fn read_folders<R: Threads + Wait, G: Gate, F: ReadFiles + Sync>(
+    readers: &Readers<'_, R, G, F>,
     roots: &[String],
 ) -> Result<Folders, LoadFault>
-    ensures ok { IfOk result (λ read. AreFolders (F.lists files.now) (F.gives files.now) (map string_bytes roots.now)
-        read.files.items (map (λ paths. map string_bytes paths.items) read.paths.items)) }
-    ensures err { IfErr result (MayStopBelow (F.lists files.now) (F.gives files.now) (map string_bytes roots.now)) }
+    ensures ok { IfOk result (λ read. AreFolders (F.lists readers.now.files.now) (F.gives readers.now.files.now)
+        (map string_bytes roots.now) read.files.items (map (λ paths. map string_bytes paths.items) read.paths.items)) }
+    ensures err { IfErr result (MayStopBelow (F.lists readers.now.files.now) (F.gives readers.now.files.now)
+        (map string_bytes roots.now)) }
 {
     let mut folders = Folders {
-        files: Vec::new(alloc),
-        paths: Vec::new(alloc),
+        files: Vec::new(readers.alloc),
+        paths: Vec::new(readers.alloc),
     };
     for root in roots {
-        add_folder(alloc, &mut folders, files, root.as_str())?;
+        add_folder(readers, &mut folders, root.as_str())?;
     }
     Ok(folders)
 }

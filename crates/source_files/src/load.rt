@@ -10,22 +10,27 @@ ghost use Rattle.source_files.specs.LoadFaults.{MayRefuseFiles, MayStopBelow};
 use crate::folders::{paths_of, read_folders};
 use crate::load_fault::LoadFault;
 use crate::read_files::ReadFiles;
+use crate::readers::Readers;
 use crate::root::read_root;
+use index_pool::Gate;
 use source_tree::{Source, Tree, TreeFault, one_sorting_by_path};
 use std::alloc::Global;
+use std::sync::Wait;
+use std::thread::Threads;
 
 // The files below roots, root by root.
-fn read_roots<F: ReadFiles>(
-    alloc: Global,
-    files: &F,
+fn read_roots<R: Threads + Wait, G: Gate, F: ReadFiles + Sync>(
+    readers: &Readers<'_, R, G, F>,
     roots: &[String],
 ) -> Result<Vec<Source>, LoadFault>
-    ensures ok { IfOk result (λ sources. AreBelowEach (F.lists files.now) (F.gives files.now) (map string_bytes roots.now) sources.items) }
-    ensures err { IfErr result (MayStopBelow (F.lists files.now) (F.gives files.now) (map string_bytes roots.now)) }
+    ensures ok { IfOk result (λ sources. AreBelowEach (F.lists readers.now.files.now) (F.gives readers.now.files.now)
+        (map string_bytes roots.now) sources.items) }
+    ensures err { IfErr result (MayStopBelow (F.lists readers.now.files.now) (F.gives readers.now.files.now)
+        (map string_bytes roots.now)) }
 {
-    let mut sources = Vec::new(alloc);
+    let mut sources = Vec::new(readers.alloc);
     for root in roots {
-        let mut here = read_root(alloc, files, root.as_str())?;
+        let mut here = read_root(readers, root.as_str())?;
         sources.append(&mut here)?;
     }
     Ok(sources)
@@ -81,18 +86,19 @@ fn make_tree(alloc: Global, sources: Vec<Source>, included: Vec<Source>) -> Resu
 /// `Unreadable`: what can't be read first, root by root: the root, which can't be listed, or else the
 /// first file below it. Then `TooMany`, `BadPath`, of the first bad path through the sources and then
 /// the included files, and `SamePath`. `Memory` may come at any step.
-pub fn load_tree<F: ReadFiles>(
-    alloc: Global,
-    files: &F,
+pub fn load_tree<R: Threads + Wait, G: Gate, F: ReadFiles + Sync>(
+    readers: &Readers<'_, R, G, F>,
     root: &str,
     included: &[String],
 ) -> Result<Tree, LoadFault>
-    ensures tree { IfOk result (IsTreeBelow (F.lists files.now) (F.gives files.now) root.now (map string_bytes included.now)) }
-    ensures refused { IfErr result (MayNotLoad (F.lists files.now) (F.gives files.now) root.now (map string_bytes included.now)) }
+    ensures tree { IfOk result (IsTreeBelow (F.lists readers.now.files.now) (F.gives readers.now.files.now) root.now
+        (map string_bytes included.now)) }
+    ensures refused { IfErr result (MayNotLoad (F.lists readers.now.files.now) (F.gives readers.now.files.now) root.now
+        (map string_bytes included.now)) }
 {
-    let sources = read_root(alloc, files, root)?;
-    let included = read_roots(alloc, files, included)?;
-    make_tree(alloc, sources, included)
+    let sources = read_root(readers, root)?;
+    let included = read_roots(readers, included)?;
+    make_tree(readers.alloc, sources, included)
 }
 
 /// A tree, and the paths of the files below each of the folders that it was read from.
@@ -107,20 +113,21 @@ pub struct LoadedTree {
 }
 
 /// The tree that `load_tree` makes, or why it makes none, with the paths of the files of each folder.
-pub fn load_tree_with_paths<F: ReadFiles>(
-    alloc: Global,
-    files: &F,
+pub fn load_tree_with_paths<R: Threads + Wait, G: Gate, F: ReadFiles + Sync>(
+    readers: &Readers<'_, R, G, F>,
     root: &str,
     included: &[String],
 ) -> Result<LoadedTree, LoadFault>
-    ensures loaded { IfOk result (λ loaded. IsLoadedBelow (F.lists files.now) (F.gives files.now) root.now (map string_bytes included.now)
-        loaded.tree (map string_bytes loaded.own.items) (map (λ paths. map string_bytes paths.items) loaded.others.items)) }
-    ensures refused { IfErr result (MayNotLoad (F.lists files.now) (F.gives files.now) root.now (map string_bytes included.now)) }
+    ensures loaded { IfOk result (λ loaded. IsLoadedBelow (F.lists readers.now.files.now) (F.gives readers.now.files.now)
+        root.now (map string_bytes included.now) loaded.tree (map string_bytes loaded.own.items)
+        (map (λ paths. map string_bytes paths.items) loaded.others.items)) }
+    ensures refused { IfErr result (MayNotLoad (F.lists readers.now.files.now) (F.gives readers.now.files.now) root.now
+        (map string_bytes included.now)) }
 {
-    let sources = read_root(alloc, files, root)?;
-    let own = paths_of(alloc, &sources)?;
-    let folders = read_folders(alloc, files, included)?;
-    let tree = make_tree(alloc, sources, folders.files)?;
+    let sources = read_root(readers, root)?;
+    let own = paths_of(readers.alloc, &sources)?;
+    let folders = read_folders(readers, included)?;
+    let tree = make_tree(readers.alloc, sources, folders.files)?;
     Ok(LoadedTree {
         tree,
         own,

@@ -1,11 +1,14 @@
 //! The sources below a root.
 
-use source_files::{LoadFault, ReadFiles, SystemFiles, read_root};
+use index_pool::{NoGate, Workers};
+use source_files::{LoadFault, ReadFiles, Readers, SystemFiles, read_root};
 use source_tree::Source;
 use std::alloc::{AllocError, Global};
 use std::process::Abort;
 use std::rt::Files;
+use std::sync::Wait;
 use std::test::Fail;
+use std::thread::Threads;
 use std::{fs, io};
 
 /// Sees that a text is what is due.
@@ -74,14 +77,44 @@ fn are_five(sources: &[Source]) -> bool {
     sources.len() == 5
 }
 
-fn are_read<F: ReadFiles>(alloc: Global, files: &F, root: &str) -> bool {
-    let answer = match read_root(alloc, files, root) {
-        Err(LoadFault::Memory) => read_root(alloc, files, root),
+/// Whether these five are read on so many workers.
+fn are_read<R: Threads + Wait, F: ReadFiles + Sync>(
+    rt: &R,
+    alloc: Global,
+    workers: Workers,
+    files: &F,
+    root: &str,
+) -> bool {
+    let readers = Readers {
+        rt,
+        alloc,
+        workers,
+        gate: &NoGate,
+        files,
+    };
+    let answer = match read_root(&readers, root) {
+        Err(LoadFault::Memory) => read_root(&readers, root),
         answer => answer,
     };
     match answer {
         Ok(sources) => are_five(&sources),
         Err(_) => false,
+    }
+}
+
+/// Sees that they are, on one worker and on more.
+fn see_read<R: Threads + Wait + Abort, F: ReadFiles + Sync>(
+    rt: &R,
+    alloc: Global,
+    files: &F,
+    root: &str,
+) {
+    for count in &[1usize, 3, 16] {
+        let read = match Workers::new(*count) {
+            Some(workers) if are_read(rt, alloc, workers, files, root) => "read",
+            _ => "not so",
+        };
+        see_text(rt, read, "read");
     }
 }
 
@@ -119,12 +152,7 @@ fn regular_files_by_path(rt: HostRuntime) -> Result<(), Fail> {
     for root in &["walk/a.proto", "nowhere", "", "walk/link.proto"] {
         see_listed(&rt, rt.alloc(), &files, root, "Unreadable")?;
     }
-    let read = if are_read(rt.alloc(), &files, "walk") {
-        "read"
-    } else {
-        "not so"
-    };
-    see_text(&rt, read, "read");
+    see_read(&rt, rt.alloc(), &files, "walk");
     fs::remove_file(&rt, "root")?;
     remove_again(&rt, "walk")?;
     Ok(())

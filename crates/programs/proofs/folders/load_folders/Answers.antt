@@ -8,8 +8,8 @@ use Rattle.programs.proofs.folders.load_folders.Goals as goal
 
 pub returns-then-is_empty-clause-folders : goal.returns-then-is_empty-clause-folders
 returns-then-is_empty-clause-folders g c =
-    let lists = g.F.ReadFiles.lists c.args.files.now in
-    let gives = g.F.ReadFiles.gives c.args.files.now in
+    let lists = g.F.ReadFiles.lists c.args.readers.now.files.now in
+    let gives = g.F.ReadFiles.gives c.args.readers.now.files.now in
     let options = c.args.options.now in
     let tree = c.in_ok-tree.tree in
     let none = none_there options.include_packages.items _

@@ -9,13 +9,13 @@ use Rattle.source_files.proofs.folders.read_folders.Goals as goal
 pub loop-root-init : goal.loop-root-init
 loop-root-init g c =
     rw (c.new.ensures.items, c.new-2.ensures.items)
-    (no_folders (g.F.ReadFiles.lists c.args.files.now) (g.F.ReadFiles.gives c.args.files.now))
+    (no_folders (g.F.ReadFiles.lists c.args.readers.now.files.now) (g.F.ReadFiles.gives c.args.readers.now.files.now))
 
 pub returns-in_err-add_folder-clause-err : goal.returns-in_err-add_folder-clause-err
 returns-in_err-add_folder-clause-err g c =
     let p = err_from_is_err_and c.from_residual.result c.from_residual.ensures.1 in
-    let lists = g.F.ReadFiles.lists c.args.files.now in
-    let gives = g.F.ReadFiles.gives c.args.files.now in
+    let lists = g.F.ReadFiles.lists c.args.readers.now.files.now in
+    let gives = g.F.ReadFiles.gives c.args.readers.now.files.now in
     let roots = c.args.roots.now in
     let number = c.loop-root.root-index in
     let fault = c.in_err-add_folder.field-0.0 in
@@ -29,8 +29,8 @@ returns-in_err-add_folder-clause-err g c =
 
 pub loop-root-preserved : goal.loop-root-preserved
 loop-root-preserved g c =
-    let lists = g.F.ReadFiles.lists c.args.files.now in
-    let gives = g.F.ReadFiles.gives c.args.files.now in
+    let lists = g.F.ReadFiles.lists c.args.readers.now.files.now in
+    let gives = g.F.ReadFiles.gives c.args.readers.now.files.now in
     let roots = c.args.roots.now in
     let number = c.loop-root.root-index in
     let root = string_bytes c.root-item.result in

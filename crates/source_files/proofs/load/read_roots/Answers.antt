@@ -12,8 +12,8 @@ loop-root-init g c = rw c.new-sources.ensures.items no_root
 pub returns-in_err-here-clause-err : goal.returns-in_err-here-clause-err
 returns-in_err-here-clause-err g c =
     let p = err_from_is_err_and c.from_residual.result c.from_residual.ensures.1 in
-    let lists = g.F.ReadFiles.lists c.args.files.now in
-    let gives = g.F.ReadFiles.gives c.args.files.now in
+    let lists = g.F.ReadFiles.lists c.args.readers.now.files.now in
+    let gives = g.F.ReadFiles.gives c.args.readers.now.files.now in
     let roots = c.args.roots.now in
     let number = c.loop-root.root-index in
     let fault = c.in_err-here.field-0.0 in
@@ -26,8 +26,8 @@ returns-in_err-here-clause-err g c =
 
 pub loop-root-preserved : goal.loop-root-preserved
 loop-root-preserved g c =
-    let lists = g.F.ReadFiles.lists c.args.files.now in
-    let gives = g.F.ReadFiles.gives c.args.files.now in
+    let lists = g.F.ReadFiles.lists c.args.readers.now.files.now in
+    let gives = g.F.ReadFiles.gives c.args.readers.now.files.now in
     let roots = c.args.roots.now in
     let number = c.loop-root.root-index in
     let root = string_bytes c.root-item.result in

@@ -4,5 +4,5 @@ use Rattle.source_files.proofs.load.read_roots.Given as goal
 
 abbrev pub invariant-loop-root : goal.invariant-loop-root
 invariant-loop-root g l =
-    AreBelowEach (g.F.ReadFiles.lists l.files) (g.F.ReadFiles.gives l.files)
+    AreBelowEach (g.F.ReadFiles.lists l.readers.files.now) (g.F.ReadFiles.gives l.readers.files.now)
     (map string_bytes (take l.root-index l.roots)) l.sources.items

@@ -1,0 +1,20 @@
+//! What files are read on.
+
+use index_pool::Workers;
+use std::alloc::Global;
+
+/// What files are read on: threads of a runtime, so many workers, a gate whose calls come round each file, and the
+/// system of files.
+#[derive(Drop)]
+pub struct Readers<'a, R, G, F> {
+    /// The runtime whose threads read.
+    pub rt: &'a R,
+    /// Where memory is taken.
+    pub alloc: Global,
+    /// How many threads read, at most.
+    pub workers: Workers,
+    /// What is called before and after each file.
+    pub gate: &'a G,
+    /// The system of files.
+    pub files: &'a F,
+}

@@ -127,10 +127,10 @@ digit_by n small (inr many) = rw (le-ltb n 10 many) (omega arith, omega arith)
 pub digit_low : (n : ℕ) → n < 16 → (48 ≤ digit_char n) × (digit_char n < 127)
 digit_low n small = digit_by n small (cases_lt n 10)
 
-pub high_digit : ℕ → ℕ
+abbrev pub high_digit : ℕ → ℕ
 high_digit b = digit_char (b / 16 % 16)
 
-pub low_digit : ℕ → ℕ
+abbrev pub low_digit : ℕ → ℕ
 low_digit b = digit_char (b % 16)
 
 pub high_is : (b : ℕ) → (48 ≤ high_digit b) × (high_digit b < 127)

@@ -1,6 +1,6 @@
 -- What stands below what is shown.
 use Rattle.std.proofs.Common.{◌≡◌, ◌∙◌, ap, ap₂, refl, sym, ℕ, zero, suc, ◌+◌, ◌≤◌, ◌<◌, Bool, true, false, cond}
-use Rattle.std.proofs.Common.{List, [], ◌∷◌, length, take, ◌++◌, append-nil, arith}
+use Rattle.std.proofs.Common.{List, [], ◌∷◌, length, take, ◌++◌, append-nil, append_assoc, arith}
 use Rattle.std.specs.Prelude.{codes, ◌==◌, nat_eq}
 use Rattle.std.specs.List.{AllByRecursion, flat_map}
 use Rattle.std.proofs.lemmas.Bool.Decides.{nat_tests}
@@ -32,7 +32,7 @@ four_signs sign d e of_d of_e = rw (
   no_tab d of_d.0,
   no_tab e of_e.0,
   append-nil sign,
-) refl
+) (sym (append_assoc (sign ++ sign) sign sign ∙ append_assoc sign sign (sign ++ sign)))
 
 marks_escape : (sign : List ℕ) (b : ℕ) → marks sign (escaped b) ≡ four sign
 marks_escape sign b =
@@ -97,3 +97,13 @@ pub below_cut : (cut : Bool) (cs : List (List ℕ))
     ≡ where_cut cut (codes "   ") ++ marks (codes " ") (shown_text cs)
 below_cut true cs = marks_joined (codes " ") (codes "...") (shown_text cs) (text_begins cs)
 below_cut false cs = refl
+
+pub mark_line_is : (text due : List ℕ) (cut : Bool) (cs : List (List ℕ)) (next after : List ℕ)
+    → next ≡ text ++ where_cut cut (codes "   ") → after ≡ next ++ marks (codes " ") (shown_text cs)
+    → after ++ due ≡ text ++ (marks (codes " ") (where_cut cut (codes "...") ++ shown_text cs) ++ due)
+mark_line_is text due cut cs next after a b =
+    let blanks = marks (codes " ") (shown_text cs) in
+    let spaces = where_cut cut (codes "   ") in
+    ap (λ (t : List ℕ). t ++ due) (b ∙ ap (λ (t : List ℕ). t ++ blanks) a ∙ append_assoc text spaces blanks)
+    ∙ append_assoc text (spaces ++ blanks) due
+    ∙ ap (λ (t : List ℕ). text ++ (t ++ due)) (sym (below_cut cut cs))

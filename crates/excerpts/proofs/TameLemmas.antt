@@ -7,6 +7,7 @@ use Rattle.std.specs.Fmt.{decimal}
 use Rattle.std.specs.List.{AllByRecursion, flat_map, list_any, list_all, count_by, suffix_len, onto_first}
 use Rattle.std.specs.Str.{NoCharPasses, NonePass, chars, encode_utf8_all}
 use Rattle.std.proofs.lemmas.Bool.Decides.{nat_tests}
+use Rattle.std.proofs.lemmas.Grind.{common_steps}
 use Rattle.std.proofs.lemmas.Fmt.{decimal_by_steps_wide}
 use Rattle.std.proofs.lemmas.Str.{IsUtf8-from_is_utf8, NoCharPasses-nil, NoCharPasses-append, encodes-chars, encode_ascii}
 use Rattle.proto_lex.specs.Position.{is_line_end, line_of, line_before}
@@ -93,13 +94,11 @@ tame_plain c e = let h = plain_parts c e in
     (chars c, encodes-chars c (IsUtf8-from_is_utf8 c h.0), none_pass (chars c) h.1)
 
 tame_escape : (b : ℕ) → IsTame (escaped b)
-tame_escape b = subst IsTame (sym (escape_is b)) (tame_printable (92 ∷ 120 ∷ high_digit b ∷ low_digit b ∷ []) (
-  (omega arith, omega arith),
-  (omega arith, omega arith),
-  (omega (arith, (high_is b).0), (high_is b).1),
-  (omega (arith, (low_is b).0), (low_is b).1),
-  tt,
-))
+tame_escape b =
+    let high : IsPrintable (high_digit b) = (omega (arith, (high_is b).0), (high_is b).1) in
+    let low : IsPrintable (low_digit b) = (omega (arith, (low_is b).0), (low_is b).1) in
+    subst IsTame (sym (escape_is b)) (tame_printable (92 ∷ 120 ∷ high_digit b ∷ low_digit b ∷ [])
+    ((omega arith, omega arith), ((omega arith, omega arith), (high, (low, tt)))))
 
 tame_escapes : (bytes : List ℕ) → IsTame (flat_map escaped bytes)
 tame_escapes [] = NoCharPasses-nil is_obeyed
@@ -138,13 +137,14 @@ tame_blanks (d ∷ ds) = tame_joined (codes " ") (blanks ds) (tame_text (codes "
 
 -- ---- laws
 
+count_by_one : (b : ℕ) (bs : List ℕ) (t : Bool) → is_line_end b ≡ t → count_by is_line_end bs ≤ length bs
+    → count_by is_line_end (b ∷ bs) ≤ length (b ∷ bs)
+count_by_one b bs true is h = grind (arith, common_steps)
+count_by_one b bs false is h = grind (arith, common_steps)
+
 count_le : (text : List ℕ) → count_by is_line_end text ≤ length text
 count_le [] = omega arith
-count_le (b ∷ bs) = by (is_line_end b) refl
-  where
-    by : (t : Bool) → is_line_end b ≡ t → count_by is_line_end (b ∷ bs) ≤ length (b ∷ bs)
-    by true is = rw is (omega (arith, count_le bs))
-    by false is = rw is (omega (arith, count_le bs))
+count_le (b ∷ bs) = count_by_one b bs (is_line_end b) refl (count_le bs)
 
 pub line_fits : (text : List ℕ) (at : ℕ) → length text < 2 ^ 64 → line_number text at < 10 ^ 64
 line_fits text at fits = omega (arith, count_le (take at text), length-take at text)
@@ -153,57 +153,67 @@ onto_len : (b : ℕ) (cs : List (List ℕ)) → length (onto_first b cs) ≤ len
 onto_len b [] = omega arith
 onto_len b (c ∷ cs) = omega arith
 
+one_by : (b : ℕ) (bs : List ℕ) (t : Bool) → starts goes_on bs ≡ t → length (characters bs) ≤ length bs
+    → length (characters (b ∷ bs)) ≤ length (b ∷ bs)
+one_by b bs true is h = rw is (omega (arith, onto_len b (characters bs), h))
+one_by b bs false is h = rw is (omega (arith, h))
+
 pub characters_le : (bytes : List ℕ) → length (characters bytes) ≤ length bytes
 characters_le [] = omega arith
-characters_le (b ∷ bs) = by (starts goes_on bs) refl
-  where
-    by : (t : Bool) → starts goes_on bs ≡ t → length (characters (b ∷ bs)) ≤ length (b ∷ bs)
-    by true is = rw is (omega (arith, onto_len b (characters bs), characters_le bs))
-    by false is = rw is (omega (arith, characters_le bs))
+characters_le (b ∷ bs) = one_by b bs (starts goes_on bs) refl (characters_le bs)
 
 pub column_fits : (text : List ℕ) (at : ℕ) → length text < 2 ^ 64 → column text at < 10 ^ 64
 column_fits text at fits = omega (arith, characters_le (line_before text at), length-take at text,
     length-drop (length (take at text) - suffix_len (λ x. not (is_line_end x)) (take at text)) (take at text))
 
+-- of two to six parts
+two : (a b : List ℕ) → IsTame a → IsTame b → IsTame (a ++ b)
+two a b x y = tame_joined a b x y
+
+three : (a b c : List ℕ) → IsTame a → IsTame b → IsTame c → IsTame (a ++ b ++ c)
+three a b c x y z = two (a ++ b) c (two a b x y) z
+
+four : (a b c d : List ℕ) → IsTame a → IsTame b → IsTame c → IsTame d → IsTame (a ++ b ++ c ++ d)
+four a b c d x y z w = two (a ++ b ++ c) d (three a b c x y z) w
+
 pub places_are_tame : PlacesAreTame
 places_are_tame path text at fits =
-    tame_joined (shown_text (characters path)) _ (tame_shown (characters path))
-    (tame_joined (codes ":") _ (tame_text (codes ":") refl)
-    (tame_joined (decimal (line_number text at)) _ (tame_decimal (line_number text at) (line_fits text at fits))
-    (tame_joined (codes ":") _ (tame_text (codes ":") refl)
-    (tame_joined (decimal (column text at)) _ (tame_decimal (column text at) (column_fits text at fits))
-    (tame_text (codes ": ") refl)))))
+    let name = shown_text (characters path) in
+    let line = decimal (line_number text at) in
+    let place = decimal (column text at) in
+    three (name ++ codes ":" ++ line ++ codes ":") place (codes ": ")
+    (four name (codes ":") line (codes ":") (tame_shown (characters path)) (tame_text (codes ":") refl)
+    (tame_decimal (line_number text at) (line_fits text at fits)) (tame_text (codes ":") refl))
+    (tame_decimal (column text at) (column_fits text at fits)) (tame_text (codes ": ") refl)
 
 pub quotes_are_tame : QuotesAreTame
 quotes_are_tame bytes =
     let cs = take 40 (characters bytes) in
     let cut = nat_lt 40 (length (characters bytes)) in
-    tame_joined (codes "`") (shown_text cs ++ where_cut cut (codes "...") ++ codes "`") (tame_text (codes "`") refl)
-    (tame_joined (shown_text cs) (where_cut cut (codes "...") ++ codes "`") (tame_shown cs)
-    (tame_joined (where_cut cut (codes "...")) (codes "`") (tame_cut cut (codes "...") (tame_text (codes "...") refl))
-    (tame_text (codes "`") refl)))
+    four (codes "`") (shown_text cs) (where_cut cut (codes "...")) (codes "`") (tame_text (codes "`") refl)
+    (tame_shown cs) (tame_cut cut (codes "...") (tame_text (codes "...") refl)) (tame_text (codes "`") refl)
 
 tame_before : (parts : Parts) → IsTame (shown_before parts)
 tame_before parts =
     let cut = nat_lt (room parts) (length parts.before) in
-    tame_joined (where_cut cut (codes "...")) _ (tame_cut cut (codes "...") (tame_text (codes "...") refl))
-    (tame_shown (last_of (room parts) parts.before))
+    two (where_cut cut (codes "...")) (shown_text (last_of (room parts) parts.before))
+    (tame_cut cut (codes "...") (tame_text (codes "...") refl)) (tame_shown (last_of (room parts) parts.before))
 
 tame_behind : (parts : Parts) → IsTame (shown_behind parts)
 tame_behind parts =
     let cut = nat_lt (room parts) (length parts.marked + length parts.behind) in
-    tame_joined (shown_text (take (room parts - length parts.marked) parts.behind)) _
-    (tame_shown (take (room parts - length parts.marked) parts.behind))
+    let cs = take (room parts - length parts.marked) parts.behind in
+    two (shown_text cs) (where_cut cut (codes "...")) (tame_shown cs)
     (tame_cut cut (codes "...") (tame_text (codes "...") refl))
 
 tame_line : (parts : Parts) → IsTame (shown_line parts)
 tame_line parts =
-    tame_joined (shown_before parts) _ (tame_before parts)
-    (tame_joined (shown_marked parts) _ (tame_shown (take (room parts) parts.marked)) (tame_behind parts))
+    three (shown_before parts) (shown_marked parts) (shown_behind parts) (tame_before parts)
+    (tame_shown (take (room parts) parts.marked)) (tame_behind parts)
 
 tame_below : (parts : Parts) → IsTame (mark_line parts)
 tame_below parts =
-    tame_joined (marks (codes " ") (shown_before parts)) _
+    two (marks (codes " ") (shown_before parts)) (carets (shown_marked parts))
     (tame_marks (codes " ") (characters (shown_before parts)) (tame_text (codes " ") refl))
     (tame_carets (shown_marked parts))
 
@@ -211,12 +221,10 @@ pub excerpts_are_tame : ExcerptsAreTame
 excerpts_are_tame text at len fits =
     let number = decimal (line_number text at) in
     let parts = parts_of text at len in
-    (codes "  " ++ number ++ codes " | " ++ shown_line parts,
-    (codes "  " ++ blanks number ++ codes " | " ++ mark_line parts,
-    (refl,
-    (tame_joined (codes "  ") _ (tame_text (codes "  ") refl)
-    (tame_joined number _ (tame_decimal (line_number text at) (line_fits text at fits))
-    (tame_joined (codes " | ") _ (tame_text (codes " | ") refl) (tame_line parts))),
-    tame_joined (codes "  ") _ (tame_text (codes "  ") refl)
-    (tame_joined (blanks number) _ (tame_blanks number)
-    (tame_joined (codes " | ") _ (tame_text (codes " | ") refl) (tame_below parts)))))))
+    let of_number = tame_decimal (line_number text at) (line_fits text at fits) in
+    let edge = tame_text (codes "  ") refl in
+    let bar = tame_text (codes " | ") refl in
+    (codes "  " ++ number ++ codes " | " ++ shown_line parts, codes "  " ++ blanks number ++ codes " | " ++ mark_line parts,
+    refl,
+    four (codes "  ") number (codes " | ") (shown_line parts) edge of_number bar (tame_line parts),
+    four (codes "  ") (blanks number) (codes " | ") (mark_line parts) edge (tame_blanks number) bar (tame_below parts))

@@ -1,7 +1,7 @@
 -- What is shown as it is.
 use Rattle.std.proofs.Common.{◌≡◌, ◌∙◌, ap, ap₂, refl, sym, subst, ℕ, zero, suc, ◌+◌, ◌-◌, ◌/◌, ◌≤◌, ◌<◌}
 use Rattle.std.proofs.Common.{Bool, true, false, cond, not, ◌&&◌, ◌||◌, List, [], ◌∷◌, length, map, take, drop, ◌++◌}
-use Rattle.std.proofs.Common.{◌⊎◌, inl, inr, arith, append-nil, length-append}
+use Rattle.std.proofs.Common.{◌⊎◌, inl, inr, arith, append-nil, append_assoc, length-append}
 use Rattle.std.specs.Prelude.{codes, IsUtf8, chars, nat_lt}
 use Rattle.std.specs.Char.{IsScalar}
 use Rattle.std.specs.Fmt.{decimal}
@@ -129,33 +129,44 @@ whole_text text utf8 tame = whole text utf8 (free_of text utf8 tame)
 
 -- ---- a short line
 
-line_at : ℕ → (before marked behind : List (List ℕ)) → List ℕ
+abbrev line_at : ℕ → (before marked behind : List (List ℕ)) → List ℕ
 line_at n before marked behind =
     (where_cut (nat_lt n (length before)) (codes "...") ++ shown_text (last_of n before))
     ++ shown_text (take n marked)
     ++ (shown_text (take (n - length marked) behind)
     ++ where_cut (nat_lt n (length marked + length behind)) (codes "..."))
 
-at_200 : (before marked behind : List (List ℕ)) → length before + length marked + length behind ≤ 200
-    → line_at 200 before marked behind ≡ shown_text before ++ (shown_text marked ++ shown_text behind)
-at_200 before marked behind few =
+front_at : (before : List (List ℕ)) → length before ≤ 200
+    → where_cut (nat_lt 200 (length before)) (codes "...") ++ shown_text (last_of 200 before) ≡ shown_text before
+front_at before few =
     let none : length before - 200 ≡ 0 = omega (arith, few) in
-    let first : where_cut (nat_lt 200 (length before)) (codes "...") ++ shown_text (last_of 200 before)
-      ≡ shown_text before =
-      ap (λ t. where_cut t (codes "...") ++ shown_text (last_of 200 before)) (le-ltb 200 (length before) (omega (arith, few)))
-      ∙ ap (λ k. shown_text (drop k before)) none in
-    let last : shown_text (take (200 - length marked) behind)
-      ++ where_cut (nat_lt 200 (length marked + length behind)) (codes "...") ≡ shown_text behind =
-      ap (λ t. shown_text (take (200 - length marked) behind) ++ where_cut t (codes "..."))
-      (le-ltb 200 (length marked + length behind) (omega (arith, few)))
-      ∙ append-nil (shown_text (take (200 - length marked) behind))
-      ∙ ap shown_text (take_all (200 - length marked) behind (omega (arith, few))) in
-    ap₂ (λ (x y : List ℕ). x ++ y) first
-    (ap₂ (λ (x y : List ℕ). x ++ y) (ap shown_text (take_all 200 marked (omega (arith, few)))) last)
+    ap (λ t. where_cut t (codes "...") ++ shown_text (last_of 200 before)) (le-ltb 200 (length before) few)
+    ∙ ap (λ k. shown_text (drop k before)) none
+
+back_at : (marked behind : List (List ℕ)) → length marked + length behind ≤ 200
+    → shown_text (take (200 - length marked) behind)
+    ++ where_cut (nat_lt 200 (length marked + length behind)) (codes "...") ≡ shown_text behind
+back_at marked behind few =
+    let shown = shown_text (take (200 - length marked) behind) in
+    ap (λ t. shown ++ where_cut t (codes "...")) (le-ltb 200 (length marked + length behind) few)
+    ∙ append-nil shown
+    ∙ ap shown_text (take_all (200 - length marked) behind (omega (arith, few)))
+
+three_same : (a b c x y z : List ℕ) → a ≡ x → b ≡ y → c ≡ z → a ++ b ++ c ≡ x ++ y ++ z
+three_same a b c x y z h i j =
+    ap₂ (λ (s t : List ℕ). s ++ t) (ap₂ (λ (s t : List ℕ). s ++ t) h i) j
+
+at_200 : (before marked behind : List (List ℕ)) → length before + length marked + length behind ≤ 200
+    → line_at 200 before marked behind ≡ shown_text before ++ shown_text marked ++ shown_text behind
+at_200 before marked behind few =
+    three_same _ _ _ (shown_text before) (shown_text marked) (shown_text behind)
+    (front_at before (omega (arith, few)))
+    (ap shown_text (take_all 200 marked (omega (arith, few))))
+    (back_at marked behind (omega (arith, few)))
 
 short : (before marked behind : List (List ℕ)) → length before + length marked + length behind ≤ 200
     → shown_line (record { before = before; marked = marked; behind = behind })
-    ≡ shown_text before ++ (shown_text marked ++ shown_text behind)
+    ≡ shown_text before ++ shown_text marked ++ shown_text behind
 short before marked behind few =
     ap (λ t. line_at (cond t 100 200) before marked behind)
     (le-ltb 200 (length before + length marked + length behind) few)
@@ -169,15 +180,24 @@ whole_parts before marked behind after are a b c tame few =
     let chars_are : chars (before ++ after) ≡ chars before ++ (chars marked ++ chars behind) =
       chars-append before after a
       ∙ ap (λ (t : List ℕ). chars before ++ t) (ap chars (sym are) ∙ chars-append marked behind b) in
-    let free = subst (NonePass is_obeyed) chars_are (free_of (before ++ after) (IsUtf8-append before after a ends) tame) in
+    let all = free_of (before ++ after) (IsUtf8-append before after a ends) tame in
+    let free = subst (NonePass is_obeyed) chars_are all in
     let front = free_parts (chars before) (chars marked ++ chars behind) free in
     let back = free_parts (chars marked) (chars behind) front.1 in
-    let count : length (characters before) + length (characters marked) + length (characters behind) ≤ 200 =
-      omega (arith, few, ap length chars_are, length-append (chars before) (chars marked ++ chars behind),
-      length-append (chars marked) (chars behind), length_is before a, length_is marked b, length_is behind c) in
+    let count : length (characters before) + length (characters marked) + length (characters behind) ≤ 200 = omega (
+      arith,
+      few,
+      ap length chars_are,
+      length-append (chars before) (chars marked ++ chars behind),
+      length-append (chars marked) (chars behind),
+      length_is before a,
+      length_is marked b,
+      length_is behind c,
+    ) in
     short (characters before) (characters marked) (characters behind) count
-    ∙ ap₂ (λ (x y : List ℕ). x ++ y) (whole before a front.0)
-    (ap₂ (λ (x y : List ℕ). x ++ y) (whole marked b back.0) (whole behind c back.1) ∙ are)
+    ∙ three_same _ _ _ before marked behind (whole before a front.0) (whole marked b back.0) (whole behind c back.1)
+    ∙ append_assoc before marked behind
+    ∙ ap (λ (t : List ℕ). before ++ t) are
 
 pub short_lines_are_whole : ShortLinesAreWhole
 short_lines_are_whole text at len a b c tame few =
@@ -186,13 +206,14 @@ short_lines_are_whole text at len a b c tame few =
 
 pub paths_are_whole : PathsAreWhole
 paths_are_whole path text at utf8 tame =
-    ap (λ (shown : List ℕ). shown ++ (codes ":" ++ decimal (line_number text at) ++ codes ":"
-    ++ decimal (column text at) ++ codes ": ")) (whole_text path utf8 tame)
+    ap (λ (shown : List ℕ). shown ++ codes ":" ++ decimal (line_number text at) ++ codes ":"
+    ++ decimal (column text at) ++ codes ": ") (whole_text path utf8 tame)
 
 pub quotes_are_whole : QuotesAreWhole
 quotes_are_whole bytes utf8 tame few =
     let count : length (characters bytes) ≤ 40 = omega (arith, few, length_is bytes utf8) in
-    ap (λ t. codes "`" ++ shown_text (take 40 (characters bytes)) ++ where_cut t (codes "...") ++ codes "`")
-    (le-ltb 40 (length (characters bytes)) count)
+    let shown = shown_text (take 40 (characters bytes)) in
+    ap (λ t. codes "`" ++ shown ++ where_cut t (codes "...") ++ codes "`") (le-ltb 40 (length (characters bytes)) count)
+    ∙ ap (λ (text : List ℕ). text ++ codes "`") (append-nil (codes "`" ++ shown))
     ∙ ap (λ (text : List ℕ). codes "`" ++ text ++ codes "`")
     (ap shown_text (take_all 40 (characters bytes) count) ∙ whole_text bytes utf8 tame)

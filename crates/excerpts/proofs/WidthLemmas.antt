@@ -95,23 +95,16 @@ mark_it : (marked : List ℕ) → MarkIt (carets marked) marked
 mark_it [] = refl
 mark_it (b ∷ bs) = marks_below 94 (b ∷ bs) (refl, refl)
 
--- a line behind a margin, and then what is below it
-again : (number line edge blanks carets : List ℕ)
-    → 10 ∷ ((codes "  " ++ number ++ codes " | " ++ line) ++ 10 ∷ ((codes "  " ++ edge) ++ codes " | " ++ blanks ++ carets))
-    ≡ 10 ∷ ((codes "  " ++ number) ++ codes " | " ++ line
-    ++ 10 ∷ ((codes "  " ++ edge) ++ codes " | " ++ blanks ++ carets))
-again number line edge blanks carets =
-    ap (λ (l : List ℕ). 10 ∷ 32 ∷ 32 ∷ l)
-    (append_assoc number (codes " | " ++ line) (10 ∷ ((codes "  " ++ edge) ++ codes " | " ++ blanks ++ carets)))
-
 pub marks_stand_below : MarksStandBelow
 marks_stand_below text at len fits =
     let number = decimal (line_number text at) in
     let parts = parts_of text at len in
-    (codes "  " ++ blanks number,
-    (marks (codes " ") (shown_before parts),
-    (carets (shown_marked parts),
-    (again number (shown_line parts) (blanks number) (marks (codes " ") (shown_before parts)) (carets (shown_marked parts)),
-    (below_margin number (digits_of (line_number text at) (line_fits text at fits)),
-    (marks_below 32 (shown_before parts) (refl, refl),
-    mark_it (shown_marked parts)))))))
+    let edge = codes "  " ++ blanks number in
+    let under = marks (codes " ") (shown_before parts) in
+    let last = carets (shown_marked parts) in
+    (edge, under, last,
+    ap (λ (l : List ℕ). 10 ∷ (margin text at ++ codes " | " ++ shown_line parts ++ 10 ∷ l))
+    (sym (append_assoc (edge ++ codes " | ") under last)),
+    below_margin number (digits_of (line_number text at) (line_fits text at fits)),
+    marks_below 32 (shown_before parts) (refl, refl),
+    mark_it (shown_marked parts))

@@ -1,4 +1,4 @@
-use Rattle.std.proofs.Common.{take}
+use Rattle.std.proofs.Common.{sym, take}
 use Rattle.excerpts.specs.Characters.{characters}
 use Rattle.excerpts.proofs.JoinLemmas.{ones, taken}
 use Rattle.excerpts.proofs.MarkLemmas.{signs_are_marks}

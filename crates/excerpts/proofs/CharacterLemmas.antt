@@ -5,8 +5,6 @@ use Rattle.std.specs.List.{flat_map, onto_first, prefix_len}
 use Rattle.std.proofs.lemmas.List.{take_all, take_more}
 use Rattle.std.proofs.lemmas.Grind.{flat_map-append}
 use Rattle.excerpts.specs.Characters.{characters, goes_on}
-use Rattle.std.specs.Prelude.{codes, ◌==◌}
-use Rattle.excerpts.specs.Excerpts.{carets, marks}
 
 one_more : (n : ℕ) → 1 + n ≡ suc n
 one_more n = omega arith
@@ -28,7 +26,7 @@ first_by b c cs false e h =
     ∙ sym (ap parts (ap (λ t. cond t (1 + n) 0) e))
 
 -- the first is a byte with those that go on behind it
-first_is : (b : ℕ) (bs : List ℕ)
+pub first_is : (b : ℕ) (bs : List ℕ)
     → characters (b ∷ bs) ≡ (b ∷ take (prefix_len goes_on bs) bs) ∷ characters (drop (prefix_len goes_on bs) bs)
 first_is b [] = refl
 first_is b (c ∷ cs) = first_by b c cs (goes_on c) refl (first_is c cs)
@@ -60,19 +58,6 @@ step f text next due (suc n) all c cs some are is h =
     ∙ append_assoc text (f c) rest
     ∙ ap (λ (xs : List (List ℕ)). text ++ flat_map f (take (suc n) xs)) (sym are)
     ∙ h
-
--- carets stand below bytes
-below_some : (characters : List (List ℕ)) (c : List ℕ) (cs : List (List ℕ)) (most : ℕ) → characters ≡ c ∷ cs → 0 < most
-    → carets (take most characters) ≡ marks (codes "^") (take most characters)
-below_some characters c cs zero are some = absurd (omega (arith, some))
-below_some characters c cs (suc n) are some =
-    ap (λ (xs : List (List ℕ)). carets (take (suc n) xs)) are
-    ∙ sym (ap (λ (xs : List (List ℕ)). marks (codes "^") (take (suc n) xs)) are)
-
-pub some_carets : (bytes : List ℕ) (most : ℕ) → (length bytes == 0) ≡ false → 0 < most
-    → carets (take most (characters bytes)) ≡ marks (codes "^") (take most (characters bytes))
-some_carets [] most none some = absurd cc
-some_carets (b ∷ bs) most none some = below_some (characters (b ∷ bs)) _ _ most (first_is b bs) some
 
 -- one sign more is there
 pub one_more_sign : (sign first text next xs : List ℕ) (i : ℕ) → i < length xs

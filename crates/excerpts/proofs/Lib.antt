@@ -1,2 +1,7 @@
 mod CharacterLemmas
+mod JoinLemmas
+mod MarkLemmas
 mod ShownLemmas
+mod TameLemmas
+mod WholeLemmas
+mod WidthLemmas

@@ -4,7 +4,7 @@ use Rattle.std.specs.Fmt.{decimal}
 use Rattle.std.specs.List.{flat_map}
 use Rattle.excerpts.specs.Characters.{characters}
 use Rattle.excerpts.specs.Places.{line_number, line_after}
-use Rattle.excerpts.specs.Shown.{shown, mark}
+use Rattle.excerpts.specs.Shown.{shown_text, marks}
 use Rattle.proto_lex.specs.Position.{line_before}
 
 -- the characters of a line before its marked part, of this part, and after it
@@ -32,32 +32,30 @@ last_of count characters = drop (length characters - count) characters
 abbrev pub where_cut : Bool → List ℕ → List ℕ
 where_cut cut text = if cut then text else []
 
-abbrev pub shown_text : List (List ℕ) → List ℕ
-shown_text characters = flat_map shown characters
+-- what is shown of a line before its marked part, of this part, and after it: with `...` where the line is cut
+abbrev pub shown_before : Parts → List ℕ
+shown_before parts =
+    where_cut (nat_lt (room parts) (length parts.before)) (codes "...") ++ shown_text (last_of (room parts) parts.before)
 
-abbrev pub marks : List ℕ → List (List ℕ) → List ℕ
-marks sign characters = flat_map (mark sign) characters
+abbrev pub shown_marked : Parts → List ℕ
+shown_marked parts = shown_text (take (room parts) parts.marked)
 
--- the line, with `...` where it is cut
-abbrev pub shown_line : Parts → List ℕ
-shown_line parts =
-    where_cut (nat_lt (room parts) (length parts.before)) (codes "...")
-    ++ shown_text (last_of (room parts) parts.before)
-    ++ shown_text (take (room parts) parts.marked)
-    ++ shown_text (take (room parts - length parts.marked) parts.behind)
+abbrev pub shown_behind : Parts → List ℕ
+shown_behind parts =
+    shown_text (take (room parts - length parts.marked) parts.behind)
     ++ where_cut (nat_lt (room parts) (length parts.marked + length parts.behind)) (codes "...")
 
+abbrev pub shown_line : Parts → List ℕ
+shown_line parts = shown_before parts ++ shown_marked parts ++ shown_behind parts
+
 -- carets below what is marked, or one caret below a place
-abbrev pub carets : List (List ℕ) → List ℕ
+abbrev pub carets : List ℕ → List ℕ
 carets [] = codes "^"
-carets (character ∷ others) = marks (codes "^") (character ∷ others)
+carets (byte ∷ bytes) = marks (codes "^") (byte ∷ bytes)
 
 -- what is below the line
 abbrev pub mark_line : Parts → List ℕ
-mark_line parts =
-    where_cut (nat_lt (room parts) (length parts.before)) (codes "   ")
-    ++ marks (codes " ") (last_of (room parts) parts.before)
-    ++ carets (take (room parts) parts.marked)
+mark_line parts = marks (codes " ") (shown_before parts) ++ carets (shown_marked parts)
 
 -- a space for each digit
 abbrev pub blanks : List ℕ → List ℕ

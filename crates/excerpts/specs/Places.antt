@@ -8,6 +8,7 @@ use Rattle.proto_lex.specs.Ascii.{backslash}
 use Rattle.proto_lex.specs.Bytes.{is_quote, is_word}
 use Rattle.proto_lex.specs.Position.{is_line_end, line_of, line_before}
 use Rattle.excerpts.specs.Characters.{characters}
+use Rattle.excerpts.specs.Shown.{shown_text}
 
 -- the number of an offset's line
 abbrev pub line_number : List ℕ → ℕ → ℕ
@@ -19,7 +20,8 @@ column text at = length (characters (line_before text at)) + 1
 -- `PATH:LINE:COLUMN: `
 abbrev pub place_text : List ℕ → List ℕ → ℕ → List ℕ
 place_text path text at =
-    path ++ codes ":" ++ decimal (line_number text at) ++ codes ":" ++ decimal (column text at) ++ codes ": "
+    shown_text (characters path) ++ codes ":" ++ decimal (line_number text at) ++ codes ":" ++ decimal (column text at)
+    ++ codes ": "
 
 -- a line without the `\r` that ends it
 abbrev pub without_return : List ℕ → List ℕ

@@ -3,7 +3,21 @@
 ghost use Rattle.std.specs.Prelude.{◌≡◌, ◌≤◌, ◌++◌, OnOk, codes, length, take, ◌<◌};
 ghost use Rattle.std.specs.String.{string_bytes};
 ghost use Rattle.excerpts.specs.Characters.{characters};
-ghost use Rattle.excerpts.specs.Excerpts.{below, blanks, carets, excerpt, last_of, mark_line, marks, numbered, parts_in, quoted, room, shown_line, shown_text, where_cut};
+ghost use Rattle.excerpts.specs.Excerpts.{
+  below,
+  blanks,
+  carets,
+  excerpt,
+  last_of,
+  mark_line,
+  numbered,
+  parts_in,
+  quoted,
+  room,
+  shown_line,
+  where_cut,
+};
+ghost use Rattle.excerpts.specs.Shown.{marks, shown_text};
 
 use crate::characters::{count_characters, skip_characters};
 use crate::line::{cut, first_line, last_line, line_number};
@@ -57,7 +71,7 @@ fn push_last(out: &mut String, bytes: &[u8], most: usize) -> Result<(), AllocErr
 
 /// Appends spaces below the last characters, at most this many.
 fn push_spaces(out: &mut String, bytes: &[u8], most: usize) -> Result<(), AllocError>
-    ensures { OnOk result (string_bytes out.new ≡ string_bytes out.old ++ marks (codes " ") (last_of most (characters bytes.now))) }
+    ensures { OnOk result (string_bytes out.new ≡ string_bytes out.old ++ marks (codes " ") (shown_text (last_of most (characters bytes.now)))) }
 {
     push_marks(out, last_characters(bytes, most), most, " ")
 }
@@ -84,7 +98,7 @@ fn push_line(
 /// Appends carets below what is marked, at most this many characters of it, or one caret below a place.
 fn push_carets(out: &mut String, marked: &[u8], most: usize) -> Result<(), AllocError>
     requires { 0 < most }
-    ensures { OnOk result (string_bytes out.new ≡ string_bytes out.old ++ carets (take most (characters marked.now))) }
+    ensures { OnOk result (string_bytes out.new ≡ string_bytes out.old ++ carets (shown_text (take most (characters marked.now)))) }
 {
     if marked.is_empty() {
         out.push_str("^")

@@ -3,8 +3,10 @@
 
 mod characters;
 mod excerpt;
+mod laws;
 mod line;
 mod shown;
 
 pub use excerpt::{push_excerpt, push_quoted};
+pub use laws::{characters_of_a_text, marks_stand_below, nothing_is_obeyed, short_lines_are_whole};
 pub use line::{push_place, token_len};

@@ -18,6 +18,7 @@ ghost use Rattle.excerpts.specs.Places.{
 };
 
 use crate::characters::{count_characters, first_character};
+use crate::shown::push_text;
 use std::alloc::AllocError;
 
 /// Whether the byte ends a line.
@@ -197,12 +198,13 @@ pub fn token_len(bytes: &[u8]) -> usize
     if len > 0 { len } else { sign_len(bytes) }
 }
 
-/// Appends the place of an offset: `PATH:LINE:COLUMN: `.
+/// Appends the place of an offset: `PATH:LINE:COLUMN: `, the path as it is shown.
 pub fn push_place(out: &mut String, path: &str, text: &[u8], at: usize) -> Result<(), AllocError>
     ensures { OnOk result (string_bytes out.new ≡ string_bytes out.old ++ place_text path.now text.now at) }
 {
     let (front, _) = cut(text, at);
     let line = line_number(front);
     let column = count_characters(last_line(front)) + 1;
-    write!(out, "{path}:{line}:{column}: ")
+    push_text(out, path)?;
+    write!(out, ":{line}:{column}: ")
 }

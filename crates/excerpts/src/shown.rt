@@ -1,24 +1,42 @@
 //! What is shown of characters, and the marks below them.
 
 ghost use Rattle.std.specs.Prelude.{◌≡◌, ◌≤◌, ◌<◌, ◌++◌, false, true, MatchOption, OnOk, take};
-ghost use Rattle.std.specs.List.{flat_map};
+ghost use Rattle.std.specs.List.{flat_map, list_any};
+ghost use Rattle.std.specs.Str.{chars};
 ghost use Rattle.std.specs.String.{string_bytes};
 ghost use Rattle.std.specs.Char.{digit_char, encode_utf8};
 ghost use Rattle.excerpts.specs.Characters.{characters};
-ghost use Rattle.excerpts.specs.Shown.{escaped, four, is_control, is_plain, is_tab, mark, shown};
+ghost use Rattle.excerpts.specs.Shown.{escaped, is_obeyed, is_plain, is_tab, mark, marks, shown, shown_text, turns};
+ghost use Rattle.excerpts.specs.Steps.{four, signs};
 
-use crate::characters::first_character;
+use crate::characters::{count_characters, first_character};
 use std::alloc::AllocError;
 
-/// Whether the character is a control character that a terminal may obey.
-fn is_control(character: &[u8]) -> bool
-    ensures { result ≡ is_control character.now }
+/// Whether the character turns the direction in which others are shown.
+fn turns(character: char) -> bool
+    ensures { result ≡ turns character }
 {
-    match character {
-        [] => false,
-        [byte] => matches!(*byte, 0..9 | 10..32 | 127),
-        [byte, second, ..] => *byte == 194 && *second < 160,
-    }
+    matches!(
+        character,
+        '\u{61c}'
+            | '\u{200e}'..='\u{200f}'
+            | '\u{202a}'..='\u{202e}'
+            | '\u{2066}'..='\u{2069}'
+    )
+}
+
+/// Whether a terminal obeys the character.
+fn is_obeyed(character: char) -> bool
+    ensures { result ≡ is_obeyed character }
+{
+    (character.is_control() && character != '\t') || turns(character)
+}
+
+/// Whether a terminal obeys a character of the text.
+fn has_obeyed(text: &str) -> bool
+    ensures { result ≡ list_any is_obeyed (chars text.now) }
+{
+    text.chars().any(|character| is_obeyed(character))
 }
 
 /// Whether the character is a tab.
@@ -35,11 +53,8 @@ fn is_tab(character: &[u8]) -> bool
 fn plain_text(character: &[u8]) -> Option<&str>
     ensures { MatchOption result (is_plain character.now ≡ false) (λ text. (is_plain character.now ≡ true) × (text.now ≡ character.now)) }
 {
-    if is_control(character) {
-        return None;
-    }
     match str::from_utf8(character) {
-        Ok(text) => Some(text),
+        Ok(text) => if has_obeyed(text) { None } else { Some(text) },
         Err(_) => None,
     }
 }
@@ -101,22 +116,30 @@ fn push_fours(out: &mut String, bytes: &[u8], sign: &str) -> Result<(), AllocErr
     Ok(())
 }
 
-/// Appends what is below a character.
+/// Appends what is below a character that is shown as it is.
 fn push_mark(out: &mut String, character: &[u8], sign: &str) -> Result<(), AllocError>
     ensures { OnOk result (string_bytes out.new ≡ string_bytes out.old ++ mark sign.now character.now) }
 {
     if is_tab(character) {
-        return out.push_str("\t");
+        out.push_str("\t")
+    } else {
+        out.push_str(sign)
     }
+}
+
+/// Appends what is below a character of a source.
+fn push_signs(out: &mut String, character: &[u8], sign: &str) -> Result<(), AllocError>
+    ensures { OnOk result (string_bytes out.new ≡ string_bytes out.old ++ signs sign.now character.now) }
+{
     match plain_text(character) {
-        Some(_) => out.push_str(sign),
+        Some(_) => push_mark(out, character, sign),
         None => push_fours(out, character, sign),
     }
 }
 
 /// Appends the first characters of bytes, at most this many, as they are shown.
 pub(crate) fn push_shown(out: &mut String, bytes: &[u8], most: usize) -> Result<(), AllocError>
-    ensures { OnOk result (string_bytes out.new ≡ string_bytes out.old ++ flat_map shown (take most (characters bytes.now))) }
+    ensures { OnOk result (string_bytes out.new ≡ string_bytes out.old ++ shown_text (take most (characters bytes.now))) }
 {
     let mut rest = bytes;
     let mut left = most;
@@ -133,21 +156,29 @@ pub(crate) fn push_shown(out: &mut String, bytes: &[u8], most: usize) -> Result<
     Ok(())
 }
 
-/// Appends what is below the first characters of bytes, at most this many.
-pub(crate) fn push_marks(
+/// Appends a text as it is shown.
+pub(crate) fn push_text(out: &mut String, text: &str) -> Result<(), AllocError>
+    ensures { OnOk result (string_bytes out.new ≡ string_bytes out.old ++ shown_text (characters text.now)) }
+{
+    let bytes = text.as_bytes();
+    push_shown(out, bytes, count_characters(bytes))
+}
+
+/// Appends what is below the first characters of bytes, at most this many, character by character.
+fn push_all_signs(
     out: &mut String,
     bytes: &[u8],
     most: usize,
     sign: &str,
 ) -> Result<(), AllocError>
-    ensures { OnOk result (string_bytes out.new ≡ string_bytes out.old ++ flat_map (mark sign.now) (take most (characters bytes.now))) }
+    ensures { OnOk result (string_bytes out.new ≡ string_bytes out.old ++ flat_map (signs sign.now) (take most (characters bytes.now))) }
 {
     let mut rest = bytes;
     let mut left = most;
     while left > 0 {
         match first_character(rest) {
             Some((character, others)) => {
-                push_mark(out, character, sign)?;
+                push_signs(out, character, sign)?;
                 rest = others;
             }
             None => return Ok(()),
@@ -155,4 +186,17 @@ pub(crate) fn push_marks(
         left -= 1;
     }
     Ok(())
+}
+
+/// Appends what is below the first characters of bytes, at most this many, as they are shown.
+pub(crate) fn push_marks(
+    out: &mut String,
+    bytes: &[u8],
+    most: usize,
+    sign: &str,
+) -> Result<(), AllocError>
+    ensures { OnOk result (string_bytes out.new
+        ≡ string_bytes out.old ++ marks sign.now (shown_text (take most (characters bytes.now)))) }
+{
+    push_all_signs(out, bytes, most, sign)
 }

@@ -1,4 +1,4 @@
-use Rattle.excerpts.proofs.CharacterLemmas.{some_carets}
+use Rattle.excerpts.proofs.MarkLemmas.{some_carets}
 use Rattle.std.proofs.Common.{◌∙◌, sym}
 use Rattle.excerpts.proofs.excerpt.push_carets.Goals as goal
 

@@ -1,11 +1,15 @@
-use Rattle.std.proofs.Common.{◌∙◌, sym}
+use Rattle.std.proofs.Common.{◌∙◌, ap, sym, List, ℕ, false}
+use Rattle.std.specs.List.{list_any}
+use Rattle.std.specs.Str.{chars}
+use Rattle.excerpts.specs.Shown.{is_obeyed}
 use Rattle.excerpts.proofs.ShownLemmas.{stands, no_text}
 use Rattle.excerpts.proofs.shown.plain_text.Goals as goal
 
-pub returns-in-Ok : goal.returns-in-Ok
-returns-in-Ok c = (
-  stands c.args.character.now c.in-Ok.ensures.cases.1
-      (sym c.is_control.ensures ∙ c.if-is_control.false),
+pub returns-else-has_obeyed : goal.returns-else-has_obeyed
+returns-else-has_obeyed c = (
+  stands c.args.character.now false c.in-Ok.ensures.cases.1
+      (ap (λ (text : List ℕ). list_any is_obeyed (chars text)) (sym c.in-Ok.ensures.cases.0)
+      ∙ sym c.has_obeyed.ensures ∙ c.if-has_obeyed.false),
   c.in-Ok.ensures.cases.0,
 )
 

@@ -1,11 +1,11 @@
-use Rattle.std.specs.String.{string_bytes}
+use Rattle.std.proofs.Common.{sym, take}
 use Rattle.excerpts.specs.Characters.{characters}
-use Rattle.excerpts.specs.Shown.{mark}
-use Rattle.excerpts.proofs.CharacterLemmas.{step}
+use Rattle.excerpts.proofs.JoinLemmas.{ones, taken}
+use Rattle.excerpts.proofs.MarkLemmas.{signs_are_marks}
 use Rattle.excerpts.proofs.shown.push_marks.Goals as goal
 
-pub loop-left-preserved : goal.loop-left-preserved
-loop-left-preserved c =
-    step (mark c.args.sign.now) (string_bytes c.loop-left.out) (string_bytes c.push_mark.new.out) _ c.loop-left.left
-    (characters c.loop-left.rest.now) c.in-Some.character.now (characters c.in-Some.others.now)
-    c.loop-left-test.true c.in-Some.ensures.parts c.in_ok-push_mark-in-Some.ensures c.loop-left.invariant
+pub returns : goal.returns
+returns c =
+    let cs = characters c.args.bytes.now in
+    rw (sym (signs_are_marks c.args.sign.now (take c.args.most cs) (taken c.args.most cs (ones c.args.bytes.now))))
+    c.push_all_signs.ensures

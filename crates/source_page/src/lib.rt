@@ -23,4 +23,5 @@ pub use laws::{links_lead_to_places, pages_have_their_source, uses_lead_to_defin
 pub use marks::push_link;
 pub use places::{line_listed, occurrence_listed, path_listed};
 pub use site::{Site, has_page, page_path};
+pub use urls::push_folder_id;
 pub use uses::name_of;

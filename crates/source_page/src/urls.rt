@@ -4,7 +4,7 @@ ghost use Rattle.std.specs.Prelude.{◌≡◌, ◌++◌, [], OnOk, IfOk};
 ghost use Rattle.scip_pages.specs.Urls.{encoded, ups, line_place};
 ghost use Rattle.source_page.specs.Site as spec_site;
 ghost use Rattle.source_page.specs.Targets as spec;
-ghost use Rattle.source_page.specs.Crumbs.{file_url, folder_url};
+ghost use Rattle.source_page.specs.Crumbs.{file_url, folder_id, folder_url};
 
 use crate::places::{line_listed, path_listed};
 use scip_pages::{push_encoded, push_ups};
@@ -94,12 +94,20 @@ pub(crate) fn file_url(alloc: Global, from: &str, file: &[u8]) -> Result<Vec<u8>
     Ok(url)
 }
 
+/// Appends the id of a folder on the first page.
+pub fn push_folder_id(text: &mut Vec<u8>, folder: &[u8]) -> Result<(), AllocError>
+    ensures { OnOk result (text.new.items ≡ text.old.items ++ folder_id folder.now) }
+{
+    text.extend_from_slice(b"d/")?;
+    push_encoded(text, folder)
+}
+
 /// The URL by which it names the place of a folder on the first page.
 pub(crate) fn folder_url(alloc: Global, from: &str, folder: &[u8]) -> Result<Vec<u8>, AllocError>
     ensures { IfOk result (λ url. url.items ≡ folder_url from.now folder.now) }
 {
     let mut url = file_url(alloc, from, b"index.html")?;
-    url.extend_from_slice(b"#d/")?;
-    push_encoded(&mut url, folder)?;
+    url.extend_from_slice(b"#")?;
+    push_folder_id(&mut url, folder)?;
     Ok(url)
 }

@@ -19,6 +19,11 @@ folder_id folder = codes "d/" ++ encoded folder
 abbrev pub folder_url : (from folder : List ℕ) → List ℕ
 folder_url from folder = file_url from (codes "index.html") ++ (codes "#" ++ folder_id folder)
 
+-- the folders on a way, each with those above it
+abbrev pub folders_on : (above : List ℕ) → List (List ℕ) → List (List ℕ)
+folders_on above [] = []
+folders_on above (name ∷ names) = (above ++ name) ∷ folders_on (above ++ name ++ codes "/") names
+
 -- A folder on the way is a link; the last name is that of the page.
 abbrev pub last_text : List ℕ → List ℕ
 last_text name = codes "<b>" ++ escape name ++ codes "</b>"

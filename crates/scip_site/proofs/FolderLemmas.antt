@@ -10,7 +10,7 @@ use Rattle.scip_pages.specs.Escapes.{escape}
 use Rattle.scip_pages.specs.Paths.{components}
 use Rattle.scip_pages.specs.Urls.{folder_of}
 use Rattle.source_page.specs.Ids.{HasId}
-use Rattle.source_page.specs.Crumbs.{head_text}
+use Rattle.source_page.specs.Crumbs.{folder_id, head_text}
 use Rattle.scip_site.specs.Tree.{common, closes, is_open, open_text, open_or_none, opens, folders_on, leaf_with, but_last}
 use Rattle.scip_site.specs.Tree.{step, tree, search_text, first_page}
 use Rattle.scip_site.specs.Laws.{FoldersHavePlaces}
@@ -18,18 +18,15 @@ use Rattle.source_page.proofs.ElementLemmas.{In, in_at}
 use Rattle.source_page.proofs.IdLemmas.{has_own, has_behind, has_before}
 
 abbrev place : List ℕ → List ℕ
-place folder = codes "d/" ++ folder
+place folder = folder_id folder
 
 -- ---- a folder that begins
 
 open_has : (above name : List ℕ) → HasId (place (above ++ name)) (open_text above name)
 open_has above name =
     let id : List ℕ = place (above ++ name) in
-    let same : codes "d/" ++ above ++ name ≡ id = append_assoc (codes "d/") above name in
-    let start : List ℕ = codes "<li><details" ++ attribute (codes "id") (codes "d/" ++ above ++ name) in
-    let begun : HasId id start =
-    subst (λ (l : List ℕ). HasId id (codes "<li><details" ++ attribute (codes "id") l)) (sym same)
-    (has_behind id (codes "<li><details") (attribute (codes "id") id) (has_own id)) in
+    let start : List ℕ = codes "<li><details" ++ attribute (codes "id") id in
+    let begun : HasId id start = has_behind id (codes "<li><details") (attribute (codes "id") id) (has_own id) in
     has_before id (start ++ is_open above ++ codes "><summary>" ++ escape name) (codes "/</summary><ul>\n")
     (has_before id (start ++ is_open above ++ codes "><summary>") (escape name)
     (has_before id (start ++ is_open above) (codes "><summary>") (has_before id start (is_open above) begun)))

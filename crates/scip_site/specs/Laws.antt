@@ -1,8 +1,9 @@
 -- Laws of the places of pages.
-use Rattle.std.specs.Prelude.{ℕ, ◌≡◌, List, [], ◌++◌, codes, None, Some}
+use Rattle.std.specs.Prelude.{ℕ, ◌≡◌, List, [], None, Some}
 use Rattle.std.specs.List.{slice_get}
 use Rattle.scip_pages.specs.Paths.{path_fault}
 use Rattle.scip_pages.specs.Urls.{folder_of}
+use Rattle.source_page.specs.Crumbs.{folder_id}
 use Rattle.source_page.specs.Site.{page_path}
 use Rattle.source_page.specs.Ids.{HasId}
 use Rattle.scip_site.specs.Tree.{folders_on, first_page}
@@ -16,10 +17,10 @@ HasAGoodPath = (path : List ℕ) → path_fault path ≡ None → path_fault (pa
 abbrev pub HasItsOwnPath : Type 0
 HasItsOwnPath = (path other : List ℕ) → page_path path ≡ page_path other → path ≡ other
 
--- The first page has the place of each folder of a document that it lists, to which the way on the document's page
--- leads.
+-- The first page has the id of each folder of a document that it lists, which ends the URL of the folder on the way to
+-- the document's page (`folder_url`).
 abbrev pub FoldersHavePlaces : Type 0
 FoldersHavePlaces =
     (paths : List (List ℕ)) (number at : ℕ) (path folder : List ℕ)
     → slice_get paths number ≡ Some path → slice_get (folders_on [] (folder_of path)) at ≡ Some folder
-    → HasId (codes "d/" ++ folder) (first_page paths)
+    → HasId (folder_id folder) (first_page paths)

@@ -9,7 +9,7 @@ use Rattle.scip_pages.specs.Urls.{encoded, folder_of}
 use Rattle.source_page.specs.Marks.{link}
 use Rattle.source_page.specs.Site.{page_path}
 use Rattle.source_page.specs.CodeText.{line_at}
-use Rattle.source_page.specs.Crumbs.{head_text}
+use Rattle.source_page.specs.Crumbs.{folder_id, head_text}
 
 -- how many of the first names of two ways are the same
 abbrev pub common : (open_ names : List (List ℕ)) → ℕ
@@ -39,7 +39,7 @@ is_open above = cond (length above == 0) (codes " open") []
 
 abbrev pub open_text : (above name : List ℕ) → List ℕ
 open_text above name =
-    codes "<li><details" ++ attribute (codes "id") (codes "d/" ++ above ++ name) ++ is_open above ++ codes "><summary>"
+    codes "<li><details" ++ attribute (codes "id") (folder_id (above ++ name)) ++ is_open above ++ codes "><summary>"
     ++ escape name ++ codes "/</summary><ul>\n"
 
 -- the folders on a way, but so many of the first, which are there

@@ -6,7 +6,7 @@ ghost use Rattle.std.specs.List.{slice_get};
 ghost use Rattle.scip_site.specs.Tree as spec;
 
 use scip_pages::{push_attribute, push_encoded, push_escaped};
-use source_page::{components_of, line_at, page_path, push_head, push_link};
+use source_page::{components_of, line_at, page_path, push_folder_id, push_head, push_link};
 use std::alloc::{AllocError, Global};
 
 /// Whether a name is that with a number.
@@ -90,9 +90,10 @@ fn push_is_open(page: &mut Vec<u8>, above: &[u8]) -> Result<(), AllocError>
 fn push_open(alloc: Global, page: &mut Vec<u8>, above: &[u8], name: &[u8]) -> Result<(), AllocError>
     ensures { OnOk result (page.new.items ≡ page.old.items ++ spec.open_text above.now name.now) }
 {
-    let mut id = Vec::from_slice(alloc, b"d/")?;
-    id.extend_from_slice(above)?;
-    id.extend_from_slice(name)?;
+    let mut folder = Vec::from_slice(alloc, above)?;
+    folder.extend_from_slice(name)?;
+    let mut id = Vec::new(alloc);
+    push_folder_id(&mut id, &folder)?;
     page.extend_from_slice(b"<li><details")?;
     push_attribute(page, b"id", &id)?;
     push_is_open(page, above)?;

@@ -1,7 +1,7 @@
 -- Pages have the places to which their links lead.
 use Rattle.std.proofs.Common.{◌≡◌, ◌∙◌, sym, refl, ap, subst, ℕ, zero, suc, ◌+◌, ◌-◌, ◌<◌, Bool, true, false, not, cond}
 use Rattle.std.proofs.Common.{List, [], ◌∷◌, ◌++◌, length, arith, append_assoc, append-nil, ◌⊎◌, inl, inr}
-use Rattle.std.specs.Prelude.{Option, None, Some, IsSome, codes}
+use Rattle.std.specs.Prelude.{⊤, Option, None, Some, IsSome, codes}
 use Rattle.std.specs.List.{flat_map, slice_get, range_with_len}
 use Rattle.std.specs.Option.{is_some, option_map, option_map_or, unwrap_or}
 use Rattle.std.specs.Fmt.{decimal}
@@ -25,134 +25,150 @@ use Rattle.source_page.specs.CodeText.{beginning, pieces_with, line_at, lead, li
 use Rattle.source_page.specs.Uses.{places_text, name_of, label_at, defined_head, defined_text, uses_text, all_defined}
 use Rattle.source_page.specs.Page.{links_of, firsts_of, start_text, main_text, page_of}
 use Rattle.source_page.specs.Ids.{HasId, IsPage, AllFit, IsShown, Leads, within, across, unit_in}
-use Rattle.source_page.specs.Laws.{LinksLead, UsesLead, DefinitionsLead}
+use Rattle.source_page.specs.Laws.{LeadsToDefinition, LinksLead, UsesLead, DefinitionsLead}
 use Rattle.source_page.proofs.ElementLemmas.{In, in_map, in_filter, in_range, get_inside, none_passes, some_first}
+use Rattle.source_page.specs.Tags.{bare, tag_with}
 use Rattle.source_page.proofs.LawLemmas.{leads_to_a_page}
-
--- ---- texts that have a place with an id
-
-module _ (id : List ℕ) where
-  pub has_own : HasId id (attribute (codes "id") id)
-  has_own = record { before = []; after = []; is = sym (append-nil (attribute (codes "id") id)) }
-
-  -- also with a text in front of it
-  pub has_behind : (front text : List ℕ) → HasId id text → HasId id (front ++ text)
-  has_behind front text has = record {
-    before = front ++ has.before;
-    after = has.after;
-    is = ap (λ (l : List ℕ). front ++ l) has.is
-        ∙ sym (append_assoc front (has.before ++ attribute (codes "id") id) has.after)
-        ∙ ap (λ (l : List ℕ). l ++ has.after) (sym (append_assoc front has.before (attribute (codes "id") id)));
-  }
-
-  -- or behind it
-  pub has_before : (text back : List ℕ) → HasId id text → HasId id (text ++ back)
-  has_before text back has = record {
-    before = has.before;
-    after = has.after ++ back;
-    is = ap (λ (l : List ℕ). l ++ back) has.is
-        ∙ append_assoc (has.before ++ attribute (codes "id") id) has.after back;
-  }
-
-  pub has_among : {X : Type 0} (f : X → List ℕ) (x : X) (xs : List X) → In x xs → HasId id (f x)
-      → HasId id (flat_map f xs)
-  has_among f x [] is has = absurd is
-  has_among f x (y ∷ xs) (inl same) has =
-      has_before (f y) (flat_map f xs) (subst (λ (l : List ℕ). HasId id l) (ap f same) has)
-  has_among f x (y ∷ xs) (inr is) has = has_behind (f y) (flat_map f xs) (has_among f x xs is has)
+use Rattle.source_page.proofs.TagLemmas.{EndsInText, Fine, end_a, ends_both, escaped_reads, fine_each, has_among}
+use Rattle.source_page.proofs.TagLemmas.{has_before, has_behind, has_in, tag_a}
+use Rattle.source_page.proofs.PartLemmas.{fine_all_defined, fine_code, fine_defined, fine_front, fine_head_of, fine_lead}
+use Rattle.source_page.proofs.PartLemmas.{fine_line, fine_start, line_mark_reads, places_reads}
 
 -- ---- lines
+
+-- of URLs nothing is asked
+abbrev Any : List ℕ → Type 0
+Any url = ⊤
 
 abbrev line_id : ℕ → List ℕ
 line_id number = codes "L" ++ decimal number
 
-line_has : (unit : ColumnUnit) (occurrences : List Occurrence) (links : List Link) (lines : List (List ℕ))
-    (marking : List ℕ) (k : ℕ) → HasId (line_id k) (line_text unit occurrences links lines marking k)
-line_has unit occurrences links lines marking k =
-    let id : List ℕ = line_id k in
-    let pieces : List Piece = pieces_with unit occurrences links (line_at lines (k - 1)) marking in
-    let start : List ℕ = codes "a" ++ attribute (codes "id") id in
-    has_behind id (lead k) (line_code k pieces)
-    (has_before id (line_mark k) (flat_map piece_code pieces)
-    (has_before id (mark start) (mark (codes "/a"))
-    (has_before id (codes "<" ++ start) (codes ">")
-    (has_behind id (codes "<") start (has_behind id (codes "a") (attribute (codes "id") id) (has_own id))))))
+module _ (unit : ColumnUnit) (occurrences : List Occurrence) (links : List Link) (lines : List (List ℕ)) where
+  line_ends : (marking : List ℕ) (k : ℕ) → EndsInText (line_text unit occurrences links lines marking k)
+  line_ends marking k = (fine_line Any links (λ l url is e. tt) unit occurrences lines marking k).reads.ends
 
-code_has : (unit : ColumnUnit) (occurrences : List Occurrence) (links : List Link) (lines : List (List ℕ)) (start : ℕ)
-    → start < length lines → HasId (line_id (start + 1)) (code_text unit occurrences links lines)
-code_has unit occurrences links lines start inside =
-    let same : 1 + start ≡ start + 1 = omega arith in
-    let is : In (start + 1) (range_with_len 1 (length lines)) =
-    subst (λ (k : ℕ). In k (range_with_len 1 (length lines))) same (in_range 1 (length lines) start inside) in
-    has_among (line_id (start + 1)) (line_by unit occurrences links lines (beginning occurrences)) (start + 1)
-    (range_with_len 1 (length lines)) is
-    (line_has unit occurrences links lines (beginning occurrences (start + 1 - 1)) (start + 1))
+  code_fine : Fine Any (code_text unit occurrences links lines)
+  code_fine = fine_code Any links (λ l url is e. tt) unit occurrences lines
+
+  mark_has : (k : ℕ) → HasId (line_id k) (line_mark k)
+  mark_has k =
+      has_in (line_id k) (line_mark k) (tag_a (codes "id") (line_id k) ∷ (end_a ∷ [])) (line_mark_reads k)
+      (0, omega arith, refl)
+
+  line_has : (marking : List ℕ) (k : ℕ) → HasId (line_id k) (line_text unit occurrences links lines marking k)
+  line_has marking k =
+      let id : List ℕ = line_id k in
+      let code : List ℕ = flat_map piece_code (pieces_with unit occurrences links (line_at lines (k - 1)) marking) in
+      has_behind id (lead k) (line_mark k ++ code) (fine_lead Any k).reads.ends
+      (has_before id (line_mark k) code (line_mark_reads k).ends (mark_has k))
+
+  code_has : (start : ℕ) → start < length lines → HasId (line_id (start + 1)) (code_text unit occurrences links lines)
+  code_has start inside =
+      let same : 1 + start ≡ start + 1 = omega arith in
+      let is : In (start + 1) (range_with_len 1 (length lines)) =
+      subst (λ (k : ℕ). In k (range_with_len 1 (length lines))) same (in_range 1 (length lines) start inside) in
+      has_among (line_id (start + 1)) (line_by unit occurrences links lines (beginning occurrences))
+      (λ k. line_ends (beginning occurrences (k - 1)) k) (start + 1) (range_with_len 1 (length lines)) is
+      (line_has (beginning occurrences (start + 1 - 1)) (start + 1))
 
 -- ---- what is defined
 
 place_has : (occurrence line : ℕ) → HasId (uses_id occurrence) (places_text occurrence line)
 place_has occurrence line =
-    let id : List ℕ = uses_id occurrence in
-    let start : List ℕ = codes "<dt" ++ attribute (codes "id") id in
-    let href : List ℕ = attribute (codes "href") (codes "#L" ++ decimal line) in
-    has_before id (start ++ codes "><a" ++ href) (codes "><b>")
-    (has_before id (start ++ codes "><a") href
-    (has_before id start (codes "><a") (has_behind id (codes "<dt") (attribute (codes "id") id) (has_own id))))
+    has_in (uses_id occurrence) (places_text occurrence line)
+    (tag_with (bare (codes "dt")) (codes "id") (uses_id occurrence)
+    ∷ (tag_a (codes "href") (codes "#L" ++ decimal line) ∷ (bare (codes "b") ∷ [])))
+    (places_reads occurrence line) (0, omega arith, refl)
 
-defined_has : (index : Index) (sources : Sources) (unit : ColumnUnit) (lines : List (List ℕ)) (links : List Link)
-    (place : Place)
-    → HasId (uses_id place.occurrence) (defined_text index sources unit lines links place)
-defined_has index sources unit lines links place =
-    let id : List ℕ = uses_id place.occurrence in
-    let start : List ℕ = places_text place.occurrence (line_listed index.documents place) in
-    let name : List ℕ = escape (name_of unit lines (occurrence_listed index.documents place)) in
-    let label : List ℕ = escape (label_at links place.occurrence) in
-    has_before id (defined_head index unit lines links place) (uses_text index sources place)
-    (has_before id (start ++ name ++ codes "</b> <span>" ++ label) (codes "</span></a></dt>\n")
-    (has_before id (start ++ name ++ codes "</b> <span>") label
-    (has_before id (start ++ name) (codes "</b> <span>")
-    (has_before id start name (place_has place.occurrence (line_listed index.documents place))))))
+module _ (index : Index) (sources : Sources) (unit : ColumnUnit) (lines : List (List ℕ)) (links : List Link) where
+  defined_fine : (place : Place) → Fine Any (defined_text index sources unit lines links place)
+  defined_fine place = fine_defined Any index sources unit lines links place tt (λ other is has. tt)
 
-all_have : (index : Index) (sources : Sources) (unit : ColumnUnit) (lines : List (List ℕ)) (links : List Link)
-    (place : Place) (firsts : List Place) → In place firsts
-    → HasId (uses_id place.occurrence) (all_defined index sources unit lines links firsts)
-all_have index sources unit lines links place firsts is =
-    let id : List ℕ = uses_id place.occurrence in
-    let title : List ℕ = codes "<aside><h2>Definitions and their uses</h2>\n<dl>\n" in
-    let each : List ℕ = flat_map (defined_text index sources unit lines links) firsts in
-    has_before id (title ++ each) (codes "</dl>\n</aside>\n")
-    (has_behind id title each (has_among id (defined_text index sources unit lines links) place firsts is
-    (defined_has index sources unit lines links place)))
+  all_fine : (firsts : List Place) → Fine Any (all_defined index sources unit lines links firsts)
+  all_fine firsts = fine_all_defined Any index sources unit lines links firsts (λ place is. defined_fine place)
+
+  defined_has : (place : Place) → HasId (uses_id place.occurrence) (defined_text index sources unit lines links place)
+  defined_has place =
+      let id : List ℕ = uses_id place.occurrence in
+      let line : ℕ = line_listed index.documents place in
+      let start : List ℕ = places_text place.occurrence line in
+      let text : List ℕ = name_of unit lines (occurrence_listed index.documents place) in
+      let name : List ℕ = escape text in
+      let middle : List ℕ = codes "</b> <span>" in
+      let label : List ℕ = escape (label_at links place.occurrence) in
+      let one : EndsInText (start ++ name) =
+      ends_both start name (places_reads place.occurrence line).ends (escaped_reads text).ends in
+      let two : EndsInText (start ++ name ++ middle) = ends_both (start ++ name) middle one refl in
+      let three : EndsInText (start ++ name ++ middle ++ label) =
+      ends_both (start ++ name ++ middle) label two (escaped_reads (label_at links place.occurrence)).ends in
+      has_before id (defined_head index unit lines links place) (uses_text index sources place)
+      (fine_head_of Any index sources unit lines links place tt).reads.ends
+      (has_before id (start ++ name ++ middle ++ label) (codes "</span></a></dt>\n") three
+      (has_before id (start ++ name ++ middle) label two
+      (has_before id (start ++ name) middle one
+      (has_before id start name (places_reads place.occurrence line).ends (place_has place.occurrence line)))))
+
+  all_have : (place : Place) (firsts : List Place) → In place firsts
+      → HasId (uses_id place.occurrence) (all_defined index sources unit lines links firsts)
+  all_have place firsts is =
+      let id : List ℕ = uses_id place.occurrence in
+      let title : List ℕ = codes "<aside><h2>Definitions and their uses</h2>\n<dl>\n" in
+      let each : List ℕ = flat_map (defined_text index sources unit lines links) firsts in
+      let fine : Fine Any each =
+      fine_each Any (defined_text index sources unit lines links) firsts (λ other there. defined_fine other) in
+      has_before id (title ++ each) (codes "</dl>\n</aside>\n") (ends_both title each refl fine.reads.ends)
+      (has_behind id title each refl
+      (has_among id (defined_text index sources unit lines links) (λ other. (defined_fine other).reads.ends) place firsts
+      is (defined_has place)))
 
 -- ---- pages
 
 module _ (index : Index) (sources : Sources) (number : ℕ) (d : Document) (unit : ColumnUnit) (lines : List (List ℕ)) where
+  abbrev its_links : List Link
+  its_links = links_of index sources number d
+
+  abbrev firsts : List Place
+  firsts = firsts_of index sources number d
+
   abbrev code_part : List ℕ
-  code_part = code_text unit d.occurrences (links_of index sources number d) lines
+  code_part = code_text unit d.occurrences its_links lines
 
   abbrev code_front : List ℕ
   code_front = codes "<main>\n<pre>" ++ code_part ++ codes "</pre>\n"
 
   abbrev defined_part : List ℕ
-  defined_part =
-      all_defined index sources unit lines (links_of index sources number d) (firsts_of index sources number d)
+  defined_part = all_defined index sources unit lines its_links firsts
 
   abbrev main_part : List ℕ
-  main_part =
-      main_text index sources unit d.occurrences (links_of index sources number d) lines
-      (firsts_of index sources number d)
+  main_part = main_text index sources unit d.occurrences its_links lines firsts
+
+  start_ends : EndsInText (start_text d.relative_path)
+  start_ends = (fine_start Any d.relative_path tt tt (λ folder is. tt)).reads.ends
+
+  code_ends : EndsInText code_part
+  code_ends = (code_fine unit d.occurrences its_links lines).reads.ends
+
+  front_ends : EndsInText code_front
+  front_ends =
+      (fine_front Any index sources unit d.occurrences its_links lines
+      (code_fine unit d.occurrences its_links lines)).reads.ends
+
+  parts_end : EndsInText (code_front ++ defined_part)
+  parts_end =
+      ends_both code_front defined_part front_ends (all_fine index sources unit lines its_links firsts).reads.ends
 
   -- each of their lines has its place,
   page_has_line : (start : ℕ) → start < length lines
       → HasId (line_id (start + 1)) (page_of index sources number d unit lines)
   page_has_line start inside =
       let id : List ℕ = line_id (start + 1) in
-      has_behind id (start_text d.relative_path) main_part
-      (has_before id (code_front ++ defined_part) (codes "</main>\n</body>\n</html>\n")
-      (has_before id code_front defined_part
+      has_behind id (start_text d.relative_path) main_part start_ends
+      (has_before id (code_front ++ defined_part) (codes "</main>\n</body>\n</html>\n") parts_end
+      (has_before id code_front defined_part front_ends
       (has_before id (codes "<main>\n<pre>" ++ code_part) (codes "</pre>\n")
-      (has_behind id (codes "<main>\n<pre>") code_part
-      (code_has unit d.occurrences (links_of index sources number d) lines start inside)))))
+      (ends_both (codes "<main>\n<pre>") code_part refl code_ends)
+      (has_behind id (codes "<main>\n<pre>") code_part refl
+      (code_has unit d.occurrences its_links lines start inside)))))
 
   -- and what is defined first on them
   page_has_uses : (occurrence : ℕ) → occurrence < length d.occurrences
@@ -165,15 +181,14 @@ module _ (index : Index) (sources : Sources) (number : ℕ) (d : Document) (unit
       let listed : In occurrence (range_with_len 0 (length d.occurrences)) =
       subst (λ (k : ℕ). In k (range_with_len 0 (length d.occurrences))) same
       (in_range 0 (length d.occurrences) occurrence inside) in
-      let is : In place (firsts_of index sources number d) =
+      let is : In place firsts =
       in_filter (is_first index sources) place is_one (places_in number d)
       (in_map (λ (k : ℕ). record { document = number; occurrence = k }) occurrence
       (range_with_len 0 (length d.occurrences)) listed) in
-      has_behind id (start_text d.relative_path) main_part
-      (has_before id (code_front ++ defined_part) (codes "</main>\n</body>\n</html>\n")
-      (has_behind id code_front defined_part
-      (all_have index sources unit lines (links_of index sources number d) place
-      (firsts_of index sources number d) is)))
+      has_behind id (start_text d.relative_path) main_part start_ends
+      (has_before id (code_front ++ defined_part) (codes "</main>\n</body>\n</html>\n") parts_end
+      (has_behind id code_front defined_part front_ends
+      (all_have index sources unit lines its_links place firsts is)))
 
 -- ---- ranges that fit
 
@@ -273,22 +288,30 @@ definitions_lead index sources fit place shown =
     within page.is_page page.has
 
 pub links_lead : LinksLead
-links_lead index sources fit place url shown e =
-    by (definition_of index sources place.document (symbol_listed index.documents place)) refl e
+links_lead index sources fit place url shown e = by (definition_of index sources place.document symbol) refl e
   where
-    by : (found : Option Place)
-        → definition_of index sources place.document (symbol_listed index.documents place) ≡ found
-        → option_map (target_of index place) found ≡ Some url → Leads index sources place.document url
+    symbol : List ℕ
+    symbol = symbol_listed index.documents place
+
+    leads_by : (definition : Place) → definition_of index sources place.document symbol ≡ Some definition → (b : Bool)
+        → same_place definition place ≡ b
+        → Leads index sources place.document
+        (cond b (uses_url place.occurrence) (place_url index place.document definition))
+    leads_by definition f true same = uses_there index sources place shown (ap (is_at place) f ∙ same)
+    leads_by definition f false other =
+        let found = leads_to_a_page index sources place.document symbol definition f in
+        uses_lead index sources fit place.document definition
+        (record { listed = defines_one (occurrence_listed index.documents definition) found.1; has = found.0 })
+
+    by : (found : Option Place) → definition_of index sources place.document symbol ≡ found
+        → option_map (target_of index place) found ≡ Some url → LeadsToDefinition index sources place url
     by None f e = absurd cc
     by (Some definition) f e =
-        subst (Leads index sources place.document) (ap (λ (o : Option (List ℕ)). unwrap_or o url) e)
-        (lead_by (same_place definition place) refl)
-      where
-        lead_by : (b : Bool) → same_place definition place ≡ b
-            → Leads index sources place.document
-            (cond b (uses_url place.occurrence) (place_url index place.document definition))
-        lead_by true same = uses_there index sources place shown (ap (is_at place) f ∙ same)
-        lead_by false other =
-            let found = leads_to_a_page index sources place.document (symbol_listed index.documents place) definition f in
-            uses_lead index sources fit place.document definition
-            (record { listed = defines_one (occurrence_listed index.documents definition) found.1; has = found.0 })
+        let same : target_of index place definition ≡ url = ap (λ (o : Option (List ℕ)). unwrap_or o url) e in
+        record {
+          definition = definition;
+          is = f;
+          url_is = sym same;
+          leads = subst (Leads index sources place.document) same
+              (leads_by definition f (same_place definition place) refl);
+        }

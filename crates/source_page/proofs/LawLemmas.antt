@@ -1,14 +1,16 @@
 -- The code of a page shows the source, and uses lead to definitions.
 use Rattle.std.proofs.Common.{◌≡◌, ◌∙◌, sym, refl, ap, ℕ, zero, suc, ◌+◌, ◌-◌, ◌<◌, ◌≤◌, ◌==◌, Bool, true, false, cond}
-use Rattle.std.proofs.Common.{List, [], ◌∷◌, ◌++◌, map, append-nil, length, arith}
+use Rattle.std.proofs.Common.{List, [], ◌∷◌, ◌++◌, map, append-nil, length, arith, inl, inr}
 use Rattle.std.specs.Prelude.{Option, None, Some}
 use Rattle.std.specs.List.{flat_map, find, range_with_len, join_with_byte}
+use Rattle.std.specs.Option.{unwrap_or}
 use Rattle.std.proofs.lemmas.Bool.{ne_eqb}
 use Rattle.std.proofs.lemmas.List.{length-map}
 use Rattle.std.proofs.lemmas.List.FromFn.{length-range_with_len}
 use Rattle.scip_model.specs.declared.records.Occurrence.{Occurrence}
 use Rattle.scip_query.specs.BySymbol.{references_in}
 use Rattle.scip_query.specs.Tables.{defines_listed}
+use Rattle.scip_query.specs.declared.place.Place.{Place}
 use Rattle.scip_pages.specs.declared.columns.ColumnUnit.{ColumnUnit}
 use Rattle.scip_pages.specs.declared.code.Link.{Link}
 use Rattle.scip_pages.specs.declared.runs.Span.{Span}
@@ -20,8 +22,10 @@ use Rattle.scip_pages.proofs.CodeLemmas.{code_shows_the_source, pieces_have_the_
 use Rattle.source_page.specs.Site.{has_page}
 use Rattle.source_page.specs.Targets.{is_shown_definition}
 use Rattle.source_page.specs.CodeText.{beginning, spans_of, pieces_with, line_at, lead, code_text}
-use Rattle.source_page.specs.Laws.{HasTheSource, LeadsToAPage}
+use Rattle.source_page.specs.Laws.{HasTheSource, LeadsToAPage, LeadsIfDefined}
+use Rattle.source_page.proofs.ElementLemmas.{In, from_contained}
 use Rattle.source_page.proofs.FactLemmas.{both_true}
+use Rattle.source_page.proofs.ReferenceLemmas.{references_are_listed}
 
 -- ---- lines below one another
 
@@ -110,7 +114,34 @@ found_is test (y ∷ ys) x e = by (test y) refl e (λ f. found_is test ys x f)
     by true t e others = cc
     by false t e others = others e
 
+found_in : {X : Type 0} (test : X → Bool) (xs : List X) (x : X) → find test xs ≡ Some x → In x xs
+found_in test [] x e = absurd cc
+found_in test (y ∷ ys) x e = by (test y) e (λ f. found_in test ys x f)
+  where
+    by : (b : Bool) → cond b (Some y) (find test ys) ≡ Some x → (find test ys ≡ Some x → In x ys) → In x (y ∷ ys)
+    by true e others = inl (sym (ap (λ o. unwrap_or o y) e))
+    by false e others = inr (others e)
+
+none_found : {X : Type 0} (test : X → Bool) (xs : List X) (x : X) → find test xs ≡ None → In x xs → test x ≡ false
+none_found test [] x e is = absurd is
+none_found test (y ∷ ys) x e is = by (test y) refl e is (λ f there. none_found test ys x f there)
+  where
+    by : (b : Bool) → test y ≡ b → cond b (Some y) (find test ys) ≡ None → In x (y ∷ ys)
+        → (find test ys ≡ None → In x ys → test x ≡ false) → test x ≡ false
+    by true t e is others = absurd cc
+    by false t e (inl same) others = ap test same ∙ t
+    by false t e (inr there) others = others e there
+
 pub leads_to_a_page : LeadsToAPage
 leads_to_a_page index sources document symbol place e =
-    both_true (has_page sources place.document) (defines_listed index.documents place)
-    (found_is (is_shown_definition index sources) (references_in index document symbol) place e)
+    let places : List Place = references_in index document symbol in
+    let shown = both_true (has_page sources place.document) (defines_listed index.documents place)
+    (found_is (is_shown_definition index sources) places place e) in
+    let its = references_are_listed index document symbol place
+    (found_in (is_shown_definition index sources) places place e) in
+    (shown.0, shown.1, its.symbol_is, its.within)
+
+pub leads_if_defined : LeadsIfDefined
+leads_if_defined index sources document symbol place e is =
+    let places : List Place = references_in index document symbol in
+    none_found (is_shown_definition index sources) places place e (from_contained places place is)

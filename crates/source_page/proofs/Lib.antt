@@ -1,6 +1,11 @@
 pub mod TextLemmas
 pub mod CodeLemmas
 mod FactLemmas
-mod LawLemmas
 pub mod ElementLemmas
+mod ReferenceLemmas
+mod LawLemmas
+pub mod TagLemmas
+pub mod PartLemmas
 pub mod IdLemmas
+mod PageUrlLemmas
+mod UrlLemmas

@@ -10,9 +10,19 @@ use Rattle.source_page.specs.Marks.{link}
 abbrev pub file_url : (from file : List ℕ) → List ℕ
 file_url from file = ups from ++ file
 
--- the place of a folder on the first page
+-- The id of a folder on the first page. It is encoded, so that it is the fragment of the folder's URL as it stands
+-- there. (HTML Standard, 7.4.6.4 "Scrolling to a fragment": first an id is looked for that is the fragment, and only
+-- then one that is what the fragment encodes.)
+abbrev pub folder_id : List ℕ → List ℕ
+folder_id folder = codes "d/" ++ encoded folder
+
 abbrev pub folder_url : (from folder : List ℕ) → List ℕ
-folder_url from folder = file_url from (codes "index.html") ++ codes "#d/" ++ encoded folder
+folder_url from folder = file_url from (codes "index.html") ++ (codes "#" ++ folder_id folder)
+
+-- the folders on a way, each with those above it
+abbrev pub folders_on : (above : List ℕ) → List (List ℕ) → List (List ℕ)
+folders_on above [] = []
+folders_on above (name ∷ names) = (above ++ name) ∷ folders_on (above ++ name ++ codes "/") names
 
 -- A folder on the way is a link; the last name is that of the page.
 abbrev pub last_text : List ℕ → List ℕ

@@ -1,6 +1,6 @@
 -- Places of pages, and the URLs that lead to them.
-use Rattle.std.specs.Prelude.{ℕ, ◌≡◌, true, List, ◌++◌, codes, None, Some, IsSome}
-use Rattle.std.specs.List.{slice_get}
+use Rattle.std.specs.Prelude.{ℕ, ◌≡◌, true, List, [], ◌++◌, codes, None, Some, IsSome}
+use Rattle.std.specs.List.{Contains, slice_get}
 use Rattle.std.specs.Option.{unwrap_or}
 use Rattle.scip_model.specs.declared.records.Index.{Index}
 use Rattle.scip_model.specs.declared.records.Document.{Document}
@@ -8,19 +8,18 @@ use Rattle.scip_query.specs.Tables.{path_listed, occurrence_listed}
 use Rattle.scip_query.specs.declared.place.Place.{Place}
 use Rattle.scip_pages.specs.declared.columns.ColumnUnit.{ColumnUnit}
 use Rattle.scip_pages.specs.declared.columns.ColumnUnit.TheVariants.{Utf8}
-use Rattle.scip_pages.specs.Code.{attribute}
 use Rattle.scip_pages.specs.Columns.{unit_of}
 use Rattle.scip_pages.specs.Snapshot.{lines_of, misfit}
-use Rattle.scip_pages.specs.Urls.{encoded, ups}
+use Rattle.scip_pages.specs.Urls.{encoded, folder_of, ups}
+use Rattle.source_page.specs.Crumbs.{file_url, folder_url, folders_on}
 use Rattle.source_page.specs.Site.{Sources, has_page, page_path}
 use Rattle.source_page.specs.Page.{page_of}
+use Rattle.source_page.specs.Tags.{ids_of}
 
--- A page has a place with an id if an element of it has that attribute.
--- (HTML Standard, 3.2.6 "Global attributes", `id`; 7.4.2.3.3 "Scrolling to a fragment")
-pub record HasId (id page : List ℕ) : Type 0 where
-  pub before : List ℕ
-  pub after : List ℕ
-  pub is : page ≡ before ++ attribute (codes "id") id ++ after
+-- A page has a place with an id if that is the id of one of its elements.
+-- (HTML Standard, 3.2.6 "Global attributes", `id`; 7.4.6.4 "Scrolling to a fragment")
+abbrev pub HasId : (id page : List ℕ) → Type 0
+HasId id page = Contains (ids_of page) id
 
 -- what the columns of a document count
 abbrev pub unit_in : Document → ColumnUnit
@@ -54,3 +53,12 @@ pub data Leads (index : Index) (sources : Sources) (from : ℕ) : List ℕ → T
   across : {to : ℕ} {id page : List ℕ} → IsPage index sources to page → HasId id page
       → Leads index sources from (ups (page_path (path_listed index.documents from))
       ++ encoded (page_path (path_listed index.documents to)) ++ (codes "#" ++ id))
+
+-- A URL on the page of a document with a path leads to such a place, to the style sheet, to the first page, or to the
+-- place there of a folder on the way to the document.
+pub data IsUrl (index : Index) (sources : Sources) (number : ℕ) (path : List ℕ) : List ℕ → Type 0 where
+  to_place : {url : List ℕ} → Leads index sources number url → IsUrl index sources number path url
+  to_style : IsUrl index sources number path (file_url (page_path path) (codes "pages.css"))
+  to_first : IsUrl index sources number path (file_url (page_path path) (codes "index.html"))
+  to_folder : {folder : List ℕ} → Contains (folders_on [] (folder_of path)) folder
+      → IsUrl index sources number path (folder_url (page_path path) folder)

@@ -1,4 +1,5 @@
 pub mod Marks
+pub mod Tags
 pub mod Site
 pub mod Targets
 pub mod Facts

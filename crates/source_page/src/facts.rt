@@ -15,9 +15,12 @@ use scip_query::{Place, Queries};
 use sequences::Sequence;
 use std::alloc::{AllocError, Global};
 
+/// Besides the symbol, the room for a label: most fit.
+const LABEL_ROOM: usize = 192;
+
 /// What is known of a symbol.
 #[derive(Drop)]
-pub(crate) struct Known {
+pub struct Known {
     /// The place of its first definition that has a page.
     pub definition: Option<Place>,
     /// The symbol, and its documentation below.
@@ -165,7 +168,8 @@ fn hint_all(hints: &mut Vec<Vec<usize>>, places: &[Place], number: usize) {
 fn label_of(alloc: Global, symbol: &str, documentation: &[&str]) -> Result<Vec<u8>, AllocError>
     ensures { IfOk result (λ label. label.items ≡ spec.label_of symbol.now (map (λ (text : Bor (List ℕ)). text.now) documentation.now)) }
 {
-    let mut label = Vec::from_slice(alloc, symbol.as_bytes())?;
+    let mut label = Vec::with_capacity(alloc, symbol.len().saturating_add(LABEL_ROOM))?;
+    label.extend_from_slice(symbol.as_bytes())?;
     push_documentation(&mut label, documentation)?;
     Ok(label)
 }

@@ -1,15 +1,16 @@
 //! Laws of the crate, each the contract of a function that does nothing.
 
-ghost use Rattle.source_page.specs.Laws.{HasTheSource, LeadsToAPage, LinksLead, UsesLead, DefinitionsLead};
+ghost use Rattle.source_page.specs.Laws.{HasTheSource, LeadsToAPage, LeadsIfDefined, LinksLead, UsesLead, DefinitionsLead, EachUrlLeads};
 
 /// The code of a page, without its marks and with its references undone, is the source, byte for byte.
 pub fn pages_have_their_source()
     ensures { HasTheSource }
 {}
 
-/// A use leads to a definition, in a document that has a page.
+/// A use leads to a definition of its symbol, in a document that has a page, if there is one.
 pub fn uses_lead_to_definitions()
-    ensures { LeadsToAPage }
+    ensures leads { LeadsToAPage }
+    ensures defined { LeadsIfDefined }
 {}
 
 /// The URL of each occurrence, of each use that is listed, and of each definition that is, leads to a place that is on
@@ -18,4 +19,10 @@ pub fn links_lead_to_places()
     ensures links { LinksLead }
     ensures uses { UsesLead }
     ensures definitions { DefinitionsLead }
+{}
+
+/// Each URL that stands in the text of a page is one of these, that of the style sheet or of the first page, or that of
+/// a folder on the way to the document.
+pub fn urls_are_those_of_links()
+    ensures { EachUrlLeads }
 {}

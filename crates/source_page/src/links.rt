@@ -8,7 +8,7 @@ ghost use Rattle.source_page.specs.Facts.{AreRight};
 use crate::facts::{Facts, Known};
 use crate::places::symbol_listed;
 use crate::site::{Site, same_place};
-use crate::urls::push_place_url;
+use crate::urls::{empty_url, push_place_url};
 use scip_model::Document;
 use scip_pages::Link;
 use scip_query::Place;
@@ -74,7 +74,7 @@ fn target_of(
 ) -> Result<Vec<u8>, AllocError>
     ensures { IfOk result (λ url. url.items ≡ spec.target_of site.now.queries.now place definition) }
 {
-    let mut url = Vec::new(alloc);
+    let mut url = empty_url(alloc, site.queries, definition)?;
     push_target(alloc, &mut url, site, place, definition)?;
     Ok(url)
 }

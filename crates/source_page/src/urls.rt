@@ -1,14 +1,57 @@
 //! URLs of places and of files.
 
-ghost use Rattle.std.specs.Prelude.{◌≡◌, ◌++◌, OnOk, IfOk};
+ghost use Rattle.std.specs.Prelude.{◌≡◌, ◌++◌, [], OnOk, IfOk};
+ghost use Rattle.scip_pages.specs.Urls.{encoded, ups, line_place};
+ghost use Rattle.source_page.specs.Site as spec_site;
 ghost use Rattle.source_page.specs.Targets as spec;
-ghost use Rattle.source_page.specs.Crumbs.{file_url, folder_url};
+ghost use Rattle.source_page.specs.Crumbs.{file_url, folder_id, folder_url};
 
 use crate::places::{line_listed, path_listed};
-use crate::site::page_path;
-use scip_pages::{push_encoded, push_ups, push_url};
+use scip_pages::{push_encoded, push_ups};
 use scip_query::{Place, Queries};
 use std::alloc::{AllocError, Global};
+
+/// Besides the path, the room for a URL: most fit.
+const URL_ROOM: usize = 64;
+
+/// No text yet, with room for the URL of a place.
+pub(crate) fn empty_url(
+    alloc: Global,
+    queries: &Queries,
+    place: Place,
+) -> Result<Vec<u8>, AllocError>
+    ensures { IfOk result (λ url. url.items ≡ []) }
+{
+    let path = path_listed(queries.documents(), place.document);
+    Vec::with_capacity(alloc, path.len().saturating_add(URL_ROOM))
+}
+
+/// Appends what leads from the folder of the page of a document with a path to that of all pages.
+fn push_page_ups(url: &mut Vec<u8>, path: &str) -> Result<(), AllocError>
+    ensures { OnOk result (url.new.items ≡ url.old.items ++ ups (spec_site.page_path path.now)) }
+{
+    url.extend_from_slice(b"../")?;
+    push_ups(url, path.as_bytes())?;
+    Ok(())
+}
+
+/// Appends the path of the page of a document with a path, as a URL has it.
+fn push_page_path(url: &mut Vec<u8>, path: &str) -> Result<(), AllocError>
+    ensures { OnOk result (url.new.items ≡ url.old.items ++ encoded (spec_site.page_path path.now)) }
+{
+    url.extend_from_slice(b"src/")?;
+    push_encoded(url, path.as_bytes())?;
+    url.extend_from_slice(b".html")?;
+    Ok(())
+}
+
+/// Appends the place of a line.
+fn push_line_place(alloc: Global, url: &mut Vec<u8>, line: usize) -> Result<(), AllocError>
+    ensures { OnOk result (url.new.items ≡ url.old.items ++ line_place line) }
+{
+    let place = format!(in alloc; "#L{line}")?;
+    url.extend_from_slice(place.as_bytes())
+}
 
 /// Appends the URL by which the page of the document with the number `from` names the line of a place.
 pub(crate) fn push_place_url(
@@ -21,15 +64,10 @@ pub(crate) fn push_place_url(
     ensures { OnOk result (url.new.items ≡ url.old.items ++ spec.place_url queries.now from place) }
 {
     let documents = queries.documents();
-    let here = page_path(alloc, path_listed(documents, from))?;
-    let there = page_path(alloc, path_listed(documents, place.document))?;
-    push_url(
-        alloc,
-        url,
-        here.as_str(),
-        there.as_str(),
-        line_listed(documents, place),
-    )
+    push_page_ups(url, path_listed(documents, from))?;
+    push_page_path(url, path_listed(documents, place.document))?;
+    push_line_place(alloc, url, line_listed(documents, place))?;
+    Ok(())
 }
 
 /// The URL by which it does.
@@ -41,7 +79,7 @@ pub(crate) fn place_url(
 ) -> Result<Vec<u8>, AllocError>
     ensures { IfOk result (λ url. url.items ≡ spec.place_url queries.now from place) }
 {
-    let mut url = Vec::new(alloc);
+    let mut url = empty_url(alloc, queries, place)?;
     push_place_url(alloc, &mut url, queries, from, place)?;
     Ok(url)
 }
@@ -56,12 +94,20 @@ pub(crate) fn file_url(alloc: Global, from: &str, file: &[u8]) -> Result<Vec<u8>
     Ok(url)
 }
 
+/// Appends the id of a folder on the first page.
+pub fn push_folder_id(text: &mut Vec<u8>, folder: &[u8]) -> Result<(), AllocError>
+    ensures { OnOk result (text.new.items ≡ text.old.items ++ folder_id folder.now) }
+{
+    text.extend_from_slice(b"d/")?;
+    push_encoded(text, folder)
+}
+
 /// The URL by which it names the place of a folder on the first page.
 pub(crate) fn folder_url(alloc: Global, from: &str, folder: &[u8]) -> Result<Vec<u8>, AllocError>
     ensures { IfOk result (λ url. url.items ≡ folder_url from.now folder.now) }
 {
     let mut url = file_url(alloc, from, b"index.html")?;
-    url.extend_from_slice(b"#d/")?;
-    push_encoded(&mut url, folder)?;
+    url.extend_from_slice(b"#")?;
+    push_folder_id(&mut url, folder)?;
     Ok(url)
 }

@@ -3,7 +3,7 @@
 //! Options, reserved statements, `extensions`, numbers and lone `;` are checked, and aren't in the tree.
 
 ghost use Rattle.std.specs.Prelude.{◌≡◌};
-ghost use Rattle.proto_grammar.specs.Syntax.{custom_of, is_proto2};
+ghost use Rattle.proto_grammar.specs.Syntax.{custom_of, is_all, is_proto2};
 
 use proto_lex::Span;
 use sequences::Sequence;
@@ -28,6 +28,18 @@ pub enum Dialect {
     All,
 }
 
+impl Dialect {
+    /// Whether all sources are accepted.
+    pub fn is_all(self) -> bool
+        ensures { result ≡ is_all self }
+    {
+        match self {
+            Dialect::Proto3(_) => false,
+            Dialect::All => true,
+        }
+    }
+}
+
 /// The grammar of one file, by its syntax statement and the dialect.
 #[derive(Clone, Copy, Debug, PartialEq, Eq)]
 pub enum Syntax {
@@ -42,7 +54,7 @@ pub enum Syntax {
 impl Syntax {
     /// What is done with custom options.
     pub fn custom_options(self) -> CustomOptions
-        ensures { result ≡ custom_of self.entry }
+        ensures { result ≡ custom_of self }
     {
         match self {
             Syntax::Proto3(custom) => custom,
@@ -52,7 +64,7 @@ impl Syntax {
 
     /// Whether it is proto2.
     pub fn is_proto2(self) -> bool
-        ensures { result ≡ is_proto2 self.entry }
+        ensures { result ≡ is_proto2 self }
     {
         match self {
             Syntax::Proto3(_) | Syntax::Extended => false,

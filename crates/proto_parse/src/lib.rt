@@ -6,8 +6,10 @@ mod files;
 mod laws;
 mod messages;
 mod parsing;
+mod passed;
 mod services;
 mod statement;
+mod syntax;
 
 pub use laws::{names_have_components, one_tree, spans_in_order, spans_of_tokens};
 pub use messages::MAX_MESSAGE_DEPTH;

@@ -1,11 +1,9 @@
 -- Files.
-use Rattle.std.specs.Prelude.{ℕ, ◌&&◌, not, cond, Option, Some, None, option_map, option_to_list, List, [], ◌∷◌, ◌++◌}
-use Rattle.std.specs.Prelude.{is_some, codes}
+use Rattle.std.specs.Prelude.{cond, Option, Some, None, is_some, option_map, option_to_list, List, [], ◌∷◌, ◌++◌, codes}
 use Rattle.proto_lex.specs.declared.span.Span.{Span}
-use Rattle.proto_lex.specs.declared.token.TokenKind.TheVariants.{StringLiteral, Semicolon, Equals}
+use Rattle.proto_lex.specs.declared.token.TokenKind.TheVariants.{StringLiteral, Semicolon}
 use Rattle.proto_grammar.specs.declared.tree.Dialect.{Dialect}
 use Rattle.proto_grammar.specs.declared.tree.Syntax.{Syntax}
-use Rattle.proto_grammar.specs.declared.tree.Syntax.TheVariants.{Proto2}
 use Rattle.proto_grammar.specs.declared.tree.Import.{Import}
 use Rattle.proto_grammar.specs.declared.tree.ImportKind.{ImportKind}
 use Rattle.proto_grammar.specs.declared.tree.ImportKind.TheVariants.{Plain, Weak, Public}
@@ -13,13 +11,9 @@ use Rattle.proto_grammar.specs.declared.tree.FileItem.TheVariants as item
 use Rattle.proto_grammar.specs.declared.tree.File.{File}
 use Rattle.proto_parse.specs.declared.statement.FileStatement.{FileStatement}
 use Rattle.proto_parse.specs.declared.statement.FileStatement.TheVariants as chosen
-use Rattle.proto_parse.specs.declared.statement.Version.{Version}
-use Rattle.proto_parse.specs.declared.statement.Version.TheVariants as version
-use Rattle.proto_grammar.specs.Lexeme.{Lexeme}
 use Rattle.proto_grammar.specs.Terminal.{others, first_is, of_kind, is_word, is_plain_literal, not_next, is_end}
-use Rattle.proto_grammar.specs.Terminal.{between_quotes}
-use Rattle.proto_grammar.specs.Syntax.{custom_of, proto3_in, is_all}
-use Rattle.proto_parse.specs.Choice.{file_statement_of, version_of}
+use Rattle.proto_grammar.specs.Syntax.{custom_of}
+use Rattle.proto_parse.specs.Choice.{file_statement_of}
 use Rattle.proto_parse.specs.Limits.{max_message_depth}
 use Rattle.proto_parse.specs.Grammar.Files.{empty_file}
 use Rattle.proto_grammar.specs.Reading.Repetition.{◌>>=◌, Read, token_that, until_at, adding}
@@ -27,37 +21,7 @@ use Rattle.proto_grammar.specs.Reading.Names.{name_at}
 use Rattle.proto_grammar.specs.Reading.Options.{option_at}
 use Rattle.proto_parse.specs.Reading.Messages.{enum_at, extend_statement_at, message_at, inside_at}
 use Rattle.proto_parse.specs.Reading.Services.{service_at}
-
--- The literals that are next, joined, and what is behind them.
-abbrev pub joined_of : List Lexeme → List ℕ
-joined_of [] = []
-joined_of (t ∷ rest) = cond (of_kind StringLiteral t) (between_quotes t.spelling ++ joined_of rest) []
-
-abbrev pub behind_literals : List Lexeme → List Lexeme
-behind_literals [] = []
-behind_literals (t ∷ rest) = cond (of_kind StringLiteral t) (behind_literals rest) (t ∷ rest)
-
-abbrev pub syntax_by : Version → Dialect → Option Syntax
-syntax_by version.Proto3 dialect = Some (proto3_in dialect)
-syntax_by version.Proto2 dialect = cond (is_all dialect) (Some Proto2) None
-syntax_by version.Other dialect = None
-
-unfoldable pub version_at : Dialect → Read Syntax
-version_at dialect tokens =
-    syntax_by (version_of (joined_of tokens)) dialect >>= λ syntax. Some (syntax, behind_literals tokens)
-
-unfoldable pub syntax_statement_at : Dialect → Read Syntax
-syntax_statement_at dialect tokens = do
-  keyword ← token_that (is_word (codes "syntax")) tokens
-  equals ← token_that (of_kind Equals) keyword.1
-  syntax ← version_at dialect equals.1
-  semicolon ← token_that (of_kind Semicolon) syntax.1
-  Some (syntax.0, semicolon.1)
-
-unfoldable pub syntax_at : Dialect → Read Syntax
-syntax_at dialect tokens =
-    cond (first_is (is_word (codes "syntax")) tokens) (syntax_statement_at dialect tokens)
-    (cond (is_all dialect && not (first_is (is_word (codes "edition")) tokens)) (Some (Proto2, tokens)) None)
+use Rattle.proto_parse.specs.Reading.Syntax.{syntax_at}
 
 unfoldable pub import_kind_at : Read ImportKind
 import_kind_at tokens =

@@ -58,11 +58,14 @@ group_head_at custom first label tokens = do
   number ← token_that (of_kind Integer) equals.1
   options ← options_at custom number.1
   closing ← token_that (of_kind OpenBrace) options.1
-  Some (record {
-    heading = record { first = first; name = name.0; closing = closing.0 };
-    label = label;
-    word = word.0;
-  }, closing.1)
+  Some (
+    record {
+      heading = record { first = first; name = name.0; closing = closing.0 };
+      label = label;
+      word = word.0;
+    },
+    closing.1,
+  )
 
 unfoldable pub map_field_at : CustomOptions → Read MapField
 map_field_at custom tokens = do

@@ -1,5 +1,7 @@
--- What is not there is not read
+-- What is not there is not read, and levels
 pub mod Stops
+-- Literals joined
+pub mod Joined
 -- What is read is in the grammar, and takes tokens
 pub mod Found
 pub mod Shorter
@@ -10,3 +12,5 @@ pub mod Exact
 pub mod Walk
 -- The lists of a tree that are never empty
 pub mod Filled
+-- What is proto3 is among all sources
+pub mod Widened

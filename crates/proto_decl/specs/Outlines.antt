@@ -27,16 +27,24 @@ use Rattle.proto_decl.specs.declared.surrounding.Surrounding.{Surrounding}
 abbrev pub name_of : (text : List ℕ) → Heading → List ℕ
 name_of text heading = part_of text heading.name
 
-abbrev pub step_to : (text : List ℕ) → DeclarationKind → Heading → DeclarationStep
-step_to text kind heading = record { kind = kind; name = name_of text heading }
+abbrev pub step_named : DeclarationKind → (name : List ℕ) → DeclarationStep
+step_named kind name = record { kind = kind; name = name }
 
-abbrev pub outline_at : (text : List ℕ) → Surrounding → DeclarationKind → Heading → Outline
-outline_at text surrounding kind heading = record {
+abbrev pub step_to : (text : List ℕ) → DeclarationKind → Heading → DeclarationStep
+step_to text kind heading = step_named kind (name_of text heading)
+
+-- A declaration with this simple name, which is at this heading.
+abbrev pub outline_named : Surrounding → DeclarationKind → (name : List ℕ) → Heading → Outline
+outline_named surrounding kind name heading = record {
   kind = kind;
-  full_name = qualified surrounding.scope (name_of text heading);
-  path = surrounding.path ++ step_to text kind heading ∷ [];
+  full_name = qualified surrounding.scope name;
+  path = surrounding.path ++ step_named kind name ∷ [];
   heading = heading;
 }
+
+-- A declaration that is named as it stands.
+abbrev pub outline_at : (text : List ℕ) → Surrounding → DeclarationKind → Heading → Outline
+outline_at text surrounding kind heading = outline_named surrounding kind (name_of text heading) heading
 
 -- What surrounds what is in a message or in a service: both are scopes.
 abbrev pub inside : (text : List ℕ) → Surrounding → DeclarationKind → Heading → Surrounding

@@ -15,7 +15,7 @@ use sequences::OwnedText;
 #[derive(Debug, Drop)]
 pub struct DeclarationStep<'t> {
     pub kind: DeclarationKind,
-    pub name: LentText<'t>,
+    pub name: KeptText<'t>,
 }
 
 /// A declaration of a file.
@@ -38,7 +38,7 @@ pub struct Declaration<'t> {
 }
 
 /// The simple name of what a path leads to.
-fn simple_name<'t>(path: &DeclarationPath<'t>) -> &'t str
+fn simple_name<'a>(path: &'a DeclarationPath<'_>) -> &'a str
     ensures { result.now ≡ simple_name path.now }
 {
     let (_outer, last) = path.parts();
@@ -72,5 +72,6 @@ pub(crate) struct Outline<'t> {
     pub(crate) kind: DeclarationKind,
     pub(crate) full_name: OwnedText,
     pub(crate) path: DeclarationPath<'t>,
+    /// Where it stands. Its simple name, the last on the path, needn't be spelled at its name's place.
     pub(crate) heading: Heading,
 }

@@ -7,14 +7,33 @@ ghost use Rattle.proto_decl.specs.Spans.{OfHeading, OfField, OfMethod, OfLeaf, O
 ghost use Rattle.proto_decl.specs.Spans.{OfItem};
 ghost use Rattle.proto_decl.specs.Outlines as spec;
 
-use crate::declaration::Outline;
+use crate::declaration::{DeclarationStep, Outline};
 use crate::kind::DeclarationKind;
 use crate::names::{qualified, spelling_at};
 use crate::surrounding::{Surrounding, beside, inside, path_to};
+use lent_texts::KeptText;
 use proto_parse::{
     Enum, Field, FileItem, Heading, Leaf, Message, MessageItem, Method, Oneof, Service,
 };
 use std::alloc::{AllocError, Global};
+
+/// The outline of a declaration with this simple name, which stands at this heading.
+fn outline_named<'t>(
+    alloc: Global,
+    surrounding: &Surrounding<'t>,
+    kind: DeclarationKind,
+    name: KeptText<'t>,
+    heading: Heading,
+) -> Result<Outline<'t>, AllocError>
+    ensures { IfOk result (λ outline. outline ≡ spec.outline_named surrounding.now kind name.entry heading) }
+{
+    Ok(Outline {
+        kind,
+        full_name: qualified(alloc, surrounding.scope.as_str(), name.as_str())?,
+        path: path_to(&surrounding.path, DeclarationStep { kind, name })?,
+        heading,
+    })
+}
 
 /// The outline of a declaration with this heading.
 fn outline_at<'t>(
@@ -27,16 +46,8 @@ fn outline_at<'t>(
     requires { OfHeading (IsPart text.now) heading }
     ensures { IfOk result (λ outline. outline ≡ spec.outline_at text.now surrounding.now kind heading) }
 {
-    Ok(Outline {
-        kind,
-        full_name: qualified(
-            alloc,
-            surrounding.scope.as_str(),
-            spelling_at(text, heading.name),
-        )?,
-        path: path_to(text, &surrounding.path, kind, heading)?,
-        heading,
-    })
+    let name = KeptText::lent(spelling_at(text, heading.name));
+    outline_named(alloc, surrounding, kind, name, heading)
 }
 
 /// Appends the outlines of an enum and its values.

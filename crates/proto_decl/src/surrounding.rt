@@ -8,7 +8,7 @@ use crate::declaration::DeclarationStep;
 use crate::kind::DeclarationKind;
 use crate::names::{qualified, spelling_at};
 use crate::path::{DeclarationPath, SharedSteps};
-use lent_texts::LentText;
+use lent_texts::KeptText;
 use proto_parse::Heading;
 use sequences::{OwnedText, Sequence};
 use std::alloc::{AllocError, Global};
@@ -22,6 +22,19 @@ pub(crate) struct Surrounding<'t> {
     pub(crate) path: SharedSteps<'t>,
 }
 
+/// The same step once more.
+fn copy_step<'t>(
+    alloc: Global,
+    step: &DeclarationStep<'t>,
+) -> Result<DeclarationStep<'t>, AllocError>
+    ensures { IfOk result (λ copy. copy ≡ step.now) }
+{
+    Ok(DeclarationStep {
+        kind: step.kind,
+        name: step.name.copy(alloc)?,
+    })
+}
+
 /// A copy of a path, with room for one step more.
 fn copy_path<'t>(
     alloc: Global,
@@ -31,10 +44,7 @@ fn copy_path<'t>(
 {
     let mut copy = Vec::with_capacity(alloc, path.len().saturating_add(1))?;
     for step in path {
-        copy.push(DeclarationStep {
-            kind: step.kind,
-            name: LentText::new(step.name.as_str()),
-        })?;
+        copy.push(copy_step(alloc, step)?)?;
     }
     Ok(copy)
 }
@@ -46,21 +56,17 @@ fn step_to<'t>(text: &'t str, kind: DeclarationKind, heading: Heading) -> Declar
 {
     DeclarationStep {
         kind,
-        name: LentText::new(spelling_at(text, heading.name)),
+        name: KeptText::lent(spelling_at(text, heading.name)),
     }
 }
 
-/// The path to the declaration with this heading.
+/// The path with this step more.
 pub(crate) fn path_to<'t>(
-    text: &'t str,
     path: &SharedSteps<'t>,
-    kind: DeclarationKind,
-    heading: Heading,
+    last: DeclarationStep<'t>,
 ) -> Result<DeclarationPath<'t>, AllocError>
-    requires { IsPart text.now heading.name }
-    ensures { IfOk result (λ longer. longer ≡ path.now ++ step_to text.now kind heading ∷ []) }
+    ensures { IfOk result (λ longer. longer ≡ path.now ++ last.entry ∷ []) }
 {
-    let last = step_to(text, kind, heading);
     Ok(DeclarationPath::new(path.share()?, last))
 }
 

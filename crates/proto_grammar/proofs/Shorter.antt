@@ -1,12 +1,14 @@
 -- What is in the grammar leaves fewer tokens.
-use Rattle.std.proofs.Common.{ℕ, ◌<◌, ◌≤◌, Bool, Option, List, length, arith}
+use Rattle.std.proofs.Common.{ℕ, ◌<◌, ◌≤◌, Bool, false, Option, List, length, arith}
 use Rattle.proto_lex.specs.declared.span.Span.{Span}
 use Rattle.proto_grammar.specs.declared.tree.CustomOptions.{CustomOptions}
+use Rattle.proto_grammar.specs.declared.tree.Syntax.{Syntax}
 use Rattle.proto_grammar.specs.declared.tree.Heading.{Heading}
 use Rattle.proto_grammar.specs.declared.tree.Label.{Label}
 use Rattle.proto_grammar.specs.declared.tree.TypeName.{TypeName}
 use Rattle.proto_grammar.specs.declared.tree.FieldType.{FieldType}
 use Rattle.proto_grammar.specs.declared.tree.Field.{Field}
+use Rattle.proto_grammar.specs.declared.tree.Group.{Group}
 use Rattle.proto_grammar.specs.declared.tree.MapField.{MapField}
 use Rattle.proto_grammar.specs.Lexeme.{Lexeme}
 use Rattle.proto_grammar.specs.Grammar.Names.{IsDotName, IsName, IsTypeName, IsType}
@@ -28,21 +30,22 @@ use Rattle.proto_grammar.specs.Grammar.Options.IsSetting.{setting}
 use Rattle.proto_grammar.specs.Grammar.Options.IsCommaSetting.{comma_setting}
 use Rattle.proto_grammar.specs.Grammar.Options.IsOption.{option}
 use Rattle.proto_grammar.specs.Grammar.Options.IsOptions.{none, some}
-use Rattle.proto_grammar.specs.Grammar.Fields.{IsNumbered, IsTyped, IsLabel, IsField, IsOneofField, IsMapField}
+use Rattle.proto_grammar.specs.Grammar.Fields.{IsNumbered, IsTyped, IsLabel, IsField, IsGroupHead, IsMapField}
 use Rattle.proto_grammar.specs.Grammar.Fields.IsNumbered.{numbered}
 use Rattle.proto_grammar.specs.Grammar.Fields.IsTyped.{typed}
-use Rattle.proto_grammar.specs.Grammar.Fields.IsLabel.{repeated, optional, no_label}
+use Rattle.proto_grammar.specs.Grammar.Fields.IsLabel.{repeated, optional, required, no_label}
 use Rattle.proto_grammar.specs.Grammar.Fields.IsField.{field}
-use Rattle.proto_grammar.specs.Grammar.Fields.IsOneofField.{oneof_field}
+use Rattle.proto_grammar.specs.Grammar.Fields.IsGroupHead.{group_head}
 use Rattle.proto_grammar.specs.Grammar.Fields.IsMapField.{map_field}
 use Rattle.proto_grammar.specs.Grammar.Reserved.{IsInteger, IsRangeEnd, IsRange, IsReservedItem, IsCommaItem}
-use Rattle.proto_grammar.specs.Grammar.Reserved.{IsReserved}
+use Rattle.proto_grammar.specs.Grammar.Reserved.{IsReserved, IsExtensions}
 use Rattle.proto_grammar.specs.Grammar.Reserved.IsInteger.{plain, minus}
 use Rattle.proto_grammar.specs.Grammar.Reserved.IsRangeEnd.{number, max}
 use Rattle.proto_grammar.specs.Grammar.Reserved.IsRange.{single, range}
 use Rattle.proto_grammar.specs.Grammar.Reserved.IsReservedItem.{name as reserved_name, number as reserved_number}
 use Rattle.proto_grammar.specs.Grammar.Reserved.IsCommaItem.{comma_item}
 use Rattle.proto_grammar.specs.Grammar.Reserved.IsReserved.{reserved}
+use Rattle.proto_grammar.specs.Grammar.Reserved.IsExtensions.{extensions}
 use Rattle.proto_grammar.proofs.TokenLemmas.{one_shorter}
 use Rattle.proto_grammar.proofs.UntilLemmas.{Until-shorter, Adds-shorter, Passes-shorter}
 
@@ -118,22 +121,33 @@ numbered_shorter : {custom : CustomOptions} {first : Span} {a b : List Lexeme} {
 numbered_shorter (numbered n q i o s) =
     omega (arith, one_shorter n, one_shorter q, one_shorter i, options_shorter o, one_shorter s)
 
-typed_shorter : {custom : CustomOptions} {first : Span} {label : Option Label} {a b : List Lexeme} {x : Field}
+pub typed_shorter : {custom : CustomOptions} {first : Span} {label : Option Label} {a b : List Lexeme} {x : Field}
     → IsTyped custom first label a x b → length b < length a
 typed_shorter (typed t n) = omega (arith, type_shorter t, numbered_shorter n)
 
-label_shorter : {a b : List Lexeme} {x : Option Label} → IsLabel a x b → length b ≤ length a
+pub label_shorter : {syntax : Syntax} {a b : List Lexeme} {x : Option Label} → IsLabel syntax a x b
+    → length b ≤ length a
 label_shorter (repeated w) = omega (arith, one_shorter w)
 label_shorter (optional w) = omega (arith, one_shorter w)
-label_shorter (no_label p q) = omega arith
+label_shorter (required w) = omega (arith, one_shorter w)
+label_shorter (no_label is p q) = omega arith
 
 pub field_shorter : {custom : CustomOptions} {a b : List Lexeme} {x : Field} → IsField custom a x b
     → length b < length a
 field_shorter (field l t) = omega (arith, label_shorter l, typed_shorter t)
 
-pub oneof_field_shorter : {custom : CustomOptions} {a b : List Lexeme} {x : Field} → IsOneofField custom a x b
-    → length b < length a
-oneof_field_shorter (oneof_field t) = typed_shorter t
+pub group_head_shorter : {custom : CustomOptions} {first : Span} {label : Option Label} {a b : List Lexeme} {x : Group}
+    → IsGroupHead custom first label a x b → length b < length a
+group_head_shorter (group_head w n q i o c) =
+    omega (
+      arith,
+      one_shorter w,
+      one_shorter n,
+      one_shorter q,
+      one_shorter i,
+      options_shorter o,
+      one_shorter c,
+    )
 
 pub map_field_shorter : {custom : CustomOptions} {a b : List Lexeme} {x : MapField} → IsMapField custom a x b
     → length b < length a
@@ -177,5 +191,16 @@ reserved_shorter {negative} (reserved {names} k is i u s) =
       one_shorter k,
       reserved_item_shorter i,
       Until-shorter (Passes-shorter (IsCommaItem negative names) (comma_item_shorter negative names)) _ _ _ _ u,
+      one_shorter s,
+    )
+
+pub extensions_shorter : {custom : CustomOptions} {a b : List Lexeme} → IsExtensions custom a b → length b < length a
+extensions_shorter (extensions k r u o s) =
+    omega (
+      arith,
+      one_shorter k,
+      range_shorter r,
+      Until-shorter (Passes-shorter (IsCommaItem false false) (comma_item_shorter false false)) _ _ _ _ u,
+      options_shorter o,
       one_shorter s,
     )

@@ -1,7 +1,9 @@
 -- Tokens
 pub mod Lexeme
 pub mod Terminal
--- The tree of a message
+-- Dialects
+pub mod Syntax
+-- The tree of a block
 pub mod Tree
 pub mod Items
 pub mod Tables

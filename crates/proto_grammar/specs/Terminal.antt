@@ -1,6 +1,6 @@
 -- What single tokens are, and what is next, as tests.
 use Rattle.std.specs.Prelude.{ℕ, ◌-◌, Bool, true, false, ◌==◌, ◌&&◌, ◌||◌, not, Option, Some, None, List, [], ◌∷◌}
-use Rattle.std.specs.Prelude.{length, take, drop, bytes_eq, codes}
+use Rattle.std.specs.Prelude.{length, take, drop, bytes_eq, nat_le, codes}
 use Rattle.std.specs.Option.{option_map_or}
 use Rattle.std.specs.List.{list_any}
 use Rattle.proto_lex.specs.Ascii as ascii
@@ -63,6 +63,15 @@ is_key t = is_kind Identifier t.kind && list_any (bytes_eq t.spelling) key_words
 abbrev pub is_sign : Lexeme → Bool
 is_sign t = is_kind Minus t.kind || is_kind Plus t.kind
 
+-- Whether a text begins with a capital letter.
+abbrev pub is_capitalized : List ℕ → Bool
+is_capitalized [] = false
+is_capitalized (byte ∷ rest) = nat_le ascii.upper_a byte && nat_le byte ascii.upper_z
+
+-- an identifier that begins with a capital letter
+abbrev pub is_group_name : Lexeme → Bool
+is_group_name t = is_kind Identifier t.kind && is_capitalized t.spelling
+
 -- INT or FLOAT
 abbrev pub is_numeral : Lexeme → Bool
 is_numeral t = is_kind Integer t.kind || is_kind Float t.kind
@@ -105,3 +114,7 @@ is_end (t ∷ rest) = false
 -- Whether a scalar type is next: its word, which no `.` follows.
 abbrev pub begins_scalar : List Lexeme → Bool
 begins_scalar tokens = first_is is_scalar tokens && not_next Dot (others tokens)
+
+-- Whether a group is next, in proto2: the word `group`, which no `.` follows.
+abbrev pub begins_group : List Lexeme → Bool
+begins_group tokens = first_is (is_word (codes "group")) tokens && not_next Dot (others tokens)

@@ -14,8 +14,9 @@ use std::fmt;
 /// comes only if there is no tree is proved; which one comes, and its offset, tests show.
 #[derive(Clone, Copy, Debug, Drop, PartialEq, Eq)]
 pub enum SyntaxFault {
-    /// The first token is not the word `syntax` (its offset), or the syntax statement's literals
-    /// do not spell `proto3` (the first literal's offset).
+    /// The first token is not the word `syntax` (its offset), or the syntax statement's literals do not spell `proto3`
+    /// (the first literal's offset). If all sources are accepted: the first token is the word `edition`, or the
+    /// literals spell neither `proto2` nor `proto3`.
     NotProto3(usize),
     /// A `(` where a component of an option's name is expected. Never if custom options are read past.
     CustomOption(usize),
@@ -27,7 +28,7 @@ pub enum SyntaxFault {
     TwoPackages(usize),
     /// A literal of an import's path that holds a `\`.
     ImportEscape(usize),
-    /// A message is inside 64 others: its word `message`.
+    /// A message or a group is inside 64 others: its word `message`, or the group's first token.
     TooDeep(usize),
     /// Another token that can't be at its place.
     Grammar(usize),

@@ -1,14 +1,14 @@
-//! Fields.
+//! Fields, and what is before a group's `{`.
 
 ghost use Rattle.std.specs.Prelude.{◌≡◌};
 ghost use Rattle.proto_grammar.specs.Gives.{Gives};
 ghost use Rattle.proto_grammar.specs.declared.tree.CustomOptions.TheVariants.{Skip};
-ghost use Rattle.proto_grammar.specs.Reading.Fields.{numbered_at, typed_at, label_at, field_at, oneof_field_at};
-ghost use Rattle.proto_grammar.specs.Reading.Fields.{pass_field_at, map_field_at};
+ghost use Rattle.proto_grammar.specs.Reading.Fields.{numbered_at, typed_at, required_at, label_at};
+ghost use Rattle.proto_grammar.specs.Reading.Fields.{pass_field_at, group_head_at, map_field_at};
 
 use crate::fault::SyntaxFault;
 use crate::parser::Parser;
-use crate::tree::{CustomOptions, Field, Heading, Label, MapField};
+use crate::tree::{CustomOptions, Field, Group, Heading, Label, MapField, Syntax};
 use proto_lex::{Span, TokenKind};
 use std::alloc::Global;
 
@@ -30,9 +30,9 @@ impl<'t> Parser<'t> {
         })
     }
 
-    /// A field from its type on.
+    /// A field from its type on, with this first token and label.
     #[tactic(auto, unfolding(crate::specs::Reading::Fields::typed_at))]
-    fn typed(
+    pub fn typed(
         &mut self,
         alloc: Global,
         custom: CustomOptions,
@@ -50,10 +50,19 @@ impl<'t> Parser<'t> {
         })
     }
 
-    /// A label, if one is next.
+    /// The label `required`.
+    #[tactic(auto, unfolding(crate::specs::Reading::Fields::required_at))]
+    fn required(&mut self) -> Result<Option<Label>, SyntaxFault>
+        ensures { Gives Skip (λ x. x) self.new result (required_at self.old) }
+    {
+        self.word("required")?;
+        Ok(Some(Label::Required))
+    }
+
+    /// A label. In proto3 there may be none, in proto2 there must be one.
     #[tactic(auto, unfolding(crate::specs::Reading::Fields::label_at))]
-    fn label(&mut self) -> Result<Option<Label>, SyntaxFault>
-        ensures { Gives Skip (λ x. x) self.new result (label_at self.old) }
+    pub fn label(&mut self, syntax: Syntax) -> Result<Option<Label>, SyntaxFault>
+        ensures { Gives Skip (λ x. x) self.new result (label_at syntax self.old) }
     {
         if self.is_at_word("repeated") {
             self.advance();
@@ -63,42 +72,49 @@ impl<'t> Parser<'t> {
             self.advance();
             return Ok(Some(Label::Optional));
         }
+        if syntax.is_proto2() {
+            return self.required();
+        }
         Ok(None)
     }
 
-    /// A field (proto3 specification, "Normal field").
-    #[tactic(auto, unfolding(crate::specs::Reading::Fields::field_at))]
-    pub fn field(&mut self, alloc: Global, custom: CustomOptions) -> Result<Field, SyntaxFault>
-        ensures { Gives custom (λ x. x) self.new result (field_at custom self.old) }
-    {
-        let first = self.span()?;
-        let label = self.label()?;
-        self.typed(alloc, custom, first, label)
-    }
-
-    /// A oneof's field (proto3 specification, "Oneof and oneof field").
-    #[tactic(auto, unfolding(crate::specs::Reading::Fields::oneof_field_at))]
-    pub fn oneof_field(
-        &mut self,
-        alloc: Global,
-        custom: CustomOptions,
-    ) -> Result<Field, SyntaxFault>
-        ensures { Gives custom (λ x. x) self.new result (oneof_field_at custom self.old) }
-    {
-        let first = self.span()?;
-        self.typed(alloc, custom, first, None)
-    }
-
-    /// A field that isn't kept.
+    /// A field of proto3 that isn't kept.
     #[tactic(auto, unfolding(crate::specs::Reading::Fields::pass_field_at))]
     pub fn pass_field(&mut self, custom: CustomOptions) -> Result<(), SyntaxFault>
         ensures { Gives custom (λ x. x) self.new result (pass_field_at custom self.old) }
     {
         let first = self.span()?;
-        self.label()?;
+        self.label(Syntax::Proto3(custom))?;
         self.pass_type_name()?;
         self.numbered(custom, first)?;
         Ok(())
+    }
+
+    /// What is before a group's body, with this first token and label (proto2 specification, "Group field").
+    #[tactic(auto, unfolding(crate::specs::Reading::Fields::group_head_at))]
+    pub fn group_head(
+        &mut self,
+        custom: CustomOptions,
+        first: Span,
+        label: Option<Label>,
+    ) -> Result<Group, SyntaxFault>
+        ensures { Gives custom (λ x. x) self.new result (group_head_at custom first label self.old) }
+    {
+        let word = self.word("group")?;
+        let name = self.group_name()?;
+        self.token(TokenKind::Equals)?;
+        self.token(TokenKind::Integer)?;
+        self.options(custom)?;
+        let closing = self.token(TokenKind::OpenBrace)?;
+        Ok(Group {
+            heading: Heading {
+                first,
+                name,
+                closing,
+            },
+            label,
+            word,
+        })
     }
 
     /// A map field (proto3 specification, "Map field").

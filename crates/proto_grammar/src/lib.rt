@@ -1,5 +1,5 @@
-//! The syntax tree of a proto3 source, and the parts of its grammar that are below declarations: names, types,
-//! options, reserved statements and fields.
+//! The syntax tree of a source, and the parts of its grammar that are below declarations: names, types, options,
+//! reserved statements, fields, and what is before a group's `{`.
 //!
 //! A [`Parser`] is a place among the tokens of a text. Each of its methods reads one part: it moves past the part, or
 //! gives the fault that it meets.
@@ -18,6 +18,6 @@ pub use fault::SyntaxFault;
 pub use kept::keep;
 pub use parser::{Lexeme, Parser};
 pub use tree::{
-    CustomOptions, Enum, Field, FieldType, File, FileItem, Heading, Import, ImportKind, Label,
-    Leaf, MapField, Message, MessageItem, Method, Oneof, Service, TypeName,
+    Block, CustomOptions, Dialect, Enum, Field, FieldType, File, FileItem, Group, Head, Heading,
+    Import, ImportKind, Item, Label, Leaf, MapField, Method, Service, Syntax, TypeName,
 };

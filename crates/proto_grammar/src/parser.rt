@@ -8,7 +8,8 @@ ghost use Rattle.proto_grammar.specs.Gives.{Gives};
 ghost use Rattle.proto_grammar.specs.declared.tree.CustomOptions.TheVariants.{Skip};
 ghost use Rattle.proto_grammar.specs.Terminal.{first, others, first_is, of_kind, is_word, key_words, scalar_words};
 ghost use Rattle.proto_grammar.specs.Terminal.{is_scalar, is_key, is_sign, is_numeral, is_number, is_plain_literal};
-ghost use Rattle.proto_grammar.specs.Terminal.{between_quotes, begins_scalar, is_end};
+ghost use Rattle.proto_grammar.specs.Terminal.{between_quotes, begins_scalar, begins_group, is_capitalized};
+ghost use Rattle.proto_grammar.specs.Terminal.{is_group_name, is_end};
 ghost use Rattle.proto_grammar.specs.Reading.Repetition.{token_that, span_at};
 ghost use Rattle.proto_grammar.specs.Lexeme.{lexemes_of};
 ghost use Rattle.proto_grammar.specs.View.{lexeme_view};
@@ -59,6 +60,13 @@ impl<'t> Lexeme<'t> {
         ensures { result ≡ is_key (lexeme_view self.entry) }
     {
         self.kind == TokenKind::Identifier && is_key_word(self.spelling)
+    }
+
+    /// Whether it is an identifier that begins with a capital letter.
+    fn is_group_name(self) -> bool
+        ensures { result ≡ is_group_name (lexeme_view self.entry) }
+    {
+        self.kind == TokenKind::Identifier && is_capitalized(self.spelling.as_bytes())
     }
 
     /// Whether it is `-` or `+`.
@@ -116,6 +124,16 @@ fn is_key_word(word: &str) -> bool
             | "bool"
             | "string"
     )
+}
+
+/// Whether the text begins with a capital letter.
+fn is_capitalized(text: &[u8]) -> bool
+    ensures { result ≡ is_capitalized text.now }
+{
+    match text {
+        [first, ..] => matches!(*first, b'A'..=b'Z'),
+        [] => false,
+    }
 }
 
 /// Whether a `\` is among the bytes.
@@ -273,9 +291,16 @@ impl<'t> Parser<'t> {
         }
     }
 
+    /// Whether the next token is the word `group`, which no `.` follows.
+    pub fn is_at_group(&self) -> bool
+        ensures { result ≡ begins_group self.now }
+    {
+        self.is_at_word("group") && !self.is_before(TokenKind::Dot)
+    }
+
     /// Where the next token is. It isn't taken.
     #[tactic(auto, unfolding(crate::specs::Reading::Repetition::span_at))]
-    pub(crate) fn span(&self) -> Result<Span, SyntaxFault>
+    pub fn span(&self) -> Result<Span, SyntaxFault>
         ensures { Gives Skip (λ x. x) self.now result (span_at self.now) }
     {
         match self.peek() {
@@ -305,6 +330,18 @@ impl<'t> Parser<'t> {
         let offset = self.offset();
         match self.next() {
             Some(lexeme) if lexeme.is_word(word) => Ok(lexeme.span),
+            _ => Err(SyntaxFault::Grammar(offset)),
+        }
+    }
+
+    /// Takes a group's name, which begins with a capital letter.
+    #[tactic(auto, unfolding(crate::specs::Reading::Repetition::token_that))]
+    pub(crate) fn group_name(&mut self) -> Result<Span, SyntaxFault>
+        ensures { Gives Skip (λ x. x) self.new result (token_that is_group_name self.old) }
+    {
+        let offset = self.offset();
+        match self.next() {
+            Some(lexeme) if lexeme.is_group_name() => Ok(lexeme.span),
             _ => Err(SyntaxFault::Grammar(offset)),
         }
     }

@@ -1,13 +1,15 @@
-//! Reserved statements.
+//! Reserved statements and extension ranges.
 
 ghost use Rattle.std.specs.Prelude.{◌≡◌};
 ghost use Rattle.proto_grammar.specs.Gives.{Gives};
 ghost use Rattle.proto_grammar.specs.declared.tree.CustomOptions.TheVariants.{Skip};
 ghost use Rattle.proto_grammar.specs.Reading.Reserved.{plain_integer_at, integer_at, range_end_at, range_at};
 ghost use Rattle.proto_grammar.specs.Reading.Reserved.{reserved_item_at, comma_item_at, comma_items_at, reserved_at};
+ghost use Rattle.proto_grammar.specs.Reading.Reserved.{extensions_at};
 
 use crate::fault::SyntaxFault;
 use crate::parser::Parser;
+use crate::tree::CustomOptions;
 use proto_lex::TokenKind;
 
 impl<'t> Parser<'t> {
@@ -96,6 +98,19 @@ impl<'t> Parser<'t> {
         let names = self.is_at(TokenKind::StringLiteral);
         self.reserved_item(negative, names)?;
         self.comma_items(negative, names)?;
+        self.token(TokenKind::Semicolon)?;
+        Ok(())
+    }
+
+    /// The ranges of a message's extensions (proto2 specification, "Extensions").
+    #[tactic(auto, unfolding(crate::specs::Reading::Reserved::extensions_at))]
+    pub fn extensions(&mut self, custom: CustomOptions) -> Result<(), SyntaxFault>
+        ensures { Gives custom (λ x. x) self.new result (extensions_at custom self.old) }
+    {
+        self.word("extensions")?;
+        self.range(false)?;
+        self.comma_items(false, false)?;
+        self.options(custom)?;
         self.token(TokenKind::Semicolon)?;
         Ok(())
     }

@@ -1,19 +1,76 @@
-//! The syntax tree of a proto3 source. Names, types and literals are spans of its text.
+//! The syntax tree of a source. Names, types and literals are spans of its text.
 //!
-//! Options, reserved statements, numbers and lone `;` are checked, and aren't in the tree.
+//! Options, reserved statements, `extensions`, numbers and lone `;` are checked, and aren't in the tree.
+
+ghost use Rattle.std.specs.Prelude.{◌≡◌};
+ghost use Rattle.proto_grammar.specs.Syntax.{custom_of, is_all, is_proto2};
 
 use proto_lex::Span;
 use sequences::Sequence;
 use std::marker::Model;
 
-/// What is done with custom options: option names with a part in parentheses, aggregate values,
-/// and `extend`, all of which the tree never holds.
+/// What is done with custom options: option names with a part in parentheses, and aggregate values. The tree never
+/// holds them. If only proto3 is accepted, the same is done with `extend`.
 #[derive(Clone, Copy, Debug, PartialEq, Eq)]
 pub enum CustomOptions {
     /// They are refused.
     Refuse,
     /// They are read past.
     Skip,
+}
+
+/// Which sources are accepted.
+#[derive(Clone, Copy, Debug, PartialEq, Eq)]
+pub enum Dialect {
+    /// proto3 sources, with what is done with custom options.
+    Proto3(CustomOptions),
+    /// proto2 and proto3 sources, both with `extend`. Custom options are read past.
+    All,
+}
+
+impl Dialect {
+    /// Whether all sources are accepted.
+    pub fn is_all(self) -> bool
+        ensures { result ≡ is_all self }
+    {
+        match self {
+            Dialect::Proto3(_) => false,
+            Dialect::All => true,
+        }
+    }
+}
+
+/// The grammar of one file, by its syntax statement and the dialect.
+#[derive(Clone, Copy, Debug, PartialEq, Eq)]
+pub enum Syntax {
+    /// proto3, if only proto3 is accepted.
+    Proto3(CustomOptions),
+    /// proto3, if all sources are accepted: `extend` declares, and custom options are read past.
+    Extended,
+    /// proto2.
+    Proto2,
+}
+
+impl Syntax {
+    /// What is done with custom options.
+    pub fn custom_options(self) -> CustomOptions
+        ensures { result ≡ custom_of self }
+    {
+        match self {
+            Syntax::Proto3(custom) => custom,
+            Syntax::Extended | Syntax::Proto2 => CustomOptions::Skip,
+        }
+    }
+
+    /// Whether it is proto2.
+    pub fn is_proto2(self) -> bool
+        ensures { result ≡ is_proto2 self }
+    {
+        match self {
+            Syntax::Proto3(_) | Syntax::Extended => false,
+            Syntax::Proto2 => true,
+        }
+    }
 }
 
 /// The tree of a file (proto3 specification, "Proto file").
@@ -23,7 +80,7 @@ pub struct File {
     pub package_name: Option<Sequence<Span>>,
     /// The imports, in order.
     pub imports: Sequence<Import>,
-    /// The messages, enums and services, in order.
+    /// The messages, enums, services and extends, in order.
     pub items: Sequence<FileItem>,
 }
 
@@ -51,8 +108,8 @@ pub enum ImportKind {
 /// What is in a file.
 #[derive(Debug, Drop)]
 pub enum FileItem {
-    /// A message.
-    Message(Message),
+    /// A message or an extend.
+    Block(Block),
     /// An enum.
     Enum(Enum),
     /// A service.
@@ -62,9 +119,9 @@ pub enum FileItem {
 /// Where the first token, the name and the closing token of a declaration are.
 ///
 /// The first token is the declaring word of a message, an enum, a oneof, a service and a method, the label, the
-/// type's first token or `map` of a field, and the name of an enum's value. The closing token is the `{` of a
-/// message, an enum, a oneof and a service, the `;` of a field and of an enum's value, and the `;` or `{` after a
-/// method's result type.
+/// type's first token or `map` of a field, the label or the word `group` of a group, and the name of an enum's value.
+/// The closing token is the `{` of a message, a group, an enum, a oneof and a service, the `;` of a field and of an
+/// enum's value, and the `;` or `{` after a method's result type.
 #[derive(Clone, Copy, Debug, PartialEq, Eq)]
 pub struct Heading {
     /// The first token. Of an enum's value it is the name.
@@ -75,34 +132,56 @@ pub struct Heading {
     pub closing: Span,
 }
 
-/// A message (proto3 specification, "Message definition").
+/// What has braces, and may have messages in it.
 #[derive(Debug, Drop)]
 #[cycle(tree)]
-pub struct Message {
-    /// From the word `message` to the `{`.
-    pub heading: Heading,
+pub struct Block {
+    /// What it is, with what is before its `{`.
+    pub head: Head,
     /// What is between the braces, in order.
-    pub items: Vec<MessageItem>,
+    pub items: Vec<Item>,
 }
 
-/// What is in a message: a message, or something without messages in it.
+/// What a block is.
+#[derive(Debug, Drop)]
+pub enum Head {
+    /// A message, from the word `message` to the `{` (proto3 specification, "Message definition").
+    Message(Heading),
+    /// A group.
+    Group(Group),
+    /// A oneof, from the word `oneof` to the `{` (proto3 specification, "Oneof and oneof field").
+    Oneof(Heading),
+    /// An extend, with the type that it extends (proto2 specification, "Extend").
+    Extend(TypeName),
+}
+
+/// A group: a field and a message of one name (proto2 specification, "Group field").
+#[derive(Clone, Copy, Debug, PartialEq, Eq)]
+pub struct Group {
+    /// From the label, or the word `group` if there is none, to the `{`. The name is that of the message.
+    pub heading: Heading,
+    /// The label. There is none in a oneof.
+    pub label: Option<Label>,
+    /// The word `group`.
+    pub word: Span,
+}
+
+/// What is in a block: a block, or something without blocks in it.
 #[derive(Debug, Drop)]
 #[cycle(tree)]
-pub enum MessageItem {
-    /// A message.
-    Message(Message),
-    /// Something in which there is no message.
+pub enum Item {
+    /// A message, a group, a oneof or an extend.
+    Block(Block),
+    /// Something in which there is no block.
     Leaf(Leaf),
 }
 
-/// What is in a message, other than a message.
+/// What is in a block, other than a block.
 #[derive(Debug, Drop)]
 pub enum Leaf {
     /// An enum.
     Enum(Enum),
-    /// A oneof.
-    Oneof(Oneof),
-    /// A field, outside of a oneof.
+    /// A field.
     Field(Field),
     /// A map field.
     MapField(MapField),
@@ -117,21 +196,12 @@ pub struct Enum {
     pub values: Sequence<Heading>,
 }
 
-/// A oneof (proto3 specification, "Oneof and oneof field").
-#[derive(Debug, Drop)]
-pub struct Oneof {
-    /// From the word `oneof` to the `{`.
-    pub heading: Heading,
-    /// The fields, in order, none with a label.
-    pub fields: Sequence<Field>,
-}
-
 /// A field (proto3 specification, "Normal field").
 #[derive(Debug, Drop)]
 pub struct Field {
     /// From the label, or the type's first token, to the `;`.
     pub heading: Heading,
-    /// The label, if there is one.
+    /// The label, if there is one. There is none in a oneof.
     pub label: Option<Label>,
     /// The type, after the label.
     pub field_type: FieldType,
@@ -144,6 +214,8 @@ pub enum Label {
     Repeated,
     /// `optional`.
     Optional,
+    /// `required`, in proto2 only.
+    Required,
 }
 
 /// A map field (proto3 specification, "Map field").
@@ -195,22 +267,22 @@ pub struct Method {
     pub output: TypeName,
 }
 
-impl Model for Message {
-    ghost use Rattle.proto_grammar.specs.Tree.{MessageTree, message_size};
-    ghost use Rattle.proto_grammar.specs.Tables.Code.{message_code};
+impl Model for Block {
+    ghost use Rattle.proto_grammar.specs.Tree.{BlockTree, block_size};
+    ghost use Rattle.proto_grammar.specs.Tables.Code.{block_code};
     ghost use Rattle.std.proofs.Common.{arith};
 
-    ghost Value = { MessageTree };
+    ghost Value = { BlockTree };
 
-    ghost coded = { message_code };
+    ghost coded = { block_code };
 
     ghost use Rattle.proto_grammar.specs.Items.{body_of};
 
-    ghost view = { λ m. record { heading = m.heading; body = body_of m.items.items } };
+    ghost view = { λ b. record { head = b.head; body = body_of b.items.items } };
 
-    ghost size = { message_size };
+    ghost size = { block_size };
 
     ghost use Rattle.proto_grammar.specs.Tables.Falls.{most_le-body_size};
 
-    ghost size_decreases = { λ m h. omega (arith, most_le-body_size m.items.items) };
+    ghost size_decreases = { λ b h. omega (arith, most_le-body_size b.items.items) };
 }

@@ -1,31 +1,31 @@
 -- The lists of a tree that are never empty.
-use Rattle.std.proofs.Common.{ℕ, zero, suc, ◌≤◌, Bool, Option, Some, None, option_to_list, List, [], ◌∷◌, ◌++◌, length}
-use Rattle.std.proofs.Common.{length-append, All, arith}
+use Rattle.std.proofs.Common.{ℕ, zero, suc, ◌≤◌, Bool, Option, Some, None, option_map, option_to_list, List, [], ◌∷◌}
+use Rattle.std.proofs.Common.{◌++◌, length, length-append, All, arith}
 use Rattle.std.proofs.lemmas.List.Elements.{All-append, All-nil, All-cons, All-head, All-tail}
 use Rattle.proto_grammar.specs.declared.tree.Label.{Label}
 use Rattle.proto_grammar.specs.declared.tree.FileItem.{FileItem}
 use Rattle.proto_grammar.specs.Terminal.{is_end}
-use Rattle.proto_grammar.specs.Grammar.Fields.{IsTyped}
-use Rattle.proto_parse.specs.Filled.{HasSome, FilledTypeName, FilledType, FilledField, FilledMapField, FilledOneof}
-use Rattle.proto_parse.specs.Filled.{FilledLeaf, FilledBody, FilledMessage, FilledMethod, FilledService, FilledItem}
-use Rattle.proto_parse.specs.Filled.{FilledImport, FilledFile}
+use Rattle.proto_parse.specs.Filled.{HasSome, FilledTypeName, FilledType, FilledField, FilledMapField, FilledLeaf}
+use Rattle.proto_parse.specs.Filled.{FilledBody, FilledBlock, FilledMethod, FilledService, FilledItem, FilledImport}
+use Rattle.proto_parse.specs.Filled.{FilledFile}
 use Rattle.proto_lex.specs.declared.span.Span.{Span}
 use Rattle.proto_grammar.specs.declared.tree.CustomOptions.{CustomOptions}
+use Rattle.proto_grammar.specs.declared.tree.Dialect.{Dialect}
+use Rattle.proto_grammar.specs.declared.tree.Syntax.{Syntax}
 use Rattle.proto_grammar.specs.declared.tree.TypeName.{TypeName}
 use Rattle.proto_grammar.specs.declared.tree.FieldType.{FieldType}
 use Rattle.proto_grammar.specs.declared.tree.Field.{Field}
 use Rattle.proto_grammar.specs.declared.tree.MapField.{MapField}
-use Rattle.proto_grammar.specs.declared.tree.Oneof.{Oneof}
 use Rattle.proto_grammar.specs.declared.tree.Method.{Method}
 use Rattle.proto_grammar.specs.declared.tree.Service.{Service}
-use Rattle.proto_grammar.specs.declared.tree.MessageItem.{MessageItem}
-use Rattle.proto_grammar.specs.declared.tree.MessageItem.TheVariants as tree
+use Rattle.proto_grammar.specs.declared.tree.Item.{Item}
+use Rattle.proto_grammar.specs.declared.tree.Item.TheVariants as tree
 use Rattle.proto_grammar.specs.declared.tree.FileItem.TheVariants as item
 use Rattle.proto_grammar.specs.declared.tree.Import.{Import}
 use Rattle.proto_grammar.specs.declared.tree.File.{File}
 use Rattle.proto_grammar.specs.Lexeme.{Lexeme}
 use Rattle.proto_parse.specs.Limits.{max_message_depth}
-use Rattle.proto_grammar.specs.Tree.{MessageTree}
+use Rattle.proto_grammar.specs.Tree.{BlockTree}
 use Rattle.proto_grammar.specs.Items.{body_of}
 use Rattle.proto_grammar.specs.Grammar.Repetition.{Until, Adds}
 use Rattle.proto_grammar.specs.Grammar.Repetition.Until.{done, more}
@@ -34,18 +34,29 @@ use Rattle.proto_grammar.specs.Grammar.Names.{IsName, IsTypeName, IsType}
 use Rattle.proto_grammar.specs.Grammar.Names.IsName.{name}
 use Rattle.proto_grammar.specs.Grammar.Names.IsTypeName.{rooted, plain as plain_name}
 use Rattle.proto_grammar.specs.Grammar.Names.IsType.{scalar, named}
-use Rattle.proto_grammar.specs.Grammar.Fields.{IsField, IsOneofField, IsMapField}
+use Rattle.proto_grammar.specs.Grammar.Fields.{IsTyped, IsMapField}
 use Rattle.proto_grammar.specs.Grammar.Fields.IsTyped.{typed}
-use Rattle.proto_grammar.specs.Grammar.Fields.IsField.{field}
-use Rattle.proto_grammar.specs.Grammar.Fields.IsOneofField.{oneof_field}
 use Rattle.proto_grammar.specs.Grammar.Fields.IsMapField.{map_field}
-use Rattle.proto_parse.specs.Grammar.Messages.{IsOneofItem, IsOneof, IsMessageItem, IsMessageOf, IsMessage}
-use Rattle.proto_parse.specs.Grammar.Messages.IsOneofItem.{field as oneofs-field}
+use Rattle.proto_parse.specs.Grammar.Messages.{IsBraced, IsGroup, IsLabelled, IsMember, IsOneofItem, IsOneof}
+use Rattle.proto_parse.specs.Grammar.Messages.{IsExtendItem, IsExtend, IsExtendStatement, IsMessage, IsMessageItem}
+use Rattle.proto_parse.specs.Grammar.Messages.{IsInside}
+use Rattle.proto_parse.specs.Grammar.Messages.IsBraced.{braced}
+use Rattle.proto_parse.specs.Grammar.Messages.IsGroup.{group}
+use Rattle.proto_parse.specs.Grammar.Messages.IsLabelled.{field as labelled-field, group as labelled-group}
+use Rattle.proto_parse.specs.Grammar.Messages.IsMember.{member}
+use Rattle.proto_parse.specs.Grammar.Messages.IsOneofMember.{oneof_member}
+use Rattle.proto_parse.specs.Grammar.Messages.IsOneofItem.{empty as oneofs-empty, option as oneofs-option}
+use Rattle.proto_parse.specs.Grammar.Messages.IsOneofItem.{member as oneofs-member}
 use Rattle.proto_parse.specs.Grammar.Messages.IsOneof.{oneof}
-use Rattle.proto_parse.specs.Grammar.Messages.IsMessageItem.{message as items-message, enum as items-enum}
+use Rattle.proto_parse.specs.Grammar.Messages.IsExtendItem.{empty as extends-empty, member as extends-member}
+use Rattle.proto_parse.specs.Grammar.Messages.IsExtend.{extend}
+use Rattle.proto_parse.specs.Grammar.Messages.IsExtendStatement.{kept, passed}
+use Rattle.proto_parse.specs.Grammar.Messages.IsMessage.{message}
+use Rattle.proto_parse.specs.Grammar.Messages.IsMessageItem.{empty as items-empty, message as items-message}
+use Rattle.proto_parse.specs.Grammar.Messages.IsMessageItem.{enum as items-enum, option as items-option}
 use Rattle.proto_parse.specs.Grammar.Messages.IsMessageItem.{oneof as items-oneof, map_field as items-map_field}
-use Rattle.proto_parse.specs.Grammar.Messages.IsMessageItem.{field as items-field}
-use Rattle.proto_parse.specs.Grammar.Messages.IsMessageOf.{message}
+use Rattle.proto_parse.specs.Grammar.Messages.IsMessageItem.{reserved as items-reserved, extend as items-extend}
+use Rattle.proto_parse.specs.Grammar.Messages.IsMessageItem.{extensions as items-extensions, member as items-member}
 use Rattle.proto_parse.specs.Grammar.Services.{IsMethodType, IsServiceItem, IsService}
 use Rattle.proto_parse.specs.Grammar.Services.IsMethodType.{method_type}
 use Rattle.proto_parse.specs.Grammar.Services.IsMethod.{method}
@@ -96,64 +107,108 @@ typed_filled : {custom : CustomOptions} {first : Span} {label : Option Label} {a
     → IsTyped custom first label a x b → FilledField x
 typed_filled (typed y n) = type_filled y
 
-field_filled : {custom : CustomOptions} {a b : List Lexeme} {x : Field} → IsField custom a x b → FilledField x
-field_filled (field l t) = typed_filled t
-
-oneof_field_filled : {custom : CustomOptions} {a b : List Lexeme} {x : Field} → IsOneofField custom a x b
-    → FilledField x
-oneof_field_filled (oneof_field t) = typed_filled t
-
 map_field_filled : {custom : CustomOptions} {a b : List Lexeme} {x : MapField} → IsMapField custom a x b
     → FilledMapField x
 map_field_filled (map_field f l k c v g h) = type_filled v
 
-oneof_item_filled : (custom : CustomOptions) (a b : List Lexeme) (x : Field) → IsOneofItem custom a (Some x) b
-    → FilledField x
-oneof_item_filled custom a b x (oneofs-field p q f) = oneof_field_filled f
+-- of one item of a block
+abbrev FilledBlockItem : Item → Type 0
+FilledBlockItem (tree.Block b) = FilledBlock b
+FilledBlockItem (tree.Leaf leaf) = FilledLeaf leaf
 
-oneof_filled : {custom : CustomOptions} {a b : List Lexeme} {x : Oneof} → IsOneof custom a x b → FilledOneof x
-oneof_filled {custom} (oneof {b = c} {c = d} {fields = fields} h u e) =
-    until_all FilledField (oneof_item_filled custom) [] fields c d u (All-nil FilledField)
-
--- of one item of a message
-abbrev FilledMessageItem : MessageItem → Type 0
-FilledMessageItem (tree.Message m) = FilledMessage m
-FilledMessageItem (tree.Leaf leaf) = FilledLeaf leaf
-
-body_filled : (items : List MessageItem) → All FilledMessageItem items → FilledBody (body_of items)
+body_filled : (items : List Item) → All FilledBlockItem items → FilledBody (body_of items)
 body_filled [] all = tt
-body_filled (tree.Message m ∷ items) all = (
-  All-head FilledMessageItem (tree.Message m) items all,
-  body_filled items (All-tail FilledMessageItem (tree.Message m) items all),
-)
+body_filled (tree.Block b ∷ items) all =
+    let here = All-head FilledBlockItem (tree.Block b) items all in
+    (here.0, here.1, body_filled items (All-tail FilledBlockItem (tree.Block b) items all))
 body_filled (tree.Leaf leaf ∷ items) all = (
-  All-head FilledMessageItem (tree.Leaf leaf) items all,
-  body_filled items (All-tail FilledMessageItem (tree.Leaf leaf) items all),
+  All-head FilledBlockItem (tree.Leaf leaf) items all,
+  body_filled items (All-tail FilledBlockItem (tree.Leaf leaf) items all),
 )
 
-abbrev FillsMessages : (List Lexeme → MessageTree → List Lexeme → Type 0) → Type 0
-FillsMessages Inner = (a b : List Lexeme) (x : MessageTree) → Inner a x b → FilledMessage x
+-- what is read is filled
+abbrev Fills : {A : Type 0} → (A → Type 0) → (List Lexeme → A → List Lexeme → Type 0) → Type 0
+Fills {A} Filled Is = (a b : List Lexeme) (x : A) → Is a x b → Filled x
 
-message_item_filled : (custom : CustomOptions) (Inner : List Lexeme → MessageTree → List Lexeme → Type 0)
-    → FillsMessages Inner
-    → (a b : List Lexeme) (x : MessageItem) → IsMessageItem custom Inner a (Some x) b → FilledMessageItem x
-message_item_filled custom Inner inner a b x (items-message {message = m} is i) = inner a b m i
-message_item_filled custom Inner inner a b x (items-enum is e) = tt
-message_item_filled custom Inner inner a b x (items-oneof is o) = oneof_filled o
-message_item_filled custom Inner inner a b x (items-map_field is f) = map_field_filled f
-message_item_filled custom Inner inner a b x (items-field is f) = field_filled f
+-- what is inside
+abbrev FilledItems : List Item → Type 0
+FilledItems items = FilledBody (body_of items)
 
-message_of_filled : (custom : CustomOptions) (Inner : List Lexeme → MessageTree → List Lexeme → Type 0)
-    → FillsMessages Inner → FillsMessages (IsMessageOf custom Inner)
-message_of_filled custom Inner inner a b x (message {b = c} {c = d} {items = items} h u e) =
-    body_filled items (until_all FilledMessageItem (message_item_filled custom Inner inner) [] items c d u
-    (All-nil FilledMessageItem))
+-- one item, if it is kept
+abbrev FilledOption : Option Item → Type 0
+FilledOption None = Unit {0}
+FilledOption (Some x) = FilledBlockItem x
 
-message_filled : (custom : CustomOptions) (levels : ℕ) → FillsMessages (IsMessage custom levels)
-unfolding IsMessage
-message_filled custom zero a b x m = absurd m
-message_filled custom (suc levels) a b x m =
-    message_of_filled custom (IsMessage custom levels) (message_filled custom levels) a b x m
+braced_filled : (Is : List Lexeme → Option Item → List Lexeme → Type 0) → Fills FilledOption Is
+    → Fills FilledItems (IsBraced Is)
+braced_filled Is fills a c x (braced {b = b} u e) =
+    body_filled x (until_all FilledBlockItem (λ a b y i. fills a b (Some y) i) [] x a b u (All-nil FilledBlockItem))
+
+labelled_filled : (syntax : Syntax) (Inner : List Lexeme → List Item → List Lexeme → Type 0) → Fills FilledItems Inner
+    → (first : Span) (label : Option Label) → Fills FilledBlockItem (IsLabelled syntax Inner first label)
+labelled_filled syntax Inner fills first label a b x (labelled-field is f) = typed_filled f
+labelled_filled syntax Inner fills first label a c x (labelled-group is (group {b = b} {items = items} g i)) =
+    (tt, fills b c items i)
+
+member_filled : (syntax : Syntax) (Inner : List Lexeme → List Item → List Lexeme → Type 0) → Fills FilledItems Inner
+    → Fills FilledBlockItem (IsMember syntax Inner)
+member_filled syntax Inner fills a c x (member {t = t} {b = b} {label = label} l i) =
+    labelled_filled syntax Inner fills t.span label b c x i
+
+oneof_item_filled : (syntax : Syntax) (Inner : List Lexeme → List Item → List Lexeme → Type 0) → Fills FilledItems Inner
+    → Fills FilledOption (IsOneofItem syntax Inner)
+oneof_item_filled syntax Inner fills a b x (oneofs-empty s) = tt
+oneof_item_filled syntax Inner fills a b x (oneofs-option is o) = tt
+oneof_item_filled syntax Inner fills a b x (oneofs-member {item = y} p q (oneof_member {t = t} {rest = rest} i)) =
+    labelled_filled syntax Inner fills t.span None (t ∷ rest) b y i
+
+extend_item_filled : (syntax : Syntax) (Inner : List Lexeme → List Item → List Lexeme → Type 0) → Fills FilledItems Inner
+    → Fills FilledOption (IsExtendItem syntax Inner)
+extend_item_filled syntax Inner fills a b x (extends-empty s) = tt
+extend_item_filled syntax Inner fills a b x (extends-member {item = y} p m) = member_filled syntax Inner fills a b y m
+
+-- an extend, if it is kept
+abbrev FilledExtend : Option BlockTree → Type 0
+FilledExtend None = Unit {0}
+FilledExtend (Some x) = FilledBlock x
+
+extend_statement_filled : (syntax : Syntax) (Inner : List Lexeme → List Item → List Lexeme → Type 0)
+    → Fills FilledItems Inner → Fills FilledExtend (IsExtendStatement Inner syntax)
+extend_statement_filled syntax Inner fills a e x (kept is (extend {d = d} {items = items} k not n o i)) = (
+  type_name_filled n,
+  braced_filled (IsExtendItem syntax Inner) (extend_item_filled syntax Inner fills) d e items i,
+)
+extend_statement_filled syntax Inner fills a b x (passed e) = tt
+
+message_filled : (Inner : List Lexeme → List Item → List Lexeme → Type 0) → Fills FilledItems Inner
+    → Fills FilledBlock (IsMessage Inner)
+message_filled Inner fills a c x (message {b = b} {items = items} h i) = (tt, fills b c items i)
+
+extended_item_filled : (x : Option BlockTree) → FilledExtend x → FilledOption (option_map tree.Block x)
+extended_item_filled None filled = tt
+extended_item_filled (Some x) filled = filled
+
+message_item_filled : (syntax : Syntax) (Inner : List Lexeme → List Item → List Lexeme → Type 0)
+    → Fills FilledItems Inner → Fills FilledOption (IsMessageItem syntax Inner)
+message_item_filled syntax Inner fills a b x (items-empty is s) = tt
+message_item_filled syntax Inner fills a b x (items-message {message = y} is i) = message_filled Inner fills a b y i
+message_item_filled syntax Inner fills a b x (items-enum is e) = tt
+message_item_filled syntax Inner fills a b x (items-option is o) = tt
+message_item_filled syntax Inner fills a c x (items-oneof is (oneof {b = b} {items = items} h i)) =
+    (tt, braced_filled (IsOneofItem syntax Inner) (oneof_item_filled syntax Inner fills) b c items i)
+message_item_filled syntax Inner fills a b x (items-map_field is f) = map_field_filled f
+message_item_filled syntax Inner fills a b x (items-reserved is r) = tt
+message_item_filled syntax Inner fills a b x (items-extend {extend = y} is e) =
+    extended_item_filled y (extend_statement_filled syntax Inner fills a b y e)
+message_item_filled syntax Inner fills a b x (items-extensions is proto2 r) = tt
+message_item_filled syntax Inner fills a b x (items-member {item = y} is m) = member_filled syntax Inner fills a b y m
+
+inside_filled : (syntax : Syntax) (levels : ℕ) → Fills FilledItems (IsInside syntax levels)
+unfolding IsInside
+inside_filled syntax zero a b x i = absurd i
+inside_filled syntax (suc levels) a b x i =
+    braced_filled (IsMessageItem syntax (IsInside syntax levels))
+    (message_item_filled syntax (IsInside syntax levels) (inside_filled syntax levels)) a b x i
 
 method_type_filled : {a b : List Lexeme} {x : TypeName} → IsMethodType a x b → FilledTypeName x
 method_type_filled (method_type o s none_next n c) = type_name_filled n
@@ -184,45 +239,58 @@ with_import : (imports : List Import) (x : Import) → All FilledImport imports 
 with_import imports x all here =
     All-append FilledImport imports (x ∷ []) all (All-cons FilledImport x [] here (All-nil FilledImport))
 
-statement_filled : (custom : CustomOptions) (f g : File) (a b : List Lexeme) → IsStatement custom f a g b → FilledFile f
+with_extend : (items : List FileItem) (x : Option BlockTree) → All FilledItem items → FilledExtend x
+    → All FilledItem (items ++ option_to_list (option_map item.Block x))
+with_extend items None all here = All-append FilledItem items [] all (All-nil FilledItem)
+with_extend items (Some x) all here = with_item items (item.Block x) all here
+
+statement_filled : (syntax : Syntax) (f g : File) (a b : List Lexeme) → IsStatement syntax f a g b → FilledFile f
     → FilledFile g
-statement_filled custom f g a b (statements-empty is s) filled = filled
-statement_filled custom f g a b (statements-import {import = x} is i) filled =
+statement_filled syntax f g a b (statements-empty is s) filled = filled
+statement_filled syntax f g a b (statements-import {import = x} is i) filled =
     record {
       package_name = filled.package_name;
       imports = with_import f.imports x filled.imports (import_filled i);
       items = filled.items;
     }
-statement_filled custom f g a b (statements-package_statement is none_yet p) filled =
+statement_filled syntax f g a b (statements-package_statement is none_yet p) filled =
     record { package_name = package_filled p; imports = filled.imports; items = filled.items }
-statement_filled custom f g a b (statements-option is o) filled = filled
-statement_filled custom f g a b (statements-message m is i) filled =
+statement_filled syntax f g a b (statements-option is o) filled = filled
+statement_filled syntax f g a b (statements-message m is i) filled =
     record {
       package_name = filled.package_name;
       imports = filled.imports;
-      items = with_item f.items (item.Message m) filled.items (message_filled custom max_message_depth a b m i);
+      items = with_item f.items (item.Block m) filled.items
+          (message_filled (IsInside syntax max_message_depth) (inside_filled syntax max_message_depth) a b m i);
     }
-statement_filled custom f g a b (statements-enum {enum = e} is i) filled =
+statement_filled syntax f g a b (statements-enum {enum = e} is i) filled =
     record {
       package_name = filled.package_name;
       imports = filled.imports;
       items = with_item f.items (item.Enum e) filled.items tt;
     }
-statement_filled custom f g a b (statements-service {service = s} is i) filled =
+statement_filled syntax f g a b (statements-service {service = s} is i) filled =
     record {
       package_name = filled.package_name;
       imports = filled.imports;
       items = with_item f.items (item.Service s) filled.items (service_filled i);
     }
-statement_filled custom f g a b (statements-extend is e) filled = filled
+statement_filled syntax f g a b (statements-extend {extend = x} is e) filled =
+    record {
+      package_name = filled.package_name;
+      imports = filled.imports;
+      items = with_extend f.items x filled.items
+          (extend_statement_filled syntax (IsInside syntax max_message_depth) (inside_filled syntax max_message_depth)
+          a b x e);
+    }
 
-statements_filled : (custom : CustomOptions) (f g : File) (a b : List Lexeme)
-    → Until is_end (IsStatement custom) f a g b → FilledFile f → FilledFile g
-statements_filled custom f g a b (done e) filled = filled
-statements_filled custom f g a b (more {t = t} {b = c} further first behind) filled =
-    statements_filled custom t g c b behind (statement_filled custom f t a c first filled)
+statements_filled : (syntax : Syntax) (f g : File) (a b : List Lexeme)
+    → Until is_end (IsStatement syntax) f a g b → FilledFile f → FilledFile g
+statements_filled syntax f g a b (done e) filled = filled
+statements_filled syntax f g a b (more {t = t} {b = c} further first behind) filled =
+    statements_filled syntax t g c b behind (statement_filled syntax f t a c first filled)
 
-pub file_filled : {custom : CustomOptions} {a : List Lexeme} (f : File) → IsFile custom a f → FilledFile f
-file_filled {custom} f (file {b = b} {c = c} s u) =
-    statements_filled custom empty_file f b c u
+pub file_filled : {dialect : Dialect} {a : List Lexeme} (f : File) → IsFile dialect a f → FilledFile f
+file_filled f (file {b = b} {c = c} {syntax = syntax} s u) =
+    statements_filled syntax empty_file f b c u
     (record { package_name = tt; imports = All-nil FilledImport; items = All-nil FilledItem })

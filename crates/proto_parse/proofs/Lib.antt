@@ -1,5 +1,7 @@
 -- What is not there is not read
 pub mod Stops
+-- Literals joined
+pub mod Joined
 -- What is read is in the grammar, and takes tokens
 pub mod Found
 pub mod Shorter

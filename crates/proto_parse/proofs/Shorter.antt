@@ -1,39 +1,52 @@
 -- What is in the grammar leaves fewer tokens.
-use Rattle.std.proofs.Common.{ℕ, zero, suc, ◌<◌, ◌≤◌, Option, List, length, arith}
+use Rattle.std.proofs.Common.{ℕ, zero, suc, ◌<◌, ◌≤◌, Option, Some, None, List, length, arith}
 use Rattle.proto_lex.specs.declared.span.Span.{Span}
 use Rattle.proto_grammar.specs.declared.tree.CustomOptions.{CustomOptions}
+use Rattle.proto_grammar.specs.declared.tree.Syntax.{Syntax}
 use Rattle.proto_grammar.specs.declared.tree.Heading.{Heading}
+use Rattle.proto_grammar.specs.declared.tree.Label.{Label}
 use Rattle.proto_grammar.specs.declared.tree.TypeName.{TypeName}
-use Rattle.proto_grammar.specs.declared.tree.Field.{Field}
 use Rattle.proto_grammar.specs.declared.tree.Enum.{Enum}
-use Rattle.proto_grammar.specs.declared.tree.Oneof.{Oneof}
 use Rattle.proto_grammar.specs.declared.tree.Method.{Method}
 use Rattle.proto_grammar.specs.declared.tree.Service.{Service}
-use Rattle.proto_grammar.specs.declared.tree.MessageItem.{MessageItem}
+use Rattle.proto_grammar.specs.declared.tree.Item.{Item}
 use Rattle.proto_grammar.specs.declared.tree.Import.{Import}
 use Rattle.proto_grammar.specs.declared.tree.ImportKind.{ImportKind}
 use Rattle.proto_grammar.specs.declared.tree.File.{File}
+use Rattle.proto_parse.specs.declared.statement.Within.{Within}
+use Rattle.proto_parse.specs.declared.statement.Within.TheVariants as within
 use Rattle.proto_grammar.specs.Lexeme.{Lexeme}
-use Rattle.proto_grammar.specs.Tree.{MessageTree}
+use Rattle.proto_grammar.specs.Syntax.{custom_of}
+use Rattle.proto_grammar.specs.Tree.{BlockTree}
 use Rattle.proto_parse.specs.Limits.{max_message_depth}
-use Rattle.proto_parse.specs.Grammar.Messages.{IsHeading, IsValue, IsEnumItem, IsEnum, IsOneofItem, IsOneof}
-use Rattle.proto_parse.specs.Grammar.Messages.{IsExtendItem, IsExtend, IsMessageItem, IsMessageOf, IsMessage}
+use Rattle.proto_parse.specs.Grammar.Messages.{IsHeading, IsValue, IsEnumItem, IsEnum, IsBraced, IsGroup, IsLabelled}
+use Rattle.proto_parse.specs.Grammar.Messages.{IsMember, IsOneofMember, IsOneofItem, IsOneof, IsExtendItem, IsExtend}
+use Rattle.proto_parse.specs.Grammar.Messages.{IsPassedItem, IsPassedExtend, IsExtendStatement, IsMessage}
+use Rattle.proto_parse.specs.Grammar.Messages.{IsMessageItem, IsItem, IsInside}
 use Rattle.proto_parse.specs.Grammar.Messages.IsHeading.{heading}
 use Rattle.proto_parse.specs.Grammar.Messages.IsValue.{value}
 use Rattle.proto_parse.specs.Grammar.Messages.IsEnumItem.{empty as enums-empty, option as enums-option}
 use Rattle.proto_parse.specs.Grammar.Messages.IsEnumItem.{reserved as enums-reserved, value as enums-value}
 use Rattle.proto_parse.specs.Grammar.Messages.IsEnum.{enum}
+use Rattle.proto_parse.specs.Grammar.Messages.IsBraced.{braced}
+use Rattle.proto_parse.specs.Grammar.Messages.IsGroup.{group}
+use Rattle.proto_parse.specs.Grammar.Messages.IsLabelled.{field as labelled-field, group as labelled-group}
+use Rattle.proto_parse.specs.Grammar.Messages.IsMember.{member}
+use Rattle.proto_parse.specs.Grammar.Messages.IsOneofMember.{oneof_member}
 use Rattle.proto_parse.specs.Grammar.Messages.IsOneofItem.{empty as oneofs-empty, option as oneofs-option}
-use Rattle.proto_parse.specs.Grammar.Messages.IsOneofItem.{field as oneofs-field}
+use Rattle.proto_parse.specs.Grammar.Messages.IsOneofItem.{member as oneofs-member}
 use Rattle.proto_parse.specs.Grammar.Messages.IsOneof.{oneof}
-use Rattle.proto_parse.specs.Grammar.Messages.IsExtendItem.{empty as extends-empty, field as extends-field}
+use Rattle.proto_parse.specs.Grammar.Messages.IsExtendItem.{empty as extends-empty, member as extends-member}
 use Rattle.proto_parse.specs.Grammar.Messages.IsExtend.{extend}
+use Rattle.proto_parse.specs.Grammar.Messages.IsPassedItem.{empty as passes-empty, field as passes-field}
+use Rattle.proto_parse.specs.Grammar.Messages.IsPassedExtend.{passed_extend}
+use Rattle.proto_parse.specs.Grammar.Messages.IsExtendStatement.{kept, passed}
+use Rattle.proto_parse.specs.Grammar.Messages.IsMessage.{message}
 use Rattle.proto_parse.specs.Grammar.Messages.IsMessageItem.{empty as items-empty, message as items-message}
 use Rattle.proto_parse.specs.Grammar.Messages.IsMessageItem.{enum as items-enum, option as items-option}
 use Rattle.proto_parse.specs.Grammar.Messages.IsMessageItem.{oneof as items-oneof, map_field as items-map_field}
 use Rattle.proto_parse.specs.Grammar.Messages.IsMessageItem.{reserved as items-reserved, extend as items-extend}
-use Rattle.proto_parse.specs.Grammar.Messages.IsMessageItem.{field as items-field}
-use Rattle.proto_parse.specs.Grammar.Messages.IsMessageOf.{message}
+use Rattle.proto_parse.specs.Grammar.Messages.IsMessageItem.{extensions as items-extensions, member as items-member}
 use Rattle.proto_parse.specs.Grammar.Services.{IsStream, IsMethodType, IsMethodItem, IsMethodEnd, IsMethod}
 use Rattle.proto_parse.specs.Grammar.Services.{IsServiceItem, IsService}
 use Rattle.proto_parse.specs.Grammar.Services.IsStream.{stream, no_stream}
@@ -56,9 +69,9 @@ use Rattle.proto_parse.specs.Grammar.Files.IsStatement.{enum as statements-enum,
 use Rattle.proto_parse.specs.Grammar.Files.IsStatement.{extend as statements-extend}
 use Rattle.proto_grammar.proofs.TokenLemmas.{one_shorter}
 use Rattle.proto_grammar.proofs.UntilLemmas.{Until-shorter, Adds-shorter, Passes-shorter}
-use Rattle.proto_grammar.proofs.Shorter.{field_shorter, integer_shorter, map_field_shorter, name_shorter}
-use Rattle.proto_grammar.proofs.Shorter.{oneof_field_shorter, option_shorter, options_shorter, reserved_shorter}
-use Rattle.proto_grammar.proofs.Shorter.{type_name_shorter}
+use Rattle.proto_grammar.proofs.Shorter.{extensions_shorter, field_shorter, group_head_shorter, integer_shorter}
+use Rattle.proto_grammar.proofs.Shorter.{label_shorter, map_field_shorter, name_shorter, option_shorter}
+use Rattle.proto_grammar.proofs.Shorter.{options_shorter, reserved_shorter, type_name_shorter, typed_shorter}
 
 heading_shorter : {word : List ℕ} {a b : List Lexeme} {x : Heading} → IsHeading word a x b → length b < length a
 heading_shorter (heading f n c) = omega (arith, one_shorter f, one_shorter n, one_shorter c)
@@ -83,67 +96,115 @@ enum_shorter {custom} (enum h u c) =
       one_shorter c,
     )
 
-pub oneof_item_shorter : (custom : CustomOptions) (a b : List Lexeme) (x : Option Field) → IsOneofItem custom a x b
-    → length b < length a
-oneof_item_shorter custom a b x (oneofs-empty s) = one_shorter s
-oneof_item_shorter custom a b x (oneofs-option is o) = option_shorter o
-oneof_item_shorter custom a b x (oneofs-field p q f) = oneof_field_shorter f
+-- what is inside leaves fewer tokens
+abbrev pub Shortens : {A : Type 0} → (List Lexeme → A → List Lexeme → Type 0) → Type 0
+Shortens {A} Is = (a b : List Lexeme) (x : A) → Is a x b → length b < length a
 
-oneof_shorter : {custom : CustomOptions} {a b : List Lexeme} {x : Oneof} → IsOneof custom a x b → length b < length a
-oneof_shorter {custom} (oneof h u c) =
+braced_shorter : (Is : List Lexeme → Option Item → List Lexeme → Type 0) → Shortens Is → Shortens (IsBraced Is)
+braced_shorter Is shorter a b x (braced u c) =
+    omega (arith, Until-shorter (Adds-shorter Is shorter) _ _ _ _ u, one_shorter c)
+
+group_shorter : (custom : CustomOptions) (Inner : List Lexeme → List Item → List Lexeme → Type 0) → Shortens Inner
+    → (first : Span) (label : Option Label) → Shortens (IsGroup custom Inner first label)
+group_shorter custom Inner shorter first label a b x (group g i) =
+    omega (arith, group_head_shorter g, shorter _ _ _ i)
+
+labelled_shorter : (syntax : Syntax) (Inner : List Lexeme → List Item → List Lexeme → Type 0) → Shortens Inner
+    → (first : Span) (label : Option Label) → Shortens (IsLabelled syntax Inner first label)
+labelled_shorter syntax Inner shorter first label a b x (labelled-field is f) = typed_shorter f
+labelled_shorter syntax Inner shorter first label a b x (labelled-group is g) =
+    group_shorter (custom_of syntax) Inner shorter first label a b _ g
+
+member_shorter : (syntax : Syntax) (Inner : List Lexeme → List Item → List Lexeme → Type 0) → Shortens Inner
+    → Shortens (IsMember syntax Inner)
+member_shorter syntax Inner shorter a b x (member {t = t} {label = label} l i) =
+    omega (arith, label_shorter l, labelled_shorter syntax Inner shorter t.span label _ _ _ i)
+
+oneof_member_shorter : (syntax : Syntax) (Inner : List Lexeme → List Item → List Lexeme → Type 0) → Shortens Inner
+    → Shortens (IsOneofMember syntax Inner)
+oneof_member_shorter syntax Inner shorter a b x (oneof_member {t = t} i) =
+    labelled_shorter syntax Inner shorter t.span None a b x i
+
+oneof_item_shorter : (syntax : Syntax) (Inner : List Lexeme → List Item → List Lexeme → Type 0) → Shortens Inner
+    → Shortens (IsOneofItem syntax Inner)
+oneof_item_shorter syntax Inner shorter a b x (oneofs-empty s) = one_shorter s
+oneof_item_shorter syntax Inner shorter a b x (oneofs-option is o) = option_shorter o
+oneof_item_shorter syntax Inner shorter a b x (oneofs-member p q m) = oneof_member_shorter syntax Inner shorter a b _ m
+
+extend_item_shorter : (syntax : Syntax) (Inner : List Lexeme → List Item → List Lexeme → Type 0) → Shortens Inner
+    → Shortens (IsExtendItem syntax Inner)
+extend_item_shorter syntax Inner shorter a b x (extends-empty s) = one_shorter s
+extend_item_shorter syntax Inner shorter a b x (extends-member p m) = member_shorter syntax Inner shorter a b _ m
+
+oneof_shorter : (syntax : Syntax) (Inner : List Lexeme → List Item → List Lexeme → Type 0) → Shortens Inner
+    → Shortens (IsOneof syntax Inner)
+oneof_shorter syntax Inner shorter a b x (oneof h i) =
     omega (
       arith,
       heading_shorter h,
-      Until-shorter (Adds-shorter (IsOneofItem custom) (oneof_item_shorter custom)) _ _ _ _ u,
-      one_shorter c,
+      braced_shorter (IsOneofItem syntax Inner) (oneof_item_shorter syntax Inner shorter) _ _ _ i,
     )
 
-pub extend_item_shorter : (a b : List Lexeme) → IsExtendItem a b → length b < length a
-extend_item_shorter a b (extends-empty s) = one_shorter s
-extend_item_shorter a b (extends-field p f) = field_shorter f
-
-extend_shorter : {custom : CustomOptions} {a b : List Lexeme} → IsExtend custom a b → length b < length a
-extend_shorter (extend k n o u c) =
+extend_shorter : (syntax : Syntax) (Inner : List Lexeme → List Item → List Lexeme → Type 0) → Shortens Inner
+    → Shortens (IsExtend syntax Inner)
+extend_shorter syntax Inner shorter a b x (extend k not n o i) =
     omega (
       arith,
       one_shorter k,
       type_name_shorter n,
       one_shorter o,
-      Until-shorter (Passes-shorter IsExtendItem extend_item_shorter) _ _ _ _ u,
-      one_shorter c,
+      braced_shorter (IsExtendItem syntax Inner) (extend_item_shorter syntax Inner shorter) _ _ _ i,
     )
 
-abbrev pub Shortens : (List Lexeme → MessageTree → List Lexeme → Type 0) → Type 0
-Shortens Inner = (a b : List Lexeme) (x : MessageTree) → Inner a x b → length b < length a
+pub passed_item_shorter : (a b : List Lexeme) → IsPassedItem a b → length b < length a
+passed_item_shorter a b (passes-empty s) = one_shorter s
+passed_item_shorter a b (passes-field p f) = field_shorter f
 
-pub message_item_shorter : (custom : CustomOptions) (Inner : List Lexeme → MessageTree → List Lexeme → Type 0)
-    → Shortens Inner
-    → (a b : List Lexeme) (x : Option MessageItem) → IsMessageItem custom Inner a x b → length b < length a
-message_item_shorter custom Inner shorter a b x (items-empty is s) = one_shorter s
-message_item_shorter custom Inner shorter a b x (items-message {message = m} is i) = shorter a b m i
-message_item_shorter custom Inner shorter a b x (items-enum is e) = enum_shorter e
-message_item_shorter custom Inner shorter a b x (items-option is o) = option_shorter o
-message_item_shorter custom Inner shorter a b x (items-oneof is o) = oneof_shorter o
-message_item_shorter custom Inner shorter a b x (items-map_field is f) = map_field_shorter f
-message_item_shorter custom Inner shorter a b x (items-reserved is r) = reserved_shorter r
-message_item_shorter custom Inner shorter a b x (items-extend is e) = extend_shorter e
-message_item_shorter custom Inner shorter a b x (items-field is f) = field_shorter f
-
-message_of_shorter : (custom : CustomOptions) (Inner : List Lexeme → MessageTree → List Lexeme → Type 0)
-    → Shortens Inner → Shortens (IsMessageOf custom Inner)
-message_of_shorter custom Inner shorter a b x (message h u c) =
+passed_extend_shorter : {custom : CustomOptions} {a b : List Lexeme} → IsPassedExtend custom a b → length b < length a
+passed_extend_shorter (passed_extend k n o u c) =
     omega (
       arith,
-      heading_shorter h,
-      Until-shorter (Adds-shorter (IsMessageItem custom Inner) (message_item_shorter custom Inner shorter)) _ _ _ _ u,
+      one_shorter k,
+      type_name_shorter n,
+      one_shorter o,
+      Until-shorter (Passes-shorter IsPassedItem passed_item_shorter) _ _ _ _ u,
       one_shorter c,
     )
 
-pub message_shorter : (custom : CustomOptions) (levels : ℕ) → Shortens (IsMessage custom levels)
-unfolding IsMessage
-message_shorter custom zero a b x m = absurd m
-message_shorter custom (suc levels) a b x m =
-    message_of_shorter custom (IsMessage custom levels) (message_shorter custom levels) a b x m
+extend_statement_shorter : (syntax : Syntax) (Inner : List Lexeme → List Item → List Lexeme → Type 0) → Shortens Inner
+    → Shortens (IsExtendStatement Inner syntax)
+extend_statement_shorter syntax Inner shorter a b x (kept is e) = extend_shorter syntax Inner shorter a b _ e
+extend_statement_shorter syntax Inner shorter a b x (passed e) = passed_extend_shorter e
+
+message_shorter : (Inner : List Lexeme → List Item → List Lexeme → Type 0) → Shortens Inner → Shortens (IsMessage Inner)
+message_shorter Inner shorter a b x (message h i) = omega (arith, heading_shorter h, shorter _ _ _ i)
+
+message_item_shorter : (syntax : Syntax) (Inner : List Lexeme → List Item → List Lexeme → Type 0) → Shortens Inner
+    → Shortens (IsMessageItem syntax Inner)
+message_item_shorter syntax Inner shorter a b x (items-empty is s) = one_shorter s
+message_item_shorter syntax Inner shorter a b x (items-message is m) = message_shorter Inner shorter a b _ m
+message_item_shorter syntax Inner shorter a b x (items-enum is e) = enum_shorter e
+message_item_shorter syntax Inner shorter a b x (items-option is o) = option_shorter o
+message_item_shorter syntax Inner shorter a b x (items-oneof is o) = oneof_shorter syntax Inner shorter a b _ o
+message_item_shorter syntax Inner shorter a b x (items-map_field is f) = map_field_shorter f
+message_item_shorter syntax Inner shorter a b x (items-reserved is r) = reserved_shorter r
+message_item_shorter syntax Inner shorter a b x (items-extend is e) =
+    extend_statement_shorter syntax Inner shorter a b _ e
+message_item_shorter syntax Inner shorter a b x (items-extensions is proto2 r) = extensions_shorter r
+message_item_shorter syntax Inner shorter a b x (items-member is m) = member_shorter syntax Inner shorter a b _ m
+
+pub item_shorter : (place : Within) (syntax : Syntax) (Inner : List Lexeme → List Item → List Lexeme → Type 0)
+    → Shortens Inner → Shortens (IsItem place syntax Inner)
+item_shorter within.Message syntax Inner shorter = message_item_shorter syntax Inner shorter
+item_shorter within.Oneof syntax Inner shorter = oneof_item_shorter syntax Inner shorter
+item_shorter within.Extend syntax Inner shorter = extend_item_shorter syntax Inner shorter
+
+pub inside_shorter : (syntax : Syntax) (levels : ℕ) → Shortens (IsInside syntax levels)
+unfolding IsInside
+inside_shorter syntax zero a b x i = absurd i
+inside_shorter syntax (suc levels) a b x i =
+    braced_shorter (IsMessageItem syntax (IsInside syntax levels))
+    (message_item_shorter syntax (IsInside syntax levels) (inside_shorter syntax levels)) a b x i
 
 stream_shorter : {a b : List Lexeme} → IsStream a b → length b ≤ length a
 stream_shorter (stream w) = omega (arith, one_shorter w)
@@ -218,13 +279,15 @@ import_shorter (import k i l u s) =
 package_shorter : {a b : List Lexeme} {x : List Span} → IsPackage a x b → length b < length a
 package_shorter (package_statement k n s) = omega (arith, one_shorter k, name_shorter n, one_shorter s)
 
-pub statement_shorter : (custom : CustomOptions) (f g : File) (a b : List Lexeme) → IsStatement custom f a g b
+pub statement_shorter : (syntax : Syntax) (f g : File) (a b : List Lexeme) → IsStatement syntax f a g b
     → length b < length a
-statement_shorter custom f g a b (statements-empty is s) = one_shorter s
-statement_shorter custom f g a b (statements-import is i) = import_shorter i
-statement_shorter custom f g a b (statements-package_statement is none_next p) = package_shorter p
-statement_shorter custom f g a b (statements-option is o) = option_shorter o
-statement_shorter custom f g a b (statements-message m is i) = message_shorter custom max_message_depth a b m i
-statement_shorter custom f g a b (statements-enum is e) = enum_shorter e
-statement_shorter custom f g a b (statements-service is s) = service_shorter s
-statement_shorter custom f g a b (statements-extend is e) = extend_shorter e
+statement_shorter syntax f g a b (statements-empty is s) = one_shorter s
+statement_shorter syntax f g a b (statements-import is i) = import_shorter i
+statement_shorter syntax f g a b (statements-package_statement is none_next p) = package_shorter p
+statement_shorter syntax f g a b (statements-option is o) = option_shorter o
+statement_shorter syntax f g a b (statements-message m is i) =
+    message_shorter (IsInside syntax max_message_depth) (inside_shorter syntax max_message_depth) a b m i
+statement_shorter syntax f g a b (statements-enum is e) = enum_shorter e
+statement_shorter syntax f g a b (statements-service is s) = service_shorter s
+statement_shorter syntax f g a b (statements-extend is e) =
+    extend_statement_shorter syntax (IsInside syntax max_message_depth) (inside_shorter syntax max_message_depth) a b _ e

@@ -1,12 +1,27 @@
 -- What is not there is not read.
-use Rattle.std.proofs.Common.{◌≡◌, Bool, false, None, List, [], ◌∷◌, refl}
+use Rattle.std.proofs.Common.{◌≡◌, ℕ, Option, Some, None, option_and_then, List, refl, codes}
+use Rattle.proto_lex.specs.declared.span.Span.{Span}
+use Rattle.proto_grammar.specs.declared.tree.CustomOptions.{CustomOptions}
+use Rattle.proto_grammar.specs.declared.tree.Syntax.{Syntax}
+use Rattle.proto_grammar.specs.declared.tree.Label.{Label}
 use Rattle.proto_grammar.specs.Lexeme.{Lexeme}
-use Rattle.proto_grammar.specs.Terminal.{first_is}
-use Rattle.proto_grammar.specs.Reading.Repetition.{token_that}
+use Rattle.proto_grammar.specs.Reading.Fields.{group_head_at}
+use Rattle.proto_parse.specs.Reading.Messages.{heading_at, group_at, message_at, inside_at}
 
--- no token that passes the test
-pub no_token : (test : Lexeme → Bool) (tokens : List Lexeme) → first_is test tokens ≡ false
-    → token_that test tokens ≡ None
-unfolding token_that
-no_token test [] e = refl
-no_token test (t ∷ rest) e = rw e refl
+-- nothing behind anything
+none_behind : {A B : Type 0} (o : Option A) (f : A → Option B) → ((x : A) → f x ≡ None) → option_and_then f o ≡ None
+none_behind None f none = refl
+none_behind (Some x) f none = none x
+
+-- no message where no level is left
+pub no_message : (syntax : Syntax) (levels : ℕ) (tokens : List Lexeme) → levels ≡ 0
+    → message_at (inside_at syntax levels) tokens ≡ None
+unfolding message_at inside_at
+no_message syntax levels tokens e = rw e (none_behind (heading_at (codes "message") tokens) _ (λ heading. refl))
+
+-- no group either
+pub no_group : (syntax : Syntax) (custom : CustomOptions) (levels : ℕ) (first : Span) (label : Option Label)
+    (tokens : List Lexeme) → levels ≡ 0 → group_at custom (inside_at syntax levels) first label tokens ≡ None
+unfolding group_at inside_at
+no_group syntax custom levels first label tokens e =
+    rw e (none_behind (group_head_at custom first label tokens) _ (λ group. refl))

@@ -1,5 +1,5 @@
--- What a statement's first word chooses.
-use Rattle.std.specs.Prelude.{◌&&◌, List, cond, codes}
+-- What a statement's first word chooses, and what a syntax statement's literals do.
+use Rattle.std.specs.Prelude.{ℕ, ◌&&◌, List, cond, bytes_eq, codes}
 use Rattle.proto_lex.specs.declared.token.TokenKind.TheVariants.{Semicolon, Less}
 use Rattle.proto_grammar.specs.Lexeme.{Lexeme}
 use Rattle.proto_grammar.specs.Terminal.{first_is, others, of_kind, is_word}
@@ -7,6 +7,8 @@ use Rattle.proto_parse.specs.declared.statement.FileStatement.{FileStatement}
 use Rattle.proto_parse.specs.declared.statement.FileStatement.TheVariants as file
 use Rattle.proto_parse.specs.declared.statement.MessageStatement.{MessageStatement}
 use Rattle.proto_parse.specs.declared.statement.MessageStatement.TheVariants as message
+use Rattle.proto_parse.specs.declared.statement.Version.{Version}
+use Rattle.proto_parse.specs.declared.statement.Version.TheVariants as version
 
 -- In a file. Nothing else can be there.
 abbrev pub file_statement_of : List Lexeme → FileStatement
@@ -21,7 +23,7 @@ file_statement_of a =
     (cond (first_is (is_word (codes "extend")) a) file.Extend
     file.Other)))))))
 
--- In a message: `map` only before a `<`. Anything else is a field.
+-- In a message: `map` only before a `<`. Anything else is a field or a group.
 abbrev pub message_statement_of : List Lexeme → MessageStatement
 message_statement_of a =
     cond (first_is (of_kind Semicolon) a) message.Empty
@@ -33,4 +35,11 @@ message_statement_of a =
     (cond (first_is (is_word (codes "reserved")) a) message.Reserved
     (cond (first_is (is_word (codes "extend")) a) message.Extend
     (cond (first_is (is_word (codes "extensions")) a) message.Extensions
-    message.Field))))))))
+    message.Member))))))))
+
+-- Which version a text names.
+abbrev pub version_of : List ℕ → Version
+version_of text =
+    cond (bytes_eq text (codes "proto3")) version.Proto3
+    (cond (bytes_eq text (codes "proto2")) version.Proto2
+    version.Other)

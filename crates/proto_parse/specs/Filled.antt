@@ -6,7 +6,8 @@ use Rattle.proto_grammar.specs.declared.tree.FieldType.{FieldType}
 use Rattle.proto_grammar.specs.declared.tree.FieldType.TheVariants.{Scalar, Named}
 use Rattle.proto_grammar.specs.declared.tree.Field.{Field}
 use Rattle.proto_grammar.specs.declared.tree.MapField.{MapField}
-use Rattle.proto_grammar.specs.declared.tree.Oneof.{Oneof}
+use Rattle.proto_grammar.specs.declared.tree.Head.{Head}
+use Rattle.proto_grammar.specs.declared.tree.Head.TheVariants as head
 use Rattle.proto_grammar.specs.declared.tree.Leaf.{Leaf}
 use Rattle.proto_grammar.specs.declared.tree.Leaf.TheVariants as leaf
 use Rattle.proto_grammar.specs.declared.tree.Method.{Method}
@@ -15,8 +16,8 @@ use Rattle.proto_grammar.specs.declared.tree.FileItem.{FileItem}
 use Rattle.proto_grammar.specs.declared.tree.FileItem.TheVariants as item
 use Rattle.proto_grammar.specs.declared.tree.Import.{Import}
 use Rattle.proto_grammar.specs.declared.tree.File.{File}
-use Rattle.proto_grammar.specs.Tree.{Body, MessageTree}
-use Rattle.proto_grammar.specs.Tree.Body.{NoMore, LeafThen, MessageThen}
+use Rattle.proto_grammar.specs.Tree.{Body, BlockTree}
+use Rattle.proto_grammar.specs.Tree.Body.{NoMore, LeafThen, BlockThen}
 
 abbrev pub HasSome : List Span → Type 0
 HasSome spans = 0 < length spans
@@ -34,22 +35,24 @@ FilledField field = FilledType field.field_type
 abbrev pub FilledMapField : MapField → Type 0
 FilledMapField field = FilledType field.value
 
-abbrev pub FilledOneof : Oneof → Type 0
-FilledOneof oneof = All FilledField oneof.fields
+abbrev pub FilledHead : Head → Type 0
+FilledHead (head.Message heading) = Unit {0}
+FilledHead (head.Group group) = Unit {0}
+FilledHead (head.Oneof heading) = Unit {0}
+FilledHead (head.Extend type) = FilledTypeName type
 
 abbrev pub FilledLeaf : Leaf → Type 0
 FilledLeaf (leaf.Enum enum) = Unit {0}
-FilledLeaf (leaf.Oneof oneof) = FilledOneof oneof
 FilledLeaf (leaf.Field field) = FilledField field
 FilledLeaf (leaf.MapField field) = FilledMapField field
 
 abbrev pub FilledBody : Body → Type 0
 FilledBody NoMore = Unit {0}
 FilledBody (LeafThen leaf others) = FilledLeaf leaf × FilledBody others
-FilledBody (MessageThen heading inner others) = FilledBody inner × FilledBody others
+FilledBody (BlockThen head inner others) = FilledHead head × FilledBody inner × FilledBody others
 
-abbrev pub FilledMessage : MessageTree → Type 0
-FilledMessage message = FilledBody message.body
+abbrev pub FilledBlock : BlockTree → Type 0
+FilledBlock block = FilledHead block.head × FilledBody block.body
 
 abbrev pub FilledMethod : Method → Type 0
 FilledMethod method = FilledTypeName method.input × FilledTypeName method.output
@@ -58,7 +61,7 @@ abbrev pub FilledService : Service → Type 0
 FilledService service = All FilledMethod service.methods
 
 abbrev pub FilledItem : FileItem → Type 0
-FilledItem (item.Message message) = FilledMessage message
+FilledItem (item.Block block) = FilledBlock block
 FilledItem (item.Enum enum) = Unit {0}
 FilledItem (item.Service service) = FilledService service
 

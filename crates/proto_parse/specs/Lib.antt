@@ -1,6 +1,7 @@
 -- Tokens, the tree and its faults
 pub use Rattle.proto_grammar.specs.Lexeme
 pub use Rattle.proto_grammar.specs.Terminal
+pub use Rattle.proto_grammar.specs.Syntax
 pub use Rattle.proto_grammar.specs.Tree
 pub use Rattle.proto_grammar.specs.Items
 pub use Rattle.proto_grammar.specs.FaultNames

@@ -9,7 +9,9 @@ use Rattle.proto_grammar.specs.declared.tree.FieldType.TheVariants.{Scalar, Name
 use Rattle.proto_grammar.specs.declared.tree.Field.{Field}
 use Rattle.proto_grammar.specs.declared.tree.MapField.{MapField}
 use Rattle.proto_grammar.specs.declared.tree.Enum.{Enum}
-use Rattle.proto_grammar.specs.declared.tree.Oneof.{Oneof}
+use Rattle.proto_grammar.specs.declared.tree.Group.{Group}
+use Rattle.proto_grammar.specs.declared.tree.Head.{Head}
+use Rattle.proto_grammar.specs.declared.tree.Head.TheVariants as head
 use Rattle.proto_grammar.specs.declared.tree.Leaf.{Leaf}
 use Rattle.proto_grammar.specs.declared.tree.Leaf.TheVariants as leaf
 use Rattle.proto_grammar.specs.declared.tree.Method.{Method}
@@ -19,8 +21,8 @@ use Rattle.proto_grammar.specs.declared.tree.FileItem.TheVariants as item
 use Rattle.proto_grammar.specs.declared.tree.Import.{Import}
 use Rattle.proto_grammar.specs.declared.tree.File.{File}
 use Rattle.proto_grammar.specs.Lexeme.{Lexeme}
-use Rattle.proto_grammar.specs.Tree.{Body, MessageTree}
-use Rattle.proto_grammar.specs.Tree.Body.{NoMore, LeafThen, MessageThen}
+use Rattle.proto_grammar.specs.Tree.{Body, BlockTree}
+use Rattle.proto_grammar.specs.Tree.Body.{NoMore, LeafThen, BlockThen}
 
 -- A span of a tree: of a declaration's first token, of an identifier, of a string literal, or of another token.
 pub data Mark : Type 0 where
@@ -96,22 +98,28 @@ map_field_then field marks = First field.heading.first
 abbrev pub enum_then : Enum → List Mark → List Mark
 enum_then enum marks = heading_then enum.heading (each_then heading_then enum.values marks)
 
-abbrev pub oneof_then : Oneof → List Mark → List Mark
-oneof_then oneof marks = heading_then oneof.heading (each_then field_then oneof.fields marks)
+abbrev pub group_then : Group → List Mark → List Mark
+group_then group marks = First group.heading.first
+    ∷ (Name group.word ∷ (Name group.heading.name ∷ (Other group.heading.closing ∷ marks)))
+
+abbrev pub head_then : Head → List Mark → List Mark
+head_then (head.Message heading) marks = heading_then heading marks
+head_then (head.Group group) marks = group_then group marks
+head_then (head.Oneof heading) marks = heading_then heading marks
+head_then (head.Extend type) marks = type_name_then type marks
 
 abbrev pub leaf_then : Leaf → List Mark → List Mark
 leaf_then (leaf.Enum enum) marks = enum_then enum marks
-leaf_then (leaf.Oneof oneof) marks = oneof_then oneof marks
 leaf_then (leaf.Field field) marks = field_then field marks
 leaf_then (leaf.MapField field) marks = map_field_then field marks
 
 abbrev pub body_then : Body → List Mark → List Mark
 body_then NoMore marks = marks
 body_then (LeafThen leaf others) marks = leaf_then leaf (body_then others marks)
-body_then (MessageThen heading inner others) marks = heading_then heading (body_then inner (body_then others marks))
+body_then (BlockThen head inner others) marks = head_then head (body_then inner (body_then others marks))
 
-abbrev pub message_then : MessageTree → List Mark → List Mark
-message_then message marks = heading_then message.heading (body_then message.body marks)
+abbrev pub block_then : BlockTree → List Mark → List Mark
+block_then block marks = head_then block.head (body_then block.body marks)
 
 abbrev pub method_then : Method → List Mark → List Mark
 method_then method marks =
@@ -122,14 +130,14 @@ abbrev pub service_then : Service → List Mark → List Mark
 service_then service marks = heading_then service.heading (each_then method_then service.methods marks)
 
 abbrev pub item_then : FileItem → List Mark → List Mark
-item_then (item.Message message) marks = message_then message marks
+item_then (item.Block block) marks = block_then block marks
 item_then (item.Enum enum) marks = enum_then enum marks
 item_then (item.Service service) marks = service_then service marks
 
 abbrev pub import_then : Import → List Mark → List Mark
 import_then import marks = each_then literal_then import.literals marks
 
--- Those of the messages, enums and services of a file, of its imports, and of its package.
+-- Those of the messages, enums, services and extends of a file, of its imports, and of its package.
 abbrev pub marks_of_items : File → List Mark
 marks_of_items file = each_then item_then file.items []
 

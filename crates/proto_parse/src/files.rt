@@ -1,80 +1,24 @@
 //! Files.
 
-ghost use Rattle.std.specs.Prelude.{◌≡◌, codes};
+ghost use Rattle.std.specs.Prelude.{◌≡◌};
 ghost use Rattle.proto_parse.specs.Choice.{file_statement_of};
 ghost use Rattle.proto_grammar.specs.Gives.{Gives};
+ghost use Rattle.proto_grammar.specs.Syntax.{custom_of, custom_in};
 ghost use Rattle.proto_grammar.specs.declared.tree.CustomOptions.TheVariants.{Skip};
-ghost use Rattle.proto_parse.specs.Reading.Files.{stripped_at, spelled_at, syntax_at, import_kind_at, path_literal_at};
-ghost use Rattle.proto_parse.specs.Reading.Files.{path_literals_at, import_at, package_at, only_package_at};
-ghost use Rattle.proto_parse.specs.Reading.Files.{statement_at, statements_at, file_at};
+ghost use Rattle.proto_parse.specs.Reading.Files.{import_kind_at, path_literal_at, path_literals_at, import_at};
+ghost use Rattle.proto_parse.specs.Reading.Files.{package_at, only_package_at, statement_at, statements_at, file_at};
 
 use crate::enums::enumeration;
-use crate::messages::{MAX_MESSAGE_DEPTH, extend, message};
+use crate::messages::{MAX_MESSAGE_DEPTH, extend_statement, message};
 use crate::services::service;
 use crate::statement::FileStatement;
-use proto_grammar::{CustomOptions, File, FileItem, Import, ImportKind, Parser, SyntaxFault, keep};
+use crate::syntax::syntax;
+use proto_grammar::{
+    Dialect, File, FileItem, Import, ImportKind, Parser, Syntax, SyntaxFault, keep,
+};
 use proto_lex::{Span, TokenKind};
 use sequences::Sequence;
 use std::alloc::Global;
-
-/// The next literal, off the front of a text. If it isn't there, the fault is at `start`.
-#[tactic(auto, unfolding(crate::specs::Reading::Files::stripped_at))]
-fn stripped<'s>(
-    parser: &mut Parser<'_>,
-    text: &'s [u8],
-    start: usize,
-) -> Result<&'s [u8], SyntaxFault>
-    ensures { Gives Skip (λ x. x.now) parser.new result (stripped_at text.now parser.old) }
-{
-    let Some(lexeme) = parser.next() else {
-        return Err(SyntaxFault::NotProto3(start));
-    };
-    match text.strip_prefix(lexeme.between_quotes()) {
-        Some(rest) => Ok(rest),
-        None => Err(SyntaxFault::NotProto3(start)),
-    }
-}
-
-/// Literals that spell the text when joined. If they don't, the fault is at `start`.
-fn spelled(parser: &mut Parser<'_>, text: &[u8], start: usize) -> Result<(), SyntaxFault>
-    ensures { Gives Skip (λ x. x) parser.new result (spelled_at text.now parser.old) }
-{
-    let mut left = text;
-    'literals: while parser.is_at(TokenKind::StringLiteral) {
-        left = stripped(parser, left, start)?;
-    }
-    if !left.is_empty() {
-        return Err(SyntaxFault::NotProto3(start));
-    }
-    Ok(())
-}
-
-/// Literals that spell `proto3` when joined.
-fn proto3(parser: &mut Parser<'_>) -> Result<(), SyntaxFault>
-    ensures { Gives Skip (λ x. x) parser.new result (spelled_at (codes "proto3") parser.old) }
-{
-    let start = parser.offset();
-    if !parser.is_at(TokenKind::StringLiteral) {
-        return Err(SyntaxFault::Grammar(start));
-    }
-    spelled(parser, b"proto3", start)
-}
-
-/// The syntax statement (proto3 specification, "Syntax").
-#[tactic(auto, using(crate::proofs::Stops::no_token), unfolding(crate::specs::Reading::Files::syntax_at))]
-fn syntax(parser: &mut Parser<'_>) -> Result<(), SyntaxFault>
-    ensures { Gives Skip (λ x. x) parser.new result (syntax_at parser.old) }
-{
-    let start = parser.offset();
-    if !parser.is_at_word("syntax") {
-        return Err(SyntaxFault::NotProto3(start));
-    }
-    parser.word("syntax")?;
-    parser.token(TokenKind::Equals)?;
-    proto3(parser)?;
-    parser.token(TokenKind::Semicolon)?;
-    Ok(())
-}
 
 /// The word `weak` or `public` of an import, if one is next.
 #[tactic(auto, unfolding(crate::specs::Reading::Files::import_kind_at))]
@@ -191,11 +135,12 @@ fn only_package(parser: &mut Parser<'_>, alloc: Global, file: &mut File) -> Resu
 fn statement(
     parser: &mut Parser<'_>,
     alloc: Global,
-    custom: CustomOptions,
+    syntax: Syntax,
     file: &mut File,
 ) -> Result<(), SyntaxFault>
-    ensures { Gives custom (λ x. file.new) parser.new result (statement_at custom file.old parser.old) }
+    ensures { Gives (custom_of syntax) (λ x. file.new) parser.new result (statement_at syntax file.old parser.old) }
 {
+    let custom = syntax.custom_options();
     match file_statement(parser) {
         FileStatement::Empty => {
             parser.token(TokenKind::Semicolon)?;
@@ -207,8 +152,8 @@ fn statement(
         FileStatement::Package => only_package(parser, alloc, file)?,
         FileStatement::Option => parser.option(custom)?,
         FileStatement::Message => {
-            let message = message(parser, alloc, custom, MAX_MESSAGE_DEPTH)?;
-            file.items.push(FileItem::Message(message))?;
+            let message = message(parser, alloc, syntax, MAX_MESSAGE_DEPTH)?;
+            file.items.push(FileItem::Block(message))?;
         }
         FileStatement::Enum => {
             let enumeration = enumeration(parser, alloc, custom)?;
@@ -218,7 +163,10 @@ fn statement(
             let service = service(parser, alloc, custom)?;
             file.items.push(FileItem::Service(service))?;
         }
-        FileStatement::Extend => extend(parser, custom)?,
+        FileStatement::Extend => {
+            let extend = extend_statement(parser, alloc, syntax, MAX_MESSAGE_DEPTH)?;
+            keep(&mut file.items, extend.map(FileItem::Block))?;
+        }
         FileStatement::Other => return Err(SyntaxFault::Grammar(parser.offset())),
     }
     Ok(())
@@ -228,9 +176,9 @@ fn statement(
 fn statements(
     parser: &mut Parser<'_>,
     alloc: Global,
-    custom: CustomOptions,
+    syntax: Syntax,
 ) -> Result<File, SyntaxFault>
-    ensures { Gives custom (λ x. x) parser.new result (statements_at custom parser.old) }
+    ensures { Gives (custom_of syntax) (λ x. x) parser.new result (statements_at syntax parser.old) }
 {
     let mut file = File {
         package_name: None,
@@ -238,7 +186,7 @@ fn statements(
         items: Sequence::new(alloc),
     };
     'statements: while !parser.is_at_end() {
-        statement(parser, alloc, custom, &mut file)?;
+        statement(parser, alloc, syntax, &mut file)?;
     }
     Ok(file)
 }
@@ -248,10 +196,10 @@ fn statements(
 pub(crate) fn file(
     parser: &mut Parser<'_>,
     alloc: Global,
-    custom: CustomOptions,
+    dialect: Dialect,
 ) -> Result<File, SyntaxFault>
-    ensures { Gives custom (λ x. x) parser.new result (file_at custom parser.old) }
+    ensures { Gives (custom_in dialect) (λ x. x) parser.new result (file_at dialect parser.old) }
 {
-    syntax(parser)?;
-    statements(parser, alloc, custom)
+    let syntax = syntax(parser, dialect)?;
+    statements(parser, alloc, syntax)
 }

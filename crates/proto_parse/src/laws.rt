@@ -8,28 +8,28 @@ ghost use Rattle.proto_parse.specs.Walk.{Mark, Among, MarksAreInOrder, marks_of_
 ghost use Rattle.proto_parse.specs.Walk.{marks_of_package, PackageIsAmongItems};
 ghost use Rattle.proto_parse.specs.Filled.{FilledFile};
 ghost use Rattle.proto_parse.specs.Derives.{Derives};
-ghost use Rattle.proto_grammar.specs.declared.tree.CustomOptions.{CustomOptions};
+ghost use Rattle.proto_grammar.specs.declared.tree.Dialect.{Dialect};
 ghost use Rattle.proto_grammar.specs.declared.tree.File.{File};
 
 /// Tokens derive at most one tree.
 pub fn one_tree()
-    ensures { (custom : CustomOptions) (text : List ℕ) (tokens : List Token) (file other : File)
-        → Derives custom text tokens file → Derives custom text tokens other → file ≡ other }
+    ensures { (dialect : Dialect) (text : List ℕ) (tokens : List Token) (file other : File)
+        → Derives dialect text tokens file → Derives dialect text tokens other → file ≡ other }
 {}
 
 /// The spans of a tree are spans of its tokens, in the order of a walk, and its names are
-/// identifiers: those of its messages, enums and services, those of its imports, and those of its
-/// package.
+/// identifiers: those of its messages, enums, services and extends, those of its imports, and
+/// those of its package.
 pub fn spans_of_tokens()
-    ensures items { (custom : CustomOptions) (text : List ℕ) (tokens : List Token) (file : File)
-        → Derives custom text tokens file → Among (marks_of_items file) (lexemes_of text tokens) }
-    ensures imports { (custom : CustomOptions) (text : List ℕ) (tokens : List Token) (file : File)
-        → Derives custom text tokens file → Among (marks_of_imports file) (lexemes_of text tokens) }
-    ensures package_name { (custom : CustomOptions) (text : List ℕ) (tokens : List Token) (file : File)
-        → Derives custom text tokens file → Among (marks_of_package file) (lexemes_of text tokens) }
+    ensures items { (dialect : Dialect) (text : List ℕ) (tokens : List Token) (file : File)
+        → Derives dialect text tokens file → Among (marks_of_items file) (lexemes_of text tokens) }
+    ensures imports { (dialect : Dialect) (text : List ℕ) (tokens : List Token) (file : File)
+        → Derives dialect text tokens file → Among (marks_of_imports file) (lexemes_of text tokens) }
+    ensures package_name { (dialect : Dialect) (text : List ℕ) (tokens : List Token) (file : File)
+        → Derives dialect text tokens file → Among (marks_of_package file) (lexemes_of text tokens) }
     // The package's name is between the items before its statement and those after it.
-    ensures package_place { (custom : CustomOptions) (text : List ℕ) (tokens : List Token) (file : File)
-        → Derives custom text tokens file → PackageIsAmongItems file.package_name file.items (lexemes_of text tokens) }
+    ensures package_place { (dialect : Dialect) (text : List ℕ) (tokens : List Token) (file : File)
+        → Derives dialect text tokens file → PackageIsAmongItems file.package_name file.items (lexemes_of text tokens) }
 {}
 
 /// Spans of tokens in the order of a walk are in order, if the tokens are.
@@ -38,9 +38,9 @@ pub fn spans_in_order()
         → Among marks (lexemes_of text tokens) → AreInOrder 0 (map (λ t. t.span) tokens) → MarksAreInOrder 0 marks }
 {}
 
-/// Each name of a tree has at least one component: its package's name, the types of its fields, and those that its
-/// methods take and give. Each import has at least one literal.
+/// Each name of a tree has at least one component: its package's name, the types of its fields, those that its extends
+/// extend, and those that its methods take and give. Each import has at least one literal.
 pub fn names_have_components()
-    ensures { (custom : CustomOptions) (text : List ℕ) (tokens : List Token) (file : File)
-        → Derives custom text tokens file → FilledFile file }
+    ensures { (dialect : Dialect) (text : List ℕ) (tokens : List Token) (file : File)
+        → Derives dialect text tokens file → FilledFile file }
 {}

@@ -1,4 +1,4 @@
-//! The syntax tree of a proto3 source: which tokens have one, and which.
+//! The syntax tree of a source: which tokens have one, and which.
 #![tactic(auto)]
 
 mod enums;
@@ -6,13 +6,15 @@ mod files;
 mod laws;
 mod messages;
 mod parsing;
+mod passed;
 mod services;
 mod statement;
+mod syntax;
 
 pub use laws::{names_have_components, one_tree, spans_in_order, spans_of_tokens};
 pub use messages::MAX_MESSAGE_DEPTH;
 pub use parsing::{parse, parse_with};
 pub use proto_grammar::{
-    CustomOptions, Enum, Field, FieldType, File, FileItem, Heading, Import, ImportKind, Label,
-    Leaf, MapField, Message, MessageItem, Method, Oneof, Service, SyntaxFault, TypeName,
+    Block, CustomOptions, Dialect, Enum, Field, FieldType, File, FileItem, Group, Head, Heading,
+    Import, ImportKind, Item, Label, Leaf, MapField, Method, Service, Syntax, SyntaxFault, TypeName,
 };

@@ -1,4 +1,4 @@
-//! What a statement's first word chooses.
+//! What a statement's first word chooses, and which braces it is in.
 
 /// A statement of a file.
 #[derive(Clone, Copy, Debug, PartialEq, Eq)]
@@ -26,7 +26,26 @@ pub(crate) enum MessageStatement {
     Map,
     Reserved,
     Extend,
-    /// None that proto3 has.
+    /// Only in proto2.
     Extensions,
-    Field,
+    /// A field, or in proto2 a group.
+    Member,
+}
+
+/// What the braces are of.
+#[derive(Clone, Copy, Debug, PartialEq, Eq)]
+pub(crate) enum Within {
+    /// A message or a group.
+    Message,
+    Oneof,
+    Extend,
+}
+
+/// Which of the two versions a syntax statement's literals spell.
+#[derive(Clone, Copy, Debug, PartialEq, Eq)]
+pub(crate) enum Version {
+    Proto2,
+    Proto3,
+    /// None that there is.
+    Other,
 }

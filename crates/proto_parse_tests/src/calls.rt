@@ -2,12 +2,18 @@
 //! tree of a source, and all others borrow it.
 
 use proto_lex::{LexFault, Text, Tokens, lex};
-use proto_parse::{CustomOptions, File, SyntaxFault, parse, parse_with};
+use proto_parse::{CustomOptions, Dialect, File, SyntaxFault, parse, parse_with};
 use std::alloc::{AllocError, Global};
 use std::process::Abort;
 
-/// The statement that each source begins with.
+/// The statement that each source of proto3 begins with.
 pub const SYNTAX: &str = "syntax = \"proto3\";\n";
+
+/// Only proto3, without custom options.
+pub const PROTO3: Dialect = Dialect::Proto3(CustomOptions::Refuse);
+
+/// Only proto3, where custom options are read past.
+pub const PAST: Dialect = Dialect::Proto3(CustomOptions::Skip);
 
 /// Ends the test where something went wrong: a row of its table, from 0, or a place.
 pub fn see(rt: &impl Abort, wrong: Option<usize>) {
@@ -30,25 +36,25 @@ pub fn tokens_of<'a>(alloc: Global, text: &'a Text<'a>) -> Result<Tokens<'a, 'a>
     }
 }
 
-/// What `parse` answers, or `parse_with` where custom options are read past.
+/// What `parse` answers, or `parse_with` in another dialect.
 fn parse_so(
     alloc: Global,
     tokens: &Tokens<'_, '_>,
-    custom: CustomOptions,
+    dialect: Dialect,
 ) -> Result<File, SyntaxFault> {
-    match custom {
-        CustomOptions::Refuse => parse(alloc, tokens),
-        CustomOptions::Skip => parse_with(alloc, tokens, custom),
+    match dialect {
+        Dialect::Proto3(CustomOptions::Refuse) => parse(alloc, tokens),
+        Dialect::Proto3(CustomOptions::Skip) | Dialect::All => parse_with(alloc, tokens, dialect),
     }
 }
 
 fn tree_of(
     alloc: Global,
     tokens: &Tokens<'_, '_>,
-    custom: CustomOptions,
+    dialect: Dialect,
 ) -> Result<File, SyntaxFault> {
-    match parse_so(alloc, tokens, custom) {
-        Err(SyntaxFault::Memory) => parse_with(alloc, tokens, custom),
+    match parse_so(alloc, tokens, dialect) {
+        Err(SyntaxFault::Memory) => parse_with(alloc, tokens, dialect),
         answer => answer,
     }
 }
@@ -57,23 +63,23 @@ fn tree_of(
 pub fn fault_of_tokens(
     alloc: Global,
     tokens: &Tokens<'_, '_>,
-    custom: CustomOptions,
+    dialect: Dialect,
 ) -> Option<SyntaxFault> {
-    tree_of(alloc, tokens, custom).err()
+    tree_of(alloc, tokens, dialect).err()
 }
 
-fn fault_of_text(alloc: Global, text: &Text<'_>, custom: CustomOptions) -> Option<SyntaxFault> {
+fn fault_of_text(alloc: Global, text: &Text<'_>, dialect: Dialect) -> Option<SyntaxFault> {
     match tokens_of(alloc, text) {
-        Ok(tokens) => fault_of_tokens(alloc, &tokens, custom),
+        Ok(tokens) => fault_of_tokens(alloc, &tokens, dialect),
         Err(_) => Some(SyntaxFault::Memory),
     }
 }
 
 /// Why a source has no tree, if it has none. One with no tokens counts as one that memory ran out for,
 /// which no test wants.
-fn fault_of_source(alloc: Global, source: &str, custom: CustomOptions) -> Option<SyntaxFault> {
+fn fault_of_source(alloc: Global, source: &str, dialect: Dialect) -> Option<SyntaxFault> {
     match text_of(alloc, source.as_bytes()) {
-        Ok(text) => fault_of_text(alloc, &text, custom),
+        Ok(text) => fault_of_text(alloc, &text, dialect),
         Err(_) => Some(SyntaxFault::Memory),
     }
 }
@@ -89,10 +95,10 @@ pub fn fault_of(
     front: &str,
     middle: &str,
     end: &str,
-    custom: CustomOptions,
+    dialect: Dialect,
 ) -> Option<SyntaxFault> {
     match joined(alloc, front, middle, end) {
-        Ok(source) => fault_of_source(alloc, source.as_str(), custom),
+        Ok(source) => fault_of_source(alloc, source.as_str(), dialect),
         Err(_) => Some(SyntaxFault::Memory),
     }
 }
@@ -112,12 +118,12 @@ fn is_printed(alloc: Global, fault: SyntaxFault, name: &str, offset: usize) -> b
 }
 
 /// Whether a source, behind a front, has the fault with this name where its `^` is.
-fn is_refused(alloc: Global, front: &str, marked: &str, name: &str, custom: CustomOptions) -> bool {
+fn is_refused(alloc: Global, front: &str, marked: &str, name: &str, dialect: Dialect) -> bool {
     let Some((before, behind)) = marked.split_once('^') else {
         return false;
     };
     let offset = front.len().wrapping_add(before.len());
-    match fault_of(alloc, front, before, behind, custom) {
+    match fault_of(alloc, front, before, behind, dialect) {
         Some(fault) => {
             fault.name() == name
                 && fault.offset() == Some(offset)
@@ -133,10 +139,10 @@ pub fn first_other(
     front: &str,
     sources: &[&str],
     name: &str,
-    custom: CustomOptions,
+    dialect: Dialect,
 ) -> Option<usize> {
     for (index, marked) in sources.iter().enumerate() {
-        if !is_refused(alloc, front, marked, name, custom) {
+        if !is_refused(alloc, front, marked, name, dialect) {
             return Some(index);
         }
     }

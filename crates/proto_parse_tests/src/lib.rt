@@ -4,6 +4,8 @@
 #[cfg(test)]
 mod calls;
 #[cfg(test)]
+mod dialects;
+#[cfg(test)]
 mod prefixes;
 #[cfg(test)]
 mod refused;

@@ -1,9 +1,8 @@
 //! Each beginning of worked sources is a file, or is refused, in lexing or in parsing, no earlier than the shorter ones:
 //! where, no contract says.
 
-use crate::calls::{fault_of_tokens, see, text_of, tokens_of};
+use crate::calls::{PROTO3, fault_of_tokens, see, text_of, tokens_of};
 use proto_lex::Text;
-use proto_parse::CustomOptions;
 use std::alloc::Global;
 
 /// Sources, and how many of their beginnings are files. Of the first one these are eight: behind each of its statements,
@@ -32,7 +31,7 @@ const NOWHERE: usize = usize::MAX;
 
 fn refusal_of_text(alloc: Global, text: &Text<'_>) -> Option<usize> {
     match tokens_of(alloc, text) {
-        Ok(tokens) => match fault_of_tokens(alloc, &tokens, CustomOptions::Refuse) {
+        Ok(tokens) => match fault_of_tokens(alloc, &tokens, PROTO3) {
             Some(fault) => Some(fault.offset().unwrap_or(NOWHERE)),
             None => None,
         },

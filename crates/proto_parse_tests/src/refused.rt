@@ -1,8 +1,7 @@
 //! Sources that the grammar doesn't have: which fault each has is named by the test, and where it is
 //! by a `^`, which is taken out. No contract says this. Behind `SYNTAX`, offsets grow by 19.
 
-use crate::calls::{SYNTAX, fault_of, first_other, joined, offset_of, see};
-use proto_parse::CustomOptions;
+use crate::calls::{PAST, PROTO3, SYNTAX, fault_of, first_other, joined, offset_of, see};
 use std::alloc::{AllocError, Global};
 use std::test::Fail;
 
@@ -35,14 +34,14 @@ const SYNTAX_STATEMENTS: [&str; 6] = [
 
 #[test]
 fn texts_that_do_not_begin_so(rt: HostRuntime) {
-    let (alloc, refuse) = (rt.alloc(), CustomOptions::Refuse);
+    let alloc = rt.alloc();
     see(
         &rt,
-        first_other(alloc, "", &NOT_PROTO3, "NotProto3", refuse),
+        first_other(alloc, "", &NOT_PROTO3, "NotProto3", PROTO3),
     );
     see(
         &rt,
-        first_other(alloc, "", &SYNTAX_STATEMENTS, "Grammar", refuse),
+        first_other(alloc, "", &SYNTAX_STATEMENTS, "Grammar", PROTO3),
     );
 }
 
@@ -93,7 +92,7 @@ const IMPORT_ESCAPES: [&str; 6] = [
 
 /// The first source behind `SYNTAX` that isn't refused so.
 fn first_not(alloc: Global, name: &str, sources: &[&str]) -> Option<usize> {
-    first_other(alloc, SYNTAX, sources, name, CustomOptions::Refuse)
+    first_other(alloc, SYNTAX, sources, name, PROTO3)
 }
 
 #[test]
@@ -203,7 +202,7 @@ const READ_PAST: [&str; 30] = [
 
 /// The first source behind `SYNTAX` that isn't refused so where custom options are read past.
 fn first_not_past(alloc: Global, name: &str, sources: &[&str]) -> Option<usize> {
-    first_other(alloc, SYNTAX, sources, name, CustomOptions::Skip)
+    first_other(alloc, SYNTAX, sources, name, PAST)
 }
 
 #[test]
@@ -233,12 +232,11 @@ fn opened(alloc: Global) -> Result<String, AllocError> {
 fn sixty_four_messages_inside_one_another(rt: HostRuntime) -> Result<(), Fail> {
     let front = opened(rt.alloc())?;
     let end = "}".repeat(rt.alloc(), 64)?;
-    let refuse = CustomOptions::Refuse;
-    let found = fault_of(rt.alloc(), front.as_str(), "", end.as_str(), refuse);
+    let found = fault_of(rt.alloc(), front.as_str(), "", end.as_str(), PROTO3);
     see(&rt, found.map(offset_of));
     see(
         &rt,
-        first_other(rt.alloc(), front.as_str(), &TOO_DEEP, "TooDeep", refuse),
+        first_other(rt.alloc(), front.as_str(), &TOO_DEEP, "TooDeep", PROTO3),
     );
     Ok(())
 }

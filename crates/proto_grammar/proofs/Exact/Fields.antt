@@ -1,35 +1,38 @@
--- What is in the grammar is read: fields and reserved statements.
+-- What is in the grammar is read: fields, what is before a group's body, reserved statements and extension ranges.
 use Rattle.std.proofs.Common.{◌≡◌, ℕ, Bool, true, false, Option, Some, List, refl, codes}
 use Rattle.proto_lex.specs.declared.span.Span.{Span}
 use Rattle.proto_lex.specs.declared.token.TokenKind.TheVariants.{Integer, Comma, Minus}
 use Rattle.proto_grammar.specs.declared.tree.CustomOptions.{CustomOptions}
+use Rattle.proto_grammar.specs.declared.tree.Syntax.{Syntax}
 use Rattle.proto_grammar.specs.declared.tree.Heading.{Heading}
 use Rattle.proto_grammar.specs.declared.tree.Label.{Label}
 use Rattle.proto_grammar.specs.declared.tree.Field.{Field}
+use Rattle.proto_grammar.specs.declared.tree.Group.{Group}
 use Rattle.proto_grammar.specs.declared.tree.MapField.{MapField}
 use Rattle.proto_grammar.specs.Lexeme.{Lexeme}
 use Rattle.proto_grammar.specs.Terminal.{first_is, is_word, not_next}
 use Rattle.proto_grammar.specs.Grammar.Repetition.{Passes}
-use Rattle.proto_grammar.specs.Grammar.Fields.{IsNumbered, IsTyped, IsLabel, IsField, IsOneofField, IsMapField}
+use Rattle.proto_grammar.specs.Grammar.Fields.{IsNumbered, IsTyped, IsLabel, IsField, IsGroupHead, IsMapField}
 use Rattle.proto_grammar.specs.Grammar.Fields.IsNumbered.{numbered}
 use Rattle.proto_grammar.specs.Grammar.Fields.IsTyped.{typed}
-use Rattle.proto_grammar.specs.Grammar.Fields.IsLabel.{repeated, optional, no_label}
+use Rattle.proto_grammar.specs.Grammar.Fields.IsLabel.{repeated, optional, required, no_label}
 use Rattle.proto_grammar.specs.Grammar.Fields.IsField.{field}
-use Rattle.proto_grammar.specs.Grammar.Fields.IsOneofField.{oneof_field}
+use Rattle.proto_grammar.specs.Grammar.Fields.IsGroupHead.{group_head}
 use Rattle.proto_grammar.specs.Grammar.Fields.IsMapField.{map_field}
 use Rattle.proto_grammar.specs.Grammar.Reserved.{IsInteger, IsRangeEnd, IsRange, IsReservedItem, IsCommaItem}
-use Rattle.proto_grammar.specs.Grammar.Reserved.{IsReserved}
+use Rattle.proto_grammar.specs.Grammar.Reserved.{IsReserved, IsExtensions}
 use Rattle.proto_grammar.specs.Grammar.Reserved.IsInteger.{plain, minus}
 use Rattle.proto_grammar.specs.Grammar.Reserved.IsRangeEnd.{number, max}
 use Rattle.proto_grammar.specs.Grammar.Reserved.IsRange.{single, range}
 use Rattle.proto_grammar.specs.Grammar.Reserved.IsReservedItem.{name as a_name, number as a_number}
 use Rattle.proto_grammar.specs.Grammar.Reserved.IsCommaItem.{comma_item}
 use Rattle.proto_grammar.specs.Grammar.Reserved.IsReserved.{reserved}
+use Rattle.proto_grammar.specs.Grammar.Reserved.IsExtensions.{extensions}
 use Rattle.proto_grammar.specs.Reading.Repetition.{span_at, passing}
-use Rattle.proto_grammar.specs.Reading.Fields.{numbered_at, typed_at, label_at, field_at, oneof_field_at, pass_field_at}
-use Rattle.proto_grammar.specs.Reading.Fields.{map_field_at}
+use Rattle.proto_grammar.specs.Reading.Fields.{numbered_at, typed_at, required_at, label_at, pass_field_at}
+use Rattle.proto_grammar.specs.Reading.Fields.{group_head_at, map_field_at}
 use Rattle.proto_grammar.specs.Reading.Reserved.{plain_integer_at, integer_at, range_end_at, range_at, reserved_item_at}
-use Rattle.proto_grammar.specs.Reading.Reserved.{comma_item_at, comma_items_at, reserved_at}
+use Rattle.proto_grammar.specs.Reading.Reserved.{comma_item_at, comma_items_at, reserved_at, extensions_at}
 use Rattle.proto_grammar.proofs.TokenLemmas.{token_exact, one_next, one_others, next_other_kind, next_no_word}
 use Rattle.proto_grammar.proofs.TokenLemmas.{next_other_word}
 use Rattle.proto_grammar.proofs.UntilLemmas.{until_at-exact, passing-exact}
@@ -43,27 +46,30 @@ unfolding numbered_at
 numbered_exact (numbered n q i o s) =
     rw (token_exact n, token_exact q, token_exact i, options_exact o, token_exact s) refl
 
-typed_exact : {custom : CustomOptions} {first : Span} {label : Option Label} {a b : List Lexeme} {x : Field}
+pub typed_exact : {custom : CustomOptions} {first : Span} {label : Option Label} {a b : List Lexeme} {x : Field}
     → IsTyped custom first label a x b → typed_at custom first label a ≡ Some (x, b)
 unfolding typed_at
 typed_exact (typed t n) = rw (type_exact t, numbered_exact n) refl
 
-label_exact : {a b : List Lexeme} {x : Option Label} → IsLabel a x b → label_at a ≡ Some (x, b)
-unfolding label_at
+pub label_exact : {syntax : Syntax} {a b : List Lexeme} {x : Option Label} → IsLabel syntax a x b
+    → label_at syntax a ≡ Some (x, b)
+unfolding label_at required_at
 label_exact (repeated w) = rw (one_next w, one_others w) refl
-label_exact (optional {a} w) =
+label_exact (optional {a = a} w) =
     rw (next_other_word (codes "optional") (codes "repeated") a refl (one_next w), one_next w, one_others w) refl
-label_exact (no_label p q) = rw (p, q) refl
+label_exact (required {a = a} w) =
+    rw (
+      next_other_word (codes "required") (codes "repeated") a refl (one_next w),
+      next_other_word (codes "required") (codes "optional") a refl (one_next w),
+      token_exact w,
+    ) refl
+label_exact (no_label is p q) = rw (p, q, is) refl
 
-pub field_exact : {custom : CustomOptions} {a b : List Lexeme} {x : Field} → IsField custom a x b
-    → field_at custom a ≡ Some (x, b)
-unfolding field_at span_at
-field_exact (field l t) = rw (label_exact l) (typed_exact t)
-
-pub oneof_field_exact : {custom : CustomOptions} {a b : List Lexeme} {x : Field} → IsOneofField custom a x b
-    → oneof_field_at custom a ≡ Some (x, b)
-unfolding oneof_field_at span_at
-oneof_field_exact (oneof_field t) = typed_exact t
+pub group_head_exact : {custom : CustomOptions} {first : Span} {label : Option Label} {a b : List Lexeme} {x : Group}
+    → IsGroupHead custom first label a x b → group_head_at custom first label a ≡ Some (x, b)
+unfolding group_head_at
+group_head_exact (group_head w n q i o c) =
+    rw (token_exact w, token_exact n, token_exact q, token_exact i, options_exact o, token_exact c) refl
 
 pub pass_field_exact : {custom : CustomOptions} {a b : List Lexeme} {x : Field} → IsField custom a x b
     → pass_field_at custom a ≡ Some (tt, b)
@@ -123,5 +129,19 @@ reserved_exact {negative} (reserved {names} k is i u s) =
           (comma_items_fall negative names)
           (passing-exact (comma_item_at negative names) (IsCommaItem negative names) (comma_item_exact negative names))
           u,
+      token_exact s,
+    ) refl
+
+pub extensions_exact : {custom : CustomOptions} {a b : List Lexeme} → IsExtensions custom a b
+    → extensions_at custom a ≡ Some (tt, b)
+unfolding extensions_at comma_items_at
+extensions_exact (extensions k r u o s) =
+    rw (
+      token_exact k,
+      range_exact r,
+      until_at-exact (not_next Comma) (passing (comma_item_at false false)) (Passes (IsCommaItem false false))
+          (comma_items_fall false false)
+          (passing-exact (comma_item_at false false) (IsCommaItem false false) (comma_item_exact false false)) u,
+      options_exact o,
       token_exact s,
     ) refl

@@ -1,19 +1,23 @@
--- What is read is in the grammar: fields and reserved statements.
-use Rattle.std.proofs.Common.{◌≡◌, Bool, true, false, Option, Some, None, List, [], ◌∷◌, refl, subst, codes}
+-- What is read is in the grammar: fields, what is before a group's body, reserved statements and extension ranges.
+use Rattle.std.proofs.Common.{◌≡◌, Bool, true, false, cond, Option, Some, None, List, [], ◌∷◌, refl, subst, codes}
 use Rattle.proto_lex.specs.declared.span.Span.{Span}
 use Rattle.proto_lex.specs.declared.token.TokenKind.TheVariants.{Identifier, Integer, StringLiteral, Semicolon, Equals}
-use Rattle.proto_lex.specs.declared.token.TokenKind.TheVariants.{Less, Greater, Comma, Dot, Minus}
+use Rattle.proto_lex.specs.declared.token.TokenKind.TheVariants.{OpenBrace, Less, Greater, Comma, Dot, Minus}
 use Rattle.proto_grammar.specs.declared.tree.CustomOptions.{CustomOptions}
+use Rattle.proto_grammar.specs.declared.tree.Syntax.{Syntax}
+use Rattle.proto_grammar.specs.declared.tree.Syntax.TheVariants.{Proto3, Extended, Proto2}
 use Rattle.proto_grammar.specs.declared.tree.Heading.{Heading}
 use Rattle.proto_grammar.specs.declared.tree.Label.{Label}
 use Rattle.proto_grammar.specs.declared.tree.FieldType.{FieldType}
 use Rattle.proto_grammar.specs.declared.tree.FieldType.TheVariants.{Scalar, Named}
 use Rattle.proto_grammar.specs.declared.tree.TypeName.{TypeName}
 use Rattle.proto_grammar.specs.declared.tree.Field.{Field}
+use Rattle.proto_grammar.specs.declared.tree.Group.{Group}
 use Rattle.proto_grammar.specs.declared.tree.MapField.{MapField}
 use Rattle.proto_grammar.specs.Lexeme.{Lexeme}
-use Rattle.proto_grammar.specs.Terminal.{is_kind, first_is, of_kind, is_word, is_key, is_scalar, not_next}
-use Rattle.proto_grammar.specs.Terminal.{begins_scalar}
+use Rattle.proto_grammar.specs.Terminal.{is_kind, first_is, of_kind, is_word, is_group_name, is_key, is_scalar}
+use Rattle.proto_grammar.specs.Terminal.{not_next, begins_scalar}
+use Rattle.proto_grammar.specs.Syntax.{is_proto2}
 use Rattle.proto_grammar.specs.Grammar.Repetition.{One, Passes}
 use Rattle.proto_grammar.specs.Grammar.Repetition.One.{one}
 use Rattle.proto_grammar.specs.Grammar.Names.{IsType, IsTypeName}
@@ -21,28 +25,29 @@ use Rattle.proto_grammar.specs.Grammar.Names.IsType.{scalar, named}
 use Rattle.proto_grammar.specs.Grammar.Names.IsTypeName.{rooted, plain as a_plain}
 use Rattle.proto_grammar.specs.Grammar.Names.IsName.{name}
 use Rattle.proto_grammar.specs.Grammar.Repetition.Until.{done, more}
-use Rattle.proto_grammar.specs.Grammar.Fields.{IsNumbered, IsTyped, IsLabel, IsField, IsOneofField, IsMapField}
+use Rattle.proto_grammar.specs.Grammar.Fields.{IsNumbered, IsTyped, IsLabel, IsField, IsGroupHead, IsMapField}
 use Rattle.proto_grammar.specs.Grammar.Fields.IsNumbered.{numbered}
 use Rattle.proto_grammar.specs.Grammar.Fields.IsTyped.{typed}
-use Rattle.proto_grammar.specs.Grammar.Fields.IsLabel.{repeated, optional, no_label}
+use Rattle.proto_grammar.specs.Grammar.Fields.IsLabel.{repeated, optional, required, no_label}
 use Rattle.proto_grammar.specs.Grammar.Fields.IsField.{field}
-use Rattle.proto_grammar.specs.Grammar.Fields.IsOneofField.{oneof_field}
+use Rattle.proto_grammar.specs.Grammar.Fields.IsGroupHead.{group_head}
 use Rattle.proto_grammar.specs.Grammar.Fields.IsMapField.{map_field}
 use Rattle.proto_grammar.specs.Grammar.Reserved.{IsInteger, IsRangeEnd, IsRange, IsReservedItem, IsCommaItem}
-use Rattle.proto_grammar.specs.Grammar.Reserved.{IsReserved}
+use Rattle.proto_grammar.specs.Grammar.Reserved.{IsReserved, IsExtensions}
 use Rattle.proto_grammar.specs.Grammar.Reserved.IsInteger.{plain, minus}
 use Rattle.proto_grammar.specs.Grammar.Reserved.IsRangeEnd.{number, max}
 use Rattle.proto_grammar.specs.Grammar.Reserved.IsRange.{single, range}
 use Rattle.proto_grammar.specs.Grammar.Reserved.IsReservedItem.{name as a_name, number as a_number}
 use Rattle.proto_grammar.specs.Grammar.Reserved.IsCommaItem.{comma_item}
 use Rattle.proto_grammar.specs.Grammar.Reserved.IsReserved.{reserved}
+use Rattle.proto_grammar.specs.Grammar.Reserved.IsExtensions.{extensions}
 use Rattle.proto_grammar.specs.Reading.Repetition.{token_that, span_at, passing, until_at}
 use Rattle.proto_grammar.specs.Reading.Names.{type_at, pass_type_name_at}
 use Rattle.proto_grammar.specs.Reading.Options.{options_at}
-use Rattle.proto_grammar.specs.Reading.Fields.{numbered_at, typed_at, label_at, field_at, oneof_field_at, pass_field_at}
-use Rattle.proto_grammar.specs.Reading.Fields.{map_field_at}
+use Rattle.proto_grammar.specs.Reading.Fields.{numbered_at, typed_at, required_at, label_at, pass_field_at}
+use Rattle.proto_grammar.specs.Reading.Fields.{group_head_at, map_field_at}
 use Rattle.proto_grammar.specs.Reading.Reserved.{plain_integer_at, integer_at, range_end_at, range_at, reserved_item_at}
-use Rattle.proto_grammar.specs.Reading.Reserved.{comma_item_at, comma_items_at, reserved_at}
+use Rattle.proto_grammar.specs.Reading.Reserved.{comma_item_at, comma_items_at, reserved_at, extensions_at}
 use Rattle.std.proofs.lemmas.Option.{same_Some}
 use Rattle.proto_grammar.proofs.OptionSteps.{bind_some, chosen, both_true}
 use Rattle.proto_grammar.proofs.TokenLemmas.{token_found, next_found, other_kind}
@@ -73,32 +78,51 @@ typed_found custom first label tokens x e =
     subst (λ (y : Field × List Lexeme). IsTyped custom first label tokens y.0 y.1) (same_Some _ x n.2)
     (typed (type_found _ _ t.1) (numbered_found custom first _ _ n.1))
 
-pub label_found : (tokens : List Lexeme) (x : Option Label × List Lexeme) → label_at tokens ≡ Some x
-    → IsLabel tokens x.0 x.1
+required_found : (tokens : List Lexeme) (x : Option Label × List Lexeme) → required_at tokens ≡ Some x
+    → IsLabel Proto2 tokens x.0 x.1
+unfolding required_at
+required_found tokens x e =
+    let w = bind_some (token_that (is_word (codes "required")) tokens) _ x e in
+    subst (λ (y : Option Label × List Lexeme). IsLabel Proto2 tokens y.0 y.1) (same_Some _ x w.2)
+    (required (token_found _ _ w.1))
+
+pub label_found : (syntax : Syntax) (tokens : List Lexeme) (x : Option Label × List Lexeme)
+    → label_at syntax tokens ≡ Some x → IsLabel syntax tokens x.0 x.1
 unfolding label_at
-label_found tokens x e =
+label_found syntax tokens x e =
     chosen (first_is (is_word (codes "repeated")) tokens) _ _ (Some x) e
-    (λ is read. subst (λ (y : Option Label × List Lexeme). IsLabel tokens y.0 y.1) (same_Some _ x read)
+    (λ is read. subst (λ (y : Option Label × List Lexeme). IsLabel syntax tokens y.0 y.1) (same_Some _ x read)
     (repeated (next_found tokens is).1))
     (λ no_repeated read. chosen (first_is (is_word (codes "optional")) tokens) _ _ (Some x) read
-    (λ is read. subst (λ (y : Option Label × List Lexeme). IsLabel tokens y.0 y.1) (same_Some _ x read)
+    (λ is read. subst (λ (y : Option Label × List Lexeme). IsLabel syntax tokens y.0 y.1) (same_Some _ x read)
     (optional (next_found tokens is).1))
-    (λ no_optional read. subst (λ (y : Option Label × List Lexeme). IsLabel tokens y.0 y.1) (same_Some _ x read)
-    (no_label no_repeated no_optional)))
+    (λ no_optional read. by_syntax syntax no_repeated no_optional read))
+  where
+    by_syntax : (syntax : Syntax) → first_is (is_word (codes "repeated")) tokens ≡ false
+        → first_is (is_word (codes "optional")) tokens ≡ false
+        → cond (is_proto2 syntax) (required_at tokens) (Some (None, tokens)) ≡ Some x → IsLabel syntax tokens x.0 x.1
+    by_syntax Proto2 no_repeated no_optional read = required_found tokens x read
+    by_syntax (Proto3 custom) no_repeated no_optional read =
+        subst (λ (y : Option Label × List Lexeme). IsLabel (Proto3 custom) tokens y.0 y.1) (same_Some _ x read)
+        (no_label refl no_repeated no_optional)
+    by_syntax Extended no_repeated no_optional read =
+        subst (λ (y : Option Label × List Lexeme). IsLabel Extended tokens y.0 y.1) (same_Some _ x read)
+        (no_label refl no_repeated no_optional)
 
-pub field_found : (custom : CustomOptions) (tokens : List Lexeme) (x : Field × List Lexeme)
-    → field_at custom tokens ≡ Some x → IsField custom tokens x.0 x.1
-unfolding field_at span_at
-field_found custom [] x e = cc
-field_found custom (t ∷ rest) x e =
-    let l = bind_some (label_at (t ∷ rest)) _ x e in
-    field (label_found _ _ l.1) (typed_found custom t.span l.0.0 _ _ l.2)
-
-pub oneof_field_found : (custom : CustomOptions) (tokens : List Lexeme) (x : Field × List Lexeme)
-    → oneof_field_at custom tokens ≡ Some x → IsOneofField custom tokens x.0 x.1
-unfolding oneof_field_at span_at
-oneof_field_found custom [] x e = cc
-oneof_field_found custom (t ∷ rest) x e = oneof_field (typed_found custom t.span None _ _ e)
+pub group_head_found : (custom : CustomOptions) (first : Span) (label : Option Label) (tokens : List Lexeme)
+    (x : Group × List Lexeme)
+    → group_head_at custom first label tokens ≡ Some x → IsGroupHead custom first label tokens x.0 x.1
+unfolding group_head_at
+group_head_found custom first label tokens x e =
+    let w = bind_some (token_that (is_word (codes "group")) tokens) _ x e in
+    let n = bind_some (token_that is_group_name w.0.1) _ x w.2 in
+    let q = bind_some (token_that (of_kind Equals) n.0.1) _ x n.2 in
+    let i = bind_some (token_that (of_kind Integer) q.0.1) _ x q.2 in
+    let o = bind_some (options_at custom i.0.1) _ x i.2 in
+    let c = bind_some (token_that (of_kind OpenBrace) o.0.1) _ x o.2 in
+    subst (λ (y : Group × List Lexeme). IsGroupHead custom first label tokens y.0 y.1) (same_Some _ x c.2)
+    (group_head (token_found _ _ w.1) (token_found _ _ n.1) (token_found _ _ q.1) (token_found _ _ i.1)
+    (options_found custom _ _ o.1) (token_found _ _ c.1))
 
 -- a type that is read as a name: a scalar word too
 type_of_name : (tokens after : List Lexeme) (type : TypeName) → IsTypeName tokens type after → (b : Bool)
@@ -121,7 +145,7 @@ pub pass_field_found : (custom : CustomOptions) (tokens : List Lexeme) (x : Unit
 unfolding pass_field_at span_at
 pass_field_found custom [] x e = cc
 pass_field_found custom (t ∷ rest) x e =
-    let l = bind_some (label_at (t ∷ rest)) _ x e in
+    let l = bind_some (label_at (Proto3 custom) (t ∷ rest)) _ x e in
     let n = bind_some (pass_type_name_at l.0.1) _ x l.2 in
     let h = bind_some (numbered_at custom t.span n.0.1) _ x n.2 in
     let name = pass_type_name_found _ _ n.1 in
@@ -129,7 +153,7 @@ pass_field_found custom (t ∷ rest) x e =
       record { heading = h.0.0; label = l.0.0; field_type = type.0 },
       subst (λ (y : List Lexeme). IsField custom (t ∷ rest)
           (record { heading = h.0.0; label = l.0.0; field_type = type.0 }) y) (left_of x h.2)
-          (field (label_found _ _ l.1) (typed type.1 (numbered_found custom t.span _ _ h.1))),
+          (field (label_found (Proto3 custom) _ _ l.1) (typed type.1 (numbered_found custom t.span _ _ h.1))),
     )
 
 pub map_field_found : (custom : CustomOptions) (tokens : List Lexeme) (x : MapField × List Lexeme)
@@ -213,3 +237,19 @@ reserved_found negative tokens x e =
     (IsCommaItem negative (first_is (of_kind StringLiteral) k.0.1))
     (comma_item_found negative (first_is (of_kind StringLiteral) k.0.1))) tt i.0.1 m.0 m.1)
     (token_found _ _ s.1))
+
+pub extensions_found : (custom : CustomOptions) (tokens : List Lexeme) (x : Unit {0} × List Lexeme)
+    → extensions_at custom tokens ≡ Some x → IsExtensions custom tokens x.1
+unfolding extensions_at comma_items_at
+extensions_found custom tokens x e =
+    let k = bind_some (token_that (is_word (codes "extensions")) tokens) _ x e in
+    let r = bind_some (range_at false k.0.1) _ x k.2 in
+    let m = bind_some (until_at (not_next Comma) (passing (comma_item_at false false)) tt r.0.1) _ x r.2 in
+    let o = bind_some (options_at custom m.0.1) _ x m.2 in
+    let s = bind_some (token_that (of_kind Semicolon) o.0.1) _ x o.2 in
+    subst (λ (y : List Lexeme). IsExtensions custom tokens y) (left_of x s.2)
+    (extensions (token_found _ _ k.1) (range_found false _ _ r.1)
+    (until_at-found (not_next Comma) (passing (comma_item_at false false)) (Passes (IsCommaItem false false))
+    (passing-found (comma_item_at false false) (IsCommaItem false false) (comma_item_found false false)) tt r.0.1 m.0
+    m.1)
+    (options_found custom _ _ o.1) (token_found _ _ s.1))

@@ -1,11 +1,13 @@
--- Reserved statements (proto3 specification, "Reserved"). Nothing of them is kept.
+-- Reserved statements (proto3 specification, "Reserved") and extension ranges (proto2 specification, "Extensions").
+-- Nothing of them is kept.
 use Rattle.std.specs.Prelude.{◌≡◌, Bool, true, false, List, codes}
 use Rattle.proto_lex.specs.declared.span.Span.{Span}
 use Rattle.proto_lex.specs.declared.token.TokenKind.TheVariants.{Integer, StringLiteral, Semicolon, Comma, Minus}
+use Rattle.proto_grammar.specs.declared.tree.CustomOptions.{CustomOptions}
 use Rattle.proto_grammar.specs.Lexeme.{Lexeme}
 use Rattle.proto_grammar.specs.Terminal.{first_is, of_kind, is_word, not_next}
 use Rattle.proto_grammar.specs.Grammar.Repetition.{One, Until, Passes}
-use Rattle.proto_grammar.specs.Grammar.Options.{IsStrings}
+use Rattle.proto_grammar.specs.Grammar.Options.{IsStrings, IsOptions}
 
 -- INT. If numbers may be negative, [ "-" ] INT.
 pub data IsInteger : (negative : Bool) → List Lexeme → List Lexeme → Type 0 where
@@ -45,3 +47,11 @@ pub data IsReserved (negative : Bool) : List Lexeme → List Lexeme → Type 0 w
       → IsReservedItem negative names b c → Until (not_next Comma) (Passes (IsCommaItem negative names)) tt c tt d
       → One (of_kind Semicolon) d semicolon e
       → IsReserved negative a e
+
+-- extensions = "extensions" range { "," range } [ fieldOptions ] ";"
+pub data IsExtensions (custom : CustomOptions) : List Lexeme → List Lexeme → Type 0 where
+  extensions : {a b c d e f : List Lexeme} {keyword semicolon : Span}
+      → One (is_word (codes "extensions")) a keyword b → IsRange false b c
+      → Until (not_next Comma) (Passes (IsCommaItem false false)) tt c tt d → IsOptions custom d e
+      → One (of_kind Semicolon) e semicolon f
+      → IsExtensions custom a f

@@ -2,14 +2,18 @@
 use Rattle.std.specs.Prelude.{cond, Option, Some, None, codes}
 use Rattle.proto_lex.specs.declared.span.Span.{Span}
 use Rattle.proto_lex.specs.declared.token.TokenKind.TheVariants.{Identifier, Integer, Semicolon, Equals, Less, Greater}
-use Rattle.proto_lex.specs.declared.token.TokenKind.TheVariants.{Comma}
+use Rattle.proto_lex.specs.declared.token.TokenKind.TheVariants.{OpenBrace, Comma}
 use Rattle.proto_grammar.specs.declared.tree.CustomOptions.{CustomOptions}
+use Rattle.proto_grammar.specs.declared.tree.Syntax.{Syntax}
+use Rattle.proto_grammar.specs.declared.tree.Syntax.TheVariants.{Proto3}
 use Rattle.proto_grammar.specs.declared.tree.Heading.{Heading}
 use Rattle.proto_grammar.specs.declared.tree.Label.{Label}
-use Rattle.proto_grammar.specs.declared.tree.Label.TheVariants.{Repeated, Optional}
+use Rattle.proto_grammar.specs.declared.tree.Label.TheVariants.{Repeated, Optional, Required}
 use Rattle.proto_grammar.specs.declared.tree.Field.{Field}
+use Rattle.proto_grammar.specs.declared.tree.Group.{Group}
 use Rattle.proto_grammar.specs.declared.tree.MapField.{MapField}
-use Rattle.proto_grammar.specs.Terminal.{others, first_is, of_kind, is_word, is_key}
+use Rattle.proto_grammar.specs.Terminal.{others, first_is, of_kind, is_word, is_group_name, is_key}
+use Rattle.proto_grammar.specs.Syntax.{is_proto2}
 use Rattle.proto_grammar.specs.Reading.Repetition.{◌>>=◌, Read, token_that, span_at}
 use Rattle.proto_grammar.specs.Reading.Names.{type_at, pass_type_name_at}
 use Rattle.proto_grammar.specs.Reading.Options.{options_at}
@@ -29,28 +33,39 @@ typed_at custom first label tokens = do
   heading ← numbered_at custom first type.1
   Some (record { heading = heading.0; label = label; field_type = type.0 }, heading.1)
 
-unfoldable pub label_at : Read (Option Label)
-label_at tokens =
+unfoldable pub required_at : Read (Option Label)
+required_at tokens = token_that (is_word (codes "required")) tokens >>= λ word. Some (Some Required, word.1)
+
+unfoldable pub label_at : Syntax → Read (Option Label)
+label_at syntax tokens =
     cond (first_is (is_word (codes "repeated")) tokens) (Some (Some Repeated, others tokens))
     (cond (first_is (is_word (codes "optional")) tokens) (Some (Some Optional, others tokens))
-    (Some (None, tokens)))
-
-unfoldable pub field_at : CustomOptions → Read Field
-field_at custom tokens = do
-  first ← span_at tokens
-  label ← label_at first.1
-  typed_at custom first.0 label.0 label.1
-
-unfoldable pub oneof_field_at : CustomOptions → Read Field
-oneof_field_at custom tokens = span_at tokens >>= λ first. typed_at custom first.0 None first.1
+    (cond (is_proto2 syntax) (required_at tokens) (Some (None, tokens))))
 
 unfoldable pub pass_field_at : CustomOptions → Read (Unit {0})
 pass_field_at custom tokens = do
   first ← span_at tokens
-  label ← label_at first.1
+  label ← label_at (Proto3 custom) first.1
   type ← pass_type_name_at label.1
   heading ← numbered_at custom first.0 type.1
   Some (tt, heading.1)
+
+unfoldable pub group_head_at : CustomOptions → Span → Option Label → Read Group
+group_head_at custom first label tokens = do
+  word ← token_that (is_word (codes "group")) tokens
+  name ← token_that is_group_name word.1
+  equals ← token_that (of_kind Equals) name.1
+  number ← token_that (of_kind Integer) equals.1
+  options ← options_at custom number.1
+  closing ← token_that (of_kind OpenBrace) options.1
+  Some (
+    record {
+      heading = record { first = first; name = name.0; closing = closing.0 };
+      label = label;
+      word = word.0;
+    },
+    closing.1,
+  )
 
 unfoldable pub map_field_at : CustomOptions → Read MapField
 map_field_at custom tokens = do

@@ -1,9 +1,10 @@
--- Reserved statements.
-use Rattle.std.specs.Prelude.{Bool, cond, ◌&&◌, Some, codes}
+-- Reserved statements and extension ranges.
+use Rattle.std.specs.Prelude.{Bool, false, cond, ◌&&◌, Some, codes}
 use Rattle.proto_lex.specs.declared.token.TokenKind.TheVariants.{Integer, StringLiteral, Semicolon, Comma, Minus}
+use Rattle.proto_grammar.specs.declared.tree.CustomOptions.{CustomOptions}
 use Rattle.proto_grammar.specs.Terminal.{others, first_is, of_kind, is_word, not_next}
 use Rattle.proto_grammar.specs.Reading.Repetition.{◌>>=◌, Read, token_that, until_at, passing}
-use Rattle.proto_grammar.specs.Reading.Options.{strings_at}
+use Rattle.proto_grammar.specs.Reading.Options.{strings_at, options_at}
 
 unfoldable pub plain_integer_at : Read (Unit {0})
 plain_integer_at tokens = token_that (of_kind Integer) tokens >>= λ number. Some (tt, number.1)
@@ -37,4 +38,13 @@ reserved_at negative tokens = do
   item ← reserved_item_at negative (first_is (of_kind StringLiteral) keyword.1) keyword.1
   items ← comma_items_at negative (first_is (of_kind StringLiteral) keyword.1) item.1
   semicolon ← token_that (of_kind Semicolon) items.1
+  Some (tt, semicolon.1)
+
+unfoldable pub extensions_at : CustomOptions → Read (Unit {0})
+extensions_at custom tokens = do
+  keyword ← token_that (is_word (codes "extensions")) tokens
+  range ← range_at false keyword.1
+  ranges ← comma_items_at false false range.1
+  options ← options_at custom ranges.1
+  semicolon ← token_that (of_kind Semicolon) options.1
   Some (tt, semicolon.1)

@@ -1,14 +1,12 @@
 -- What is in the grammar is read: files.
-use Rattle.std.proofs.Common.{◌≡◌, ℕ, true, false, Option, Some, List, [], ◌∷◌, ◌++◌, length, drop, refl, sym, ◌∙◌, ap}
-use Rattle.std.proofs.Common.{subst, codes, nat_eq}
+use Rattle.std.proofs.Common.{◌≡◌, ℕ, Option, Some, List, ◌∷◌, refl, sym, ◌∙◌, ap, subst, codes}
 use Rattle.std.specs.Prelude.{Result, Ok, Err, MatchResult}
-use Rattle.std.specs.List.{starts_with}
-use Rattle.std.proofs.lemmas.Slice.Eq.{starts_is}
-use Rattle.std.proofs.Math.Seq.{drop-append_seam}
-use Rattle.std.proofs.lemmas.Bool.Decides.{Decides-eqb}
 use Rattle.proto_lex.specs.declared.span.Span.{Span}
 use Rattle.proto_lex.specs.declared.token.TokenKind.TheVariants.{StringLiteral}
-use Rattle.proto_grammar.specs.declared.tree.CustomOptions.{CustomOptions}
+use Rattle.proto_grammar.specs.declared.tree.Dialect.{Dialect}
+use Rattle.proto_grammar.specs.declared.tree.Dialect.TheVariants.{All}
+use Rattle.proto_grammar.specs.declared.tree.Syntax.{Syntax}
+use Rattle.proto_grammar.specs.declared.tree.Syntax.TheVariants.{Proto2}
 use Rattle.proto_grammar.specs.declared.tree.Import.{Import}
 use Rattle.proto_grammar.specs.declared.tree.ImportKind.{ImportKind}
 use Rattle.proto_grammar.specs.declared.tree.File.{File}
@@ -17,16 +15,19 @@ use Rattle.proto_grammar.specs.declared.fault.SyntaxFault.TheVariants.{NotProto3
 use Rattle.proto_grammar.specs.declared.fault.SyntaxFault.TheVariants.{TwoPackages, ImportEscape, TooDeep, Grammar}
 use Rattle.proto_grammar.specs.declared.fault.SyntaxFault.TheVariants.{Memory}
 use Rattle.proto_parse.specs.declared.statement.FileStatement.{FileStatement}
+use Rattle.proto_parse.specs.declared.statement.Version.{Version}
+use Rattle.proto_parse.specs.declared.statement.Version.TheVariants as version
 use Rattle.proto_grammar.specs.Lexeme.{Lexeme}
 use Rattle.proto_parse.specs.Limits.{max_message_depth}
 use Rattle.proto_grammar.specs.Gives.{Fails, Gives}
-use Rattle.proto_grammar.specs.Terminal.{not_next, is_end, between_quotes}
-use Rattle.proto_parse.specs.Choice.{file_statement_of}
+use Rattle.proto_grammar.specs.Terminal.{not_next, is_end}
+use Rattle.proto_grammar.specs.Syntax.{custom_in, proto3_in}
+use Rattle.proto_parse.specs.Choice.{file_statement_of, version_of}
 use Rattle.proto_grammar.specs.Grammar.Repetition.{Adds}
+use Rattle.proto_parse.specs.Grammar.Messages.{IsInside}
 use Rattle.proto_parse.specs.Grammar.Files.{SpellsJoined, IsSyntax, IsImportKind, IsPathLiteral, IsImport, IsPackage}
 use Rattle.proto_parse.specs.Grammar.Files.{IsStatement, IsFile}
-use Rattle.proto_parse.specs.Grammar.Files.SpellsJoined.{none, some}
-use Rattle.proto_parse.specs.Grammar.Files.IsSyntax.{syntax}
+use Rattle.proto_parse.specs.Grammar.Files.IsSyntax.{proto3, proto2, no_statement}
 use Rattle.proto_parse.specs.Grammar.Files.IsImportKind.{weak, public, neither}
 use Rattle.proto_parse.specs.Grammar.Files.IsPathLiteral.{path_literal}
 use Rattle.proto_parse.specs.Grammar.Files.IsImport.{import}
@@ -37,49 +38,49 @@ use Rattle.proto_parse.specs.Grammar.Files.IsStatement.{option as statements-opt
 use Rattle.proto_parse.specs.Grammar.Files.IsStatement.{enum as statements-enum, service as statements-service}
 use Rattle.proto_parse.specs.Grammar.Files.IsStatement.{extend as statements-extend}
 use Rattle.proto_parse.specs.Grammar.Files.IsFile.{file}
-use Rattle.proto_grammar.specs.Reading.Repetition.{adding, until_at}
-use Rattle.proto_parse.specs.Reading.Files.{stripped_at, spelled_at, syntax_at, import_kind_at, path_literal_at}
-use Rattle.proto_parse.specs.Reading.Files.{path_literals_at, import_at, package_at, only_package_at, statement_by}
-use Rattle.proto_parse.specs.Reading.Files.{statement_at, statements_at, file_at}
+use Rattle.proto_grammar.specs.Reading.Repetition.{adding}
+use Rattle.proto_parse.specs.Reading.Messages.{inside_at}
+use Rattle.proto_parse.specs.Reading.Syntax.{syntax_by, version_at, syntax_statement_at, syntax_at}
+use Rattle.proto_parse.specs.Reading.Files.{import_kind_at, path_literal_at, path_literals_at, import_at, package_at}
+use Rattle.proto_parse.specs.Reading.Files.{only_package_at, statement_by, statement_at, statements_at, file_at}
 use Rattle.std.proofs.lemmas.Option.{same_Some}
 use Rattle.proto_grammar.proofs.TokenLemmas.{token_exact, one_next, one_others, next_other_word}
-use Rattle.proto_grammar.proofs.UntilLemmas.{until_at-exact, until_at-step, adding-exact}
-use Rattle.proto_parse.proofs.StepsFall.{path_literals_fall, stripped_falls, statements_fall}
+use Rattle.proto_grammar.proofs.UntilLemmas.{until_at-exact, adding-exact}
+use Rattle.proto_parse.proofs.Joined.{joined_exact}
+use Rattle.proto_parse.proofs.StepsFall.{items_fall, path_literals_fall, statements_fall}
 use Rattle.proto_grammar.proofs.Exact.Names.{name_exact}
 use Rattle.proto_grammar.proofs.Exact.Options.{option_exact}
-use Rattle.proto_parse.proofs.Exact.Messages.{enum_exact, extend_exact, message_exact, service_exact}
+use Rattle.proto_parse.proofs.Exact.Messages.{enum_exact, extend_statement_exact, inside_exact, message_exact}
+use Rattle.proto_parse.proofs.Exact.Messages.{service_exact}
 
--- a text without the one that it begins with
-stripped_front : (content text : List ℕ) (t : Lexeme) (rest : List Lexeme) → between_quotes t.spelling ≡ content
-    → stripped_at (content ++ text) (t ∷ rest) ≡ Some (text, rest)
-unfolding stripped_at
-stripped_front content text t rest e =
-    let starts : starts_with nat_eq (content ++ text) content ≡ true =
-    (starts_is (λ a b. Decides-eqb a b) (content ++ text) content
-    (starts_with nat_eq (content ++ text) content) refl).1 text refl in
-    let behind : drop (length content) (content ++ text) ≡ text = drop-append_seam content text in
-    rw (e, starts, behind) refl
+version_exact : (dialect : Dialect) (syntax : Syntax) (version : Version) {a b : List Lexeme} {text : List ℕ}
+    → version_of text ≡ version → syntax_by version dialect ≡ Some syntax → SpellsJoined a text b
+    → version_at dialect a ≡ Some (syntax, b)
+unfolding version_at
+version_exact dialect syntax version named accepted spelled =
+    let joined = joined_exact spelled in
+    rw (joined.0, joined.1, named, accepted) refl
 
-joined_exact : {a b : List Lexeme} {text : List ℕ} → SpellsJoined a text b
-    → until_at (not_next StringLiteral) stripped_at text a ≡ Some ([], b)
-joined_exact (none {a} past) = rw (until_at-step (not_next StringLiteral) stripped_at stripped_falls [] a, past) refl
-joined_exact (some {t} {rest} {after} {text} is behind) =
-    let further : not_next StringLiteral (t ∷ rest) ≡ false = rw is refl in
+syntax_exact : {dialect : Dialect} {a b : List Lexeme} {x : Syntax} → IsSyntax dialect a x b
+    → syntax_at dialect a ≡ Some (x, b)
+unfolding syntax_at syntax_statement_at
+syntax_exact {dialect = dialect} (proto3 k q t s) =
     rw (
-      until_at-step (not_next StringLiteral) stripped_at stripped_falls (between_quotes t.spelling ++ text)
-          (t ∷ rest),
-      further,
-      stripped_front (between_quotes t.spelling) text t rest refl,
-    )
-    (joined_exact behind)
-
-spelled_exact : {a b : List Lexeme} {text : List ℕ} → SpellsJoined a text b → spelled_at text a ≡ Some (tt, b)
-unfolding spelled_at
-spelled_exact s = rw (joined_exact s) refl
-
-syntax_exact : {a b : List Lexeme} → IsSyntax a b → syntax_at a ≡ Some (tt, b)
-unfolding syntax_at
-syntax_exact (syntax k q t s) = rw (token_exact k, token_exact q, spelled_exact t, token_exact s) refl
+      one_next k,
+      token_exact k,
+      token_exact q,
+      version_exact dialect (proto3_in dialect) version.Proto3 refl refl t,
+      token_exact s,
+    ) refl
+syntax_exact (proto2 k q t s) =
+    rw (
+      one_next k,
+      token_exact k,
+      token_exact q,
+      version_exact All Proto2 version.Proto2 refl refl t,
+      token_exact s,
+    ) refl
+syntax_exact (no_statement p q) = rw (p, q) refl
 
 import_kind_exact : {a b : List Lexeme} {x : ImportKind} → IsImportKind a x b → import_kind_at a ≡ Some (x, b)
 unfolding import_kind_at
@@ -109,47 +110,52 @@ unfolding package_at
 package_exact (package_statement k n s) = rw (token_exact k, name_exact n, token_exact s) refl
 
 -- the statement that is chosen
-by_choice : (custom : CustomOptions) (f g : File) (a b : List Lexeme) (statement : FileStatement)
+by_choice : (syntax : Syntax) (f g : File) (a b : List Lexeme) (statement : FileStatement)
     → file_statement_of a ≡ statement
-    → statement_by statement custom f a ≡ Some (g, b) → statement_at custom f a ≡ Some (g, b)
+    → statement_by statement syntax f a ≡ Some (g, b) → statement_at syntax f a ≡ Some (g, b)
 unfolding statement_at
-by_choice custom f g a b statement is read = subst (λ s. statement_by s custom f a ≡ Some (g, b)) (sym is) read
+by_choice syntax f g a b statement is read = subst (λ s. statement_by s syntax f a ≡ Some (g, b)) (sym is) read
 
-statement_exact : (custom : CustomOptions) (f g : File) (a b : List Lexeme) → IsStatement custom f a g b
-    → statement_at custom f a ≡ Some (g, b)
+statement_exact : (syntax : Syntax) (f g : File) (a b : List Lexeme) → IsStatement syntax f a g b
+    → statement_at syntax f a ≡ Some (g, b)
 unfolding only_package_at
-statement_exact custom f g a b (statements-empty is s) = by_choice custom f g a b _ is (rw (token_exact s) refl)
-statement_exact custom f g a b (statements-import is i) = by_choice custom f g a b _ is (rw (import_exact i) refl)
-statement_exact custom f g a b (statements-package_statement is none_yet p) =
-    by_choice custom f g a b _ is (rw (none_yet, package_exact p) refl)
-statement_exact custom f g a b (statements-option is o) = by_choice custom f g a b _ is (rw (option_exact o) refl)
-statement_exact custom f g a b (statements-message m is i) =
-    by_choice custom f g a b _ is (rw (message_exact custom max_message_depth a b m i) refl)
-statement_exact custom f g a b (statements-enum is e) = by_choice custom f g a b _ is (rw (enum_exact e) refl)
-statement_exact custom f g a b (statements-service is s) = by_choice custom f g a b _ is (rw (service_exact s) refl)
-statement_exact custom f g a b (statements-extend is e) = by_choice custom f g a b _ is (rw (extend_exact e) refl)
+statement_exact syntax f g a b (statements-empty is s) = by_choice syntax f g a b _ is (rw (token_exact s) refl)
+statement_exact syntax f g a b (statements-import is i) = by_choice syntax f g a b _ is (rw (import_exact i) refl)
+statement_exact syntax f g a b (statements-package_statement is none_yet p) =
+    by_choice syntax f g a b _ is (rw (none_yet, package_exact p) refl)
+statement_exact syntax f g a b (statements-option is o) = by_choice syntax f g a b _ is (rw (option_exact o) refl)
+statement_exact syntax f g a b (statements-message m is i) =
+    by_choice syntax f g a b _ is
+    (rw (message_exact (inside_at syntax max_message_depth) (IsInside syntax max_message_depth)
+    (inside_exact syntax max_message_depth) a b m i) refl)
+statement_exact syntax f g a b (statements-enum is e) = by_choice syntax f g a b _ is (rw (enum_exact e) refl)
+statement_exact syntax f g a b (statements-service is s) = by_choice syntax f g a b _ is (rw (service_exact s) refl)
+statement_exact syntax f g a b (statements-extend {extend = x} is e) =
+    by_choice syntax f g a b _ is
+    (rw (extend_statement_exact syntax (inside_at syntax max_message_depth) (IsInside syntax max_message_depth)
+    (inside_exact syntax max_message_depth) (λ place. items_fall place syntax max_message_depth) a b x e) refl)
 
 -- what is left behind the last statement
-pub file_exact : {custom : CustomOptions} {a : List Lexeme} {x : File} → IsFile custom a x
-    → (b : List Lexeme) × (file_at custom a ≡ Some (x, b))
+pub file_exact : {dialect : Dialect} {a : List Lexeme} {x : File} → IsFile dialect a x
+    → (b : List Lexeme) × (file_at dialect a ≡ Some (x, b))
 unfolding file_at statements_at
-file_exact {custom} {a} {x} (file {c = c} s u) =
-    let read : file_at custom a ≡ Some (x, c) =
-    rw (syntax_exact s) (until_at-exact is_end (statement_at custom) (IsStatement custom) (statements_fall custom)
-    (statement_exact custom) u) in
+file_exact {dialect} {a} {x} (file {c = c} {syntax = syntax} s u) =
+    let read : file_at dialect a ≡ Some (x, c) =
+    rw (syntax_exact s) (until_at-exact is_end (statement_at syntax) (IsStatement syntax) (statements_fall syntax)
+    (statement_exact syntax) u) in
     (c, read)
 
 -- tokens derive at most one tree
-pub same_tree : {custom : CustomOptions} {a : List Lexeme} (tree other : File) → IsFile custom a tree
-    → IsFile custom a other → tree ≡ other
+pub same_tree : {dialect : Dialect} {a : List Lexeme} (tree other : File) → IsFile dialect a tree
+    → IsFile dialect a other → tree ≡ other
 same_tree tree other d e =
     let x = file_exact d in
     let y = file_exact e in
     ap (λ (z : File × List Lexeme). z.0) (same_Some (tree, x.0) (other, y.0) (sym x.1 ∙ y.1))
 
 -- where a tree derives, a fault is want of memory
-pub only_memory : {custom : CustomOptions} {a : List Lexeme} {tree : File} → (fault : SyntaxFault)
-    → Fails custom fault (file_at custom a) → IsFile custom a tree → fault ≡ Memory
+pub only_memory : {dialect : Dialect} {a : List Lexeme} {tree : File} → (fault : SyntaxFault)
+    → Fails (custom_in dialect) fault (file_at dialect a) → IsFile dialect a tree → fault ≡ Memory
 only_memory (NotProto3 offset) fails d = let read = (file_exact d).1 in cc
 only_memory (CustomOption offset) fails d = let read = (file_exact d).1 in cc
 only_memory (Aggregate offset) fails d = let read = (file_exact d).1 in cc
@@ -161,10 +167,10 @@ only_memory (Grammar offset) fails d = let read = (file_exact d).1 in cc
 only_memory Memory fails d = refl
 
 -- of what the parser gives
-pub file_of_exact : (custom : CustomOptions) (tokens rest : List Lexeme) (result : Result File SyntaxFault)
-    → Gives custom (λ x. x) rest result (file_at custom tokens)
-    → (tree : File) → IsFile custom tokens tree → MatchResult result (λ f. f ≡ tree) (λ fault. fault ≡ Memory)
-file_of_exact custom tokens rest (Ok f) e tree d =
+pub file_of_exact : (dialect : Dialect) (tokens rest : List Lexeme) (result : Result File SyntaxFault)
+    → Gives (custom_in dialect) (λ x. x) rest result (file_at dialect tokens)
+    → (tree : File) → IsFile dialect tokens tree → MatchResult result (λ f. f ≡ tree) (λ fault. fault ≡ Memory)
+file_of_exact dialect tokens rest (Ok f) e tree d =
     let read = file_exact d in
     ap (λ (z : File × List Lexeme). z.0) (same_Some (f, rest) (tree, read.0) (sym e ∙ read.1))
-file_of_exact custom tokens rest (Err fault) e tree d = only_memory fault e d
+file_of_exact dialect tokens rest (Err fault) e tree d = only_memory fault e d

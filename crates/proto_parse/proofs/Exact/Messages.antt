@@ -1,40 +1,60 @@
--- What is in the grammar is read: enums, oneofs, messages and services.
-use Rattle.std.proofs.Common.{◌≡◌, ℕ, zero, suc, true, false, Option, Some, List, refl, sym, subst, codes}
+-- What is in the grammar is read: enums, messages, groups, oneofs, extends and services.
+use Rattle.std.proofs.Common.{◌≡◌, ℕ, zero, suc, true, false, Option, Some, None, List, refl, sym, subst, codes}
 use Rattle.proto_lex.specs.declared.span.Span.{Span}
-use Rattle.proto_lex.specs.declared.token.TokenKind.TheVariants.{Identifier, Semicolon, OpenBrace}
+use Rattle.proto_lex.specs.declared.token.TokenKind.TheVariants.{Identifier, Semicolon, Equals, OpenBrace, CloseBrace}
+use Rattle.proto_lex.specs.declared.token.TokenKind.TheVariants.{OpenParenthesis, CloseParenthesis}
 use Rattle.proto_grammar.specs.declared.tree.CustomOptions.{CustomOptions}
+use Rattle.proto_grammar.specs.declared.tree.CustomOptions.TheVariants.{Refuse, Skip}
+use Rattle.proto_grammar.specs.declared.tree.Syntax.{Syntax}
+use Rattle.proto_grammar.specs.declared.tree.Syntax.TheVariants.{Proto3, Extended, Proto2}
 use Rattle.proto_grammar.specs.declared.tree.Heading.{Heading}
+use Rattle.proto_grammar.specs.declared.tree.Label.{Label}
 use Rattle.proto_grammar.specs.declared.tree.TypeName.{TypeName}
 use Rattle.proto_grammar.specs.declared.tree.Field.{Field}
 use Rattle.proto_grammar.specs.declared.tree.Enum.{Enum}
-use Rattle.proto_grammar.specs.declared.tree.Oneof.{Oneof}
 use Rattle.proto_grammar.specs.declared.tree.Method.{Method}
 use Rattle.proto_grammar.specs.declared.tree.Service.{Service}
-use Rattle.proto_grammar.specs.declared.tree.MessageItem.{MessageItem}
+use Rattle.proto_grammar.specs.declared.tree.Item.{Item}
 use Rattle.proto_parse.specs.declared.statement.MessageStatement.{MessageStatement}
+use Rattle.proto_parse.specs.declared.statement.MessageStatement.TheVariants as choice
+use Rattle.proto_parse.specs.declared.statement.Within.{Within}
+use Rattle.proto_parse.specs.declared.statement.Within.TheVariants as within
 use Rattle.proto_grammar.specs.Lexeme.{Lexeme}
-use Rattle.proto_grammar.specs.Terminal.{first_is, of_kind, is_word, closes}
+use Rattle.proto_grammar.specs.Terminal.{first_is, of_kind, is_word, closes, begins_group}
+use Rattle.proto_grammar.specs.Syntax.{custom_of, is_proto2}
 use Rattle.proto_parse.specs.Choice.{message_statement_of}
-use Rattle.proto_grammar.specs.Tree.{MessageTree}
+use Rattle.proto_grammar.specs.Tree.{BlockTree}
 use Rattle.proto_grammar.specs.Grammar.Repetition.{Passes, Adds}
-use Rattle.proto_parse.specs.Grammar.Messages.{IsHeading, IsValue, IsEnumItem, IsEnum, IsOneofItem, IsOneof}
-use Rattle.proto_parse.specs.Grammar.Messages.{IsExtendItem, IsExtend, IsMessageItem, IsMessageOf, IsMessage}
+use Rattle.proto_grammar.specs.Grammar.Options.{IsOption}
+use Rattle.proto_grammar.specs.Grammar.Options.IsOption.{option as an_option}
+use Rattle.proto_parse.specs.Grammar.Messages.{IsHeading, IsValue, IsEnumItem, IsEnum, IsBraced, IsGroup, IsLabelled}
+use Rattle.proto_parse.specs.Grammar.Messages.{IsMember, IsOneofMember, IsOneofItem, IsOneof, IsExtendItem, IsExtend}
+use Rattle.proto_parse.specs.Grammar.Messages.{IsPassedItem, IsPassedExtend, IsExtendStatement, IsMessage}
+use Rattle.proto_parse.specs.Grammar.Messages.{IsMessageItem, IsItem, IsInside}
 use Rattle.proto_parse.specs.Grammar.Messages.IsHeading.{heading}
 use Rattle.proto_parse.specs.Grammar.Messages.IsValue.{value}
 use Rattle.proto_parse.specs.Grammar.Messages.IsEnumItem.{empty as enums-empty, option as enums-option}
 use Rattle.proto_parse.specs.Grammar.Messages.IsEnumItem.{reserved as enums-reserved, value as enums-value}
 use Rattle.proto_parse.specs.Grammar.Messages.IsEnum.{enum}
+use Rattle.proto_parse.specs.Grammar.Messages.IsBraced.{braced}
+use Rattle.proto_parse.specs.Grammar.Messages.IsGroup.{group}
+use Rattle.proto_parse.specs.Grammar.Messages.IsLabelled.{field as labelled-field, group as labelled-group}
+use Rattle.proto_parse.specs.Grammar.Messages.IsMember.{member}
+use Rattle.proto_parse.specs.Grammar.Messages.IsOneofMember.{oneof_member}
 use Rattle.proto_parse.specs.Grammar.Messages.IsOneofItem.{empty as oneofs-empty, option as oneofs-option}
-use Rattle.proto_parse.specs.Grammar.Messages.IsOneofItem.{field as oneofs-field}
+use Rattle.proto_parse.specs.Grammar.Messages.IsOneofItem.{member as oneofs-member}
 use Rattle.proto_parse.specs.Grammar.Messages.IsOneof.{oneof}
-use Rattle.proto_parse.specs.Grammar.Messages.IsExtendItem.{empty as extends-empty, field as extends-field}
+use Rattle.proto_parse.specs.Grammar.Messages.IsExtendItem.{empty as extends-empty, member as extends-member}
 use Rattle.proto_parse.specs.Grammar.Messages.IsExtend.{extend}
+use Rattle.proto_parse.specs.Grammar.Messages.IsPassedItem.{empty as passes-empty, field as passes-field}
+use Rattle.proto_parse.specs.Grammar.Messages.IsPassedExtend.{passed_extend}
+use Rattle.proto_parse.specs.Grammar.Messages.IsExtendStatement.{kept, passed}
+use Rattle.proto_parse.specs.Grammar.Messages.IsMessage.{message}
 use Rattle.proto_parse.specs.Grammar.Messages.IsMessageItem.{empty as items-empty, message as items-message}
 use Rattle.proto_parse.specs.Grammar.Messages.IsMessageItem.{enum as items-enum, option as items-option}
 use Rattle.proto_parse.specs.Grammar.Messages.IsMessageItem.{oneof as items-oneof, map_field as items-map_field}
 use Rattle.proto_parse.specs.Grammar.Messages.IsMessageItem.{reserved as items-reserved, extend as items-extend}
-use Rattle.proto_parse.specs.Grammar.Messages.IsMessageItem.{field as items-field}
-use Rattle.proto_parse.specs.Grammar.Messages.IsMessageOf.{message as messages-message}
+use Rattle.proto_parse.specs.Grammar.Messages.IsMessageItem.{extensions as items-extensions, member as items-member}
 use Rattle.proto_parse.specs.Grammar.Services.{IsStream, IsMethodType, IsMethodItem, IsMethodEnd, IsMethod}
 use Rattle.proto_parse.specs.Grammar.Services.{IsServiceItem, IsService}
 use Rattle.proto_parse.specs.Grammar.Services.IsStream.{stream, no_stream}
@@ -45,22 +65,28 @@ use Rattle.proto_parse.specs.Grammar.Services.IsMethod.{method}
 use Rattle.proto_parse.specs.Grammar.Services.IsServiceItem.{empty as services-empty, option as services-option}
 use Rattle.proto_parse.specs.Grammar.Services.IsServiceItem.{method as services-method}
 use Rattle.proto_parse.specs.Grammar.Services.IsService.{service}
-use Rattle.proto_grammar.specs.Reading.Repetition.{Read, adding, passing}
-use Rattle.proto_parse.specs.Reading.Messages.{heading_at, value_at, enum_item_at, enum_items_at, enum_at}
-use Rattle.proto_parse.specs.Reading.Messages.{oneof_item_at, oneof_items_at, oneof_at, extend_item_at, extend_items_at}
-use Rattle.proto_parse.specs.Reading.Messages.{extend_at, message_item_by, message_item_at, message_of_at, message_at}
+use Rattle.proto_grammar.specs.Reading.Repetition.{Read, token_that, span_at, adding, passing, until_at}
+use Rattle.proto_grammar.specs.Reading.Names.{named_type_at, pass_type_name_at}
+use Rattle.proto_grammar.specs.Reading.Options.{option_at, options_at}
+use Rattle.proto_grammar.specs.Reading.Fields.{typed_at, label_at, group_head_at, map_field_at}
+use Rattle.proto_grammar.specs.Reading.Reserved.{integer_at, reserved_at, extensions_at}
+use Rattle.proto_parse.specs.Reading.Messages.{heading_at, value_at, enum_item_at, enum_items_at, enum_at, braced_at}
+use Rattle.proto_parse.specs.Reading.Messages.{group_at, labelled_at, member_at, oneof_member_at, oneof_item_at}
+use Rattle.proto_parse.specs.Reading.Messages.{extend_item_at, oneof_at, extend_at, passed_item_at, passed_items_at}
+use Rattle.proto_parse.specs.Reading.Messages.{passed_extend_at, extend_statement_at, message_at, ranges_at}
+use Rattle.proto_parse.specs.Reading.Messages.{message_item_by, message_item_at, item_at, inside_at}
 use Rattle.proto_parse.specs.Reading.Services.{stream_at, method_type_at, method_item_at, method_items_at}
 use Rattle.proto_parse.specs.Reading.Services.{method_body_at, method_end_at, method_at, service_item_at}
 use Rattle.proto_parse.specs.Reading.Services.{service_items_at, service_at}
 use Rattle.proto_grammar.proofs.TokenLemmas.{token_exact, one_next, one_others, next_other_kind, next_word_kind}
 use Rattle.proto_grammar.proofs.TokenLemmas.{next_other_word}
 use Rattle.proto_grammar.proofs.UntilLemmas.{until_at-exact, adding-exact, passing-exact, Falls}
-use Rattle.proto_parse.proofs.StepsFall.{enum_items_fall, oneof_items_fall, extend_items_fall, message_items_fall}
+use Rattle.proto_parse.proofs.StepsFall.{enum_items_fall, passed_items_fall, items_fall}
 use Rattle.proto_parse.proofs.StepsFall.{method_items_fall, service_items_fall}
 use Rattle.proto_grammar.proofs.Exact.Names.{named_type_exact, pass_type_name_exact}
 use Rattle.proto_grammar.proofs.Exact.Options.{option_exact, options_exact}
-use Rattle.proto_grammar.proofs.Exact.Fields.{field_exact, oneof_field_exact, map_field_exact, pass_field_exact}
-use Rattle.proto_grammar.proofs.Exact.Fields.{integer_exact, reserved_exact}
+use Rattle.proto_grammar.proofs.Exact.Fields.{typed_exact, label_exact, group_head_exact, map_field_exact}
+use Rattle.proto_grammar.proofs.Exact.Fields.{pass_field_exact, integer_exact, reserved_exact, extensions_exact}
 
 heading_exact : {word : List ℕ} {a b : List Lexeme} {x : Heading} → IsHeading word a x b
     → heading_at word a ≡ Some (x, b)
@@ -102,99 +128,163 @@ enum_exact {custom} (enum h u c) =
       token_exact c,
     ) refl
 
-oneof_item_exact : (custom : CustomOptions) (a b : List Lexeme) (x : Option Field) → IsOneofItem custom a x b
-    → oneof_item_at custom a ≡ Some (x, b)
-unfolding oneof_item_at
-oneof_item_exact custom a b x (oneofs-empty s) = rw (one_next s, one_others s) refl
-oneof_item_exact custom a b x (oneofs-option is o) =
-    rw (word_no_semicolon (codes "option") a is, is, option_exact o) refl
-oneof_item_exact custom a b x (oneofs-field p q f) = rw (p, q, oneof_field_exact f) refl
+-- what is inside is read
+abbrev pub Reads : {A : Type 0} → Read A → (List Lexeme → A → List Lexeme → Type 0) → Type 0
+Reads {A} read Is = (a b : List Lexeme) (x : A) → Is a x b → read a ≡ Some (x, b)
 
-pub oneof_exact : {custom : CustomOptions} {a b : List Lexeme} {x : Oneof} → IsOneof custom a x b
-    → oneof_at custom a ≡ Some (x, b)
-unfolding oneof_at oneof_items_at
-oneof_exact {custom} (oneof h u c) =
+braced_exact : (item : Read (Option Item)) (Is : List Lexeme → Option Item → List Lexeme → Type 0) → Reads item Is
+    → Falls (adding item) → Reads (braced_at item) (IsBraced Is)
+unfolding braced_at
+braced_exact item Is reads falls a b x (braced u c) =
+    rw (until_at-exact closes (adding item) (Adds Is) falls (adding-exact item Is reads) u, token_exact c) refl
+
+group_exact : (custom : CustomOptions) (inner : Read (List Item))
+    (Inner : List Lexeme → List Item → List Lexeme → Type 0) → Reads inner Inner → (first : Span) (label : Option Label)
+    → Reads (group_at custom inner first label) (IsGroup custom Inner first label)
+unfolding group_at
+group_exact custom inner Inner reads first label a c x (group {b = b} {items = items} g i) =
+    rw (group_head_exact g, reads b c items i) refl
+
+labelled_exact : (syntax : Syntax) (inner : Read (List Item)) (Inner : List Lexeme → List Item → List Lexeme → Type 0)
+    → Reads inner Inner → (first : Span) (label : Option Label)
+    → Reads (labelled_at syntax inner first label) (IsLabelled syntax Inner first label)
+unfolding labelled_at
+labelled_exact syntax inner Inner reads first label a b x (labelled-field is f) = rw (is, typed_exact f) refl
+labelled_exact syntax inner Inner reads first label a b x (labelled-group {group = g} is i) =
+    rw (is, group_exact (custom_of syntax) inner Inner reads first label a b g i) refl
+
+member_exact : (syntax : Syntax) (inner : Read (List Item)) (Inner : List Lexeme → List Item → List Lexeme → Type 0)
+    → Reads inner Inner → Reads (member_at syntax inner) (IsMember syntax Inner)
+unfolding member_at span_at
+member_exact syntax inner Inner reads a c x (member {t = t} {b = b} {label = label} l i) =
+    rw (label_exact l) (labelled_exact syntax inner Inner reads t.span label b c x i)
+
+oneof_member_exact : (syntax : Syntax) (inner : Read (List Item))
+    (Inner : List Lexeme → List Item → List Lexeme → Type 0)
+    → Reads inner Inner → Reads (oneof_member_at syntax inner) (IsOneofMember syntax Inner)
+unfolding oneof_member_at span_at
+oneof_member_exact syntax inner Inner reads a b x (oneof_member {t = t} {rest = rest} i) =
+    labelled_exact syntax inner Inner reads t.span None (t ∷ rest) b x i
+
+oneof_item_exact : (syntax : Syntax) (inner : Read (List Item)) (Inner : List Lexeme → List Item → List Lexeme → Type 0)
+    → Reads inner Inner → Reads (oneof_item_at syntax inner) (IsOneofItem syntax Inner)
+unfolding oneof_item_at
+oneof_item_exact syntax inner Inner reads a b x (oneofs-empty s) = rw (one_next s, one_others s) refl
+oneof_item_exact syntax inner Inner reads a b x (oneofs-option is o) =
+    rw (word_no_semicolon (codes "option") a is, is, option_exact o) refl
+oneof_item_exact syntax inner Inner reads a b x (oneofs-member {item = i} p q m) =
+    rw (p, q, oneof_member_exact syntax inner Inner reads a b i m) refl
+
+extend_item_exact : (syntax : Syntax) (inner : Read (List Item))
+    (Inner : List Lexeme → List Item → List Lexeme → Type 0)
+    → Reads inner Inner → Reads (extend_item_at syntax inner) (IsExtendItem syntax Inner)
+unfolding extend_item_at
+extend_item_exact syntax inner Inner reads a b x (extends-empty s) = rw (one_next s, one_others s) refl
+extend_item_exact syntax inner Inner reads a b x (extends-member {item = i} p m) =
+    rw (p, member_exact syntax inner Inner reads a b i m) refl
+
+-- what is read falls between the braces of oneofs and extends
+abbrev AllFall : Syntax → Read (List Item) → Type 0
+AllFall syntax inner = (place : Within) → Falls (adding (item_at place syntax inner))
+
+oneof_exact : (syntax : Syntax) (inner : Read (List Item)) (Inner : List Lexeme → List Item → List Lexeme → Type 0)
+    → Reads inner Inner → AllFall syntax inner → Reads (oneof_at syntax inner) (IsOneof syntax Inner)
+unfolding oneof_at
+oneof_exact syntax inner Inner reads fall a c x (oneof {b = b} {items = items} h i) =
     rw (
       heading_exact h,
-      until_at-exact closes (adding (oneof_item_at custom)) (Adds (IsOneofItem custom)) (oneof_items_fall custom)
-          (adding-exact (oneof_item_at custom) (IsOneofItem custom) (oneof_item_exact custom)) u,
-      token_exact c,
+      braced_exact (oneof_item_at syntax inner) (IsOneofItem syntax Inner)
+          (oneof_item_exact syntax inner Inner reads) (fall within.Oneof) b c items i,
     ) refl
 
-extend_item_exact : (a b : List Lexeme) → IsExtendItem a b → extend_item_at a ≡ Some (tt, b)
-unfolding extend_item_at
-extend_item_exact a b (extends-empty s) = rw (one_next s, one_others s) refl
-extend_item_exact a b (extends-field p f) = rw p (pass_field_exact f)
+extend_exact : (syntax : Syntax) (inner : Read (List Item)) (Inner : List Lexeme → List Item → List Lexeme → Type 0)
+    → Reads inner Inner → AllFall syntax inner → Reads (extend_at syntax inner) (IsExtend syntax Inner)
+unfolding extend_at
+extend_exact syntax inner Inner reads fall a e x (extend {d = d} {items = items} k not n o i) =
+    rw (
+      token_exact k,
+      named_type_exact not n,
+      token_exact o,
+      braced_exact (extend_item_at syntax inner) (IsExtendItem syntax Inner)
+          (extend_item_exact syntax inner Inner reads) (fall within.Extend) d e items i,
+    ) refl
 
-pub extend_exact : {custom : CustomOptions} {a b : List Lexeme} → IsExtend custom a b
-    → extend_at custom a ≡ Some (tt, b)
-unfolding extend_at extend_items_at
-extend_exact (extend k n o u c) =
+passed_item_exact : (a b : List Lexeme) → IsPassedItem a b → passed_item_at a ≡ Some (tt, b)
+unfolding passed_item_at
+passed_item_exact a b (passes-empty s) = rw (one_next s, one_others s) refl
+passed_item_exact a b (passes-field p f) = rw p (pass_field_exact f)
+
+passed_extend_exact : {custom : CustomOptions} {a b : List Lexeme} → IsPassedExtend custom a b
+    → passed_extend_at custom a ≡ Some (tt, b)
+unfolding passed_extend_at passed_items_at
+passed_extend_exact (passed_extend k n o u c) =
     rw (
       token_exact k,
       pass_type_name_exact n,
       token_exact o,
-      until_at-exact closes (passing extend_item_at) (Passes IsExtendItem) extend_items_fall
-          (passing-exact extend_item_at IsExtendItem extend_item_exact) u,
+      until_at-exact closes (passing passed_item_at) (Passes IsPassedItem) passed_items_fall
+          (passing-exact passed_item_at IsPassedItem passed_item_exact) u,
       token_exact c,
     ) refl
 
--- inner messages are read
-abbrev pub ReadsMessages : Read MessageTree → (List Lexeme → MessageTree → List Lexeme → Type 0) → Type 0
-ReadsMessages inner Inner = (a b : List Lexeme) (x : MessageTree) → Inner a x b → inner a ≡ Some (x, b)
+pub extend_statement_exact : (syntax : Syntax) (inner : Read (List Item))
+    (Inner : List Lexeme → List Item → List Lexeme → Type 0) → Reads inner Inner → AllFall syntax inner
+    → Reads (extend_statement_at syntax inner) (IsExtendStatement Inner syntax)
+unfolding extend_statement_at
+extend_statement_exact (Proto3 custom) inner Inner reads fall a b x (kept is e) = cc
+extend_statement_exact Extended inner Inner reads fall a b x (kept {extend = y} is e) =
+    rw (extend_exact Extended inner Inner reads fall a b y e) refl
+extend_statement_exact Proto2 inner Inner reads fall a b x (kept {extend = y} is e) =
+    rw (extend_exact Proto2 inner Inner reads fall a b y e) refl
+extend_statement_exact (Proto3 custom) inner Inner reads fall a b x (passed e) = rw (passed_extend_exact e) refl
+
+pub message_exact : (inner : Read (List Item)) (Inner : List Lexeme → List Item → List Lexeme → Type 0)
+    → Reads inner Inner → Reads (message_at inner) (IsMessage Inner)
+unfolding message_at
+message_exact inner Inner reads a c x (message {b = b} {items = items} h i) =
+    rw (heading_exact h, reads b c items i) refl
 
 -- the item that is chosen
-by_choice : (custom : CustomOptions) (inner : Read MessageTree) (a b : List Lexeme) (x : Option MessageItem)
+by_choice : (syntax : Syntax) (inner : Read (List Item)) (a b : List Lexeme) (x : Option Item)
     (statement : MessageStatement) → message_statement_of a ≡ statement
-    → message_item_by statement custom inner a ≡ Some (x, b) → message_item_at custom inner a ≡ Some (x, b)
+    → message_item_by statement syntax inner a ≡ Some (x, b) → message_item_at syntax inner a ≡ Some (x, b)
 unfolding message_item_at
-by_choice custom inner a b x statement is read =
-    subst (λ s. message_item_by s custom inner a ≡ Some (x, b)) (sym is) read
+by_choice syntax inner a b x statement is read =
+    subst (λ s. message_item_by s syntax inner a ≡ Some (x, b)) (sym is) read
 
-message_item_exact : (custom : CustomOptions) (inner : Read MessageTree)
-    (Inner : List Lexeme → MessageTree → List Lexeme → Type 0) → ReadsMessages inner Inner
-    → (a b : List Lexeme) (x : Option MessageItem) → IsMessageItem custom Inner a x b
-    → message_item_at custom inner a ≡ Some (x, b)
-message_item_exact custom inner Inner reads a b x (items-empty is s) =
-    by_choice custom inner a b x _ is (rw (token_exact s) refl)
-message_item_exact custom inner Inner reads a b x (items-message {message = m} is i) =
-    by_choice custom inner a b x _ is (rw (reads a b m i) refl)
-message_item_exact custom inner Inner reads a b x (items-enum is e) =
-    by_choice custom inner a b x _ is (rw (enum_exact e) refl)
-message_item_exact custom inner Inner reads a b x (items-option is o) =
-    by_choice custom inner a b x _ is (rw (option_exact o) refl)
-message_item_exact custom inner Inner reads a b x (items-oneof is o) =
-    by_choice custom inner a b x _ is (rw (oneof_exact o) refl)
-message_item_exact custom inner Inner reads a b x (items-map_field is f) =
-    by_choice custom inner a b x _ is (rw (map_field_exact f) refl)
-message_item_exact custom inner Inner reads a b x (items-reserved is r) =
-    by_choice custom inner a b x _ is (rw (reserved_exact r) refl)
-message_item_exact custom inner Inner reads a b x (items-extend is e) =
-    by_choice custom inner a b x _ is (rw (extend_exact e) refl)
-message_item_exact custom inner Inner reads a b x (items-field is f) =
-    by_choice custom inner a b x _ is (rw (field_exact f) refl)
+message_item_exact : (syntax : Syntax) (inner : Read (List Item))
+    (Inner : List Lexeme → List Item → List Lexeme → Type 0) → Reads inner Inner → AllFall syntax inner
+    → Reads (message_item_at syntax inner) (IsMessageItem syntax Inner)
+unfolding ranges_at
+message_item_exact syntax inner Inner reads fall a b x (items-empty is s) =
+    by_choice syntax inner a b x _ is (rw (token_exact s) refl)
+message_item_exact syntax inner Inner reads fall a b x (items-message {message = m} is i) =
+    by_choice syntax inner a b x _ is (rw (message_exact inner Inner reads a b m i) refl)
+message_item_exact syntax inner Inner reads fall a b x (items-enum is e) =
+    by_choice syntax inner a b x _ is (rw (enum_exact e) refl)
+message_item_exact syntax inner Inner reads fall a b x (items-option is o) =
+    by_choice syntax inner a b x _ is (rw (option_exact o) refl)
+message_item_exact syntax inner Inner reads fall a b x (items-oneof {oneof = y} is o) =
+    by_choice syntax inner a b x _ is (rw (oneof_exact syntax inner Inner reads fall a b y o) refl)
+message_item_exact syntax inner Inner reads fall a b x (items-map_field is f) =
+    by_choice syntax inner a b x _ is (rw (map_field_exact f) refl)
+message_item_exact syntax inner Inner reads fall a b x (items-reserved is r) =
+    by_choice syntax inner a b x _ is (rw (reserved_exact r) refl)
+message_item_exact syntax inner Inner reads fall a b x (items-extend {extend = y} is e) =
+    by_choice syntax inner a b x _ is (rw (extend_statement_exact syntax inner Inner reads fall a b y e) refl)
+message_item_exact syntax inner Inner reads fall a b x (items-extensions is proto2 r) =
+    by_choice syntax inner a b x _ is (rw (proto2, extensions_exact r) refl)
+message_item_exact syntax inner Inner reads fall a b x (items-member {item = y} is m) =
+    by_choice syntax inner a b x _ is (rw (member_exact syntax inner Inner reads a b y m) refl)
 
-message_of_exact : (custom : CustomOptions) (inner : Read MessageTree)
-    (Inner : List Lexeme → MessageTree → List Lexeme → Type 0) → ReadsMessages inner Inner
-    → Falls (adding (message_item_at custom inner))
-    → ReadsMessages (message_of_at custom inner) (IsMessageOf custom Inner)
-unfolding message_of_at
-message_of_exact custom inner Inner reads falls a b x (messages-message h u c) =
-    rw (
-      heading_exact h,
-      until_at-exact closes (adding (message_item_at custom inner)) (Adds (IsMessageItem custom Inner)) falls
-          (adding-exact (message_item_at custom inner) (IsMessageItem custom Inner)
-          (message_item_exact custom inner Inner reads)) u,
-      token_exact c,
-    ) refl
-
-pub message_exact : (custom : CustomOptions) (levels : ℕ)
-    → ReadsMessages (message_at custom levels) (IsMessage custom levels)
-unfolding message_at IsMessage
-message_exact custom zero a b x m = absurd m
-message_exact custom (suc levels) a b x m =
-    message_of_exact custom (message_at custom levels) (IsMessage custom levels) (message_exact custom levels)
-    (message_items_fall custom levels) a b x m
+pub inside_exact : (syntax : Syntax) (levels : ℕ) → Reads (inside_at syntax levels) (IsInside syntax levels)
+unfolding inside_at IsInside
+inside_exact syntax zero a b x i = absurd i
+inside_exact syntax (suc levels) a b x i =
+    braced_exact (message_item_at syntax (inside_at syntax levels))
+    (IsMessageItem syntax (IsInside syntax levels))
+    (message_item_exact syntax (inside_at syntax levels) (IsInside syntax levels) (inside_exact syntax levels)
+    (λ place. items_fall place syntax levels)) (items_fall within.Message syntax levels) a b x i
 
 stream_exact : {a b : List Lexeme} → IsStream a b → stream_at a ≡ Some (tt, b)
 unfolding stream_at

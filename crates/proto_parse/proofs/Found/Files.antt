@@ -1,37 +1,39 @@
 -- What is read is in the grammar: files.
-use Rattle.std.proofs.Common.{◌≡◌, ℕ, ◌==◌, true, false, Option, Some, None, List, [], ◌∷◌, ◌++◌, length, drop, refl}
-use Rattle.std.proofs.Common.{sym, ◌∙◌, subst, codes, nat_eq, arith}
-use Rattle.std.specs.Prelude.{is_some, Result, Ok, Err, IfOk, IfErr}
+use Rattle.std.proofs.Common.{◌≡◌, ℕ, Bool, true, false, ◌&&◌, not, cond, Option, Some, None, is_some, ◌⊎◌, inl, inr, List}
+use Rattle.std.proofs.Common.{[], ◌∷◌, ◌++◌, option_map, option_to_list, refl, sym, ◌∙◌, subst, codes, bytes_eq}
+use Rattle.std.specs.Prelude.{Result, Ok, Err, IfOk, IfErr}
 use Rattle.proto_grammar.specs.declared.fault.SyntaxFault.{SyntaxFault}
 use Rattle.proto_grammar.specs.declared.fault.SyntaxFault.TheVariants.{NotProto3, CustomOption, Aggregate, Extend}
 use Rattle.proto_grammar.specs.declared.fault.SyntaxFault.TheVariants.{TwoPackages, ImportEscape, TooDeep, Grammar}
 use Rattle.proto_grammar.specs.declared.fault.SyntaxFault.TheVariants.{Memory}
+use Rattle.proto_grammar.specs.declared.tree.CustomOptions.{CustomOptions}
 use Rattle.proto_grammar.specs.declared.tree.CustomOptions.TheVariants.{Refuse, Skip}
+use Rattle.proto_grammar.specs.declared.tree.Dialect.{Dialect}
+use Rattle.proto_grammar.specs.declared.tree.Dialect.TheVariants.{Proto3, All}
+use Rattle.proto_grammar.specs.declared.tree.Syntax.{Syntax}
+use Rattle.proto_grammar.specs.declared.tree.Syntax.TheVariants.{Proto2}
 use Rattle.proto_parse.specs.Faults.{is_of_custom_options}
 use Rattle.proto_grammar.specs.Gives.{Gives}
-use Rattle.std.specs.List.{starts_with}
-use Rattle.std.proofs.lemmas.Bool.{eqb-true}
-use Rattle.std.proofs.lemmas.Slice.Eq.{starts_is}
-use Rattle.std.proofs.lemmas.Bool.Decides.{Decides-eqb}
+use Rattle.std.proofs.lemmas.Slice.Eq.{bytes_eq-Decides}
 use Rattle.proto_lex.specs.declared.span.Span.{Span}
 use Rattle.proto_lex.specs.declared.token.TokenKind.TheVariants.{StringLiteral, Semicolon, Equals}
-use Rattle.proto_grammar.specs.declared.tree.CustomOptions.{CustomOptions}
 use Rattle.proto_grammar.specs.declared.tree.Import.{Import}
 use Rattle.proto_grammar.specs.declared.tree.ImportKind.{ImportKind}
+use Rattle.proto_grammar.specs.declared.tree.FileItem.TheVariants as item
 use Rattle.proto_grammar.specs.declared.tree.File.{File}
 use Rattle.proto_parse.specs.declared.statement.FileStatement.{FileStatement}
 use Rattle.proto_parse.specs.declared.statement.FileStatement.TheVariants as choice
+use Rattle.proto_parse.specs.declared.statement.Version.TheVariants as version
 use Rattle.proto_grammar.specs.Lexeme.{Lexeme}
-use Rattle.proto_grammar.specs.Terminal.{first, first_is, of_kind, is_word, is_plain_literal, not_next, is_end}
-use Rattle.proto_grammar.specs.Terminal.{between_quotes}
-use Rattle.proto_parse.specs.Choice.{file_statement_of}
+use Rattle.proto_grammar.specs.Terminal.{first_is, of_kind, is_word, is_plain_literal, not_next, is_end}
+use Rattle.proto_grammar.specs.Syntax.{custom_of, custom_in, proto3_in, is_all}
+use Rattle.proto_parse.specs.Choice.{file_statement_of, version_of}
 use Rattle.proto_parse.specs.Limits.{max_message_depth}
-use Rattle.proto_grammar.specs.Grammar.Repetition.{Until, Adds}
-use Rattle.proto_grammar.specs.Grammar.Repetition.Until.{done, more}
+use Rattle.proto_grammar.specs.Grammar.Repetition.{One, Adds}
+use Rattle.proto_parse.specs.Grammar.Messages.{IsInside}
 use Rattle.proto_parse.specs.Grammar.Files.{empty_file, SpellsJoined, IsSyntax, IsImportKind, IsPathLiteral, IsImport}
 use Rattle.proto_parse.specs.Grammar.Files.{IsPackage, IsStatement, IsFile}
-use Rattle.proto_parse.specs.Grammar.Files.SpellsJoined.{none, some}
-use Rattle.proto_parse.specs.Grammar.Files.IsSyntax.{syntax}
+use Rattle.proto_parse.specs.Grammar.Files.IsSyntax.{proto3, proto2, no_statement}
 use Rattle.proto_parse.specs.Grammar.Files.IsImportKind.{weak, public, neither}
 use Rattle.proto_parse.specs.Grammar.Files.IsPathLiteral.{path_literal}
 use Rattle.proto_parse.specs.Grammar.Files.IsImport.{import}
@@ -45,67 +47,108 @@ use Rattle.proto_parse.specs.Grammar.Files.IsFile.{file}
 use Rattle.proto_grammar.specs.Reading.Repetition.{token_that, adding, until_at}
 use Rattle.proto_grammar.specs.Reading.Names.{name_at}
 use Rattle.proto_grammar.specs.Reading.Options.{option_at}
-use Rattle.proto_parse.specs.Reading.Messages.{enum_at, extend_at, message_at}
+use Rattle.proto_parse.specs.Reading.Messages.{enum_at, extend_statement_at, message_at, inside_at}
 use Rattle.proto_parse.specs.Reading.Services.{service_at}
-use Rattle.proto_parse.specs.Reading.Files.{stripped_at, spelled_at, syntax_at, import_kind_at, path_literal_at}
-use Rattle.proto_parse.specs.Reading.Files.{path_literals_at, import_at, package_at, only_package_at, statement_by}
-use Rattle.proto_parse.specs.Reading.Files.{statement_at, statements_at, file_at}
+use Rattle.proto_parse.specs.Reading.Syntax.{joined_of, behind_literals, syntax_by, version_at, syntax_statement_at}
+use Rattle.proto_parse.specs.Reading.Syntax.{syntax_at}
+use Rattle.proto_parse.specs.Reading.Files.{import_kind_at, path_literal_at, path_literals_at, import_at, package_at}
+use Rattle.proto_parse.specs.Reading.Files.{only_package_at, statement_by, statement_at, statements_at, file_at}
 use Rattle.std.proofs.lemmas.Option.{same_Some}
 use Rattle.proto_grammar.proofs.OptionSteps.{bind_some, guard_some, kept_some, chosen}
-use Rattle.proto_grammar.proofs.TokenLemmas.{token_found, next_found, next_of}
+use Rattle.proto_grammar.proofs.TokenLemmas.{token_found, next_found}
 use Rattle.proto_grammar.proofs.UntilLemmas.{until_at-found, adding-found}
 use Rattle.proto_grammar.proofs.Found.Names.{name_found}
 use Rattle.proto_grammar.proofs.Found.Options.{left_of, option_found}
-use Rattle.proto_parse.proofs.Found.Messages.{enum_found, extend_found, message_found, service_found}
+use Rattle.proto_parse.proofs.Found.Messages.{enum_found, extend_statement_found, inside_found, message_found}
+use Rattle.proto_parse.proofs.Found.Messages.{service_found}
+use Rattle.proto_parse.proofs.Joined.{joined_found}
 
--- one literal, off the front of a text
-abbrev IsStripped : List ℕ → List Lexeme → List ℕ → List Lexeme → Type 0
-IsStripped text a left b = stripped_at text a ≡ Some (left, b)
+not_true : (b : Bool) → not b ≡ true → b ≡ false
+not_true true e = cc
+not_true false e = refl
 
-literal_of : (text : List ℕ) (tokens : List Lexeme) (left : List ℕ) (rest after : List Lexeme)
-    → not_next StringLiteral tokens ≡ false → IsStripped text tokens left rest
-    → SpellsJoined rest left after → SpellsJoined tokens text after
-unfolding stripped_at
-literal_of text [] left rest after further stripped behind = cc
-literal_of text (t ∷ tokens) left rest after further stripped behind =
-    let content = between_quotes t.spelling in
-    let g = guard_some (starts_with nat_eq text content) _ (left, rest) stripped in
-    let whole : text ≡ content ++ drop (length content) text =
-    (starts_is (λ a b. Decides-eqb a b) text content (starts_with nat_eq text content) refl).0 g.0 in
-    let here = same_Some (drop (length content) text, tokens) (left, rest) g.1 in
-    let behind' : SpellsJoined tokens (drop (length content) text) after =
-    subst (λ (y : List ℕ × List Lexeme). SpellsJoined y.1 y.0 after) (sym here) behind in
-    rw whole (some (next_of StringLiteral (t ∷ tokens) further) behind')
+-- the version that a text names
+version_text : {P : Type 0} (text : List ℕ) → (text ≡ codes "proto3" → version_of text ≡ version.Proto3 → P)
+    → (text ≡ codes "proto2" → version_of text ≡ version.Proto2 → P) → (version_of text ≡ version.Other → P) → P
+version_text text proto3 proto2 other =
+    chosen (bytes_eq text (codes "proto3")) _ _ (version_of text) refl
+    (λ is named. proto3 ((bytes_eq-Decides text (codes "proto3")).0 is) (sym named))
+    (λ no_proto3 named. chosen (bytes_eq text (codes "proto2")) _ _ (version_of text) named
+    (λ is named. proto2 ((bytes_eq-Decides text (codes "proto2")).0 is) (sym named))
+    (λ no_proto2 named. other (sym named)))
 
-no_bytes : (text : List ℕ) → length text ≡ 0 → text ≡ []
-no_bytes [] e = refl
-no_bytes (b ∷ text) e = absurd (omega arith)
+-- what stands behind the word `syntax` and `=`
+abbrev IsVersion : Dialect → List Lexeme → Syntax → List Lexeme → Type 0
+IsVersion dialect a syntax b = ((syntax ≡ proto3_in dialect) × SpellsJoined a (codes "proto3") b)
+    ⊎ ((dialect ≡ All) × ((syntax ≡ Proto2) × SpellsJoined a (codes "proto2") b))
 
-spelled_by : {text left : List ℕ} {a b : List Lexeme} → Until (not_next StringLiteral) IsStripped text a left b
-    → left ≡ [] → SpellsJoined a text b
-spelled_by (done at_end) nothing = rw nothing (none at_end)
-spelled_by (more {s = text} {t = left} {a = a} {b = b} {c = c} further first behind) nothing =
-    literal_of text a left b c further first (spelled_by behind nothing)
+proto2_accepted : (dialect : Dialect) (syntax : Syntax) → cond (is_all dialect) (Some Proto2) None ≡ Some syntax
+    → (dialect ≡ All) × (syntax ≡ Proto2)
+proto2_accepted (Proto3 custom) syntax e = cc
+proto2_accepted All syntax e = (refl, sym (same_Some Proto2 syntax e))
 
-spelled_found : (text : List ℕ) (tokens : List Lexeme) (x : Unit {0} × List Lexeme) → spelled_at text tokens ≡ Some x
-    → SpellsJoined tokens text x.1
-unfolding spelled_at
-spelled_found text tokens x e =
-    let u = bind_some (until_at (not_next StringLiteral) stripped_at text tokens) _ x e in
-    let g = guard_some (length u.0.0 == 0) _ x u.2 in
-    subst (λ (y : List Lexeme). SpellsJoined tokens text y) (left_of x g.1)
-    (spelled_by (until_at-found (not_next StringLiteral) stripped_at IsStripped (λ s a y f. f) text tokens u.0 u.1)
-    (no_bytes u.0.0 (eqb-true (length u.0.0) 0 g.0)))
+version_found : (dialect : Dialect) (tokens : List Lexeme) (x : Syntax × List Lexeme)
+    → version_at dialect tokens ≡ Some x → IsVersion dialect tokens x.0 x.1
+unfolding version_at
+version_found dialect tokens x e =
+    let v = bind_some (syntax_by (version_of (joined_of tokens)) dialect) _ x e in
+    subst (λ (y : Syntax × List Lexeme). IsVersion dialect tokens y.0 y.1) (same_Some _ x v.2)
+    (version_text (joined_of tokens)
+    (λ text named.
+    let given : Some (proto3_in dialect) ≡ Some v.0 =
+    subst (λ n. syntax_by n dialect ≡ Some v.0) named v.1 in
+    inl (sym (same_Some (proto3_in dialect) v.0 given),
+    subst (λ t. SpellsJoined tokens t (behind_literals tokens)) text (joined_found tokens)))
+    (λ text named.
+    let given = proto2_accepted dialect v.0 (subst (λ n. syntax_by n dialect ≡ Some v.0) named v.1) in
+    inr (given.0, (given.1, subst (λ t. SpellsJoined tokens t (behind_literals tokens)) text (joined_found tokens))))
+    (λ named.
+    let given : None ≡ Some v.0 = subst (λ n. syntax_by n dialect ≡ Some v.0) named v.1 in
+    absurd cc))
 
-syntax_found : (tokens : List Lexeme) (x : Unit {0} × List Lexeme) → syntax_at tokens ≡ Some x → IsSyntax tokens x.1
-unfolding syntax_at
-syntax_found tokens x e =
+syntax_statement_found : (dialect : Dialect) (tokens : List Lexeme) (x : Syntax × List Lexeme)
+    → syntax_statement_at dialect tokens ≡ Some x → IsSyntax dialect tokens x.0 x.1
+unfolding syntax_statement_at
+syntax_statement_found dialect tokens x e =
     let k = bind_some (token_that (is_word (codes "syntax")) tokens) _ x e in
     let q = bind_some (token_that (of_kind Equals) k.0.1) _ x k.2 in
-    let t = bind_some (spelled_at (codes "proto3") q.0.1) _ x q.2 in
-    let s = bind_some (token_that (of_kind Semicolon) t.0.1) _ x t.2 in
-    subst (λ (y : List Lexeme). IsSyntax tokens y) (left_of x s.2)
-    (syntax (token_found _ _ k.1) (token_found _ _ q.1) (spelled_found (codes "proto3") _ _ t.1) (token_found _ _ s.1))
+    let v = bind_some (version_at dialect q.0.1) _ x q.2 in
+    let s = bind_some (token_that (of_kind Semicolon) v.0.1) _ x v.2 in
+    subst (λ (y : Syntax × List Lexeme). IsSyntax dialect tokens y.0 y.1) (same_Some _ x s.2)
+    (by_version dialect v.0.0 (token_found _ _ k.1) (token_found _ _ q.1) (version_found dialect _ _ v.1)
+    (token_found _ _ s.1))
+  where
+    by_version : (dialect : Dialect) (syntax : Syntax) {a b c d e : List Lexeme} {keyword equals semicolon : Span}
+        → One (is_word (codes "syntax")) a keyword b → One (of_kind Equals) b equals c → IsVersion dialect c syntax d
+        → One (of_kind Semicolon) d semicolon e → IsSyntax dialect a syntax e
+    by_version dialect syntax k q (inl (is, text)) s = rw is (proto3 k q text s)
+    by_version dialect syntax k q (inr (all, (is, text))) s = rw (all, is) (proto2 k q text s)
+
+syntax_found : (dialect : Dialect) (tokens : List Lexeme) (x : Syntax × List Lexeme) → syntax_at dialect tokens ≡ Some x
+    → IsSyntax dialect tokens x.0 x.1
+unfolding syntax_at
+syntax_found dialect tokens x e =
+    chosen (first_is (is_word (codes "syntax")) tokens) _ _ (Some x) e
+    (λ is read. syntax_statement_found dialect tokens x read)
+    (λ no_syntax read. without dialect no_syntax read)
+  where
+    without : (dialect : Dialect) → first_is (is_word (codes "syntax")) tokens ≡ false
+        → cond (is_all dialect && not (first_is (is_word (codes "edition")) tokens)) (Some (Proto2, tokens)) None
+        ≡ Some x
+        → IsSyntax dialect tokens x.0 x.1
+    without (Proto3 custom) no_syntax read = cc
+    without All no_syntax read =
+        let g = guard_some (not (first_is (is_word (codes "edition")) tokens)) _ x read in
+        subst (λ (y : Syntax × List Lexeme). IsSyntax All tokens y.0 y.1) (same_Some _ x g.1)
+        (no_statement no_syntax (not_true (first_is (is_word (codes "edition")) tokens) g.0))
+
+-- by the dialect, custom options are refused or read past
+pub syntax_custom : {dialect : Dialect} {a b : List Lexeme} {x : Syntax} → IsSyntax dialect a x b
+    → custom_of x ≡ custom_in dialect
+syntax_custom {dialect = Proto3 custom} (proto3 k q t s) = refl
+syntax_custom {dialect = All} (proto3 k q t s) = refl
+syntax_custom (proto2 k q t s) = refl
+syntax_custom (no_statement p q) = refl
 
 import_kind_found : (tokens : List Lexeme) (x : ImportKind × List Lexeme) → import_kind_at tokens ≡ Some x
     → IsImportKind tokens x.0 x.1
@@ -158,79 +201,81 @@ no_some : {A : Type 0} (o : Option A) → is_some o ≡ false → o ≡ None
 no_some None e = refl
 no_some (Some x) e = cc
 
-statement_by_found : (custom : CustomOptions) (f : File) (tokens : List Lexeme) (x : File × List Lexeme)
+statement_by_found : (syntax : Syntax) (f : File) (tokens : List Lexeme) (x : File × List Lexeme)
     (statement : FileStatement) → file_statement_of tokens ≡ statement
-    → statement_by statement custom f tokens ≡ Some x → IsStatement custom f tokens x.0 x.1
+    → statement_by statement syntax f tokens ≡ Some x → IsStatement syntax f tokens x.0 x.1
 unfolding only_package_at
-statement_by_found custom f tokens x choice.Empty is e =
+statement_by_found syntax f tokens x choice.Empty is e =
     let m = bind_some (token_that (of_kind Semicolon) tokens) _ x e in
-    subst (λ (y : File × List Lexeme). IsStatement custom f tokens y.0 y.1) (same_Some _ x m.2)
+    subst (λ (y : File × List Lexeme). IsStatement syntax f tokens y.0 y.1) (same_Some _ x m.2)
     (statements-empty is (token_found _ _ m.1))
-statement_by_found custom f tokens x choice.Import is e =
+statement_by_found syntax f tokens x choice.Import is e =
     let m = bind_some (import_at tokens) _ x e in
-    subst (λ (y : File × List Lexeme). IsStatement custom f tokens y.0 y.1) (same_Some _ x m.2)
+    subst (λ (y : File × List Lexeme). IsStatement syntax f tokens y.0 y.1) (same_Some _ x m.2)
     (statements-import is (import_found _ _ m.1))
-statement_by_found custom f tokens x choice.Package is e =
+statement_by_found syntax f tokens x choice.Package is e =
     let k = kept_some (is_some f.package_name) _ x e in
     let m = bind_some (package_at tokens) _ x k.1 in
-    subst (λ (y : File × List Lexeme). IsStatement custom f tokens y.0 y.1) (same_Some _ x m.2)
+    subst (λ (y : File × List Lexeme). IsStatement syntax f tokens y.0 y.1) (same_Some _ x m.2)
     (statements-package_statement is (no_some f.package_name k.0) (package_found _ _ m.1))
-statement_by_found custom f tokens x choice.Option is e =
-    let m = bind_some (option_at custom tokens) _ x e in
-    subst (λ (y : File × List Lexeme). IsStatement custom f tokens y.0 y.1) (same_Some _ x m.2)
-    (statements-option is (option_found custom _ _ m.1))
-statement_by_found custom f tokens x choice.Message is e =
-    let m = bind_some (message_at custom max_message_depth tokens) _ x e in
-    subst (λ (y : File × List Lexeme). IsStatement custom f tokens y.0 y.1) (same_Some _ x m.2)
-    (statements-message m.0.0 is (message_found custom max_message_depth _ _ m.1))
-statement_by_found custom f tokens x choice.Enum is e =
-    let m = bind_some (enum_at custom tokens) _ x e in
-    subst (λ (y : File × List Lexeme). IsStatement custom f tokens y.0 y.1) (same_Some _ x m.2)
-    (statements-enum is (enum_found custom _ _ m.1))
-statement_by_found custom f tokens x choice.Service is e =
-    let m = bind_some (service_at custom tokens) _ x e in
-    subst (λ (y : File × List Lexeme). IsStatement custom f tokens y.0 y.1) (same_Some _ x m.2)
-    (statements-service is (service_found custom _ _ m.1))
-statement_by_found custom f tokens x choice.Extend is e =
-    let m = bind_some (extend_at custom tokens) _ x e in
-    subst (λ (y : File × List Lexeme). IsStatement custom f tokens y.0 y.1) (same_Some _ x m.2)
-    (statements-extend is (extend_found custom _ _ m.1))
-statement_by_found custom f tokens x choice.Other is e = cc
+statement_by_found syntax f tokens x choice.Option is e =
+    let m = bind_some (option_at (custom_of syntax) tokens) _ x e in
+    subst (λ (y : File × List Lexeme). IsStatement syntax f tokens y.0 y.1) (same_Some _ x m.2)
+    (statements-option is (option_found (custom_of syntax) _ _ m.1))
+statement_by_found syntax f tokens x choice.Message is e =
+    let m = bind_some (message_at (inside_at syntax max_message_depth) tokens) _ x e in
+    subst (λ (y : File × List Lexeme). IsStatement syntax f tokens y.0 y.1) (same_Some _ x m.2)
+    (statements-message m.0.0 is (message_found (inside_at syntax max_message_depth) (IsInside syntax max_message_depth)
+    (inside_found syntax max_message_depth) _ _ m.1))
+statement_by_found syntax f tokens x choice.Enum is e =
+    let m = bind_some (enum_at (custom_of syntax) tokens) _ x e in
+    subst (λ (y : File × List Lexeme). IsStatement syntax f tokens y.0 y.1) (same_Some _ x m.2)
+    (statements-enum is (enum_found (custom_of syntax) _ _ m.1))
+statement_by_found syntax f tokens x choice.Service is e =
+    let m = bind_some (service_at (custom_of syntax) tokens) _ x e in
+    subst (λ (y : File × List Lexeme). IsStatement syntax f tokens y.0 y.1) (same_Some _ x m.2)
+    (statements-service is (service_found (custom_of syntax) _ _ m.1))
+statement_by_found syntax f tokens x choice.Extend is e =
+    let m = bind_some (extend_statement_at syntax (inside_at syntax max_message_depth) tokens) _ x e in
+    subst (λ (y : File × List Lexeme). IsStatement syntax f tokens y.0 y.1) (same_Some _ x m.2)
+    (statements-extend is (extend_statement_found syntax (inside_at syntax max_message_depth)
+    (IsInside syntax max_message_depth) (inside_found syntax max_message_depth) _ _ m.1))
+statement_by_found syntax f tokens x choice.Other is e = cc
 
-pub statement_found : (custom : CustomOptions) (f : File) (tokens : List Lexeme) (x : File × List Lexeme)
-    → statement_at custom f tokens ≡ Some x → IsStatement custom f tokens x.0 x.1
+pub statement_found : (syntax : Syntax) (f : File) (tokens : List Lexeme) (x : File × List Lexeme)
+    → statement_at syntax f tokens ≡ Some x → IsStatement syntax f tokens x.0 x.1
 unfolding statement_at
-statement_found custom f tokens x e = statement_by_found custom f tokens x (file_statement_of tokens) refl e
+statement_found syntax f tokens x e = statement_by_found syntax f tokens x (file_statement_of tokens) refl e
 
-pub file_found : (custom : CustomOptions) (tokens : List Lexeme) (x : File × List Lexeme)
-    → file_at custom tokens ≡ Some x → IsFile custom tokens x.0
+pub file_found : (dialect : Dialect) (tokens : List Lexeme) (x : File × List Lexeme)
+    → file_at dialect tokens ≡ Some x → IsFile dialect tokens x.0
 unfolding file_at statements_at
-file_found custom tokens x e =
-    let s = bind_some (syntax_at tokens) _ x e in
-    file (syntax_found _ _ s.1)
-    (until_at-found is_end (statement_at custom) (IsStatement custom)
-    (statement_found custom) empty_file s.0.1 x s.2)
+file_found dialect tokens x e =
+    let s = bind_some (syntax_at dialect tokens) _ x e in
+    file (syntax_found dialect _ _ s.1)
+    (until_at-found is_end (statement_at s.0.0) (IsStatement s.0.0)
+    (statement_found s.0.0) empty_file s.0.1 x s.2)
 
 -- of what the parser gives
-pub file_of_found : (custom : CustomOptions) (tokens rest : List Lexeme) (result : Result File SyntaxFault)
-    → Gives custom (λ x. x) rest result (file_at custom tokens)
-    → IfOk result (λ f. IsFile custom tokens f)
-file_of_found custom tokens rest (Ok f) e = file_found custom tokens (f, rest) e
-file_of_found custom tokens rest (Err fault) e = tt
+pub file_of_found : (dialect : Dialect) (tokens rest : List Lexeme) (result : Result File SyntaxFault)
+    → Gives (custom_in dialect) (λ x. x) rest result (file_at dialect tokens)
+    → IfOk result (λ f. IsFile dialect tokens f)
+file_of_found dialect tokens rest (Ok f) e = file_found dialect tokens (f, rest) e
+file_of_found dialect tokens rest (Err fault) e = tt
 
 only_where_refused : (custom : CustomOptions) → custom ≡ Refuse → custom ≡ Skip → true ≡ false
 only_where_refused custom refused skipped = let same : Refuse ≡ Skip = sym refused ∙ skipped in cc
 
-pub file_of_skipped : (custom : CustomOptions) (tokens rest : List Lexeme) (result : Result File SyntaxFault)
-    → Gives custom (λ x. x) rest result (file_at custom tokens)
-    → custom ≡ Skip → IfErr result (λ fault. is_of_custom_options fault ≡ false)
-file_of_skipped custom tokens rest (Ok f) e skipped = tt
-file_of_skipped custom tokens rest (Err (NotProto3 offset)) e skipped = refl
-file_of_skipped custom tokens rest (Err (CustomOption offset)) e skipped = only_where_refused custom e.0 skipped
-file_of_skipped custom tokens rest (Err (Aggregate offset)) e skipped = only_where_refused custom e.0 skipped
-file_of_skipped custom tokens rest (Err (Extend offset)) e skipped = only_where_refused custom e.0 skipped
-file_of_skipped custom tokens rest (Err (TwoPackages offset)) e skipped = refl
-file_of_skipped custom tokens rest (Err (ImportEscape offset)) e skipped = refl
-file_of_skipped custom tokens rest (Err (TooDeep offset)) e skipped = refl
-file_of_skipped custom tokens rest (Err (Grammar offset)) e skipped = refl
-file_of_skipped custom tokens rest (Err Memory) e skipped = refl
+pub file_of_skipped : (dialect : Dialect) (tokens rest : List Lexeme) (result : Result File SyntaxFault)
+    → Gives (custom_in dialect) (λ x. x) rest result (file_at dialect tokens)
+    → custom_in dialect ≡ Skip → IfErr result (λ fault. is_of_custom_options fault ≡ false)
+file_of_skipped dialect tokens rest (Ok f) e skipped = tt
+file_of_skipped dialect tokens rest (Err (NotProto3 offset)) e skipped = refl
+file_of_skipped dialect tokens rest (Err (CustomOption offset)) e skipped = only_where_refused (custom_in dialect) e.0 skipped
+file_of_skipped dialect tokens rest (Err (Aggregate offset)) e skipped = only_where_refused (custom_in dialect) e.0 skipped
+file_of_skipped dialect tokens rest (Err (Extend offset)) e skipped = only_where_refused (custom_in dialect) e.0 skipped
+file_of_skipped dialect tokens rest (Err (TwoPackages offset)) e skipped = refl
+file_of_skipped dialect tokens rest (Err (ImportEscape offset)) e skipped = refl
+file_of_skipped dialect tokens rest (Err (TooDeep offset)) e skipped = refl
+file_of_skipped dialect tokens rest (Err (Grammar offset)) e skipped = refl
+file_of_skipped dialect tokens rest (Err Memory) e skipped = refl

@@ -1,45 +1,61 @@
--- What is read is in the grammar: enums, oneofs, messages and services.
-use Rattle.std.proofs.Common.{◌≡◌, ℕ, zero, suc, true, false, Option, Some, List, [], refl, subst, codes}
+-- What is read is in the grammar: enums, messages, groups, oneofs, extends and services.
+use Rattle.std.proofs.Common.{◌≡◌, ℕ, zero, suc, true, false, ◌&&◌, Option, Some, None, option_map, List, [], ◌∷◌}
+use Rattle.std.proofs.Common.{refl, subst, codes}
 use Rattle.proto_lex.specs.declared.span.Span.{Span}
 use Rattle.proto_lex.specs.declared.token.TokenKind.TheVariants.{Identifier, Semicolon, Equals, OpenBrace, CloseBrace}
 use Rattle.proto_lex.specs.declared.token.TokenKind.TheVariants.{OpenParenthesis, CloseParenthesis}
 use Rattle.proto_grammar.specs.declared.tree.CustomOptions.{CustomOptions}
 use Rattle.proto_grammar.specs.declared.tree.CustomOptions.TheVariants.{Refuse, Skip}
+use Rattle.proto_grammar.specs.declared.tree.Syntax.{Syntax}
+use Rattle.proto_grammar.specs.declared.tree.Syntax.TheVariants.{Proto3, Extended, Proto2}
 use Rattle.proto_grammar.specs.declared.tree.Heading.{Heading}
+use Rattle.proto_grammar.specs.declared.tree.Label.{Label}
 use Rattle.proto_grammar.specs.declared.tree.TypeName.{TypeName}
 use Rattle.proto_grammar.specs.declared.tree.Field.{Field}
 use Rattle.proto_grammar.specs.declared.tree.Enum.{Enum}
-use Rattle.proto_grammar.specs.declared.tree.Oneof.{Oneof}
 use Rattle.proto_grammar.specs.declared.tree.Method.{Method}
 use Rattle.proto_grammar.specs.declared.tree.Service.{Service}
-use Rattle.proto_grammar.specs.declared.tree.MessageItem.{MessageItem}
+use Rattle.proto_grammar.specs.declared.tree.Item.{Item}
 use Rattle.proto_parse.specs.declared.statement.MessageStatement.{MessageStatement}
 use Rattle.proto_parse.specs.declared.statement.MessageStatement.TheVariants as choice
+use Rattle.proto_parse.specs.declared.statement.Within.{Within}
+use Rattle.proto_parse.specs.declared.statement.Within.TheVariants as within
 use Rattle.proto_grammar.specs.Lexeme.{Lexeme}
-use Rattle.proto_grammar.specs.Terminal.{first_is, of_kind, is_word, closes}
+use Rattle.proto_grammar.specs.Terminal.{first_is, of_kind, is_word, closes, begins_group}
+use Rattle.proto_grammar.specs.Syntax.{custom_of, is_proto2}
 use Rattle.proto_parse.specs.Choice.{message_statement_of}
-use Rattle.proto_grammar.specs.Tree.{MessageTree}
+use Rattle.proto_grammar.specs.Tree.{BlockTree}
 use Rattle.proto_grammar.specs.Grammar.Repetition.{Passes, Adds}
 use Rattle.proto_grammar.specs.Grammar.Options.{IsOption}
 use Rattle.proto_grammar.specs.Grammar.Options.IsOption.{option as an_option}
-use Rattle.proto_parse.specs.Grammar.Messages.{IsHeading, IsValue, IsEnumItem, IsEnum, IsOneofItem, IsOneof}
-use Rattle.proto_parse.specs.Grammar.Messages.{IsExtendItem, IsExtend, IsMessageItem, IsMessageOf, IsMessage}
+use Rattle.proto_parse.specs.Grammar.Messages.{IsHeading, IsValue, IsEnumItem, IsEnum, IsBraced, IsGroup, IsLabelled}
+use Rattle.proto_parse.specs.Grammar.Messages.{IsMember, IsOneofMember, IsOneofItem, IsOneof, IsExtendItem, IsExtend}
+use Rattle.proto_parse.specs.Grammar.Messages.{IsPassedItem, IsPassedExtend, IsExtendStatement, IsMessage}
+use Rattle.proto_parse.specs.Grammar.Messages.{IsMessageItem, IsItem, IsInside}
 use Rattle.proto_parse.specs.Grammar.Messages.IsHeading.{heading}
 use Rattle.proto_parse.specs.Grammar.Messages.IsValue.{value}
 use Rattle.proto_parse.specs.Grammar.Messages.IsEnumItem.{empty as enums-empty, option as enums-option}
 use Rattle.proto_parse.specs.Grammar.Messages.IsEnumItem.{reserved as enums-reserved, value as enums-value}
 use Rattle.proto_parse.specs.Grammar.Messages.IsEnum.{enum}
+use Rattle.proto_parse.specs.Grammar.Messages.IsBraced.{braced}
+use Rattle.proto_parse.specs.Grammar.Messages.IsGroup.{group}
+use Rattle.proto_parse.specs.Grammar.Messages.IsLabelled.{field as labelled-field, group as labelled-group}
+use Rattle.proto_parse.specs.Grammar.Messages.IsMember.{member}
+use Rattle.proto_parse.specs.Grammar.Messages.IsOneofMember.{oneof_member}
 use Rattle.proto_parse.specs.Grammar.Messages.IsOneofItem.{empty as oneofs-empty, option as oneofs-option}
-use Rattle.proto_parse.specs.Grammar.Messages.IsOneofItem.{field as oneofs-field}
+use Rattle.proto_parse.specs.Grammar.Messages.IsOneofItem.{member as oneofs-member}
 use Rattle.proto_parse.specs.Grammar.Messages.IsOneof.{oneof}
-use Rattle.proto_parse.specs.Grammar.Messages.IsExtendItem.{empty as extends-empty, field as extends-field}
+use Rattle.proto_parse.specs.Grammar.Messages.IsExtendItem.{empty as extends-empty, member as extends-member}
 use Rattle.proto_parse.specs.Grammar.Messages.IsExtend.{extend}
+use Rattle.proto_parse.specs.Grammar.Messages.IsPassedItem.{empty as passes-empty, field as passes-field}
+use Rattle.proto_parse.specs.Grammar.Messages.IsPassedExtend.{passed_extend}
+use Rattle.proto_parse.specs.Grammar.Messages.IsExtendStatement.{kept, passed}
+use Rattle.proto_parse.specs.Grammar.Messages.IsMessage.{message}
 use Rattle.proto_parse.specs.Grammar.Messages.IsMessageItem.{empty as items-empty, message as items-message}
 use Rattle.proto_parse.specs.Grammar.Messages.IsMessageItem.{enum as items-enum, option as items-option}
 use Rattle.proto_parse.specs.Grammar.Messages.IsMessageItem.{oneof as items-oneof, map_field as items-map_field}
 use Rattle.proto_parse.specs.Grammar.Messages.IsMessageItem.{reserved as items-reserved, extend as items-extend}
-use Rattle.proto_parse.specs.Grammar.Messages.IsMessageItem.{field as items-field}
-use Rattle.proto_parse.specs.Grammar.Messages.IsMessageOf.{message as messages-message}
+use Rattle.proto_parse.specs.Grammar.Messages.IsMessageItem.{extensions as items-extensions, member as items-member}
 use Rattle.proto_parse.specs.Grammar.Services.{IsStream, IsMethodType, IsMethodItem, IsMethodEnd, IsMethod}
 use Rattle.proto_parse.specs.Grammar.Services.{IsServiceItem, IsService}
 use Rattle.proto_parse.specs.Grammar.Services.IsStream.{stream, no_stream}
@@ -50,27 +66,29 @@ use Rattle.proto_parse.specs.Grammar.Services.IsMethod.{method}
 use Rattle.proto_parse.specs.Grammar.Services.IsServiceItem.{empty as services-empty, option as services-option}
 use Rattle.proto_parse.specs.Grammar.Services.IsServiceItem.{method as services-method}
 use Rattle.proto_parse.specs.Grammar.Services.IsService.{service}
-use Rattle.proto_grammar.specs.Reading.Repetition.{token_that, adding, passing, until_at}
+use Rattle.proto_grammar.specs.Reading.Repetition.{Read, token_that, span_at, adding, passing, until_at}
 use Rattle.proto_grammar.specs.Reading.Names.{named_type_at, pass_type_name_at}
 use Rattle.proto_grammar.specs.Reading.Options.{option_at, options_at}
-use Rattle.proto_grammar.specs.Reading.Fields.{field_at, oneof_field_at, map_field_at}
-use Rattle.proto_grammar.specs.Reading.Reserved.{integer_at, reserved_at}
-use Rattle.proto_parse.specs.Reading.Messages.{heading_at, value_at, enum_item_at, enum_items_at, enum_at}
-use Rattle.proto_parse.specs.Reading.Messages.{oneof_item_at, oneof_items_at, oneof_at, extend_item_at, extend_items_at}
-use Rattle.proto_parse.specs.Reading.Messages.{extend_at, message_item_by, message_item_at, message_of_at, message_at}
+use Rattle.proto_grammar.specs.Reading.Fields.{typed_at, label_at, group_head_at, map_field_at}
+use Rattle.proto_grammar.specs.Reading.Reserved.{integer_at, reserved_at, extensions_at}
+use Rattle.proto_parse.specs.Reading.Messages.{heading_at, value_at, enum_item_at, enum_items_at, enum_at, braced_at}
+use Rattle.proto_parse.specs.Reading.Messages.{group_at, labelled_at, member_at, oneof_member_at, oneof_item_at}
+use Rattle.proto_parse.specs.Reading.Messages.{extend_item_at, oneof_at, extend_at, passed_item_at, passed_items_at}
+use Rattle.proto_parse.specs.Reading.Messages.{passed_extend_at, extend_statement_at, message_at, ranges_at}
+use Rattle.proto_parse.specs.Reading.Messages.{message_item_by, message_item_at, item_at, inside_at}
 use Rattle.proto_parse.specs.Reading.Services.{stream_at, method_type_at, method_item_at, method_items_at}
 use Rattle.proto_parse.specs.Reading.Services.{method_body_at, method_end_at, method_at, service_item_at}
 use Rattle.proto_parse.specs.Reading.Services.{service_items_at, service_at}
 use Rattle.std.proofs.lemmas.Option.{same_Some}
-use Rattle.proto_grammar.proofs.OptionSteps.{bind_some, chosen}
+use Rattle.proto_grammar.proofs.OptionSteps.{bind_some, guard_some, chosen}
 use Rattle.proto_grammar.proofs.TokenLemmas.{token_found, next_found, one_next}
 use Rattle.proto_grammar.proofs.UntilLemmas.{until_at-found, adding-found, passing-found}
 use Rattle.proto_grammar.proofs.Found.Names.{named_type_found, pass_type_name_found}
 use Rattle.proto_grammar.proofs.Found.Options.{left_of, option_found, options_found}
-use Rattle.proto_grammar.proofs.Found.Fields.{field_found, oneof_field_found, map_field_found, pass_field_found}
-use Rattle.proto_grammar.proofs.Found.Fields.{integer_found, reserved_found}
+use Rattle.proto_grammar.proofs.Found.Fields.{typed_found, label_found, group_head_found, map_field_found}
+use Rattle.proto_grammar.proofs.Found.Fields.{pass_field_found, integer_found, reserved_found, extensions_found}
 
-heading_found : (word : List ℕ) (tokens : List Lexeme) (x : Heading × List Lexeme) → heading_at word tokens ≡ Some x
+pub heading_found : (word : List ℕ) (tokens : List Lexeme) (x : Heading × List Lexeme) → heading_at word tokens ≡ Some x
     → IsHeading word tokens x.0 x.1
 unfolding heading_at
 heading_found word tokens x e =
@@ -128,140 +146,236 @@ enum_found custom tokens x e =
     (adding-found (enum_item_at custom) (IsEnumItem custom) (enum_item_found custom)) [] h.0.1 i.0 i.1)
     (token_found _ _ c.1))
 
-pub oneof_item_found : (custom : CustomOptions) (tokens : List Lexeme) (x : Option Field × List Lexeme)
-    → oneof_item_at custom tokens ≡ Some x → IsOneofItem custom tokens x.0 x.1
+-- what the readers of what is inside find is what is inside
+abbrev pub Finds : {A : Type 0} → Read A → (List Lexeme → A → List Lexeme → Type 0) → Type 0
+Finds {A} read Is = (tokens : List Lexeme) (x : A × List Lexeme) → read tokens ≡ Some x → Is tokens x.0 x.1
+
+braced_found : (item : Read (Option Item)) (Is : List Lexeme → Option Item → List Lexeme → Type 0) → Finds item Is
+    → Finds (braced_at item) (IsBraced Is)
+unfolding braced_at
+braced_found item Is finds tokens x e =
+    let i = bind_some (until_at closes (adding item) [] tokens) _ x e in
+    let c = bind_some (token_that (of_kind CloseBrace) i.0.1) _ x i.2 in
+    subst (λ (y : List Item × List Lexeme). IsBraced Is tokens y.0 y.1) (same_Some _ x c.2)
+    (braced (until_at-found closes (adding item) (Adds Is) (adding-found item Is finds) [] tokens i.0 i.1)
+    (token_found _ _ c.1))
+
+group_found : (custom : CustomOptions) (inner : Read (List Item))
+    (Inner : List Lexeme → List Item → List Lexeme → Type 0) → Finds inner Inner → (first : Span) (label : Option Label)
+    → Finds (group_at custom inner first label) (IsGroup custom Inner first label)
+unfolding group_at
+group_found custom inner Inner finds first label tokens x e =
+    let g = bind_some (group_head_at custom first label tokens) _ x e in
+    let i = bind_some (inner g.0.1) _ x g.2 in
+    subst (λ (y : BlockTree × List Lexeme). IsGroup custom Inner first label tokens y.0 y.1) (same_Some _ x i.2)
+    (group (group_head_found custom first label _ _ g.1) (finds _ _ i.1))
+
+labelled_found : (syntax : Syntax) (inner : Read (List Item)) (Inner : List Lexeme → List Item → List Lexeme → Type 0)
+    → Finds inner Inner → (first : Span) (label : Option Label)
+    → Finds (labelled_at syntax inner first label) (IsLabelled syntax Inner first label)
+unfolding labelled_at
+labelled_found syntax inner Inner finds first label tokens x e =
+    chosen (is_proto2 syntax && begins_group tokens) _ _ (Some x) e
+    (λ is read.
+    let g = bind_some (group_at (custom_of syntax) inner first label tokens) _ x read in
+    subst (λ (y : Item × List Lexeme). IsLabelled syntax Inner first label tokens y.0 y.1) (same_Some _ x g.2)
+    (labelled-group is (group_found (custom_of syntax) inner Inner finds first label _ _ g.1)))
+    (λ is_none read.
+    let f = bind_some (typed_at (custom_of syntax) first label tokens) _ x read in
+    subst (λ (y : Item × List Lexeme). IsLabelled syntax Inner first label tokens y.0 y.1) (same_Some _ x f.2)
+    (labelled-field is_none (typed_found (custom_of syntax) first label _ _ f.1)))
+
+member_found : (syntax : Syntax) (inner : Read (List Item)) (Inner : List Lexeme → List Item → List Lexeme → Type 0)
+    → Finds inner Inner → Finds (member_at syntax inner) (IsMember syntax Inner)
+unfolding member_at span_at
+member_found syntax inner Inner finds [] x e = cc
+member_found syntax inner Inner finds (t ∷ rest) x e =
+    let l = bind_some (label_at syntax (t ∷ rest)) _ x e in
+    member (label_found syntax _ _ l.1) (labelled_found syntax inner Inner finds t.span l.0.0 _ _ l.2)
+
+oneof_member_found : (syntax : Syntax) (inner : Read (List Item))
+    (Inner : List Lexeme → List Item → List Lexeme → Type 0)
+    → Finds inner Inner → Finds (oneof_member_at syntax inner) (IsOneofMember syntax Inner)
+unfolding oneof_member_at span_at
+oneof_member_found syntax inner Inner finds [] x e = cc
+oneof_member_found syntax inner Inner finds (t ∷ rest) x e =
+    oneof_member (labelled_found syntax inner Inner finds t.span None _ _ e)
+
+oneof_item_found : (syntax : Syntax) (inner : Read (List Item)) (Inner : List Lexeme → List Item → List Lexeme → Type 0)
+    → Finds inner Inner → Finds (oneof_item_at syntax inner) (IsOneofItem syntax Inner)
 unfolding oneof_item_at
-oneof_item_found custom tokens x e =
+oneof_item_found syntax inner Inner finds tokens x e =
     chosen (first_is (of_kind Semicolon) tokens) _ _ (Some x) e
-    (λ is read. subst (λ (y : Option Field × List Lexeme). IsOneofItem custom tokens y.0 y.1) (same_Some _ x read)
+    (λ is read. subst (λ (y : Option Item × List Lexeme). IsOneofItem syntax Inner tokens y.0 y.1) (same_Some _ x read)
     (oneofs-empty (next_found tokens is).1))
     (λ no_semicolon read. chosen (first_is (is_word (codes "option")) tokens) _ _ (Some x) read
     (λ is read.
-    let o = bind_some (option_at custom tokens) _ x read in
-    subst (λ (y : Option Field × List Lexeme). IsOneofItem custom tokens y.0 y.1) (same_Some _ x o.2)
-    (oneofs-option is (option_found custom _ _ o.1)))
+    let o = bind_some (option_at (custom_of syntax) tokens) _ x read in
+    subst (λ (y : Option Item × List Lexeme). IsOneofItem syntax Inner tokens y.0 y.1) (same_Some _ x o.2)
+    (oneofs-option is (option_found (custom_of syntax) _ _ o.1)))
     (λ no_option read.
-    let f = bind_some (oneof_field_at custom tokens) _ x read in
-    subst (λ (y : Option Field × List Lexeme). IsOneofItem custom tokens y.0 y.1) (same_Some _ x f.2)
-    (oneofs-field no_semicolon no_option (oneof_field_found custom _ _ f.1))))
+    let m = bind_some (oneof_member_at syntax inner tokens) _ x read in
+    subst (λ (y : Option Item × List Lexeme). IsOneofItem syntax Inner tokens y.0 y.1) (same_Some _ x m.2)
+    (oneofs-member no_semicolon no_option (oneof_member_found syntax inner Inner finds _ _ m.1))))
 
-pub oneof_found : (custom : CustomOptions) (tokens : List Lexeme) (x : Oneof × List Lexeme)
-    → oneof_at custom tokens ≡ Some x → IsOneof custom tokens x.0 x.1
-unfolding oneof_at oneof_items_at
-oneof_found custom tokens x e =
-    let h = bind_some (heading_at (codes "oneof") tokens) _ x e in
-    let i = bind_some (until_at closes (adding (oneof_item_at custom)) [] h.0.1) _ x h.2 in
-    let c = bind_some (token_that (of_kind CloseBrace) i.0.1) _ x i.2 in
-    subst (λ (y : Oneof × List Lexeme). IsOneof custom tokens y.0 y.1) (same_Some _ x c.2)
-    (oneof (heading_found (codes "oneof") _ _ h.1)
-    (until_at-found closes (adding (oneof_item_at custom)) (Adds (IsOneofItem custom))
-    (adding-found (oneof_item_at custom) (IsOneofItem custom) (oneof_item_found custom)) [] h.0.1 i.0 i.1)
-    (token_found _ _ c.1))
-
-pub extend_item_found : (tokens : List Lexeme) (x : Unit {0} × List Lexeme) → extend_item_at tokens ≡ Some x
-    → IsExtendItem tokens x.1
+extend_item_found : (syntax : Syntax) (inner : Read (List Item))
+    (Inner : List Lexeme → List Item → List Lexeme → Type 0)
+    → Finds inner Inner → Finds (extend_item_at syntax inner) (IsExtendItem syntax Inner)
 unfolding extend_item_at
-extend_item_found tokens x e =
+extend_item_found syntax inner Inner finds tokens x e =
     chosen (first_is (of_kind Semicolon) tokens) _ _ (Some x) e
-    (λ is read. subst (λ (y : List Lexeme). IsExtendItem tokens y) (left_of x read)
+    (λ is read. subst (λ (y : Option Item × List Lexeme). IsExtendItem syntax Inner tokens y.0 y.1) (same_Some _ x read)
     (extends-empty (next_found tokens is).1))
-    (λ no_semicolon read. extends-field no_semicolon (pass_field_found Skip _ _ read).1)
+    (λ no_semicolon read.
+    let m = bind_some (member_at syntax inner tokens) _ x read in
+    subst (λ (y : Option Item × List Lexeme). IsExtendItem syntax Inner tokens y.0 y.1) (same_Some _ x m.2)
+    (extends-member no_semicolon (member_found syntax inner Inner finds _ _ m.1)))
 
-pub extend_found : (custom : CustomOptions) (tokens : List Lexeme) (x : Unit {0} × List Lexeme)
-    → extend_at custom tokens ≡ Some x → IsExtend custom tokens x.1
-unfolding extend_at extend_items_at
-extend_found Refuse tokens x e = cc
-extend_found Skip tokens x e =
+oneof_found : (syntax : Syntax) (inner : Read (List Item)) (Inner : List Lexeme → List Item → List Lexeme → Type 0)
+    → Finds inner Inner → Finds (oneof_at syntax inner) (IsOneof syntax Inner)
+unfolding oneof_at
+oneof_found syntax inner Inner finds tokens x e =
+    let h = bind_some (heading_at (codes "oneof") tokens) _ x e in
+    let i = bind_some (braced_at (oneof_item_at syntax inner) h.0.1) _ x h.2 in
+    subst (λ (y : BlockTree × List Lexeme). IsOneof syntax Inner tokens y.0 y.1) (same_Some _ x i.2)
+    (oneof (heading_found (codes "oneof") _ _ h.1)
+    (braced_found (oneof_item_at syntax inner) (IsOneofItem syntax Inner) (oneof_item_found syntax inner Inner finds) _
+    _ i.1))
+
+extend_found : (syntax : Syntax) (inner : Read (List Item)) (Inner : List Lexeme → List Item → List Lexeme → Type 0)
+    → Finds inner Inner → Finds (extend_at syntax inner) (IsExtend syntax Inner)
+unfolding extend_at
+extend_found syntax inner Inner finds tokens x e =
+    let k = bind_some (token_that (is_word (codes "extend")) tokens) _ x e in
+    let n = bind_some (named_type_at k.0.1) _ x k.2 in
+    let o = bind_some (token_that (of_kind OpenBrace) n.0.1) _ x n.2 in
+    let i = bind_some (braced_at (extend_item_at syntax inner) o.0.1) _ x o.2 in
+    let name = named_type_found _ _ n.1 in
+    subst (λ (y : BlockTree × List Lexeme). IsExtend syntax Inner tokens y.0 y.1) (same_Some _ x i.2)
+    (extend (token_found _ _ k.1) name.0 name.1 (token_found _ _ o.1)
+    (braced_found (extend_item_at syntax inner) (IsExtendItem syntax Inner)
+    (extend_item_found syntax inner Inner finds) _ _ i.1))
+
+pub passed_item_found : (tokens : List Lexeme) (x : Unit {0} × List Lexeme) → passed_item_at tokens ≡ Some x
+    → IsPassedItem tokens x.1
+unfolding passed_item_at
+passed_item_found tokens x e =
+    chosen (first_is (of_kind Semicolon) tokens) _ _ (Some x) e
+    (λ is read. subst (λ (y : List Lexeme). IsPassedItem tokens y) (left_of x read)
+    (passes-empty (next_found tokens is).1))
+    (λ no_semicolon read. passes-field no_semicolon (pass_field_found Skip _ _ read).1)
+
+pub passed_extend_found : (custom : CustomOptions) (tokens : List Lexeme) (x : Unit {0} × List Lexeme)
+    → passed_extend_at custom tokens ≡ Some x → IsPassedExtend custom tokens x.1
+unfolding passed_extend_at passed_items_at
+passed_extend_found Refuse tokens x e = cc
+passed_extend_found Skip tokens x e =
     let k = bind_some (token_that (is_word (codes "extend")) tokens) _ x e in
     let n = bind_some (pass_type_name_at k.0.1) _ x k.2 in
     let o = bind_some (token_that (of_kind OpenBrace) n.0.1) _ x n.2 in
-    let i = bind_some (until_at closes (passing extend_item_at) tt o.0.1) _ x o.2 in
+    let i = bind_some (until_at closes (passing passed_item_at) tt o.0.1) _ x o.2 in
     let c = bind_some (token_that (of_kind CloseBrace) i.0.1) _ x i.2 in
-    subst (λ (y : List Lexeme). IsExtend Skip tokens y) (left_of x c.2)
-    (extend (token_found _ _ k.1) (pass_type_name_found _ _ n.1).1 (token_found _ _ o.1)
-    (until_at-found closes (passing extend_item_at) (Passes IsExtendItem)
-    (passing-found extend_item_at IsExtendItem extend_item_found) tt o.0.1 i.0 i.1)
+    subst (λ (y : List Lexeme). IsPassedExtend Skip tokens y) (left_of x c.2)
+    (passed_extend (token_found _ _ k.1) (pass_type_name_found _ _ n.1).1 (token_found _ _ o.1)
+    (until_at-found closes (passing passed_item_at) (Passes IsPassedItem)
+    (passing-found passed_item_at IsPassedItem passed_item_found) tt o.0.1 i.0 i.1)
     (token_found _ _ c.1))
 
--- what the readers of inner messages find is messages
-abbrev pub FindsMessages : (List Lexeme → Option (MessageTree × List Lexeme))
-    → (List Lexeme → MessageTree → List Lexeme → Type 0) → Type 0
-FindsMessages inner Inner = (tokens : List Lexeme) (x : MessageTree × List Lexeme) → inner tokens ≡ Some x
-    → Inner tokens x.0 x.1
+pub extend_statement_found : (syntax : Syntax) (inner : Read (List Item))
+    (Inner : List Lexeme → List Item → List Lexeme → Type 0)
+    → Finds inner Inner → Finds (extend_statement_at syntax inner) (IsExtendStatement Inner syntax)
+unfolding extend_statement_at
+extend_statement_found (Proto3 custom) inner Inner finds tokens x e =
+    let p = bind_some (passed_extend_at custom tokens) _ x e in
+    subst (λ (y : Option BlockTree × List Lexeme). IsExtendStatement Inner (Proto3 custom) tokens y.0 y.1)
+    (same_Some _ x p.2) (passed (passed_extend_found custom _ _ p.1))
+extend_statement_found Extended inner Inner finds tokens x e =
+    let m = bind_some (extend_at Extended inner tokens) _ x e in
+    subst (λ (y : Option BlockTree × List Lexeme). IsExtendStatement Inner Extended tokens y.0 y.1) (same_Some _ x m.2)
+    (kept refl (extend_found Extended inner Inner finds _ _ m.1))
+extend_statement_found Proto2 inner Inner finds tokens x e =
+    let m = bind_some (extend_at Proto2 inner tokens) _ x e in
+    subst (λ (y : Option BlockTree × List Lexeme). IsExtendStatement Inner Proto2 tokens y.0 y.1) (same_Some _ x m.2)
+    (kept refl (extend_found Proto2 inner Inner finds _ _ m.1))
 
-item_by_found : (custom : CustomOptions) (inner : List Lexeme → Option (MessageTree × List Lexeme))
-    (Inner : List Lexeme → MessageTree → List Lexeme → Type 0) → FindsMessages inner Inner
-    → (tokens : List Lexeme) (x : Option MessageItem × List Lexeme) (statement : MessageStatement)
-    → message_statement_of tokens ≡ statement
-    → message_item_by statement custom inner tokens ≡ Some x → IsMessageItem custom Inner tokens x.0 x.1
-item_by_found custom inner Inner finds tokens x choice.Empty is e =
-    let m = bind_some (token_that (of_kind Semicolon) tokens) _ x e in
-    subst (λ (y : Option MessageItem × List Lexeme). IsMessageItem custom Inner tokens y.0 y.1) (same_Some _ x m.2)
-    (items-empty is (token_found _ _ m.1))
-item_by_found custom inner Inner finds tokens x choice.Message is e =
-    let m = bind_some (inner tokens) _ x e in
-    subst (λ (y : Option MessageItem × List Lexeme). IsMessageItem custom Inner tokens y.0 y.1) (same_Some _ x m.2)
-    (items-message is (finds _ _ m.1))
-item_by_found custom inner Inner finds tokens x choice.Enum is e =
-    let m = bind_some (enum_at custom tokens) _ x e in
-    subst (λ (y : Option MessageItem × List Lexeme). IsMessageItem custom Inner tokens y.0 y.1) (same_Some _ x m.2)
-    (items-enum is (enum_found custom _ _ m.1))
-item_by_found custom inner Inner finds tokens x choice.Option is e =
-    let m = bind_some (option_at custom tokens) _ x e in
-    subst (λ (y : Option MessageItem × List Lexeme). IsMessageItem custom Inner tokens y.0 y.1) (same_Some _ x m.2)
-    (items-option is (option_found custom _ _ m.1))
-item_by_found custom inner Inner finds tokens x choice.Oneof is e =
-    let m = bind_some (oneof_at custom tokens) _ x e in
-    subst (λ (y : Option MessageItem × List Lexeme). IsMessageItem custom Inner tokens y.0 y.1) (same_Some _ x m.2)
-    (items-oneof is (oneof_found custom _ _ m.1))
-item_by_found custom inner Inner finds tokens x choice.Map is e =
-    let m = bind_some (map_field_at custom tokens) _ x e in
-    subst (λ (y : Option MessageItem × List Lexeme). IsMessageItem custom Inner tokens y.0 y.1) (same_Some _ x m.2)
-    (items-map_field is (map_field_found custom _ _ m.1))
-item_by_found custom inner Inner finds tokens x choice.Reserved is e =
-    let m = bind_some (reserved_at false tokens) _ x e in
-    subst (λ (y : Option MessageItem × List Lexeme). IsMessageItem custom Inner tokens y.0 y.1) (same_Some _ x m.2)
-    (items-reserved is (reserved_found false _ _ m.1))
-item_by_found custom inner Inner finds tokens x choice.Extend is e =
-    let m = bind_some (extend_at custom tokens) _ x e in
-    subst (λ (y : Option MessageItem × List Lexeme). IsMessageItem custom Inner tokens y.0 y.1) (same_Some _ x m.2)
-    (items-extend is (extend_found custom _ _ m.1))
-item_by_found custom inner Inner finds tokens x choice.Extensions is e = cc
-item_by_found custom inner Inner finds tokens x choice.Field is e =
-    let m = bind_some (field_at custom tokens) _ x e in
-    subst (λ (y : Option MessageItem × List Lexeme). IsMessageItem custom Inner tokens y.0 y.1) (same_Some _ x m.2)
-    (items-field is (field_found custom _ _ m.1))
-
-pub message_item_found : (custom : CustomOptions) (inner : List Lexeme → Option (MessageTree × List Lexeme))
-    (Inner : List Lexeme → MessageTree → List Lexeme → Type 0) → FindsMessages inner Inner
-    → (tokens : List Lexeme) (x : Option MessageItem × List Lexeme) → message_item_at custom inner tokens ≡ Some x
-    → IsMessageItem custom Inner tokens x.0 x.1
-unfolding message_item_at
-message_item_found custom inner Inner finds tokens x e =
-    item_by_found custom inner Inner finds tokens x (message_statement_of tokens) refl e
-
-message_of_found : (custom : CustomOptions) (inner : List Lexeme → Option (MessageTree × List Lexeme))
-    (Inner : List Lexeme → MessageTree → List Lexeme → Type 0) → FindsMessages inner Inner
-    → FindsMessages (message_of_at custom inner) (IsMessageOf custom Inner)
-unfolding message_of_at
-message_of_found custom inner Inner finds tokens x e =
+pub message_found : (inner : Read (List Item)) (Inner : List Lexeme → List Item → List Lexeme → Type 0)
+    → Finds inner Inner → Finds (message_at inner) (IsMessage Inner)
+unfolding message_at
+message_found inner Inner finds tokens x e =
     let h = bind_some (heading_at (codes "message") tokens) _ x e in
-    let i = bind_some (until_at closes (adding (message_item_at custom inner)) [] h.0.1) _ x h.2 in
-    let c = bind_some (token_that (of_kind CloseBrace) i.0.1) _ x i.2 in
-    subst (λ (y : MessageTree × List Lexeme). IsMessageOf custom Inner tokens y.0 y.1) (same_Some _ x c.2)
-    (messages-message (heading_found (codes "message") _ _ h.1)
-    (until_at-found closes (adding (message_item_at custom inner)) (Adds (IsMessageItem custom Inner))
-    (adding-found (message_item_at custom inner) (IsMessageItem custom Inner)
-    (message_item_found custom inner Inner finds)) [] h.0.1 i.0 i.1)
-    (token_found _ _ c.1))
+    let i = bind_some (inner h.0.1) _ x h.2 in
+    subst (λ (y : BlockTree × List Lexeme). IsMessage Inner tokens y.0 y.1) (same_Some _ x i.2)
+    (message (heading_found (codes "message") _ _ h.1) (finds _ _ i.1))
 
-pub message_found : (custom : CustomOptions) (levels : ℕ)
-    → FindsMessages (message_at custom levels) (IsMessage custom levels)
-unfolding message_at IsMessage
-message_found custom zero tokens x e = cc
-message_found custom (suc levels) tokens x e =
-    message_of_found custom (message_at custom levels) (IsMessage custom levels)
-    (message_found custom levels) tokens x e
+item_by_found : (syntax : Syntax) (inner : Read (List Item)) (Inner : List Lexeme → List Item → List Lexeme → Type 0)
+    → Finds inner Inner → (tokens : List Lexeme) (x : Option Item × List Lexeme) (statement : MessageStatement)
+    → message_statement_of tokens ≡ statement
+    → message_item_by statement syntax inner tokens ≡ Some x → IsMessageItem syntax Inner tokens x.0 x.1
+unfolding ranges_at
+item_by_found syntax inner Inner finds tokens x choice.Empty is e =
+    let m = bind_some (token_that (of_kind Semicolon) tokens) _ x e in
+    subst (λ (y : Option Item × List Lexeme). IsMessageItem syntax Inner tokens y.0 y.1) (same_Some _ x m.2)
+    (items-empty is (token_found _ _ m.1))
+item_by_found syntax inner Inner finds tokens x choice.Message is e =
+    let m = bind_some (message_at inner tokens) _ x e in
+    subst (λ (y : Option Item × List Lexeme). IsMessageItem syntax Inner tokens y.0 y.1) (same_Some _ x m.2)
+    (items-message is (message_found inner Inner finds _ _ m.1))
+item_by_found syntax inner Inner finds tokens x choice.Enum is e =
+    let m = bind_some (enum_at (custom_of syntax) tokens) _ x e in
+    subst (λ (y : Option Item × List Lexeme). IsMessageItem syntax Inner tokens y.0 y.1) (same_Some _ x m.2)
+    (items-enum is (enum_found (custom_of syntax) _ _ m.1))
+item_by_found syntax inner Inner finds tokens x choice.Option is e =
+    let m = bind_some (option_at (custom_of syntax) tokens) _ x e in
+    subst (λ (y : Option Item × List Lexeme). IsMessageItem syntax Inner tokens y.0 y.1) (same_Some _ x m.2)
+    (items-option is (option_found (custom_of syntax) _ _ m.1))
+item_by_found syntax inner Inner finds tokens x choice.Oneof is e =
+    let m = bind_some (oneof_at syntax inner tokens) _ x e in
+    subst (λ (y : Option Item × List Lexeme). IsMessageItem syntax Inner tokens y.0 y.1) (same_Some _ x m.2)
+    (items-oneof is (oneof_found syntax inner Inner finds _ _ m.1))
+item_by_found syntax inner Inner finds tokens x choice.Map is e =
+    let m = bind_some (map_field_at (custom_of syntax) tokens) _ x e in
+    subst (λ (y : Option Item × List Lexeme). IsMessageItem syntax Inner tokens y.0 y.1) (same_Some _ x m.2)
+    (items-map_field is (map_field_found (custom_of syntax) _ _ m.1))
+item_by_found syntax inner Inner finds tokens x choice.Reserved is e =
+    let m = bind_some (reserved_at false tokens) _ x e in
+    subst (λ (y : Option Item × List Lexeme). IsMessageItem syntax Inner tokens y.0 y.1) (same_Some _ x m.2)
+    (items-reserved is (reserved_found false _ _ m.1))
+item_by_found syntax inner Inner finds tokens x choice.Extend is e =
+    let m = bind_some (extend_statement_at syntax inner tokens) _ x e in
+    subst (λ (y : Option Item × List Lexeme). IsMessageItem syntax Inner tokens y.0 y.1) (same_Some _ x m.2)
+    (items-extend is (extend_statement_found syntax inner Inner finds _ _ m.1))
+item_by_found syntax inner Inner finds tokens x choice.Extensions is e =
+    let g = guard_some (is_proto2 syntax) _ x e in
+    let m = bind_some (extensions_at (custom_of syntax) tokens) _ x g.1 in
+    subst (λ (y : Option Item × List Lexeme). IsMessageItem syntax Inner tokens y.0 y.1) (same_Some _ x m.2)
+    (items-extensions is g.0 (extensions_found (custom_of syntax) _ _ m.1))
+item_by_found syntax inner Inner finds tokens x choice.Member is e =
+    let m = bind_some (member_at syntax inner tokens) _ x e in
+    subst (λ (y : Option Item × List Lexeme). IsMessageItem syntax Inner tokens y.0 y.1) (same_Some _ x m.2)
+    (items-member is (member_found syntax inner Inner finds _ _ m.1))
+
+message_item_found : (syntax : Syntax) (inner : Read (List Item))
+    (Inner : List Lexeme → List Item → List Lexeme → Type 0)
+    → Finds inner Inner → Finds (message_item_at syntax inner) (IsMessageItem syntax Inner)
+unfolding message_item_at
+message_item_found syntax inner Inner finds tokens x e =
+    item_by_found syntax inner Inner finds tokens x (message_statement_of tokens) refl e
+
+pub item_found : (place : Within) (syntax : Syntax) (inner : Read (List Item))
+    (Inner : List Lexeme → List Item → List Lexeme → Type 0)
+    → Finds inner Inner → Finds (item_at place syntax inner) (IsItem place syntax Inner)
+item_found within.Message syntax inner Inner finds = message_item_found syntax inner Inner finds
+item_found within.Oneof syntax inner Inner finds = oneof_item_found syntax inner Inner finds
+item_found within.Extend syntax inner Inner finds = extend_item_found syntax inner Inner finds
+
+pub inside_found : (syntax : Syntax) (levels : ℕ) → Finds (inside_at syntax levels) (IsInside syntax levels)
+unfolding inside_at IsInside
+inside_found syntax zero tokens x e = cc
+inside_found syntax (suc levels) tokens x e =
+    braced_found (message_item_at syntax (inside_at syntax levels))
+    (IsMessageItem syntax (IsInside syntax levels))
+    (message_item_found syntax (inside_at syntax levels) (IsInside syntax levels) (inside_found syntax levels)) tokens x
+    e
 
 stream_found : (tokens : List Lexeme) (x : Unit {0} × List Lexeme) → stream_at tokens ≡ Some x → IsStream tokens x.1
 unfolding stream_at

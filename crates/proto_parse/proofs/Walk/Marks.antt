@@ -1,32 +1,36 @@
 -- The spans of a tree are at tokens, in the order of a walk.
-use Rattle.std.proofs.Common.{◌≡◌, ℕ, zero, suc, ◌≤◌, Bool, Option, option_to_list, List, [], ◌∷◌, ◌++◌, map, refl, sym}
-use Rattle.std.proofs.Common.{◌∙◌, ap, append_assoc, append-nil, arith}
+use Rattle.std.proofs.Common.{◌≡◌, ℕ, zero, suc, ◌≤◌, Bool, Option, Some, None, option_map, option_to_list, List, [], ◌∷◌}
+use Rattle.std.proofs.Common.{◌++◌, map, refl, sym, ◌∙◌, ap, append_assoc, append-nil, arith}
 use Rattle.proto_lex.specs.declared.span.Span.{Span}
 use Rattle.proto_lex.specs.declared.token.Token.{Token}
 use Rattle.proto_lex.specs.declared.token.TokenKind.TheVariants.{Identifier}
 use Rattle.proto_lex.specs.Lexed.{AreInOrder}
 use Rattle.proto_grammar.specs.declared.tree.CustomOptions.{CustomOptions}
+use Rattle.proto_grammar.specs.declared.tree.Dialect.{Dialect}
+use Rattle.proto_grammar.specs.declared.tree.Syntax.{Syntax}
 use Rattle.proto_grammar.specs.declared.tree.Heading.{Heading}
+use Rattle.proto_grammar.specs.declared.tree.Label.{Label}
 use Rattle.proto_grammar.specs.declared.tree.TypeName.{TypeName}
 use Rattle.proto_grammar.specs.declared.tree.FieldType.{FieldType}
 use Rattle.proto_grammar.specs.declared.tree.Field.{Field}
 use Rattle.proto_grammar.specs.declared.tree.MapField.{MapField}
 use Rattle.proto_grammar.specs.declared.tree.Enum.{Enum}
-use Rattle.proto_grammar.specs.declared.tree.Oneof.{Oneof}
+use Rattle.proto_grammar.specs.declared.tree.Group.{Group}
 use Rattle.proto_grammar.specs.declared.tree.Method.{Method}
 use Rattle.proto_grammar.specs.declared.tree.Service.{Service}
-use Rattle.proto_grammar.specs.declared.tree.MessageItem.{MessageItem}
-use Rattle.proto_grammar.specs.declared.tree.MessageItem.TheVariants as tree
+use Rattle.proto_grammar.specs.declared.tree.Item.{Item}
+use Rattle.proto_grammar.specs.declared.tree.Item.TheVariants as tree
 use Rattle.proto_grammar.specs.declared.tree.FileItem.TheVariants as item
 use Rattle.proto_grammar.specs.declared.tree.Import.{Import}
 use Rattle.proto_grammar.specs.declared.tree.File.{File}
 use Rattle.proto_grammar.specs.Lexeme.{Lexeme, lexemes_of}
 use Rattle.proto_parse.specs.Limits.{max_message_depth}
-use Rattle.proto_grammar.specs.Tree.{MessageTree}
+use Rattle.proto_grammar.specs.Syntax.{custom_of}
+use Rattle.proto_grammar.specs.Tree.{BlockTree}
 use Rattle.proto_grammar.specs.Items.{body_of}
 use Rattle.proto_parse.specs.Walk.{Mark, Among, MarksAreInOrder, each_then, name_then, names_then, literal_then}
 use Rattle.proto_parse.specs.Walk.{type_name_then, type_then, heading_then, field_then, map_field_then, enum_then}
-use Rattle.proto_parse.specs.Walk.{oneof_then, leaf_then, body_then, message_then, method_then, service_then, item_then}
+use Rattle.proto_parse.specs.Walk.{group_then, leaf_then, body_then, block_then, method_then, service_then, item_then}
 use Rattle.proto_parse.specs.Walk.{import_then, marks_of_items, marks_of_imports, marks_of_package}
 use Rattle.proto_parse.specs.Walk.Mark.{Name, Other}
 use Rattle.proto_parse.specs.Walk.Among.{none as no_marks, skip, first as at_first, name as at_name}
@@ -40,28 +44,37 @@ use Rattle.proto_grammar.specs.Grammar.Names.IsDotName.{dot_name}
 use Rattle.proto_grammar.specs.Grammar.Names.IsName.{name}
 use Rattle.proto_grammar.specs.Grammar.Names.IsTypeName.{rooted, plain as plain_name}
 use Rattle.proto_grammar.specs.Grammar.Names.IsType.{scalar, named}
-use Rattle.proto_grammar.specs.Grammar.Fields.{IsNumbered, IsField, IsOneofField, IsMapField}
+use Rattle.proto_grammar.specs.Grammar.Fields.{IsNumbered, IsTyped, IsGroupHead, IsMapField}
 use Rattle.proto_grammar.specs.Grammar.Fields.IsNumbered.{numbered}
 use Rattle.proto_grammar.specs.Grammar.Fields.IsTyped.{typed}
-use Rattle.proto_grammar.specs.Grammar.Fields.IsField.{field}
-use Rattle.proto_grammar.specs.Grammar.Fields.IsOneofField.{oneof_field}
+use Rattle.proto_grammar.specs.Grammar.Fields.IsGroupHead.{group_head}
 use Rattle.proto_grammar.specs.Grammar.Fields.IsMapField.{map_field}
-use Rattle.proto_parse.specs.Grammar.Messages.{IsHeading, IsValue, IsEnumItem, IsEnum, IsOneofItem, IsOneof}
-use Rattle.proto_parse.specs.Grammar.Messages.{IsMessageItem, IsMessageOf, IsMessage}
+use Rattle.proto_parse.specs.Grammar.Messages.{IsHeading, IsValue, IsEnumItem, IsEnum, IsBraced, IsGroup, IsLabelled}
+use Rattle.proto_parse.specs.Grammar.Messages.{IsMember, IsOneofItem, IsOneof, IsExtendItem, IsExtend}
+use Rattle.proto_parse.specs.Grammar.Messages.{IsExtendStatement, IsMessage}
+use Rattle.proto_parse.specs.Grammar.Messages.{IsMessageItem, IsInside}
 use Rattle.proto_parse.specs.Grammar.Messages.IsHeading.{heading}
 use Rattle.proto_parse.specs.Grammar.Messages.IsValue.{value}
 use Rattle.proto_parse.specs.Grammar.Messages.IsEnumItem.{empty as enums-empty, option as enums-option}
 use Rattle.proto_parse.specs.Grammar.Messages.IsEnumItem.{reserved as enums-reserved, value as enums-value}
 use Rattle.proto_parse.specs.Grammar.Messages.IsEnum.{enum}
+use Rattle.proto_parse.specs.Grammar.Messages.IsBraced.{braced}
+use Rattle.proto_parse.specs.Grammar.Messages.IsGroup.{group}
+use Rattle.proto_parse.specs.Grammar.Messages.IsLabelled.{field as labelled-field, group as labelled-group}
+use Rattle.proto_parse.specs.Grammar.Messages.IsMember.{member}
+use Rattle.proto_parse.specs.Grammar.Messages.IsOneofMember.{oneof_member}
 use Rattle.proto_parse.specs.Grammar.Messages.IsOneofItem.{empty as oneofs-empty, option as oneofs-option}
-use Rattle.proto_parse.specs.Grammar.Messages.IsOneofItem.{field as oneofs-field}
+use Rattle.proto_parse.specs.Grammar.Messages.IsOneofItem.{member as oneofs-member}
 use Rattle.proto_parse.specs.Grammar.Messages.IsOneof.{oneof}
+use Rattle.proto_parse.specs.Grammar.Messages.IsExtendItem.{empty as extends-empty, member as extends-member}
+use Rattle.proto_parse.specs.Grammar.Messages.IsExtend.{extend}
+use Rattle.proto_parse.specs.Grammar.Messages.IsExtendStatement.{kept, passed}
+use Rattle.proto_parse.specs.Grammar.Messages.IsMessage.{message}
 use Rattle.proto_parse.specs.Grammar.Messages.IsMessageItem.{empty as items-empty, message as items-message}
 use Rattle.proto_parse.specs.Grammar.Messages.IsMessageItem.{enum as items-enum, option as items-option}
 use Rattle.proto_parse.specs.Grammar.Messages.IsMessageItem.{oneof as items-oneof, map_field as items-map_field}
 use Rattle.proto_parse.specs.Grammar.Messages.IsMessageItem.{reserved as items-reserved, extend as items-extend}
-use Rattle.proto_parse.specs.Grammar.Messages.IsMessageItem.{field as items-field}
-use Rattle.proto_parse.specs.Grammar.Messages.IsMessageOf.{message}
+use Rattle.proto_parse.specs.Grammar.Messages.IsMessageItem.{extensions as items-extensions, member as items-member}
 use Rattle.proto_parse.specs.Grammar.Services.{IsMethodType, IsMethodEnd, IsMethod, IsServiceItem, IsService}
 use Rattle.proto_parse.specs.Grammar.Services.IsStream.{stream, no_stream}
 use Rattle.proto_parse.specs.Grammar.Services.IsMethodType.{method_type}
@@ -72,7 +85,7 @@ use Rattle.proto_parse.specs.Grammar.Services.IsServiceItem.{method as services-
 use Rattle.proto_parse.specs.Grammar.Services.IsService.{service}
 use Rattle.proto_parse.specs.Grammar.Files.{empty_file, IsSyntax, IsPathLiteral, IsImport, IsPackage, IsStatement}
 use Rattle.proto_parse.specs.Grammar.Files.{IsFile}
-use Rattle.proto_parse.specs.Grammar.Files.IsSyntax.{syntax}
+use Rattle.proto_parse.specs.Grammar.Files.IsSyntax.{proto3, proto2, no_statement}
 use Rattle.proto_parse.specs.Grammar.Files.IsPathLiteral.{path_literal}
 use Rattle.proto_parse.specs.Grammar.Files.IsImport.{import}
 use Rattle.proto_parse.specs.Grammar.Files.IsPackage.{package_statement}
@@ -82,10 +95,11 @@ use Rattle.proto_parse.specs.Grammar.Files.IsStatement.{option as statements-opt
 use Rattle.proto_parse.specs.Grammar.Files.IsStatement.{enum as statements-enum, service as statements-service}
 use Rattle.proto_parse.specs.Grammar.Files.IsStatement.{extend as statements-extend}
 use Rattle.proto_parse.specs.Grammar.Files.IsFile.{file}
-use Rattle.proto_parse.proofs.Walk.Past.{same_kind, past, at_a_name, at_a_scalar, at_a_key, at_a_literal, at_another}
-use Rattle.proto_parse.proofs.Walk.Past.{at_its_first, until_past, option_past, options_past, label_past, integer_past}
-use Rattle.proto_parse.proofs.Walk.Past.{reserved_past, extend_past, method_item_past, joined_past, enum_past}
-use Rattle.proto_parse.proofs.Walk.Past.{message_past, service_past, package_past, import_kind_past, import_past}
+use Rattle.proto_parse.proofs.Walk.Past.{same_kind, past, at_a_name, at_a_word, at_a_group_name, at_a_scalar, at_a_key}
+use Rattle.proto_parse.proofs.Walk.Past.{at_a_literal, at_another, at_its_first, until_past, option_past, options_past}
+use Rattle.proto_parse.proofs.Walk.Past.{label_past, integer_past, reserved_past, extensions_past, passed_extend_past}
+use Rattle.proto_parse.proofs.Walk.Past.{method_item_past, joined_past, enum_past, file_message_past, file_extend_past}
+use Rattle.proto_parse.proofs.Walk.Past.{service_past, package_past, import_kind_past, import_past}
 
 -- marks of two lists
 pub each_then-append : {A : Type 0} (marks_then : A → List Mark → List Mark) (xs ys : List A) (marks : List Mark)
@@ -175,16 +189,6 @@ numbered_first : {custom : CustomOptions} {first : Span} {a b : List Lexeme} {x 
     → IsNumbered custom first a x b → x.first ≡ first
 numbered_first (numbered n q i o s) = refl
 
-field_marks : {custom : CustomOptions} {a b : List Lexeme} {x : Field} {marks : List Mark} → IsField custom a x b
-    → Among marks b → Among (field_then x marks) a
-field_marks (field {t = t} {rest = rest} l (typed y n)) behind =
-    rw (numbered_first n) (at_first (label_past l (type_marks y (numbered_marks n behind))))
-
-oneof_field_marks : {custom : CustomOptions} {a b : List Lexeme} {x : Field} {marks : List Mark}
-    → IsOneofField custom a x b → Among marks b → Among (field_then x marks) a
-oneof_field_marks (oneof_field {t = t} {rest = rest} (typed y n)) behind =
-    rw (numbered_first n) (at_first (type_marks y (numbered_marks n behind)))
-
 map_field_marks : {custom : CustomOptions} {a b : List Lexeme} {x : MapField} {marks : List Mark}
     → IsMapField custom a x b → Among marks b → Among (map_field_then x marks) a
 map_field_marks (map_field f l k c v g h) behind =
@@ -213,60 +217,137 @@ enum_marks : {custom : CustomOptions} {a b : List Lexeme} {x : Enum} {marks : Li
 enum_marks {custom} (enum h u c) behind =
     heading_marks h (all_marks heading_then (enum_item_marks custom) u (past c behind))
 
-oneof_item_marks : (custom : CustomOptions) (a b : List Lexeme) (x : Option Field) → IsOneofItem custom a x b
-    → (marks : List Mark) → Among marks b
-    → Among (each_then field_then (option_to_list x) marks) a
-oneof_item_marks custom a b x (oneofs-empty s) marks behind = past s behind
-oneof_item_marks custom a b x (oneofs-option is o) marks behind = option_past o behind
-oneof_item_marks custom a b x (oneofs-field p q f) marks behind = oneof_field_marks f behind
+-- the marks of one item of a block
+abbrev block_item_then : Item → List Mark → List Mark
+block_item_then (tree.Block b) marks = block_then b marks
+block_item_then (tree.Leaf leaf) marks = leaf_then leaf marks
 
-oneof_marks : {custom : CustomOptions} {a b : List Lexeme} {x : Oneof} {marks : List Mark} → IsOneof custom a x b
-    → Among marks b → Among (oneof_then x marks) a
-oneof_marks {custom} (oneof h u c) behind =
-    heading_marks h (all_marks field_then (oneof_item_marks custom) u (past c behind))
-
--- the marks of one item of a message
-abbrev message_item_then : MessageItem → List Mark → List Mark
-message_item_then (tree.Message m) marks = message_then m marks
-message_item_then (tree.Leaf leaf) marks = leaf_then leaf marks
-
-body_marks : (items : List MessageItem) (marks : List Mark)
-    → each_then message_item_then items marks ≡ body_then (body_of items) marks
+body_marks : (items : List Item) (marks : List Mark)
+    → each_then block_item_then items marks ≡ body_then (body_of items) marks
 body_marks [] marks = refl
-body_marks (tree.Message m ∷ items) marks = ap (message_then m) (body_marks items marks)
+body_marks (tree.Block b ∷ items) marks = ap (block_then b) (body_marks items marks)
 body_marks (tree.Leaf leaf ∷ items) marks = ap (leaf_then leaf) (body_marks items marks)
 
--- inner messages are at tokens
-abbrev MarksMessages : (List Lexeme → MessageTree → List Lexeme → Type 0) → Type 0
-MarksMessages Inner = (a b : List Lexeme) (x : MessageTree) → Inner a x b → (marks : List Mark) → Among marks b
-    → Among (message_then x marks) a
+-- what is read is at tokens
+abbrev MarkedBy : {A : Type 0} → (A → List Mark → List Mark) → (List Lexeme → A → List Lexeme → Type 0) → Type 0
+MarkedBy {A} marks_then Is =
+    (a b : List Lexeme) (x : A) → Is a x b → (marks : List Mark) → Among marks b → Among (marks_then x marks) a
 
-message_item_marks : (custom : CustomOptions) (Inner : List Lexeme → MessageTree → List Lexeme → Type 0)
-    → MarksMessages Inner
-    → (a b : List Lexeme) (x : Option MessageItem) → IsMessageItem custom Inner a x b → (marks : List Mark)
-    → Among marks b
-    → Among (each_then message_item_then (option_to_list x) marks) a
-message_item_marks custom Inner inner a b x (items-empty is s) marks behind = past s behind
-message_item_marks custom Inner inner a b x (items-message {message = m} is i) marks behind = inner a b m i marks behind
-message_item_marks custom Inner inner a b x (items-enum is e) marks behind = enum_marks e behind
-message_item_marks custom Inner inner a b x (items-option is o) marks behind = option_past o behind
-message_item_marks custom Inner inner a b x (items-oneof is o) marks behind = oneof_marks o behind
-message_item_marks custom Inner inner a b x (items-map_field is f) marks behind = map_field_marks f behind
-message_item_marks custom Inner inner a b x (items-reserved is r) marks behind = reserved_past r behind
-message_item_marks custom Inner inner a b x (items-extend is e) marks behind = extend_past e behind
-message_item_marks custom Inner inner a b x (items-field is f) marks behind = field_marks f behind
+-- what is inside
+abbrev items_then : List Item → List Mark → List Mark
+items_then items marks = body_then (body_of items) marks
 
-message_of_marks : (custom : CustomOptions) (Inner : List Lexeme → MessageTree → List Lexeme → Type 0)
-    → MarksMessages Inner → MarksMessages (IsMessageOf custom Inner)
-message_of_marks custom Inner inner a b x (message {items = items'} h u c) marks behind =
-    let within = all_marks message_item_then (message_item_marks custom Inner inner) u (past c behind) in
-    heading_marks h (rw (← body_marks items' marks) within)
+-- one item, if it is kept
+abbrev option_then : Option Item → List Mark → List Mark
+option_then item marks = each_then block_item_then (option_to_list item) marks
 
-message_marks : (custom : CustomOptions) (levels : ℕ) → MarksMessages (IsMessage custom levels)
-unfolding IsMessage
-message_marks custom zero a b x m marks behind = absurd m
-message_marks custom (suc levels) a b x m marks behind =
-    message_of_marks custom (IsMessage custom levels) (message_marks custom levels) a b x m marks behind
+braced_marks : (Is : List Lexeme → Option Item → List Lexeme → Type 0) → MarkedBy option_then Is
+    → MarkedBy items_then (IsBraced Is)
+braced_marks Is marked a b x (braced u c) marks behind =
+    rw (← body_marks x marks) (all_marks block_item_then marked u (past c behind))
+
+-- a group and a field, of which the first token is known
+group_marks : (custom : CustomOptions) (Inner : List Lexeme → List Item → List Lexeme → Type 0)
+    → MarkedBy items_then Inner → (t : Lexeme) (label : Option Label) (rest a b : List Lexeme) (x : BlockTree)
+    → ((marks : List Mark) → Among marks a → Among marks (t ∷ rest))
+    → IsGroup custom Inner t.span label a x b → (marks : List Mark) → Among marks b
+    → Among (block_then x marks) (t ∷ rest)
+group_marks custom Inner marked t label rest a c x earlier
+    (group {b = b} {items = items} (group_head w n q i o k) inside) marks behind =
+    at_first (earlier _ (at_a_word w (at_a_group_name n (past q (past i (options_past o
+    (at_another k (marked b c items inside marks behind))))))))
+
+field_marks : {custom : CustomOptions} {t : Lexeme} {label : Option Label} {rest a b : List Lexeme} {x : Field}
+    {marks : List Mark} → ((marks : List Mark) → Among marks a → Among marks (t ∷ rest))
+    → IsTyped custom t.span label a x b → Among marks b
+    → Among (field_then x marks) (t ∷ rest)
+field_marks earlier (typed y n) behind =
+    rw (numbered_first n) (at_first (earlier _ (type_marks y (numbered_marks n behind))))
+
+labelled_marks : (syntax : Syntax) (Inner : List Lexeme → List Item → List Lexeme → Type 0)
+    → MarkedBy items_then Inner → (t : Lexeme) (label : Option Label) (rest a b : List Lexeme) (x : Item)
+    → ((marks : List Mark) → Among marks a → Among marks (t ∷ rest))
+    → IsLabelled syntax Inner t.span label a x b → (marks : List Mark) → Among marks b
+    → Among (block_item_then x marks) (t ∷ rest)
+labelled_marks syntax Inner marked t label rest a b x earlier (labelled-field is f) marks behind =
+    field_marks earlier f behind
+labelled_marks syntax Inner marked t label rest a b x earlier (labelled-group {group = g} is i) marks behind =
+    group_marks (custom_of syntax) Inner marked t label rest a b g earlier i marks behind
+
+member_marks : (syntax : Syntax) (Inner : List Lexeme → List Item → List Lexeme → Type 0)
+    → MarkedBy items_then Inner → MarkedBy block_item_then (IsMember syntax Inner)
+member_marks syntax Inner marked a c x (member {t = t} {rest = rest} {b = b} {label = label} l i) marks behind =
+    labelled_marks syntax Inner marked t label rest b c x (λ marks behind. label_past l behind) i marks behind
+
+oneof_item_marks : (syntax : Syntax) (Inner : List Lexeme → List Item → List Lexeme → Type 0)
+    → MarkedBy items_then Inner → MarkedBy option_then (IsOneofItem syntax Inner)
+oneof_item_marks syntax Inner marked a b x (oneofs-empty s) marks behind = past s behind
+oneof_item_marks syntax Inner marked a b x (oneofs-option is o) marks behind = option_past o behind
+oneof_item_marks syntax Inner marked a b x
+    (oneofs-member {item = y} p q (oneof_member {t = t} {rest = rest} i)) marks behind =
+    labelled_marks syntax Inner marked t None rest (t ∷ rest) b y (λ marks behind. behind) i marks behind
+
+extend_item_marks : (syntax : Syntax) (Inner : List Lexeme → List Item → List Lexeme → Type 0)
+    → MarkedBy items_then Inner → MarkedBy option_then (IsExtendItem syntax Inner)
+extend_item_marks syntax Inner marked a b x (extends-empty s) marks behind = past s behind
+extend_item_marks syntax Inner marked a b x (extends-member {item = y} p m) marks behind =
+    member_marks syntax Inner marked a b y m marks behind
+
+oneof_marks : (syntax : Syntax) (Inner : List Lexeme → List Item → List Lexeme → Type 0)
+    → MarkedBy items_then Inner → MarkedBy block_then (IsOneof syntax Inner)
+oneof_marks syntax Inner marked a c x (oneof {b = b} {items = items} h i) marks behind =
+    heading_marks h
+    (braced_marks (IsOneofItem syntax Inner) (oneof_item_marks syntax Inner marked) b c items i marks behind)
+
+extend_marks : (syntax : Syntax) (Inner : List Lexeme → List Item → List Lexeme → Type 0)
+    → MarkedBy items_then Inner → MarkedBy block_then (IsExtend syntax Inner)
+extend_marks syntax Inner marked a e x (extend {d = d} {items = items} k not n o i) marks behind =
+    past k (type_name_marks n (past o
+    (braced_marks (IsExtendItem syntax Inner) (extend_item_marks syntax Inner marked) d e items i marks behind)))
+
+message_marks : (Inner : List Lexeme → List Item → List Lexeme → Type 0) → MarkedBy items_then Inner
+    → MarkedBy block_then (IsMessage Inner)
+message_marks Inner marked a c x (message {b = b} {items = items} h i) marks behind =
+    heading_marks h (marked b c items i marks behind)
+
+-- an extend, if it is kept
+abbrev extended_then : Option BlockTree → List Mark → List Mark
+extended_then extended marks = each_then block_then (option_to_list extended) marks
+
+extend_statement_marks : (syntax : Syntax) (Inner : List Lexeme → List Item → List Lexeme → Type 0)
+    → MarkedBy items_then Inner → MarkedBy extended_then (IsExtendStatement Inner syntax)
+extend_statement_marks syntax Inner marked a b x (kept {extend = y} is e) marks behind =
+    extend_marks syntax Inner marked a b y e marks behind
+extend_statement_marks syntax Inner marked a b x (passed e) marks behind = passed_extend_past e behind
+
+block_item_marks : (x : Option BlockTree) (marks : List Mark)
+    → option_then (option_map tree.Block x) marks ≡ extended_then x marks
+block_item_marks None marks = refl
+block_item_marks (Some b) marks = refl
+
+message_item_marks : (syntax : Syntax) (Inner : List Lexeme → List Item → List Lexeme → Type 0)
+    → MarkedBy items_then Inner → MarkedBy option_then (IsMessageItem syntax Inner)
+message_item_marks syntax Inner marked a b x (items-empty is s) marks behind = past s behind
+message_item_marks syntax Inner marked a b x (items-message {message = y} is i) marks behind =
+    message_marks Inner marked a b y i marks behind
+message_item_marks syntax Inner marked a b x (items-enum is e) marks behind = enum_marks e behind
+message_item_marks syntax Inner marked a b x (items-option is o) marks behind = option_past o behind
+message_item_marks syntax Inner marked a b x (items-oneof {oneof = y} is o) marks behind =
+    oneof_marks syntax Inner marked a b y o marks behind
+message_item_marks syntax Inner marked a b x (items-map_field is f) marks behind = map_field_marks f behind
+message_item_marks syntax Inner marked a b x (items-reserved is r) marks behind = reserved_past r behind
+message_item_marks syntax Inner marked a b x (items-extend {extend = y} is e) marks behind =
+    rw (block_item_marks y marks) (extend_statement_marks syntax Inner marked a b y e marks behind)
+message_item_marks syntax Inner marked a b x (items-extensions is proto2 r) marks behind = extensions_past r behind
+message_item_marks syntax Inner marked a b x (items-member {item = y} is m) marks behind =
+    member_marks syntax Inner marked a b y m marks behind
+
+inside_marks : (syntax : Syntax) (levels : ℕ) → MarkedBy items_then (IsInside syntax levels)
+unfolding IsInside
+inside_marks syntax zero a b x i marks behind = absurd i
+inside_marks syntax (suc levels) a b x i marks behind =
+    braced_marks (IsMessageItem syntax (IsInside syntax levels))
+    (message_item_marks syntax (IsInside syntax levels) (inside_marks syntax levels)) a b x i marks behind
 
 method_type_marks : {a b : List Lexeme} {x : TypeName} {marks : List Mark} → IsMethodType a x b → Among marks b
     → Among (type_name_then x marks) a
@@ -310,87 +391,104 @@ pub package_marks : {a b : List Lexeme} {x : List Span} {marks : List Mark} → 
     → Among (names_then x marks) a
 package_marks (package_statement k n s) behind = past k (name_marks n (past s behind))
 
+-- an extend of a file, if it is kept
+file_extend_marks : (x : Option BlockTree) (marks : List Mark)
+    → each_then item_then (option_to_list (option_map item.Block x)) marks ≡ extended_then x marks
+file_extend_marks None marks = refl
+file_extend_marks (Some b) marks = refl
+
 -- what a statement puts into the file
-pub statement_items : (custom : CustomOptions) (f g : File) (a b : List Lexeme) → IsStatement custom f a g b
+pub statement_items : (syntax : Syntax) (f g : File) (a b : List Lexeme) → IsStatement syntax f a g b
     → (marks : List Mark) → Among marks b
     → Puts (λ (x : File). x.items) item_then f a g b marks
-statement_items custom f g a b (statements-empty is s) marks behind = ([], sym (append-nil f.items), past s behind)
-statement_items custom f g a b (statements-import is i) marks behind =
+statement_items syntax f g a b (statements-empty is s) marks behind = ([], sym (append-nil f.items), past s behind)
+statement_items syntax f g a b (statements-import is i) marks behind =
     ([], sym (append-nil f.items), import_past i behind)
-statement_items custom f g a b (statements-package_statement is none_yet p) marks behind =
+statement_items syntax f g a b (statements-package_statement is none_yet p) marks behind =
     ([], sym (append-nil f.items), package_past p behind)
-statement_items custom f g a b (statements-option is o) marks behind =
+statement_items syntax f g a b (statements-option is o) marks behind =
     ([], sym (append-nil f.items), option_past o behind)
-statement_items custom f g a b (statements-message m is i) marks behind =
-    (item.Message m ∷ [], refl, message_marks custom max_message_depth a b m i marks behind)
-statement_items custom f g a b (statements-enum {enum = e} is i) marks behind =
+statement_items syntax f g a b (statements-message m is i) marks behind = (
+  item.Block m ∷ [],
+  refl,
+  message_marks (IsInside syntax max_message_depth) (inside_marks syntax max_message_depth) a b m i marks behind,
+)
+statement_items syntax f g a b (statements-enum {enum = e} is i) marks behind =
     (item.Enum e ∷ [], refl, enum_marks i behind)
-statement_items custom f g a b (statements-service {service = s} is i) marks behind =
+statement_items syntax f g a b (statements-service {service = s} is i) marks behind =
     (item.Service s ∷ [], refl, service_marks i behind)
-statement_items custom f g a b (statements-extend is e) marks behind =
-    ([], sym (append-nil f.items), extend_past e behind)
+statement_items syntax f g a b (statements-extend {extend = x} is e) marks behind = (
+  option_to_list (option_map item.Block x),
+  refl,
+  rw (file_extend_marks x marks) (extend_statement_marks syntax (IsInside syntax max_message_depth)
+      (inside_marks syntax max_message_depth) a b x e marks behind),
+)
 
-statement_imports : (custom : CustomOptions) (f g : File) (a b : List Lexeme) → IsStatement custom f a g b
+statement_imports : (syntax : Syntax) (f g : File) (a b : List Lexeme) → IsStatement syntax f a g b
     → (marks : List Mark) → Among marks b
     → Puts (λ (x : File). x.imports) import_then f a g b marks
-statement_imports custom f g a b (statements-empty is s) marks behind = ([], sym (append-nil f.imports), past s behind)
-statement_imports custom f g a b (statements-import {import = x} is i) marks behind =
+statement_imports syntax f g a b (statements-empty is s) marks behind = ([], sym (append-nil f.imports), past s behind)
+statement_imports syntax f g a b (statements-import {import = x} is i) marks behind =
     (x ∷ [], refl, import_marks i behind)
-statement_imports custom f g a b (statements-package_statement is none_yet p) marks behind =
+statement_imports syntax f g a b (statements-package_statement is none_yet p) marks behind =
     ([], sym (append-nil f.imports), package_past p behind)
-statement_imports custom f g a b (statements-option is o) marks behind =
+statement_imports syntax f g a b (statements-option is o) marks behind =
     ([], sym (append-nil f.imports), option_past o behind)
-statement_imports custom f g a b (statements-message m is i) marks behind =
-    ([], sym (append-nil f.imports), message_past custom max_message_depth a b m i marks behind)
-statement_imports custom f g a b (statements-enum is i) marks behind =
+statement_imports syntax f g a b (statements-message m is i) marks behind =
+    ([], sym (append-nil f.imports), file_message_past syntax a b m i marks behind)
+statement_imports syntax f g a b (statements-enum is i) marks behind =
     ([], sym (append-nil f.imports), enum_past i behind)
-statement_imports custom f g a b (statements-service is i) marks behind =
+statement_imports syntax f g a b (statements-service is i) marks behind =
     ([], sym (append-nil f.imports), service_past i behind)
-statement_imports custom f g a b (statements-extend is e) marks behind =
-    ([], sym (append-nil f.imports), extend_past e behind)
+statement_imports syntax f g a b (statements-extend {extend = x} is e) marks behind =
+    ([], sym (append-nil f.imports), file_extend_past syntax a b x e marks behind)
 
 abbrev packages_of : File → List (List Span)
 packages_of f = option_to_list f.package_name
 
-statement_package : (custom : CustomOptions) (f g : File) (a b : List Lexeme) → IsStatement custom f a g b
+statement_package : (syntax : Syntax) (f g : File) (a b : List Lexeme) → IsStatement syntax f a g b
     → (marks : List Mark) → Among marks b
     → Puts packages_of names_then f a g b marks
-statement_package custom f g a b (statements-empty is s) marks behind =
+statement_package syntax f g a b (statements-empty is s) marks behind =
     ([], sym (append-nil (packages_of f)), past s behind)
-statement_package custom f g a b (statements-import is i) marks behind =
+statement_package syntax f g a b (statements-import is i) marks behind =
     ([], sym (append-nil (packages_of f)), import_past i behind)
-statement_package custom f g a b (statements-package_statement {components = x} is none_yet p) marks behind =
+statement_package syntax f g a b (statements-package_statement {components = x} is none_yet p) marks behind =
     (x ∷ [], rw none_yet refl, package_marks p behind)
-statement_package custom f g a b (statements-option is o) marks behind =
+statement_package syntax f g a b (statements-option is o) marks behind =
     ([], sym (append-nil (packages_of f)), option_past o behind)
-statement_package custom f g a b (statements-message m is i) marks behind =
-    ([], sym (append-nil (packages_of f)), message_past custom max_message_depth a b m i marks behind)
-statement_package custom f g a b (statements-enum is i) marks behind =
+statement_package syntax f g a b (statements-message m is i) marks behind =
+    ([], sym (append-nil (packages_of f)), file_message_past syntax a b m i marks behind)
+statement_package syntax f g a b (statements-enum is i) marks behind =
     ([], sym (append-nil (packages_of f)), enum_past i behind)
-statement_package custom f g a b (statements-service is i) marks behind =
+statement_package syntax f g a b (statements-service is i) marks behind =
     ([], sym (append-nil (packages_of f)), service_past i behind)
-statement_package custom f g a b (statements-extend is e) marks behind =
-    ([], sym (append-nil (packages_of f)), extend_past e behind)
+statement_package syntax f g a b (statements-extend {extend = x} is e) marks behind =
+    ([], sym (append-nil (packages_of f)), file_extend_past syntax a b x e marks behind)
 
-pub syntax_past : {a b : List Lexeme} {marks : List Mark} → IsSyntax a b → Among marks b → Among marks a
-syntax_past (syntax k q t s) behind = past k (past q (joined_past t (past s behind)))
+pub syntax_past : {dialect : Dialect} {a b : List Lexeme} {x : Syntax} {marks : List Mark} → IsSyntax dialect a x b
+    → Among marks b → Among marks a
+syntax_past (proto3 k q t s) behind = past k (past q (joined_past t (past s behind)))
+syntax_past (proto2 k q t s) behind = past k (past q (joined_past t (past s behind)))
+syntax_past (no_statement p q) behind = behind
 
-pub items_among : {custom : CustomOptions} {a : List Lexeme} (f : File) → IsFile custom a f → Among (marks_of_items f) a
-items_among {custom} f (file {b = b} {c = c} s u) =
-    let p = until_puts (λ (x : File). x.items) item_then (statement_items custom) empty_file f b c u [] no_marks in
+pub items_among : {dialect : Dialect} {a : List Lexeme} (f : File) → IsFile dialect a f
+    → Among (marks_of_items f) a
+items_among f (file {b = b} {c = c} {syntax = syntax} s u) =
+    let p = until_puts (λ (x : File). x.items) item_then (statement_items syntax) empty_file f b c u [] no_marks in
     syntax_past s (rw p.1 p.2)
 
-pub imports_among : {custom : CustomOptions} {a : List Lexeme} (f : File) → IsFile custom a f
+pub imports_among : {dialect : Dialect} {a : List Lexeme} (f : File) → IsFile dialect a f
     → Among (marks_of_imports f) a
-imports_among {custom} f (file {b = b} {c = c} s u) =
-    let p = until_puts (λ (x : File). x.imports) import_then (statement_imports custom) empty_file f b c u [] no_marks
+imports_among f (file {b = b} {c = c} {syntax = syntax} s u) =
+    let p = until_puts (λ (x : File). x.imports) import_then (statement_imports syntax) empty_file f b c u [] no_marks
     in
     syntax_past s (rw p.1 p.2)
 
-pub package_among : {custom : CustomOptions} {a : List Lexeme} (f : File) → IsFile custom a f
+pub package_among : {dialect : Dialect} {a : List Lexeme} (f : File) → IsFile dialect a f
     → Among (marks_of_package f) a
-package_among {custom} f (file {b = b} {c = c} s u) =
-    let p = until_puts packages_of names_then (statement_package custom) empty_file f b c u [] no_marks in
+package_among f (file {b = b} {c = c} {syntax = syntax} s u) =
+    let p = until_puts packages_of names_then (statement_package syntax) empty_file f b c u [] no_marks in
     syntax_past s (rw p.1 p.2)
 
 -- from an earlier place on too

@@ -1,7 +1,8 @@
 -- Where the package statement stands among the items of a file.
 use Rattle.std.proofs.Common.{◌≡◌, Option, Some, None, List, [], ◌++◌, refl, sym, ◌∙◌, ap, append_assoc}
 use Rattle.proto_lex.specs.declared.span.Span.{Span}
-use Rattle.proto_grammar.specs.declared.tree.CustomOptions.{CustomOptions}
+use Rattle.proto_grammar.specs.declared.tree.Dialect.{Dialect}
+use Rattle.proto_grammar.specs.declared.tree.Syntax.{Syntax}
 use Rattle.proto_grammar.specs.declared.tree.FileItem.{FileItem}
 use Rattle.proto_grammar.specs.declared.tree.File.{File}
 use Rattle.proto_grammar.specs.Lexeme.{Lexeme}
@@ -19,23 +20,23 @@ use Rattle.proto_parse.proofs.Walk.Marks.{Puts, each_then-append, until_puts, st
 use Rattle.proto_parse.proofs.Walk.Marks.{syntax_past}
 
 -- a package's name stays
-statement_keeps : (custom : CustomOptions) (f g : File) (a b : List Lexeme) (components : List Span)
-    → IsStatement custom f a g b → f.package_name ≡ Some components → g.package_name ≡ Some components
-statement_keeps custom f g a b components (empty is s) set = set
-statement_keeps custom f g a b components (import is i) set = set
-statement_keeps custom f g a b components (package_statement is none_yet p) set =
+statement_keeps : (syntax : Syntax) (f g : File) (a b : List Lexeme) (components : List Span)
+    → IsStatement syntax f a g b → f.package_name ≡ Some components → g.package_name ≡ Some components
+statement_keeps syntax f g a b components (empty is s) set = set
+statement_keeps syntax f g a b components (import is i) set = set
+statement_keeps syntax f g a b components (package_statement is none_yet p) set =
     absurd (let both : None ≡ Some components = sym none_yet ∙ set in cc)
-statement_keeps custom f g a b components (option is o) set = set
-statement_keeps custom f g a b components (message m is i) set = set
-statement_keeps custom f g a b components (enum is i) set = set
-statement_keeps custom f g a b components (service is i) set = set
-statement_keeps custom f g a b components (extend is e) set = set
+statement_keeps syntax f g a b components (option is o) set = set
+statement_keeps syntax f g a b components (message m is i) set = set
+statement_keeps syntax f g a b components (enum is i) set = set
+statement_keeps syntax f g a b components (service is i) set = set
+statement_keeps syntax f g a b components (extend is e) set = set
 
-statements_keep : (custom : CustomOptions) (f g : File) (a b : List Lexeme) (components : List Span)
-    → Until is_end (IsStatement custom) f a g b → f.package_name ≡ Some components → g.package_name ≡ Some components
-statements_keep custom f g a b components (done e) set = set
-statements_keep custom f g a b components (more {t = t} {b = c} further first behind) set =
-    statements_keep custom t g c b components behind (statement_keeps custom f t a c components first set)
+statements_keep : (syntax : Syntax) (f g : File) (a b : List Lexeme) (components : List Span)
+    → Until is_end (IsStatement syntax) f a g b → f.package_name ≡ Some components → g.package_name ≡ Some components
+statements_keep syntax f g a b components (done e) set = set
+statements_keep syntax f g a b components (more {t = t} {b = c} further first behind) set =
+    statements_keep syntax t g c b components behind (statement_keeps syntax f t a c components first set)
 
 -- what a chain of statements with a package statement puts behind the items of a file
 abbrev Places : List Span → File → File → List Lexeme → Type 0
@@ -61,40 +62,40 @@ one_before components f t g a b puts (items, all, (before, (behind, (split, amon
       ),
     )
 
-places : (custom : CustomOptions) (f g : File) (a c : List Lexeme) (components : List Span)
-    → Until is_end (IsStatement custom) f a g c → f.package_name ≡ None → g.package_name ≡ Some components
+places : (syntax : Syntax) (f g : File) (a c : List Lexeme) (components : List Span)
+    → Until is_end (IsStatement syntax) f a g c → f.package_name ≡ None → g.package_name ≡ Some components
     → Places components f g a
-places custom f g a c components (done e) none_yet set =
+places syntax f g a c components (done e) none_yet set =
     absurd (let both : None ≡ Some components = sym none_yet ∙ set in cc)
-places custom f g a c components
+places syntax f g a c components
     (more {b = b} further (package_statement {components = x} is none p) rest) none_yet set =
-    let later = until_puts (λ (y : File). y.items) item_then (statement_items custom)
+    let later = until_puts (λ (y : File). y.items) item_then (statement_items syntax)
     (record f { package_name = Some x }) g b c rest [] no_marks in
     let same : x ≡ components =
-    same_Some x components (sym (statements_keep custom (record f { package_name = Some x }) g b c x rest refl)
+    same_Some x components (sym (statements_keep syntax (record f { package_name = Some x }) g b c x rest refl)
     ∙ set) in
     (later.0, later.1, ([], (later.0, (refl, rw (← same) (package_marks p later.2)))))
-places custom f g a c components (more {t = t} {b = b} further (empty is s) rest) none_yet set =
-    one_before components f t g a b (statement_items custom f t a b (empty is s))
-    (places custom t g b c components rest none_yet set)
-places custom f g a c components (more {t = t} {b = b} further (import is i) rest) none_yet set =
-    one_before components f t g a b (statement_items custom f t a b (import is i))
-    (places custom t g b c components rest none_yet set)
-places custom f g a c components (more {t = t} {b = b} further (option is o) rest) none_yet set =
-    one_before components f t g a b (statement_items custom f t a b (option is o))
-    (places custom t g b c components rest none_yet set)
-places custom f g a c components (more {t = t} {b = b} further (message m is i) rest) none_yet set =
-    one_before components f t g a b (statement_items custom f t a b (message m is i))
-    (places custom t g b c components rest none_yet set)
-places custom f g a c components (more {t = t} {b = b} further (enum is i) rest) none_yet set =
-    one_before components f t g a b (statement_items custom f t a b (enum is i))
-    (places custom t g b c components rest none_yet set)
-places custom f g a c components (more {t = t} {b = b} further (service is i) rest) none_yet set =
-    one_before components f t g a b (statement_items custom f t a b (service is i))
-    (places custom t g b c components rest none_yet set)
-places custom f g a c components (more {t = t} {b = b} further (extend is e) rest) none_yet set =
-    one_before components f t g a b (statement_items custom f t a b (extend is e))
-    (places custom t g b c components rest none_yet set)
+places syntax f g a c components (more {t = t} {b = b} further (empty is s) rest) none_yet set =
+    one_before components f t g a b (statement_items syntax f t a b (empty is s))
+    (places syntax t g b c components rest none_yet set)
+places syntax f g a c components (more {t = t} {b = b} further (import is i) rest) none_yet set =
+    one_before components f t g a b (statement_items syntax f t a b (import is i))
+    (places syntax t g b c components rest none_yet set)
+places syntax f g a c components (more {t = t} {b = b} further (option is o) rest) none_yet set =
+    one_before components f t g a b (statement_items syntax f t a b (option is o))
+    (places syntax t g b c components rest none_yet set)
+places syntax f g a c components (more {t = t} {b = b} further (message m is i) rest) none_yet set =
+    one_before components f t g a b (statement_items syntax f t a b (message m is i))
+    (places syntax t g b c components rest none_yet set)
+places syntax f g a c components (more {t = t} {b = b} further (enum is i) rest) none_yet set =
+    one_before components f t g a b (statement_items syntax f t a b (enum is i))
+    (places syntax t g b c components rest none_yet set)
+places syntax f g a c components (more {t = t} {b = b} further (service is i) rest) none_yet set =
+    one_before components f t g a b (statement_items syntax f t a b (service is i))
+    (places syntax t g b c components rest none_yet set)
+places syntax f g a c components (more {t = t} {b = b} further (extend is e) rest) none_yet set =
+    one_before components f t g a b (statement_items syntax f t a b (extend is e))
+    (places syntax t g b c components rest none_yet set)
 
 among_items : {a b : List Lexeme} (components : List Span) (items all : List FileItem) → all ≡ items
     → ((marks : List Mark) → Among marks b → Among marks a) → IsAmongItems components items b
@@ -102,15 +103,15 @@ among_items : {a b : List Lexeme} (components : List Span) (items all : List Fil
 among_items components items all same earlier (before, (behind, (split, among))) =
     (before, (behind, (same ∙ split, earlier _ among)))
 
-by_name : (custom : CustomOptions) (g : File) (a b c : List Lexeme) (name : Option (List Span)) → g.package_name ≡ name
+by_name : (syntax : Syntax) (g : File) (a b c : List Lexeme) (name : Option (List Span)) → g.package_name ≡ name
     → ((marks : List Mark) → Among marks b → Among marks a)
-    → Until is_end (IsStatement custom) empty_file b g c → PackageIsAmongItems name g.items a
-by_name custom g a b c None is earlier u = tt
-by_name custom g a b c (Some components) is earlier u =
-    let p = places custom empty_file g b c components u refl is in
+    → Until is_end (IsStatement syntax) empty_file b g c → PackageIsAmongItems name g.items a
+by_name syntax g a b c None is earlier u = tt
+by_name syntax g a b c (Some components) is earlier u =
+    let p = places syntax empty_file g b c components u refl is in
     among_items components p.0 g.items p.1 earlier p.2
 
-pub package_among_items : {custom : CustomOptions} {a : List Lexeme} (g : File) → IsFile custom a g
+pub package_among_items : {dialect : Dialect} {a : List Lexeme} (g : File) → IsFile dialect a g
     → PackageIsAmongItems g.package_name g.items a
-package_among_items {custom} {a} g (file {b = b} {c = c} s u) =
-    by_name custom g a b c g.package_name refl (λ marks among. syntax_past s among) u
+package_among_items {a = a} g (file {b = b} {c = c} {syntax = syntax} s u) =
+    by_name syntax g a b c g.package_name refl (λ marks among. syntax_past s among) u

@@ -1,5 +1,6 @@
 -- What stands between the marks of a tree is passed over.
-use Rattle.std.proofs.Common.{◌≡◌, ℕ, zero, suc, Bool, true, Option, List, [], ◌∷◌, refl, sym, ◌∙◌, ap, get_or}
+use Rattle.std.proofs.Common.{◌≡◌, ℕ, zero, suc, Bool, true, false, Option, None, List, [], ◌∷◌, refl, sym, ◌∙◌, ap}
+use Rattle.std.proofs.Common.{get_or}
 use Rattle.std.proofs.lemmas.Bool.{eqb-true}
 use Rattle.proto_lex.specs.declared.span.Span.{Span}
 use Rattle.proto_lex.specs.declared.token.TokenKind.{TokenKind}
@@ -8,6 +9,7 @@ use Rattle.proto_lex.specs.declared.token.TokenKind.TheVariants.{Equals, OpenBra
 use Rattle.proto_lex.specs.declared.token.TokenKind.TheVariants.{CloseBracket, OpenParenthesis, CloseParenthesis, Less}
 use Rattle.proto_lex.specs.declared.token.TokenKind.TheVariants.{Greater, Comma, Dot, Colon, Plus, Minus, Slash}
 use Rattle.proto_grammar.specs.declared.tree.CustomOptions.{CustomOptions}
+use Rattle.proto_grammar.specs.declared.tree.Syntax.{Syntax}
 use Rattle.proto_grammar.specs.declared.tree.Heading.{Heading}
 use Rattle.proto_grammar.specs.declared.tree.Label.{Label}
 use Rattle.proto_grammar.specs.declared.tree.TypeName.{TypeName}
@@ -15,15 +17,18 @@ use Rattle.proto_grammar.specs.declared.tree.FieldType.{FieldType}
 use Rattle.proto_grammar.specs.declared.tree.Field.{Field}
 use Rattle.proto_grammar.specs.declared.tree.MapField.{MapField}
 use Rattle.proto_grammar.specs.declared.tree.Enum.{Enum}
-use Rattle.proto_grammar.specs.declared.tree.Oneof.{Oneof}
+use Rattle.proto_grammar.specs.declared.tree.Group.{Group}
 use Rattle.proto_grammar.specs.declared.tree.Method.{Method}
 use Rattle.proto_grammar.specs.declared.tree.Service.{Service}
-use Rattle.proto_grammar.specs.declared.tree.MessageItem.{MessageItem}
+use Rattle.proto_grammar.specs.declared.tree.Item.{Item}
 use Rattle.proto_grammar.specs.declared.tree.Import.{Import}
 use Rattle.proto_grammar.specs.declared.tree.ImportKind.{ImportKind}
 use Rattle.proto_grammar.specs.Lexeme.{Lexeme}
-use Rattle.proto_grammar.specs.Terminal.{number_of, is_kind, of_kind, is_key, is_scalar, is_plain_literal}
-use Rattle.proto_grammar.specs.Tree.{MessageTree}
+use Rattle.proto_grammar.specs.Terminal.{number_of, is_kind, of_kind, is_word, is_group_name, is_key, is_scalar}
+use Rattle.proto_grammar.specs.Terminal.{is_plain_literal}
+use Rattle.proto_grammar.specs.Tree.{BlockTree}
+use Rattle.proto_grammar.specs.Syntax.{custom_of}
+use Rattle.proto_parse.specs.Limits.{max_message_depth}
 use Rattle.proto_parse.specs.Walk.{Mark, Among}
 use Rattle.proto_parse.specs.Walk.Mark.{First, Name, Literal, Other}
 use Rattle.proto_parse.specs.Walk.Among.{skip, first as at_first, name as at_name, literal as at_literal}
@@ -52,38 +57,50 @@ use Rattle.proto_grammar.specs.Grammar.Options.IsSetting.{setting}
 use Rattle.proto_grammar.specs.Grammar.Options.IsCommaSetting.{comma_setting}
 use Rattle.proto_grammar.specs.Grammar.Options.IsOption.{option}
 use Rattle.proto_grammar.specs.Grammar.Options.IsOptions.{none, some}
-use Rattle.proto_grammar.specs.Grammar.Fields.{IsTyped, IsLabel, IsField, IsMapField}
+use Rattle.proto_grammar.specs.Grammar.Fields.{IsTyped, IsLabel, IsField, IsGroupHead, IsMapField}
 use Rattle.proto_grammar.specs.Grammar.Fields.IsNumbered.{numbered}
 use Rattle.proto_grammar.specs.Grammar.Fields.IsTyped.{typed}
-use Rattle.proto_grammar.specs.Grammar.Fields.IsLabel.{repeated, optional, no_label}
+use Rattle.proto_grammar.specs.Grammar.Fields.IsLabel.{repeated, optional, required, no_label}
 use Rattle.proto_grammar.specs.Grammar.Fields.IsField.{field}
-use Rattle.proto_grammar.specs.Grammar.Fields.IsOneofField.{oneof_field}
+use Rattle.proto_grammar.specs.Grammar.Fields.IsGroupHead.{group_head}
 use Rattle.proto_grammar.specs.Grammar.Fields.IsMapField.{map_field}
 use Rattle.proto_grammar.specs.Grammar.Reserved.{IsInteger, IsRange, IsReservedItem, IsCommaItem, IsReserved}
+use Rattle.proto_grammar.specs.Grammar.Reserved.{IsExtensions}
 use Rattle.proto_grammar.specs.Grammar.Reserved.IsInteger.{plain, minus}
 use Rattle.proto_grammar.specs.Grammar.Reserved.IsRangeEnd.{number, max}
 use Rattle.proto_grammar.specs.Grammar.Reserved.IsRange.{single, range}
 use Rattle.proto_grammar.specs.Grammar.Reserved.IsReservedItem.{name as reserved_name, number as reserved_number}
 use Rattle.proto_grammar.specs.Grammar.Reserved.IsCommaItem.{comma_item}
 use Rattle.proto_grammar.specs.Grammar.Reserved.IsReserved.{reserved}
-use Rattle.proto_parse.specs.Grammar.Messages.{IsHeading, IsEnumItem, IsEnum, IsOneofItem, IsOneof, IsExtendItem}
-use Rattle.proto_parse.specs.Grammar.Messages.{IsExtend, IsMessageItem, IsMessageOf, IsMessage}
+use Rattle.proto_grammar.specs.Grammar.Reserved.IsExtensions.{extensions}
+use Rattle.proto_parse.specs.Grammar.Messages.{IsHeading, IsEnumItem, IsEnum, IsBraced, IsGroup, IsLabelled, IsMember}
+use Rattle.proto_parse.specs.Grammar.Messages.{IsOneofMember, IsOneofItem, IsOneof, IsExtendItem, IsExtend}
+use Rattle.proto_parse.specs.Grammar.Messages.{IsPassedItem, IsPassedExtend, IsExtendStatement, IsMessage}
+use Rattle.proto_parse.specs.Grammar.Messages.{IsMessageItem, IsInside}
 use Rattle.proto_parse.specs.Grammar.Messages.IsHeading.{heading}
 use Rattle.proto_parse.specs.Grammar.Messages.IsValue.{value}
 use Rattle.proto_parse.specs.Grammar.Messages.IsEnumItem.{empty as enums-empty, option as enums-option}
 use Rattle.proto_parse.specs.Grammar.Messages.IsEnumItem.{reserved as enums-reserved, value as enums-value}
 use Rattle.proto_parse.specs.Grammar.Messages.IsEnum.{enum}
+use Rattle.proto_parse.specs.Grammar.Messages.IsBraced.{braced}
+use Rattle.proto_parse.specs.Grammar.Messages.IsGroup.{group}
+use Rattle.proto_parse.specs.Grammar.Messages.IsLabelled.{field as labelled-field, group as labelled-group}
+use Rattle.proto_parse.specs.Grammar.Messages.IsMember.{member}
+use Rattle.proto_parse.specs.Grammar.Messages.IsOneofMember.{oneof_member}
 use Rattle.proto_parse.specs.Grammar.Messages.IsOneofItem.{empty as oneofs-empty, option as oneofs-option}
-use Rattle.proto_parse.specs.Grammar.Messages.IsOneofItem.{field as oneofs-field}
+use Rattle.proto_parse.specs.Grammar.Messages.IsOneofItem.{member as oneofs-member}
 use Rattle.proto_parse.specs.Grammar.Messages.IsOneof.{oneof}
-use Rattle.proto_parse.specs.Grammar.Messages.IsExtendItem.{empty as extends-empty, field as extends-field}
+use Rattle.proto_parse.specs.Grammar.Messages.IsExtendItem.{empty as extends-empty, member as extends-member}
 use Rattle.proto_parse.specs.Grammar.Messages.IsExtend.{extend}
+use Rattle.proto_parse.specs.Grammar.Messages.IsPassedItem.{empty as passes-empty, field as passes-field}
+use Rattle.proto_parse.specs.Grammar.Messages.IsPassedExtend.{passed_extend}
+use Rattle.proto_parse.specs.Grammar.Messages.IsExtendStatement.{kept, passed}
+use Rattle.proto_parse.specs.Grammar.Messages.IsMessage.{message}
 use Rattle.proto_parse.specs.Grammar.Messages.IsMessageItem.{empty as items-empty, message as items-message}
 use Rattle.proto_parse.specs.Grammar.Messages.IsMessageItem.{enum as items-enum, option as items-option}
 use Rattle.proto_parse.specs.Grammar.Messages.IsMessageItem.{oneof as items-oneof, map_field as items-map_field}
 use Rattle.proto_parse.specs.Grammar.Messages.IsMessageItem.{reserved as items-reserved, extend as items-extend}
-use Rattle.proto_parse.specs.Grammar.Messages.IsMessageItem.{field as items-field}
-use Rattle.proto_parse.specs.Grammar.Messages.IsMessageOf.{message}
+use Rattle.proto_parse.specs.Grammar.Messages.IsMessageItem.{extensions as items-extensions, member as items-member}
 use Rattle.proto_parse.specs.Grammar.Services.{IsMethodType, IsMethodItem, IsMethodEnd, IsServiceItem, IsService}
 use Rattle.proto_parse.specs.Grammar.Services.IsStream.{stream, no_stream}
 use Rattle.proto_parse.specs.Grammar.Services.IsMethodType.{method_type}
@@ -147,6 +164,18 @@ past (one e) behind = skip behind
 pub at_a_name : {a b : List Lexeme} {span : Span} {marks : List Mark} → One (of_kind Identifier) a span b
     → Among marks b → Among (Name span ∷ marks) a
 at_a_name (one {t} e) behind = at_name (same_kind Identifier t.kind e) behind
+
+pub at_a_word : {word : List ℕ} {a b : List Lexeme} {span : Span} {marks : List Mark} → One (is_word word) a span b
+    → Among marks b
+    → Among (Name span ∷ marks) a
+at_a_word (one {t} e) behind =
+    at_name (same_kind Identifier t.kind (both_true (is_kind Identifier t.kind) _ e).0) behind
+
+pub at_a_group_name : {a b : List Lexeme} {span : Span} {marks : List Mark} → One is_group_name a span b
+    → Among marks b
+    → Among (Name span ∷ marks) a
+at_a_group_name (one {t} e) behind =
+    at_name (same_kind Identifier t.kind (both_true (is_kind Identifier t.kind) _ e).0) behind
 
 pub at_a_scalar : {a b : List Lexeme} {span : Span} {marks : List Mark} → One is_scalar a span b → Among marks b
     → Among (Name span ∷ marks) a
@@ -247,11 +276,12 @@ options_past (none none_next) behind = behind
 options_past {custom} {marks = marks} (some o v u c) behind =
     past o (setting_past v (until_past marks (comma_setting_past custom marks) _ _ _ _ u (past c behind)))
 
-pub label_past : {a b : List Lexeme} {x : Option Label} {marks : List Mark} → IsLabel a x b → Among marks b
-    → Among marks a
+pub label_past : {syntax : Syntax} {a b : List Lexeme} {x : Option Label} {marks : List Mark} → IsLabel syntax a x b
+    → Among marks b → Among marks a
 label_past (repeated w) behind = past w behind
 label_past (optional w) behind = past w behind
-label_past (no_label p q) behind = behind
+label_past (required w) behind = past w behind
+label_past (no_label is p q) behind = behind
 
 pub field_past : {custom : CustomOptions} {a b : List Lexeme} {x : Field} {marks : List Mark} → IsField custom a x b
     → Among marks b → Among marks a
@@ -283,15 +313,21 @@ pub reserved_past : {negative : Bool} {a b : List Lexeme} {marks : List Mark} �
 reserved_past {negative} {marks = marks} (reserved {names} k is i u s) behind =
     past k (reserved_item_past i (until_past marks (comma_item_past negative names marks) _ _ _ _ u (past s behind)))
 
-pub extend_item_past : (marks : List Mark) (s t : Unit {0}) (a b : List Lexeme) → Passes IsExtendItem s a t b
+pub extensions_past : {custom : CustomOptions} {a b : List Lexeme} {marks : List Mark} → IsExtensions custom a b
     → Among marks b → Among marks a
-extend_item_past marks s t a b (passes (extends-empty e)) behind = past e behind
-extend_item_past marks s t a b (passes (extends-field p f)) behind = field_past f behind
+extensions_past {marks = marks} (extensions k r u o s) behind =
+    past k (range_past r (until_past marks (comma_item_past false false marks) _ _ _ _ u
+    (options_past o (past s behind))))
 
-pub extend_past : {custom : CustomOptions} {a b : List Lexeme} {marks : List Mark} → IsExtend custom a b → Among marks b
+pub passed_item_past : (marks : List Mark) (s t : Unit {0}) (a b : List Lexeme) → Passes IsPassedItem s a t b
+    → Among marks b → Among marks a
+passed_item_past marks s t a b (passes (passes-empty e)) behind = past e behind
+passed_item_past marks s t a b (passes (passes-field p f)) behind = field_past f behind
+
+pub passed_extend_past : {custom : CustomOptions} {a b : List Lexeme} {marks : List Mark} → IsPassedExtend custom a b → Among marks b
     → Among marks a
-extend_past {marks = marks} (extend k n o u c) behind =
-    past k (type_name_past n (past o (until_past marks (extend_item_past marks) _ _ _ _ u (past c behind))))
+passed_extend_past {marks = marks} (passed_extend k n o u c) behind =
+    past k (type_name_past n (past o (until_past marks (passed_item_past marks) _ _ _ _ u (past c behind))))
 
 pub method_item_past : (custom : CustomOptions) (marks : List Mark) (s t : Unit {0}) (a b : List Lexeme)
     → Passes (IsMethodItem custom) s a t b → Among marks b → Among marks a
@@ -326,51 +362,102 @@ pub typed_past : {custom : CustomOptions} {first : Span} {label : Option Label} 
 typed_past (typed t (numbered n q i o s)) behind =
     type_past t (past n (past q (past i (options_past o (past s behind)))))
 
-pub oneof_item_past : (custom : CustomOptions) (marks : List Mark) (s t : List Field) (a b : List Lexeme)
-    → Adds (IsOneofItem custom) s a t b → Among marks b → Among marks a
-oneof_item_past custom marks s t a b (adds (oneofs-empty e)) behind = past e behind
-oneof_item_past custom marks s t a b (adds (oneofs-option is o)) behind = option_past o behind
-oneof_item_past custom marks s t a b (adds (oneofs-field p q (oneof_field f))) behind = typed_past f behind
-
-pub oneof_past : {custom : CustomOptions} {a b : List Lexeme} {x : Oneof} {marks : List Mark} → IsOneof custom a x b
-    → Among marks b → Among marks a
-oneof_past {custom} {marks = marks} (oneof h u c) behind =
-    heading_past h (until_past marks (oneof_item_past custom marks) _ _ _ _ u (past c behind))
-
 pub map_field_past : {custom : CustomOptions} {a b : List Lexeme} {x : MapField} {marks : List Mark}
     → IsMapField custom a x b → Among marks b → Among marks a
 map_field_past (map_field f l k c v g (numbered n q i o s)) behind =
     past f (past l (past k (past c (type_past v (past g (past n (past q (past i (options_past o (past s behind))))))))))
 
-abbrev pub PassesMessages : (List Lexeme → MessageTree → List Lexeme → Type 0) → Type 0
-PassesMessages Inner = (a b : List Lexeme) (x : MessageTree) → Inner a x b → (marks : List Mark) → Among marks b
+pub group_head_past : {custom : CustomOptions} {first : Span} {label : Option Label} {a b : List Lexeme} {x : Group}
+    {marks : List Mark} → IsGroupHead custom first label a x b → Among marks b → Among marks a
+group_head_past (group_head w n q i o c) behind = past w (past n (past q (past i (options_past o (past c behind)))))
+
+-- what is inside is passed over
+abbrev pub PassedOver : {A : Type 0} → (List Lexeme → A → List Lexeme → Type 0) → Type 0
+PassedOver {A} Is = (a b : List Lexeme) (x : A) → Is a x b → (marks : List Mark) → Among marks b → Among marks a
+
+adds_past : (Is : List Lexeme → Option Item → List Lexeme → Type 0) → PassedOver Is → (marks : List Mark)
+    (s t : List Item) (a b : List Lexeme) → Adds Is s a t b → Among marks b
     → Among marks a
+adds_past Is over marks s t a b (adds {item = x} i) behind = over a b x i marks behind
 
-pub message_item_past : (custom : CustomOptions) (Inner : List Lexeme → MessageTree → List Lexeme → Type 0)
-    → PassesMessages Inner
-    → (marks : List Mark) (s t : List MessageItem) (a b : List Lexeme) → Adds (IsMessageItem custom Inner) s a t b
-    → Among marks b → Among marks a
-message_item_past custom Inner inner marks s t a b (adds (items-empty is e)) behind = past e behind
-message_item_past custom Inner inner marks s t a b (adds (items-message {message = m} is i)) behind =
-    inner a b m i marks behind
-message_item_past custom Inner inner marks s t a b (adds (items-enum is e)) behind = enum_past e behind
-message_item_past custom Inner inner marks s t a b (adds (items-option is o)) behind = option_past o behind
-message_item_past custom Inner inner marks s t a b (adds (items-oneof is o)) behind = oneof_past o behind
-message_item_past custom Inner inner marks s t a b (adds (items-map_field is f)) behind = map_field_past f behind
-message_item_past custom Inner inner marks s t a b (adds (items-reserved is r)) behind = reserved_past r behind
-message_item_past custom Inner inner marks s t a b (adds (items-extend is e)) behind = extend_past e behind
-message_item_past custom Inner inner marks s t a b (adds (items-field is f)) behind = field_past f behind
+braced_past : (Is : List Lexeme → Option Item → List Lexeme → Type 0) → PassedOver Is → PassedOver (IsBraced Is)
+braced_past Is over a b x (braced u c) marks behind =
+    until_past marks (adds_past Is over marks) _ _ _ _ u (past c behind)
 
-pub message_of_past : (custom : CustomOptions) (Inner : List Lexeme → MessageTree → List Lexeme → Type 0)
-    → PassesMessages Inner → PassesMessages (IsMessageOf custom Inner)
-message_of_past custom Inner inner a b x (message h u c) marks behind =
-    heading_past h (until_past marks (message_item_past custom Inner inner marks) _ _ _ _ u (past c behind))
+group_past : (custom : CustomOptions) (Inner : List Lexeme → List Item → List Lexeme → Type 0) → PassedOver Inner
+    → (first : Span) (label : Option Label) → PassedOver (IsGroup custom Inner first label)
+group_past custom Inner over first label a b x (group g i) marks behind =
+    group_head_past g (over _ _ _ i marks behind)
 
-pub message_past : (custom : CustomOptions) (levels : ℕ) → PassesMessages (IsMessage custom levels)
-unfolding IsMessage
-message_past custom zero a b x m marks behind = absurd m
-message_past custom (suc levels) a b x m marks behind =
-    message_of_past custom (IsMessage custom levels) (message_past custom levels) a b x m marks behind
+labelled_past : (syntax : Syntax) (Inner : List Lexeme → List Item → List Lexeme → Type 0) → PassedOver Inner
+    → (first : Span) (label : Option Label) → PassedOver (IsLabelled syntax Inner first label)
+labelled_past syntax Inner over first label a b x (labelled-field is f) marks behind = typed_past f behind
+labelled_past syntax Inner over first label a b x (labelled-group {group = g} is i) marks behind =
+    group_past (custom_of syntax) Inner over first label a b g i marks behind
+
+member_past : (syntax : Syntax) (Inner : List Lexeme → List Item → List Lexeme → Type 0) → PassedOver Inner
+    → PassedOver (IsMember syntax Inner)
+member_past syntax Inner over a c x (member {t = t} {b = b} {label = label} l i) marks behind =
+    label_past l (labelled_past syntax Inner over t.span label b c x i marks behind)
+
+oneof_item_past : (syntax : Syntax) (Inner : List Lexeme → List Item → List Lexeme → Type 0) → PassedOver Inner
+    → PassedOver (IsOneofItem syntax Inner)
+oneof_item_past syntax Inner over a b x (oneofs-empty e) marks behind = past e behind
+oneof_item_past syntax Inner over a b x (oneofs-option is o) marks behind = option_past o behind
+oneof_item_past syntax Inner over a b x (oneofs-member {item = y} p q (oneof_member {t = t} i)) marks behind =
+    labelled_past syntax Inner over t.span None a b y i marks behind
+
+extend_item_past : (syntax : Syntax) (Inner : List Lexeme → List Item → List Lexeme → Type 0) → PassedOver Inner
+    → PassedOver (IsExtendItem syntax Inner)
+extend_item_past syntax Inner over a b x (extends-empty e) marks behind = past e behind
+extend_item_past syntax Inner over a b x (extends-member {item = y} p m) marks behind =
+    member_past syntax Inner over a b y m marks behind
+
+extend_statement_past : (syntax : Syntax) (Inner : List Lexeme → List Item → List Lexeme → Type 0) → PassedOver Inner
+    → PassedOver (IsExtendStatement Inner syntax)
+extend_statement_past syntax Inner over a b x
+    (kept is (extend {d = d} {items = items} k not n o i)) marks behind =
+    past k (type_name_past n (past o
+    (braced_past (IsExtendItem syntax Inner) (extend_item_past syntax Inner over) d b items i marks behind)))
+extend_statement_past syntax Inner over a b x (passed e) marks behind = passed_extend_past e behind
+
+message_past : (Inner : List Lexeme → List Item → List Lexeme → Type 0) → PassedOver Inner → PassedOver (IsMessage Inner)
+message_past Inner over a b x (message h i) marks behind = heading_past h (over _ _ _ i marks behind)
+
+message_item_past : (syntax : Syntax) (Inner : List Lexeme → List Item → List Lexeme → Type 0) → PassedOver Inner
+    → PassedOver (IsMessageItem syntax Inner)
+message_item_past syntax Inner over a b x (items-empty is e) marks behind = past e behind
+message_item_past syntax Inner over a b x (items-message {message = y} is i) marks behind =
+    message_past Inner over a b y i marks behind
+message_item_past syntax Inner over a b x (items-enum is e) marks behind = enum_past e behind
+message_item_past syntax Inner over a b x (items-option is o) marks behind = option_past o behind
+message_item_past syntax Inner over a b x
+    (items-oneof is (oneof {b = c} {items = items} h i)) marks behind =
+    heading_past h
+    (braced_past (IsOneofItem syntax Inner) (oneof_item_past syntax Inner over) c b items i marks behind)
+message_item_past syntax Inner over a b x (items-map_field is f) marks behind = map_field_past f behind
+message_item_past syntax Inner over a b x (items-reserved is r) marks behind = reserved_past r behind
+message_item_past syntax Inner over a b x (items-extend {extend = y} is e) marks behind =
+    extend_statement_past syntax Inner over a b y e marks behind
+message_item_past syntax Inner over a b x (items-extensions is proto2 r) marks behind = extensions_past r behind
+message_item_past syntax Inner over a b x (items-member {item = y} is m) marks behind =
+    member_past syntax Inner over a b y m marks behind
+
+inside_past : (syntax : Syntax) (levels : ℕ) → PassedOver (IsInside syntax levels)
+unfolding IsInside
+inside_past syntax zero a b x i marks behind = absurd i
+inside_past syntax (suc levels) a b x i marks behind =
+    braced_past (IsMessageItem syntax (IsInside syntax levels))
+    (message_item_past syntax (IsInside syntax levels) (inside_past syntax levels)) a b x i marks behind
+
+-- those of a file
+pub file_message_past : (syntax : Syntax) → PassedOver (IsMessage (IsInside syntax max_message_depth))
+file_message_past syntax = message_past (IsInside syntax max_message_depth) (inside_past syntax max_message_depth)
+
+pub file_extend_past : (syntax : Syntax)
+    → PassedOver (IsExtendStatement (IsInside syntax max_message_depth) syntax)
+file_extend_past syntax =
+    extend_statement_past syntax (IsInside syntax max_message_depth) (inside_past syntax max_message_depth)
 
 pub method_type_past : {a b : List Lexeme} {x : TypeName} {marks : List Mark} → IsMethodType a x b → Among marks b
     → Among marks a

@@ -1,8 +1,13 @@
--- Files (proto3 specification, "Proto file", "Syntax", "Import statement" and "Package").
-use Rattle.std.specs.Prelude.{◌≡◌, ℕ, true, false, Option, Some, None, List, [], ◌∷◌, ◌++◌, codes}
+-- Files (proto3 specification, "Proto file", "Syntax", "Import statement" and "Package"; proto2 specification, the same
+-- and "Extend").
+use Rattle.std.specs.Prelude.{◌≡◌, ℕ, true, false, Option, Some, None, option_map, option_to_list, List, [], ◌∷◌, ◌++◌}
+use Rattle.std.specs.Prelude.{codes}
 use Rattle.proto_lex.specs.declared.span.Span.{Span}
 use Rattle.proto_lex.specs.declared.token.TokenKind.TheVariants.{StringLiteral, Semicolon, Equals}
-use Rattle.proto_grammar.specs.declared.tree.CustomOptions.{CustomOptions}
+use Rattle.proto_grammar.specs.declared.tree.Dialect.{Dialect}
+use Rattle.proto_grammar.specs.declared.tree.Dialect.TheVariants.{All}
+use Rattle.proto_grammar.specs.declared.tree.Syntax.{Syntax}
+use Rattle.proto_grammar.specs.declared.tree.Syntax.TheVariants.{Proto2}
 use Rattle.proto_grammar.specs.declared.tree.Import.{Import}
 use Rattle.proto_grammar.specs.declared.tree.ImportKind.{ImportKind}
 use Rattle.proto_grammar.specs.declared.tree.ImportKind.TheVariants.{Plain, Weak, Public}
@@ -14,12 +19,13 @@ use Rattle.proto_parse.specs.declared.statement.FileStatement.TheVariants as cho
 use Rattle.proto_grammar.specs.Lexeme.{Lexeme}
 use Rattle.proto_grammar.specs.Terminal.{first_is, of_kind, is_word, is_plain_literal, between_quotes, not_next, is_end}
 use Rattle.proto_parse.specs.Choice.{file_statement_of}
-use Rattle.proto_grammar.specs.Tree.{MessageTree}
+use Rattle.proto_grammar.specs.Syntax.{custom_of, proto3_in}
+use Rattle.proto_grammar.specs.Tree.{BlockTree}
 use Rattle.proto_parse.specs.Limits.{max_message_depth}
 use Rattle.proto_grammar.specs.Grammar.Repetition.{One, Until, Adds}
 use Rattle.proto_grammar.specs.Grammar.Names.{IsName}
 use Rattle.proto_grammar.specs.Grammar.Options.{IsOption}
-use Rattle.proto_parse.specs.Grammar.Messages.{IsEnum, IsExtend, IsMessage}
+use Rattle.proto_parse.specs.Grammar.Messages.{IsEnum, IsExtendStatement, IsMessage, IsInside}
 use Rattle.proto_parse.specs.Grammar.Services.{IsService}
 
 -- The literals that are next, as many as there are, and what they spell when joined.
@@ -29,12 +35,20 @@ pub data SpellsJoined : List Lexeme → List ℕ → List Lexeme → Type 0 wher
       → of_kind StringLiteral t ≡ true → SpellsJoined rest text after
       → SpellsJoined (t ∷ rest) (between_quotes t.spelling ++ text) after
 
--- syntax = "syntax" "=" strings ";", where the strings spell `proto3` when joined
-pub data IsSyntax : List Lexeme → List Lexeme → Type 0 where
-  syntax : {a b c d e : List Lexeme} {keyword equals semicolon : Span}
+-- syntax = "syntax" "=" strings ";", where the strings spell `proto3` when joined. If all sources are accepted, also
+-- `proto2`, or no syntax statement at all, which is proto2. A file that begins with `edition` is none of these.
+pub data IsSyntax : Dialect → List Lexeme → Syntax → List Lexeme → Type 0 where
+  proto3 : {dialect : Dialect} {a b c d e : List Lexeme} {keyword equals semicolon : Span}
       → One (is_word (codes "syntax")) a keyword b → One (of_kind Equals) b equals c
       → SpellsJoined c (codes "proto3") d → One (of_kind Semicolon) d semicolon e
-      → IsSyntax a e
+      → IsSyntax dialect a (proto3_in dialect) e
+  proto2 : {a b c d e : List Lexeme} {keyword equals semicolon : Span}
+      → One (is_word (codes "syntax")) a keyword b → One (of_kind Equals) b equals c
+      → SpellsJoined c (codes "proto2") d → One (of_kind Semicolon) d semicolon e
+      → IsSyntax All a Proto2 e
+  no_statement : {a : List Lexeme} → first_is (is_word (codes "syntax")) a ≡ false
+      → first_is (is_word (codes "edition")) a ≡ false
+      → IsSyntax All a Proto2 a
 
 -- [ "weak" | "public" ]
 pub data IsImportKind : List Lexeme → ImportKind → List Lexeme → Type 0 where
@@ -63,36 +77,39 @@ pub data IsPackage : List Lexeme → List Span → List Lexeme → Type 0 where
       → One (is_word (codes "package")) a keyword b → IsName b components c → One (of_kind Semicolon) c semicolon d
       → IsPackage a components d
 
--- import | package | option | message | enum | service | ";", as the first word chooses, from the file so far to the
--- file with it.
+-- import | package | option | message | enum | service | extend | ";", as the first word chooses, from the file so far
+-- to the file with it.
 -- There is at most one package statement.
-pub data IsStatement (custom : CustomOptions) : File → List Lexeme → File → List Lexeme → Type 0 where
+pub data IsStatement (syntax : Syntax) : File → List Lexeme → File → List Lexeme → Type 0 where
   empty : {file : File} {a b : List Lexeme} {semicolon : Span} → file_statement_of a ≡ chosen.Empty
-      → One (of_kind Semicolon) a semicolon b → IsStatement custom file a file b
+      → One (of_kind Semicolon) a semicolon b → IsStatement syntax file a file b
   import : {file : File} {a b : List Lexeme} {import : Import}
       → file_statement_of a ≡ chosen.Import → IsImport a import b
-      → IsStatement custom file a (record file { imports = file.imports ++ import ∷ [] }) b
+      → IsStatement syntax file a (record file { imports = file.imports ++ import ∷ [] }) b
   package_statement : {file : File} {a b : List Lexeme} {components : List Span}
       → file_statement_of a ≡ chosen.Package → file.package_name ≡ None → IsPackage a components b
-      → IsStatement custom file a (record file { package_name = Some components }) b
-  option : {file : File} {a b : List Lexeme} → file_statement_of a ≡ chosen.Option → IsOption custom a b
-      → IsStatement custom file a file b
-  message : {file : File} {a b : List Lexeme} (message : MessageTree)
-      → file_statement_of a ≡ chosen.Message → IsMessage custom max_message_depth a message b
-      → IsStatement custom file a (record file { items = file.items ++ item.Message message ∷ [] }) b
+      → IsStatement syntax file a (record file { package_name = Some components }) b
+  option : {file : File} {a b : List Lexeme} → file_statement_of a ≡ chosen.Option → IsOption (custom_of syntax) a b
+      → IsStatement syntax file a file b
+  message : {file : File} {a b : List Lexeme} (message : BlockTree)
+      → file_statement_of a ≡ chosen.Message → IsMessage (IsInside syntax max_message_depth) a message b
+      → IsStatement syntax file a (record file { items = file.items ++ item.Block message ∷ [] }) b
   enum : {file : File} {a b : List Lexeme} {enum : Enum}
-      → file_statement_of a ≡ chosen.Enum → IsEnum custom a enum b
-      → IsStatement custom file a (record file { items = file.items ++ item.Enum enum ∷ [] }) b
+      → file_statement_of a ≡ chosen.Enum → IsEnum (custom_of syntax) a enum b
+      → IsStatement syntax file a (record file { items = file.items ++ item.Enum enum ∷ [] }) b
   service : {file : File} {a b : List Lexeme} {service : Service}
-      → file_statement_of a ≡ chosen.Service → IsService custom a service b
-      → IsStatement custom file a (record file { items = file.items ++ item.Service service ∷ [] }) b
-  extend : {file : File} {a b : List Lexeme} → file_statement_of a ≡ chosen.Extend → IsExtend custom a b
-      → IsStatement custom file a file b
+      → file_statement_of a ≡ chosen.Service → IsService (custom_of syntax) a service b
+      → IsStatement syntax file a (record file { items = file.items ++ item.Service service ∷ [] }) b
+  extend : {file : File} {a b : List Lexeme} {extend : Option BlockTree}
+      → file_statement_of a ≡ chosen.Extend → IsExtendStatement (IsInside syntax max_message_depth) syntax a extend b
+      → IsStatement syntax file a
+      (record file { items = file.items ++ option_to_list (option_map item.Block extend) }) b
 
 abbrev pub empty_file : File
 empty_file = record { package_name = None; imports = []; items = [] }
 
--- file = syntax { import | package | option | message | enum | service | ";" }, up to the last token
-pub data IsFile (custom : CustomOptions) : List Lexeme → File → Type 0 where
-  file : {a b c : List Lexeme} {file : File} → IsSyntax a b → Until is_end (IsStatement custom) empty_file b file c
-      → IsFile custom a file
+-- file = [ syntax ] { import | package | option | message | enum | service | extend | ";" }, up to the last token
+pub data IsFile (dialect : Dialect) : List Lexeme → File → Type 0 where
+  file : {a b c : List Lexeme} {syntax : Syntax} {file : File} → IsSyntax dialect a syntax b
+      → Until is_end (IsStatement syntax) empty_file b file c
+      → IsFile dialect a file

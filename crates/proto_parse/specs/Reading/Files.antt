@@ -1,10 +1,9 @@
 -- Files.
-use Rattle.std.specs.Prelude.{ℕ, ◌==◌, cond, Option, Some, None, List, [], ◌∷◌, ◌++◌, length, drop, codes, nat_eq}
-use Rattle.std.specs.Prelude.{is_some}
-use Rattle.std.specs.List.{starts_with}
+use Rattle.std.specs.Prelude.{cond, Option, Some, None, is_some, option_map, option_to_list, List, [], ◌∷◌, ◌++◌, codes}
 use Rattle.proto_lex.specs.declared.span.Span.{Span}
-use Rattle.proto_lex.specs.declared.token.TokenKind.TheVariants.{StringLiteral, Semicolon, Equals}
-use Rattle.proto_grammar.specs.declared.tree.CustomOptions.{CustomOptions}
+use Rattle.proto_lex.specs.declared.token.TokenKind.TheVariants.{StringLiteral, Semicolon}
+use Rattle.proto_grammar.specs.declared.tree.Dialect.{Dialect}
+use Rattle.proto_grammar.specs.declared.tree.Syntax.{Syntax}
 use Rattle.proto_grammar.specs.declared.tree.Import.{Import}
 use Rattle.proto_grammar.specs.declared.tree.ImportKind.{ImportKind}
 use Rattle.proto_grammar.specs.declared.tree.ImportKind.TheVariants.{Plain, Weak, Public}
@@ -12,34 +11,17 @@ use Rattle.proto_grammar.specs.declared.tree.FileItem.TheVariants as item
 use Rattle.proto_grammar.specs.declared.tree.File.{File}
 use Rattle.proto_parse.specs.declared.statement.FileStatement.{FileStatement}
 use Rattle.proto_parse.specs.declared.statement.FileStatement.TheVariants as chosen
-use Rattle.proto_grammar.specs.Terminal.{first, others, first_is, of_kind, is_word, is_plain_literal, not_next, is_end}
-use Rattle.proto_grammar.specs.Terminal.{between_quotes}
+use Rattle.proto_grammar.specs.Terminal.{others, first_is, of_kind, is_word, is_plain_literal, not_next, is_end}
+use Rattle.proto_grammar.specs.Syntax.{custom_of}
 use Rattle.proto_parse.specs.Choice.{file_statement_of}
 use Rattle.proto_parse.specs.Limits.{max_message_depth}
 use Rattle.proto_parse.specs.Grammar.Files.{empty_file}
 use Rattle.proto_grammar.specs.Reading.Repetition.{◌>>=◌, Read, token_that, until_at, adding}
 use Rattle.proto_grammar.specs.Reading.Names.{name_at}
 use Rattle.proto_grammar.specs.Reading.Options.{option_at}
-use Rattle.proto_parse.specs.Reading.Messages.{enum_at, extend_at, message_at}
+use Rattle.proto_parse.specs.Reading.Messages.{enum_at, extend_statement_at, message_at, inside_at}
 use Rattle.proto_parse.specs.Reading.Services.{service_at}
-
--- The next literal, off the front of a text.
-unfoldable pub stripped_at : List ℕ → Read (List ℕ)
-stripped_at text tokens =
-    first tokens >>= λ t. cond (starts_with nat_eq text (between_quotes t.spelling))
-    (Some (drop (length (between_quotes t.spelling)) text, others tokens)) None
-
-unfoldable pub spelled_at : List ℕ → Read (Unit {0})
-spelled_at text tokens = until_at (not_next StringLiteral) stripped_at text tokens >>= λ left. cond
-    (length left.0 == 0) (Some (tt, left.1)) None
-
-unfoldable pub syntax_at : Read (Unit {0})
-syntax_at tokens = do
-  keyword ← token_that (is_word (codes "syntax")) tokens
-  equals ← token_that (of_kind Equals) keyword.1
-  text ← spelled_at (codes "proto3") equals.1
-  semicolon ← token_that (of_kind Semicolon) text.1
-  Some (tt, semicolon.1)
+use Rattle.proto_parse.specs.Reading.Syntax.{syntax_at}
 
 unfoldable pub import_kind_at : Read ImportKind
 import_kind_at tokens =
@@ -74,27 +56,29 @@ only_package_at file tokens =
     cond (is_some file.package_name) None
     (package_at tokens >>= λ x. Some (record file { package_name = Some x.0 }, x.1))
 
-abbrev pub statement_by : FileStatement → CustomOptions → File → Read File
-statement_by chosen.Empty custom file tokens = token_that (of_kind Semicolon) tokens >>= λ x. Some (file, x.1)
-statement_by chosen.Import custom file tokens =
+abbrev pub statement_by : FileStatement → Syntax → File → Read File
+statement_by chosen.Empty syntax file tokens = token_that (of_kind Semicolon) tokens >>= λ x. Some (file, x.1)
+statement_by chosen.Import syntax file tokens =
     import_at tokens >>= λ x. Some (record file { imports = file.imports ++ x.0 ∷ [] }, x.1)
-statement_by chosen.Package custom file tokens = only_package_at file tokens
-statement_by chosen.Option custom file tokens = option_at custom tokens >>= λ x. Some (file, x.1)
-statement_by chosen.Message custom file tokens =
-    message_at custom max_message_depth tokens >>= λ x. Some
-    (record file { items = file.items ++ item.Message x.0 ∷ [] }, x.1)
-statement_by chosen.Enum custom file tokens =
-    enum_at custom tokens >>= λ x. Some (record file { items = file.items ++ item.Enum x.0 ∷ [] }, x.1)
-statement_by chosen.Service custom file tokens =
-    service_at custom tokens >>= λ x. Some (record file { items = file.items ++ item.Service x.0 ∷ [] }, x.1)
-statement_by chosen.Extend custom file tokens = extend_at custom tokens >>= λ x. Some (file, x.1)
-statement_by chosen.Other custom file tokens = None
+statement_by chosen.Package syntax file tokens = only_package_at file tokens
+statement_by chosen.Option syntax file tokens = option_at (custom_of syntax) tokens >>= λ x. Some (file, x.1)
+statement_by chosen.Message syntax file tokens =
+    message_at (inside_at syntax max_message_depth) tokens >>= λ x. Some
+    (record file { items = file.items ++ item.Block x.0 ∷ [] }, x.1)
+statement_by chosen.Enum syntax file tokens =
+    enum_at (custom_of syntax) tokens >>= λ x. Some (record file { items = file.items ++ item.Enum x.0 ∷ [] }, x.1)
+statement_by chosen.Service syntax file tokens =
+    service_at (custom_of syntax) tokens >>= λ x. Some (record file { items = file.items ++ item.Service x.0 ∷ [] }, x.1)
+statement_by chosen.Extend syntax file tokens =
+    extend_statement_at syntax (inside_at syntax max_message_depth) tokens >>= λ x. Some
+    (record file { items = file.items ++ option_to_list (option_map item.Block x.0) }, x.1)
+statement_by chosen.Other syntax file tokens = None
 
-unfoldable pub statement_at : CustomOptions → File → Read File
-statement_at custom file tokens = statement_by (file_statement_of tokens) custom file tokens
+unfoldable pub statement_at : Syntax → File → Read File
+statement_at syntax file tokens = statement_by (file_statement_of tokens) syntax file tokens
 
-unfoldable pub statements_at : CustomOptions → Read File
-statements_at custom tokens = until_at is_end (statement_at custom) empty_file tokens
+unfoldable pub statements_at : Syntax → Read File
+statements_at syntax tokens = until_at is_end (statement_at syntax) empty_file tokens
 
-unfoldable pub file_at : CustomOptions → Read File
-file_at custom tokens = syntax_at tokens >>= λ syntax. statements_at custom syntax.1
+unfoldable pub file_at : Dialect → Read File
+file_at dialect tokens = syntax_at dialect tokens >>= λ syntax. statements_at syntax.0 syntax.1

@@ -2,4 +2,4 @@ use Rattle.proto_parse.proofs.Exact.Files.{same_tree}
 use Rattle.proto_parse.proofs.laws.one_tree.Goals as goal
 
 pub returns : goal.returns
-returns c = λ custom text tokens file other d e. same_tree file other d e
+returns c = λ dialect text tokens file other d e. same_tree file other d e

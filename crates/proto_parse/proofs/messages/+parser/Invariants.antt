@@ -1,22 +1,63 @@
-use Rattle.std.proofs.Common.{◌≡◌, ◌+◌, ◌*◌, [], length}
+use Rattle.std.proofs.Common.{◌≡◌, ℕ, ◌+◌, ◌*◌, [], length}
+use Rattle.proto_parse.specs.declared.statement.Within.{Within}
+use Rattle.proto_parse.specs.declared.statement.Within.TheVariants.{Message, Oneof, Extend}
 use Rattle.proto_grammar.specs.Terminal.{closes}
 use Rattle.proto_grammar.specs.Reading.Repetition.{until_at, adding}
-use Rattle.proto_parse.specs.Reading.Messages.{message_item_at, message_at}
+use Rattle.proto_parse.specs.Reading.Messages.{item_at, inside_at}
 use Rattle.proto_parse.proofs.messages.+parser.Given as goal
 
+-- what is in a message may be a oneof or an extend
+abbrev pub rank : Within → ℕ
+rank Message = 10
+rank Oneof = 4
+rank Extend = 4
+
 abbrev pub decreases-message : goal.decreases-message
-decreases-message l = 3 * l.levels
+decreases-message l = 13 * l.levels
+
+abbrev pub decreases-group : goal.decreases-group
+decreases-group l = 13 * l.levels
+
+abbrev pub decreases-labelled : goal.decreases-labelled
+decreases-labelled l = 13 * l.levels + 1
+
+abbrev pub decreases-member : goal.decreases-member
+decreases-member l = 13 * l.levels + 2
+
+abbrev pub decreases-oneof_member : goal.decreases-oneof_member
+decreases-oneof_member l = 13 * l.levels + 2
+
+abbrev pub decreases-oneof_item : goal.decreases-oneof_item
+decreases-oneof_item l = 13 * l.levels + 3
+
+abbrev pub decreases-extend_item : goal.decreases-extend_item
+decreases-extend_item l = 13 * l.levels + 3
 
 abbrev pub decreases-item : goal.decreases-item
-decreases-item l = 3 * l.levels + 1
+decreases-item l = 13 * l.levels + rank l.within
 
 abbrev pub decreases-items : goal.decreases-items
-decreases-items l = 3 * l.levels + 2
+decreases-items l = 13 * l.levels + rank l.within + 1
+
+abbrev pub decreases-braced : goal.decreases-braced
+decreases-braced l = 13 * l.levels + rank l.within + 2
+
+abbrev pub decreases-oneof : goal.decreases-oneof
+decreases-oneof l = 13 * l.levels + 7
+
+abbrev pub decreases-extend : goal.decreases-extend
+decreases-extend l = 13 * l.levels + 7
+
+abbrev pub decreases-extend_statement : goal.decreases-extend_statement
+decreases-extend_statement l = 13 * l.levels + 8
+
+abbrev pub decreases-message_item : goal.decreases-message_item
+decreases-message_item l = 13 * l.levels + 9
 
 abbrev pub invariant-items-items : goal.invariant-items-items
 invariant-items-items l =
-    until_at closes (adding (message_item_at l.custom (message_at l.custom l.levels))) l.items.items l.parser
-    ≡ until_at closes (adding (message_item_at l.custom (message_at l.custom l.levels))) [] l.initial.parser
+    until_at closes (adding (item_at l.within l.syntax (inside_at l.syntax l.levels))) l.items.items l.parser
+    ≡ until_at closes (adding (item_at l.within l.syntax (inside_at l.syntax l.levels))) [] l.initial.parser
 
 abbrev pub decreases-items-items : goal.decreases-items-items
 decreases-items-items l = length l.parser

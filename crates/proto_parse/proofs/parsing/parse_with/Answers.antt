@@ -4,11 +4,11 @@ use Rattle.proto_parse.proofs.parsing.parse_with.Goals as goal
 
 pub returns-clause-found : goal.returns-clause-found
 returns-clause-found c =
-    rw (← c.new.ensures) (file_of_found c.args.custom c.new.result c.file.new.parser _ c.file.ensures)
+    rw (← c.new.ensures) (file_of_found c.args.dialect c.new.result c.file.new.parser _ c.file.ensures)
 
 pub returns-clause-only : goal.returns-clause-only
 returns-clause-only c = rw (← c.new.ensures)
-    (file_of_exact c.args.custom c.new.result c.file.new.parser _ c.file.ensures)
+    (file_of_exact c.args.dialect c.new.result c.file.new.parser _ c.file.ensures)
 
 pub returns-clause-skipped : goal.returns-clause-skipped
-returns-clause-skipped c = file_of_skipped c.args.custom c.new.result c.file.new.parser _ c.file.ensures
+returns-clause-skipped c = file_of_skipped c.args.dialect c.new.result c.file.new.parser _ c.file.ensures

@@ -1,0 +1,39 @@
+-- Dialects, and the grammar of one file.
+use Rattle.std.specs.Prelude.{Bool, true, false}
+use Rattle.proto_grammar.specs.declared.tree.CustomOptions.{CustomOptions}
+use Rattle.proto_grammar.specs.declared.tree.CustomOptions.TheVariants.{Skip}
+use Rattle.proto_grammar.specs.declared.tree.Dialect.{Dialect}
+use Rattle.proto_grammar.specs.declared.tree.Dialect.TheVariants as dialect
+use Rattle.proto_grammar.specs.declared.tree.Syntax.{Syntax}
+use Rattle.proto_grammar.specs.declared.tree.Syntax.TheVariants.{Proto3, Extended, Proto2}
+
+-- What is done with custom options, by a file's grammar.
+abbrev pub custom_of : Syntax → CustomOptions
+custom_of (Proto3 custom) = custom
+custom_of Extended = Skip
+custom_of Proto2 = Skip
+
+-- The same, by the dialect.
+abbrev pub custom_in : Dialect → CustomOptions
+custom_in (dialect.Proto3 custom) = custom
+custom_in dialect.All = Skip
+
+-- The grammar of a proto3 file.
+abbrev pub proto3_in : Dialect → Syntax
+proto3_in (dialect.Proto3 custom) = Proto3 custom
+proto3_in dialect.All = Extended
+
+abbrev pub is_all : Dialect → Bool
+is_all (dialect.Proto3 custom) = false
+is_all dialect.All = true
+
+abbrev pub is_proto2 : Syntax → Bool
+is_proto2 (Proto3 custom) = false
+is_proto2 Extended = false
+is_proto2 Proto2 = true
+
+-- Whether extends declare fields. They do unless only proto3 is accepted.
+abbrev pub extends : Syntax → Bool
+extends (Proto3 custom) = false
+extends Extended = true
+extends Proto2 = true

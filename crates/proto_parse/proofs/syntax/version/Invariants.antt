@@ -1,0 +1,15 @@
+use Rattle.std.proofs.Common.{◌≡◌, ℕ, Option, Some, List, length, codes, option_map}
+use Rattle.proto_parse.specs.Reading.Syntax.{is_left, joined_of, behind_literals}
+use Rattle.proto_parse.proofs.syntax.version.Given as goal
+
+abbrev pub invariant-literals : goal.invariant-literals
+invariant-literals l = record {
+  proto3 : is_left (option_map (λ t. t.now) l.proto3) (joined_of l.parser)
+      ≡ is_left (Some (codes "proto3")) (joined_of l.initial.parser);
+  proto2 : is_left (option_map (λ t. t.now) l.proto2) (joined_of l.parser)
+      ≡ is_left (Some (codes "proto2")) (joined_of l.initial.parser);
+  behind : behind_literals l.parser ≡ behind_literals l.initial.parser;
+}
+
+abbrev pub decreases-literals : goal.decreases-literals
+decreases-literals l = length l.parser

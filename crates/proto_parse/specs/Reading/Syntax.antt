@@ -1,0 +1,60 @@
+-- Syntax statements.
+use Rattle.std.specs.Prelude.{ℕ, Bool, false, ◌&&◌, not, cond, Option, Some, None, List, [], ◌∷◌, ◌++◌, length, drop}
+use Rattle.std.specs.Prelude.{bytes_eq, nat_eq, codes}
+use Rattle.std.specs.List.{starts_with}
+use Rattle.proto_lex.specs.declared.token.TokenKind.TheVariants.{StringLiteral, Semicolon, Equals}
+use Rattle.proto_grammar.specs.declared.tree.Dialect.{Dialect}
+use Rattle.proto_grammar.specs.declared.tree.Syntax.{Syntax}
+use Rattle.proto_grammar.specs.declared.tree.Syntax.TheVariants.{Proto2}
+use Rattle.proto_parse.specs.declared.statement.Version.{Version}
+use Rattle.proto_parse.specs.declared.statement.Version.TheVariants as version
+use Rattle.proto_grammar.specs.Lexeme.{Lexeme}
+use Rattle.proto_grammar.specs.Terminal.{first_is, of_kind, is_word, between_quotes}
+use Rattle.proto_grammar.specs.Syntax.{proto3_in, is_all}
+use Rattle.proto_parse.specs.Choice.{version_of}
+use Rattle.proto_grammar.specs.Reading.Repetition.{◌>>=◌, Read, token_that}
+
+-- What is left of a text behind what it begins with.
+abbrev pub stripped_of : Option (List ℕ) → List ℕ → Option (List ℕ)
+stripped_of None content = None
+stripped_of (Some text) content = cond (starts_with nat_eq text content) (Some (drop (length content) text)) None
+
+-- Whether the text is what is left.
+abbrev pub is_left : Option (List ℕ) → List ℕ → Bool
+is_left None text = false
+is_left (Some left) text = bytes_eq text left
+
+abbrev pub content_of : Option Lexeme → List ℕ
+content_of None = []
+content_of (Some t) = between_quotes t.spelling
+
+-- The literals that are next, joined, and what is behind them.
+abbrev pub joined_of : List Lexeme → List ℕ
+joined_of [] = []
+joined_of (t ∷ rest) = cond (of_kind StringLiteral t) (between_quotes t.spelling ++ joined_of rest) []
+
+abbrev pub behind_literals : List Lexeme → List Lexeme
+behind_literals [] = []
+behind_literals (t ∷ rest) = cond (of_kind StringLiteral t) (behind_literals rest) (t ∷ rest)
+
+abbrev pub syntax_by : Version → Dialect → Option Syntax
+syntax_by version.Proto3 dialect = Some (proto3_in dialect)
+syntax_by version.Proto2 dialect = cond (is_all dialect) (Some Proto2) None
+syntax_by version.Other dialect = None
+
+unfoldable pub version_at : Dialect → Read Syntax
+version_at dialect tokens =
+    syntax_by (version_of (joined_of tokens)) dialect >>= λ syntax. Some (syntax, behind_literals tokens)
+
+unfoldable pub syntax_statement_at : Dialect → Read Syntax
+syntax_statement_at dialect tokens = do
+  keyword ← token_that (is_word (codes "syntax")) tokens
+  equals ← token_that (of_kind Equals) keyword.1
+  syntax ← version_at dialect equals.1
+  semicolon ← token_that (of_kind Semicolon) syntax.1
+  Some (syntax.0, semicolon.1)
+
+unfoldable pub syntax_at : Dialect → Read Syntax
+syntax_at dialect tokens =
+    cond (first_is (is_word (codes "syntax")) tokens) (syntax_statement_at dialect tokens)
+    (cond (is_all dialect && not (first_is (is_word (codes "edition")) tokens)) (Some (Proto2, tokens)) None)

@@ -1,0 +1,115 @@
+//! Syntax statements.
+
+ghost use Rattle.std.specs.Prelude.{◌≡◌, ℕ, [], option_map, IfOk};
+ghost use Rattle.proto_parse.specs.Choice.{version_of};
+ghost use Rattle.proto_grammar.specs.Gives.{Gives};
+ghost use Rattle.proto_grammar.specs.Terminal.{first, others};
+ghost use Rattle.proto_grammar.specs.Syntax.{custom_of, custom_in, proto3_in};
+ghost use Rattle.proto_grammar.specs.declared.tree.CustomOptions.TheVariants.{Skip};
+ghost use Rattle.proto_parse.specs.Reading.Syntax.{stripped_of, is_left, content_of, joined_of, behind_literals};
+ghost use Rattle.proto_parse.specs.Reading.Syntax.{version_at, syntax_statement_at, syntax_at};
+
+use crate::statement::Version;
+use proto_grammar::{Dialect, Parser, Syntax, SyntaxFault};
+use proto_lex::TokenKind;
+
+/// What is left of a text behind what a literal spells, if the text begins with it.
+fn stripped<'s>(text: Option<&'s [u8]>, content: &[u8]) -> Option<&'s [u8]>
+    ensures { option_map (λ t. t.now) result ≡ stripped_of (option_map (λ t. t.now) text) content.now }
+{
+    text?.strip_prefix(content)
+}
+
+/// Whether there is a text, and nothing in it.
+fn is_spelled(left: Option<&[u8]>) -> bool
+    ensures { result ≡ is_left (option_map (λ t. t.now) left) [] }
+{
+    match left {
+        Some(text) => text.is_empty(),
+        None => false,
+    }
+}
+
+/// Takes the next token, and gives what is between its quotes.
+fn content<'t>(parser: &mut Parser<'t>) -> &'t [u8]
+    ensures content { result.now ≡ content_of (first parser.old) }
+    ensures rest { parser.new ≡ others parser.old }
+{
+    match parser.next() {
+        Some(lexeme) => lexeme.between_quotes(),
+        None => &[],
+    }
+}
+
+/// Which version the literals that are next spell when joined.
+fn version(parser: &mut Parser<'_>) -> Version
+    ensures version { result ≡ version_of (joined_of parser.old) }
+    ensures rest { parser.new ≡ behind_literals parser.old }
+{
+    let mut proto3: Option<&[u8]> = Some(b"proto3");
+    let mut proto2: Option<&[u8]> = Some(b"proto2");
+    'literals: while parser.is_at(TokenKind::StringLiteral) {
+        let literal = content(parser);
+        proto3 = stripped(proto3, literal);
+        proto2 = stripped(proto2, literal);
+    }
+    if is_spelled(proto3) {
+        return Version::Proto3;
+    }
+    if is_spelled(proto2) {
+        return Version::Proto2;
+    }
+    Version::Other
+}
+
+/// The grammar of a proto3 file.
+fn proto3_in(dialect: Dialect) -> Syntax
+    ensures { result ≡ proto3_in dialect }
+{
+    match dialect {
+        Dialect::Proto3(custom) => Syntax::Proto3(custom),
+        Dialect::All => Syntax::Extended,
+    }
+}
+
+/// Literals that name a version that is accepted.
+#[tactic(auto, using(crate::proofs::Joined::no_literal), unfolding(crate::specs::Reading::Syntax::version_at))]
+fn accepted(parser: &mut Parser<'_>, dialect: Dialect) -> Result<Syntax, SyntaxFault>
+    ensures { Gives Skip (λ x. x) parser.new result (version_at dialect parser.old) }
+{
+    let start = parser.offset();
+    if !parser.is_at(TokenKind::StringLiteral) {
+        return Err(SyntaxFault::Grammar(start));
+    }
+    match version(parser) {
+        Version::Proto3 => Ok(proto3_in(dialect)),
+        Version::Proto2 if dialect.is_all() => Ok(Syntax::Proto2),
+        _ => Err(SyntaxFault::NotProto3(start)),
+    }
+}
+
+/// A syntax statement (proto3 specification, "Syntax").
+#[tactic(auto, unfolding(crate::specs::Reading::Syntax::syntax_statement_at))]
+fn syntax_statement(parser: &mut Parser<'_>, dialect: Dialect) -> Result<Syntax, SyntaxFault>
+    ensures { Gives Skip (λ x. x) parser.new result (syntax_statement_at dialect parser.old) }
+{
+    parser.word("syntax")?;
+    parser.token(TokenKind::Equals)?;
+    let syntax = accepted(parser, dialect)?;
+    parser.token(TokenKind::Semicolon)?;
+    Ok(syntax)
+}
+
+/// A file's grammar, by its syntax statement. A file without one is proto2.
+#[tactic(auto, unfolding(crate::specs::Reading::Syntax::syntax_at))]
+pub(crate) fn syntax(parser: &mut Parser<'_>, dialect: Dialect) -> Result<Syntax, SyntaxFault>
+    ensures { Gives Skip (λ x. x) parser.new result (syntax_at dialect parser.old) }
+{
+    if parser.is_at_word("syntax") {
+        return syntax_statement(parser, dialect);
+    }
+    if dialect.is_all() && !parser.is_at_word("edition") {
+        return Ok(Syntax::Proto2);
+    }
+    Err(SyntaxFault::NotProto3(parser.offset()))
+}

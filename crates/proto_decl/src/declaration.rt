@@ -23,13 +23,15 @@ pub struct DeclarationStep<'t> {
 pub struct Declaration<'t> {
     pub kind: DeclarationKind,
     /// The full name of its scope, a dot and its simple name. An enum's value has its enum's scope,
-    /// and a oneof's field that of the message around the oneof.
+    /// a oneof's field that of the message around the oneof, and an extension the scope around the
+    /// `extend`.
     pub full_name: OwnedText,
     /// The path from the package to the declaration, outermost first: the messages or the service
     /// around it, for a value its enum, and last the declaration itself. A oneof stands in no path
-    /// but its own.
+    /// but its own, and an `extend` in none.
     pub path: DeclarationPath<'t>,
-    /// Where its simple name stands.
+    /// Where its simple name stands. The name of a group's field is the group's name in small
+    /// letters, which stands nowhere: its place is the word `group`.
     pub name: Span,
     /// The texts of the comments that stand directly before it, joined by `\n`.
     pub leading: KeptText<'t>,

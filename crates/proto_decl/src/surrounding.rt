@@ -2,14 +2,14 @@
 
 ghost use Rattle.std.specs.Prelude.{◌≡◌, ◌++◌, ◌∷◌, [], IfOk};
 ghost use Rattle.proto_lex.specs.Lexed.{IsPart};
-ghost use Rattle.proto_decl.specs.Outlines.{step_to, inside, beside};
+ghost use Rattle.proto_decl.specs.Outlines.{scope_heading, step_to, inside, beside};
 
 use crate::declaration::DeclarationStep;
 use crate::kind::DeclarationKind;
 use crate::names::{qualified, spelling_at};
 use crate::path::{DeclarationPath, SharedSteps};
 use lent_texts::KeptText;
-use proto_parse::Heading;
+use proto_parse::{Head, Heading};
 use sequences::{OwnedText, Sequence};
 use std::alloc::{AllocError, Global};
 
@@ -20,6 +20,17 @@ pub(crate) struct Surrounding<'t> {
     pub(crate) scope: OwnedText,
     /// The path to what the declaration stands in.
     pub(crate) path: SharedSteps<'t>,
+}
+
+/// The heading of a block that is a scope: of a message or a group.
+pub(crate) fn scope_heading(head: &Head) -> Option<Heading>
+    ensures { result ≡ scope_heading head.now }
+{
+    match head {
+        Head::Message(heading) => Some(*heading),
+        Head::Group(group) => Some(group.heading),
+        Head::Oneof(_) | Head::Extend(_) => None,
+    }
 }
 
 /// The same step once more.

@@ -1,9 +1,10 @@
 //! A text that is lent where it can be.
 
-ghost use Rattle.std.specs.Prelude.{◌≡◌};
+ghost use Rattle.std.specs.Prelude.{◌≡◌, IfOk};
 
 use crate::place::Place;
 use sequences::OwnedText;
+use std::alloc::{AllocError, Global};
 use std::marker::Model;
 
 /// A text in UTF-8 that something else owns, or that is owned here, which contracts see as the list of its
@@ -48,6 +49,16 @@ impl<'t> KeptText<'t> {
         match &self.place {
             Place::Lent(text) => text,
             Place::Owned(text) => text.as_str(),
+        }
+    }
+
+    /// The same text once more. Nothing is copied if something else owns it.
+    pub fn copy(&self, alloc: Global) -> Result<KeptText<'t>, AllocError>
+        ensures { IfOk result (λ copy. copy ≡ self.now) }
+    {
+        match &self.place {
+            Place::Lent(text) => Ok(KeptText::lent(text)),
+            Place::Owned(text) => Ok(KeptText::owned(OwnedText::copy_of(alloc, text.as_str())?)),
         }
     }
 }

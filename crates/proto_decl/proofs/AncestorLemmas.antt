@@ -8,7 +8,8 @@ use Rattle.std.proofs.lemmas.List.Elements.{Contains-append_right, Contains-push
 use Rattle.proto_lex.specs.Lexed.{Lexed, part_of}
 use Rattle.proto_lex.specs.declared.span.Span.{Span}
 use Rattle.proto_parse.specs.tree.Heading.{Heading}
-use Rattle.proto_parse.specs.tree.Field.{Field}
+use Rattle.proto_parse.specs.tree.Head.{Head}
+use Rattle.proto_parse.specs.tree.Head.TheVariants as head
 use Rattle.proto_parse.specs.tree.Enum.{Enum}
 use Rattle.proto_parse.specs.tree.Method.{Method}
 use Rattle.proto_parse.specs.tree.Leaf.{Leaf}
@@ -17,10 +18,11 @@ use Rattle.proto_parse.specs.tree.FileItem.{FileItem}
 use Rattle.proto_parse.specs.tree.FileItem.TheVariants as item
 use Rattle.proto_parse.specs.tree.File.{File}
 use Rattle.proto_parse.specs.Tree.{Body}
-use Rattle.proto_parse.specs.Tree.Body.{NoMore, LeafThen, MessageThen}
-use Rattle.proto_decl.specs.Names.{qualified, dotted, components_at}
-use Rattle.proto_decl.specs.Outlines.{step_to, outline_at, inside, beside, in_enum, in_leaf, in_body, in_item}
-use Rattle.proto_decl.specs.Outlines.{package_spans, file_surrounding, outlines_of}
+use Rattle.proto_parse.specs.Tree.Body.{NoMore, LeafThen, BlockThen}
+use Rattle.proto_decl.specs.Names.{qualified, dotted, components_at, small_letters}
+use Rattle.proto_decl.specs.Outlines.{name_of, step_named, step_to, outline_at, inside, beside, within, scope_heading}
+use Rattle.proto_decl.specs.Outlines.{in_enum, in_head, in_leaf, in_body, in_item, package_spans, file_surrounding}
+use Rattle.proto_decl.specs.Outlines.{outlines_of}
 use Rattle.proto_decl.specs.Declares.{IsDeclaration}
 use Rattle.proto_decl.specs.Facts.{Facts, AreFactsOf}
 use Rattle.proto_decl.specs.declared.kind.DeclarationKind.{DeclarationKind}
@@ -196,11 +198,6 @@ module _ (text : List ℕ) where
   values-in s [] = none
   values-in s (h ∷ headings) = one s kind.Value h none (values-in s headings)
 
-  fields-in : (s : Surrounding) (fields : List Field)
-      → AreIn s (map (λ field. outline_at text s kind.Field field.heading) fields)
-  fields-in s [] = none
-  fields-in s (f ∷ fields) = one s kind.Field f.heading none (fields-in s fields)
-
   methods-in : (s : Surrounding) (methods : List Method)
       → AreIn s (map (λ method. outline_at text s kind.Method method.heading) methods)
   methods-in s [] = none
@@ -211,19 +208,30 @@ module _ (text : List ℕ) where
 
   leaf-in : (s : Surrounding) (l : Leaf) → AreIn s (in_leaf text s l)
   leaf-in s (leaf.Enum enum) = enum-in s enum
-  leaf-in s (leaf.Oneof oneof) = one s kind.Oneof oneof.heading none (fields-in s oneof.fields)
   leaf-in s (leaf.Field field) = one s kind.Field field.heading none none
   leaf-in s (leaf.MapField field) = one s kind.Field field.heading none none
+
+  -- a block, in which these are
+  head-in : (s : Surrounding) (h : Head) (inner : List Outline) → AreIn (within text s (scope_heading h)) inner
+      → AreIn s (in_head text s h ++ inner)
+  head-in s (head.Message heading) inner i = alone s kind.Message heading inner i
+  head-in s (head.Group group) inner i =
+      node (step_named kind.Field (small_letters (name_of text group.heading))) refl refl none
+      (alone s kind.Message group.heading inner i)
+  head-in s (head.Oneof heading) inner i = one s kind.Oneof heading none i
+  head-in s (head.Extend type) inner i = i
 
   body-in : (s : Surrounding) (body : Body) → AreIn s (in_body text s body)
   body-in s NoMore = none
   body-in s (LeafThen l others) = and-then (leaf-in s l) (body-in s others)
-  body-in s (MessageThen heading inner others) =
-      one s kind.Message heading (body-in (inside text s kind.Message heading) inner) (body-in s others)
+  body-in s (BlockThen h inner others) =
+      let below = in_body text (within text s (scope_heading h)) inner in
+      subst (AreIn s) (append_assoc (in_head text s h) below (in_body text s others))
+      (and-then (head-in s h below (body-in (within text s (scope_heading h)) inner)) (body-in s others))
 
   item-in : (s : Surrounding) (i : FileItem) → AreIn s (in_item text s i)
-  item-in s (item.Message message) =
-      alone s kind.Message message.heading _ (body-in (inside text s kind.Message message.heading) message.body)
+  item-in s (item.Block block) =
+      head-in s block.head _ (body-in (within text s (scope_heading block.head)) block.body)
   item-in s (item.Enum enum) = enum-in s enum
   item-in s (item.Service service) =
       alone s kind.Service service.heading _ (methods-in (inside text s kind.Service service.heading) service.methods)

@@ -12,19 +12,22 @@ use Rattle.proto_parse.specs.tree.Heading.{Heading}
 use Rattle.proto_parse.specs.tree.Field.{Field}
 use Rattle.proto_parse.specs.tree.Method.{Method}
 use Rattle.proto_parse.specs.tree.Enum.{Enum}
+use Rattle.proto_parse.specs.tree.Head.{Head}
+use Rattle.proto_parse.specs.tree.Head.TheVariants as head
 use Rattle.proto_parse.specs.tree.Leaf.{Leaf}
 use Rattle.proto_parse.specs.tree.Leaf.TheVariants as leaf
 use Rattle.proto_parse.specs.tree.FileItem.{FileItem}
 use Rattle.proto_parse.specs.tree.FileItem.TheVariants as item
 use Rattle.proto_parse.specs.tree.File.{File}
 use Rattle.proto_parse.specs.Tree.{Body}
-use Rattle.proto_parse.specs.Tree.Body.{NoMore, LeafThen, MessageThen}
+use Rattle.proto_parse.specs.Tree.Body.{NoMore, LeafThen, BlockThen}
 use Rattle.proto_parse.specs.Walk.{Mark, Among, each_then, names_then, type_name_then, heading_then, field_then}
-use Rattle.proto_parse.specs.Walk.{enum_then, leaf_then, body_then, method_then, item_then, marks_of_items}
+use Rattle.proto_parse.specs.Walk.{enum_then, head_then, leaf_then, body_then, method_then, item_then, marks_of_items}
 use Rattle.proto_parse.specs.Walk.{marks_of_package}
 use Rattle.proto_parse.specs.Walk.Mark.{Name, Other}
-use Rattle.proto_decl.specs.Names.{components_at}
-use Rattle.proto_decl.specs.Outlines.{step_to, outline_at, inside, beside, in_enum, in_leaf, in_body, in_item}
+use Rattle.proto_decl.specs.Names.{components_at, small_letters}
+use Rattle.proto_decl.specs.Outlines.{step_named, step_to, outline_at, group_field, inside, beside, within}
+use Rattle.proto_decl.specs.Outlines.{scope_heading, in_enum, in_head, in_leaf, in_body, in_item}
 use Rattle.proto_decl.specs.Outlines.{file_surrounding, package_spans, outlines_of}
 use Rattle.proto_decl.specs.Declares.{IsDeclaration}
 use Rattle.proto_decl.specs.Facts.{Facts, AreFactsOf}
@@ -37,6 +40,7 @@ use Rattle.proto_decl.specs.declared.declaration.Declaration.{Declaration}
 use Rattle.proto_decl.specs.declared.type_use.Component.{Component}
 use Rattle.proto_decl.specs.declared.surrounding.Surrounding.{Surrounding}
 use Rattle.proto_decl.proofs.MarkLemmas.{OfNames, of_lexemes, of_names, past_type_name, past_type}
+use Rattle.proto_decl.proofs.SmallLemmas.{identifier_small}
 
 -- the names on a path are identifiers
 abbrev IsSpelled : DeclarationStep → Type 0
@@ -104,10 +108,6 @@ module _ (text : List ℕ) where
   leaf_on : (surrounding : Surrounding) (leaf : Leaf) (marks : List Mark) → OnPath surrounding.path
       → OfNames Ident (leaf_then leaf marks) → AreOnPaths (in_leaf text surrounding leaf) × OfNames Ident marks
   leaf_on surrounding (leaf.Enum enum) marks on_path h = enum_on surrounding enum marks on_path h
-  leaf_on surrounding (leaf.Oneof oneof) marks on_path h =
-      let fields = each_on field_then
-      (λ (field : Field). field.heading) kind.Field surrounding on_path field_on oneof.fields marks h.1 in
-      (All-cons IsOnPath _ _ (farther surrounding.path kind.Oneof oneof.heading on_path h.0) fields.0, fields.1)
   leaf_on surrounding (leaf.Field field) marks on_path h =
       let name = field_on field marks h in (
         All-cons IsOnPath (outline_at text surrounding kind.Field field.heading) []
@@ -121,6 +121,34 @@ module _ (text : List ℕ) where
         behind.1,
       )
 
+  -- what a block declares, and the path to what is in it
+  head_on : (surrounding : Surrounding) (head : Head) (marks : List Mark) → OnPath surrounding.path
+      → OfNames Ident (head_then head marks)
+      → AreOnPaths (in_head text surrounding head) × OnPath (within text surrounding (scope_heading head)).path
+      × OfNames Ident marks
+  head_on surrounding (head.Message heading) marks on_path h =
+      let self = farther surrounding.path kind.Message heading on_path h.0 in
+      (All-cons IsOnPath (outline_at text surrounding kind.Message heading) [] self (All-nil IsOnPath), self, h.1)
+  head_on surrounding (head.Group group) marks on_path h =
+      let field = All-push IsSpelled surrounding.path
+      (step_named kind.Field (small_letters (part_of text group.heading.name))) on_path
+      (identifier_small (part_of text group.heading.name) h.1.0) in
+      let self = farther surrounding.path kind.Message group.heading on_path h.1.0 in (
+        All-cons IsOnPath (group_field text surrounding group) (outline_at text surrounding kind.Message group.heading ∷ [])
+            field
+            (All-cons IsOnPath (outline_at text surrounding kind.Message group.heading) [] self (All-nil IsOnPath)),
+        self,
+        h.1.1,
+      )
+  head_on surrounding (head.Oneof heading) marks on_path h = (
+    All-cons IsOnPath (outline_at text surrounding kind.Oneof heading) []
+        (farther surrounding.path kind.Oneof heading on_path h.0) (All-nil IsOnPath),
+    on_path,
+    h.1,
+  )
+  head_on surrounding (head.Extend type) marks on_path h =
+      (All-nil IsOnPath, on_path, past_type_name Ident type marks h)
+
   body_on : (surrounding : Surrounding) (body : Body) (marks : List Mark) → OnPath surrounding.path
       → OfNames Ident (body_then body marks) → AreOnPaths (in_body text surrounding body) × OfNames Ident marks
   body_on surrounding NoMore marks on_path h = (All-nil IsOnPath, h)
@@ -128,22 +156,25 @@ module _ (text : List ℕ) where
       let first = leaf_on surrounding leaf (body_then others marks) on_path h in
       let rest = body_on surrounding others marks on_path first.1 in
       (All-append IsOnPath (in_leaf text surrounding leaf) (in_body text surrounding others) first.0 rest.0, rest.1)
-  body_on surrounding (MessageThen heading inner others) marks on_path h =
-      let around = inside text surrounding kind.Message heading in
-      let self = farther surrounding.path kind.Message heading on_path h.0 in
-      let within = body_on around inner (body_then others marks) self h.1 in
-      let rest = body_on surrounding others marks on_path within.1 in (
-        All-cons IsOnPath _ _ self
-            (All-append IsOnPath (in_body text around inner) (in_body text surrounding others) within.0 rest.0),
+  body_on surrounding (BlockThen head inner others) marks on_path h =
+      let around = within text surrounding (scope_heading head) in
+      let first = head_on surrounding head (body_then inner (body_then others marks)) on_path h in
+      let below = body_on around inner (body_then others marks) first.1 first.2 in
+      let rest = body_on surrounding others marks on_path below.1 in (
+        All-append IsOnPath (in_head text surrounding head) (in_body text around inner ++ in_body text surrounding others)
+            first.0 (All-append IsOnPath (in_body text around inner) (in_body text surrounding others) below.0 rest.0),
         rest.1,
       )
 
   item_on : (surrounding : Surrounding) (item : FileItem) (marks : List Mark) → OnPath surrounding.path
       → OfNames Ident (item_then item marks) → AreOnPaths (in_item text surrounding item) × OfNames Ident marks
-  item_on surrounding (item.Message message) marks on_path h =
-      let self = farther surrounding.path kind.Message message.heading on_path h.0 in
-      let body = body_on (inside text surrounding kind.Message message.heading) message.body marks self h.1 in
-      (All-cons IsOnPath _ _ self body.0, body.1)
+  item_on surrounding (item.Block block) marks on_path h =
+      let around = within text surrounding (scope_heading block.head) in
+      let first = head_on surrounding block.head (body_then block.body marks) on_path h in
+      let below = body_on around block.body marks first.1 first.2 in (
+        All-append IsOnPath (in_head text surrounding block.head) (in_body text around block.body) first.0 below.0,
+        below.1,
+      )
   item_on surrounding (item.Enum enum) marks on_path h = enum_on surrounding enum marks on_path h
   item_on surrounding (item.Service service) marks on_path h =
       let self = farther surrounding.path kind.Service service.heading on_path h.0 in

@@ -18,6 +18,8 @@ pub mod OrderLemmas
 pub mod FactLemmas
 pub mod PlaceLemmas
 pub mod NameLemmas
+pub mod SmallLemmas
+pub mod SplitLemmas
 pub mod FilledLemmas
 pub mod PartLemmas
 pub mod ScopeLemmas

@@ -1,13 +1,15 @@
--- Declared names are spelled as they stand, and aren't empty.
+-- Declared names are spelled as they stand, but for those of groups' fields, and aren't empty.
 use Rattle.std.proofs.Common.{◌≡◌, ◌≢◌, ◌∙◌, sym, ap, refl, ℕ, ◌-◌, ◌<◌, ◌≤◌, List, [], ◌∷◌, ◌++◌, length, drop, map}
 use Rattle.std.proofs.Common.{arith, length-append}
-use Rattle.std.specs.List.{All, AllZip, flat_map}
-use Rattle.std.proofs.lemmas.List.{length-take-le, length-drop}
-use Rattle.std.proofs.lemmas.List.Elements.{All-nil, All-cons, All-head, All-tail, All-append}
+use Rattle.std.specs.Char.{to_ascii_lowercase}
+use Rattle.std.specs.List.{All, AllZip, Contains, flat_map}
+use Rattle.std.proofs.lemmas.List.{length-take-le, length-drop, length-map}
+use Rattle.std.proofs.lemmas.List.Elements.{All-nil, All-cons, All-head, All-tail, All-append, All-contains_itself}
 use Rattle.proto_lex.specs.declared.span.Span.{Span}
 use Rattle.proto_lex.specs.Lexed.{Lexed, IsPart, part_of}
 use Rattle.proto_parse.specs.tree.Heading.{Heading}
-use Rattle.proto_parse.specs.tree.Field.{Field}
+use Rattle.proto_parse.specs.tree.Head.{Head}
+use Rattle.proto_parse.specs.tree.Head.TheVariants as head
 use Rattle.proto_parse.specs.tree.Method.{Method}
 use Rattle.proto_parse.specs.tree.Enum.{Enum}
 use Rattle.proto_parse.specs.tree.Leaf.{Leaf}
@@ -16,152 +18,251 @@ use Rattle.proto_parse.specs.tree.FileItem.{FileItem}
 use Rattle.proto_parse.specs.tree.FileItem.TheVariants as item
 use Rattle.proto_parse.specs.tree.File.{File}
 use Rattle.proto_parse.specs.Tree.{Body}
-use Rattle.proto_parse.specs.Tree.Body.{NoMore, LeafThen, MessageThen}
-use Rattle.proto_decl.specs.Names.{qualified}
-use Rattle.proto_decl.specs.Spans.{OfHeading, OfField, OfEnum, OfMethod, OfLeaf, OfBody, OfItem}
-use Rattle.proto_decl.specs.Outlines.{step_to, outline_at, inside, beside, in_enum, in_leaf, in_body, in_item}
-use Rattle.proto_decl.specs.Outlines.{file_surrounding, outlines_of}
+use Rattle.proto_parse.specs.Tree.Body.{NoMore, LeafThen, BlockThen}
+use Rattle.proto_decl.specs.Names.{qualified, small_letters}
+use Rattle.proto_decl.specs.Spans.{OfHeading, OfHead, OfEnum, OfMethod, OfLeaf, OfBody, OfItem}
+use Rattle.proto_decl.specs.Outlines.{name_of, step_named, step_to, outline_at, group_field, inside, beside, within}
+use Rattle.proto_decl.specs.Outlines.{scope_heading, in_enum, in_head, in_leaf, in_body, in_item, file_surrounding}
+use Rattle.proto_decl.specs.Outlines.{outlines_of}
 use Rattle.proto_decl.specs.Declares.{IsDeclaration, simple_name}
-use Rattle.proto_decl.specs.Laws.{IsNamedAt}
+use Rattle.proto_decl.specs.Laws.{AreOfGroup, IsSpelled, IsNamedAt}
+use Rattle.proto_decl.specs.Laws.IsSpelled.{as_it_stands, as_its_group}
 use Rattle.proto_decl.specs.declared.kind.DeclarationKind.{DeclarationKind}
 use Rattle.proto_decl.specs.declared.kind.DeclarationKind.TheVariants as kind
 use Rattle.proto_decl.specs.declared.declaration.DeclarationStep.{DeclarationStep}
 use Rattle.proto_decl.specs.declared.declaration.Declaration.{Declaration}
 use Rattle.proto_decl.specs.declared.declaration.Outline.{Outline}
 use Rattle.proto_decl.specs.declared.surrounding.Surrounding.{Surrounding}
-
-record IsNamed (text : List ℕ) (outline : Outline) : Type 0 where
-  place : IsPart text outline.heading.name
-  simple : simple_name outline.path ≡ part_of text outline.heading.name
-  scope : List ℕ
-  full : outline.full_name ≡ qualified scope (part_of text outline.heading.name)
+use Rattle.proto_decl.proofs.SplitLemmas.{all_left, all_right}
 
 pub simple_name-push : (path : List DeclarationStep) (step : DeclarationStep) → simple_name (path ++ step ∷ []) ≡ step.name
 simple_name-push [] step = refl
 simple_name-push (first ∷ []) step = refl
 simple_name-push (first ∷ (next ∷ others)) step = simple_name-push (next ∷ others) step
 
-module _ (text : List ℕ) where
+-- the field and the message of one group
+record OfGroup (text : List ℕ) (field message : Outline) : Type 0 where
+  place : IsPart text message.heading.name
+  outer : List DeclarationStep
+  message_path : message.path ≡ outer ++ step_named kind.Message (part_of text message.heading.name) ∷ []
+  field_path : field.path ≡ outer ++ step_named kind.Field (small_letters (part_of text message.heading.name)) ∷ []
+
+-- its name is at its place, or it is the field of a group, the message of which is known
+data HasName (text : List ℕ) (K : Outline → Type 0) (outline : Outline) : Type 0 where
+  at_place : simple_name outline.path ≡ part_of text outline.heading.name → HasName text K outline
+  of_group : {message : Outline} → K message → OfGroup text outline message → HasName text K outline
+
+record IsNamed (text : List ℕ) (K : Outline → Type 0) (outline : Outline) : Type 0 where
+  place : IsPart text outline.heading.name
+  name : HasName text K outline
+  scope : List ℕ
+  full : outline.full_name ≡ qualified scope (simple_name outline.path)
+
+-- Where what a part of the tree declares is known: all of it is named.
+module _ (text : List ℕ) (K : Outline → Type 0) where
+  abbrev Named : List Outline → Type 0
+  Named outlines = All (IsNamed text K) outlines
+
   named : (surrounding : Surrounding) (kind : DeclarationKind) (heading : Heading) → OfHeading (IsPart text) heading
-      → IsNamed text (outline_at text surrounding kind heading)
+      → IsNamed text K (outline_at text surrounding kind heading)
   named surrounding kind heading spans =
+      let simple = simple_name-push surrounding.path (step_to text kind heading) in
       record {
         place = spans.1;
-        simple = simple_name-push surrounding.path (step_to text kind heading);
+        name = at_place simple;
         scope = surrounding.scope;
-        full = refl;
+        full = ap (qualified surrounding.scope) (sym simple);
       }
 
   each_named : {A : Type 0} (surrounding : Surrounding) (kind : DeclarationKind) (heading : A → Heading)
       (Q : A → Type 0) → ((x : A) → Q x → OfHeading (IsPart text) (heading x))
-      → (xs : List A) → All Q xs → All (IsNamed text) (map (λ x. outline_at text surrounding kind (heading x)) xs)
-  each_named surrounding kind heading Q has [] all = All-nil (IsNamed text)
+      → (xs : List A) → All Q xs → Named (map (λ x. outline_at text surrounding kind (heading x)) xs)
+  each_named surrounding kind heading Q has [] all = All-nil (IsNamed text K)
   each_named surrounding kind heading Q has (x ∷ xs) all =
-      All-cons (IsNamed text) _ _ (named surrounding kind (heading x) (has x (All-head Q x xs all)))
+      All-cons (IsNamed text K) _ _ (named surrounding kind (heading x) (has x (All-head Q x xs all)))
       (each_named surrounding kind heading Q has xs (All-tail Q x xs all))
 
-  flat_named : {A : Type 0} (f : A → List Outline) (Q : A → Type 0) → ((x : A) → Q x → All (IsNamed text) (f x))
-      → (xs : List A) → All Q xs → All (IsNamed text) (flat_map f xs)
-  flat_named f Q has [] all = All-nil (IsNamed text)
-  flat_named f Q has (x ∷ xs) all =
-      All-append (IsNamed text) (f x) (flat_map f xs) (has x (All-head Q x xs all))
-      (flat_named f Q has xs (All-tail Q x xs all))
-
   enum_named : (surrounding : Surrounding) (enum : Enum) → OfEnum (IsPart text) enum
-      → All (IsNamed text) (in_enum text surrounding enum)
+      → Named (in_enum text surrounding enum)
   enum_named surrounding enum spans =
-      All-cons (IsNamed text) _ _ (named surrounding kind.Enum enum.heading spans.0)
+      All-cons (IsNamed text K) _ _ (named surrounding kind.Enum enum.heading spans.0)
       (each_named (beside text surrounding kind.Enum enum.heading) kind.Value (λ (value : Heading). value)
       (OfHeading (IsPart text)) (λ value has. has) enum.values spans.1)
 
+  alone : (surrounding : Surrounding) (kind : DeclarationKind) (heading : Heading) → OfHeading (IsPart text) heading
+      → Named (outline_at text surrounding kind heading ∷ [])
+  alone surrounding kind heading spans =
+      All-cons (IsNamed text K) (outline_at text surrounding kind heading) [] (named surrounding kind heading spans)
+      (All-nil (IsNamed text K))
+
   leaf_named : (surrounding : Surrounding) (leaf : Leaf) → OfLeaf (IsPart text) leaf
-      → All (IsNamed text) (in_leaf text surrounding leaf)
+      → Named (in_leaf text surrounding leaf)
   leaf_named surrounding (leaf.Enum enum) spans = enum_named surrounding enum spans
-  leaf_named surrounding (leaf.Oneof oneof) spans =
-      All-cons (IsNamed text) _ _ (named surrounding kind.Oneof oneof.heading spans.0)
-      (each_named surrounding kind.Field (λ (field : Field). field.heading) (OfField (IsPart text))
-      (λ field has. has.0) oneof.fields spans.1)
-  leaf_named surrounding (leaf.Field field) spans =
-      All-cons (IsNamed text) (outline_at text surrounding kind.Field field.heading) []
-      (named surrounding kind.Field field.heading spans.0) (All-nil (IsNamed text))
-  leaf_named surrounding (leaf.MapField field) spans =
-      All-cons (IsNamed text) (outline_at text surrounding kind.Field field.heading) []
-      (named surrounding kind.Field field.heading spans.0) (All-nil (IsNamed text))
+  leaf_named surrounding (leaf.Field field) spans = alone surrounding kind.Field field.heading spans.0
+  leaf_named surrounding (leaf.MapField field) spans = alone surrounding kind.Field field.heading spans.0
 
-  body_named : (surrounding : Surrounding) (body : Body) → OfBody (IsPart text) body
-      → All (IsNamed text) (in_body text surrounding body)
-  body_named surrounding NoMore spans = All-nil (IsNamed text)
-  body_named surrounding (LeafThen leaf others) spans =
-      All-append (IsNamed text) (in_leaf text surrounding leaf) (in_body text surrounding others)
-      (leaf_named surrounding leaf spans.0) (body_named surrounding others spans.1)
-  body_named surrounding (MessageThen heading inner others) spans =
-      let around = inside text surrounding kind.Message heading in
-      All-cons (IsNamed text) _ _ (named surrounding kind.Message heading spans.0)
-      (All-append (IsNamed text) (in_body text around inner) (in_body text surrounding others)
-      (body_named around inner spans.1) (body_named surrounding others spans.2))
+  head_named : (surrounding : Surrounding) (head : Head) → All K (in_head text surrounding head)
+      → OfHead (IsPart text) head → Named (in_head text surrounding head)
+  head_named surrounding (head.Message heading) known spans = alone surrounding kind.Message heading spans
+  head_named surrounding (head.Group group) known spans =
+      let field = group_field text surrounding group in
+      let self = outline_at text surrounding kind.Message group.heading in
+      let small = small_letters (name_of text group.heading) in
+      All-cons (IsNamed text K) field (self ∷ [])
+      (record {
+        place = spans.1;
+        name = of_group {message = self} (All-head K self [] (All-tail K field (self ∷ []) known))
+            (record { place = spans.0.1; outer = surrounding.path; message_path = refl; field_path = refl });
+        scope = surrounding.scope;
+        full = ap (qualified surrounding.scope)
+            (sym (simple_name-push surrounding.path (step_named kind.Field small)));
+      })
+      (alone surrounding kind.Message group.heading spans.0)
+  head_named surrounding (head.Oneof heading) known spans = alone surrounding kind.Oneof heading spans
+  head_named surrounding (head.Extend type) known spans = All-nil (IsNamed text K)
 
-  item_named : (surrounding : Surrounding) (item : FileItem) → OfItem (IsPart text) item
-      → All (IsNamed text) (in_item text surrounding item)
-  item_named surrounding (item.Message message) spans =
-      All-cons (IsNamed text) _ _ (named surrounding kind.Message message.heading spans.0)
-      (body_named (inside text surrounding kind.Message message.heading) message.body spans.1)
-  item_named surrounding (item.Enum enum) spans = enum_named surrounding enum spans
-  item_named surrounding (item.Service service) spans =
-      All-cons (IsNamed text) _ _ (named surrounding kind.Service service.heading spans.0)
+  body_named : (surrounding : Surrounding) (body : Body) → All K (in_body text surrounding body)
+      → OfBody (IsPart text) body → Named (in_body text surrounding body)
+  body_named surrounding NoMore known spans = All-nil (IsNamed text K)
+  body_named surrounding (LeafThen leaf others) known spans =
+      let here = in_leaf text surrounding leaf in
+      let later = in_body text surrounding others in
+      All-append (IsNamed text K) here later (leaf_named surrounding leaf spans.0)
+      (body_named surrounding others (all_right K here later known) spans.1)
+  body_named surrounding (BlockThen head inner others) known spans =
+      let around = within text surrounding (scope_heading head) in
+      let here = in_head text surrounding head in
+      let below = in_body text around inner in
+      let later = in_body text surrounding others in
+      let behind = all_right K here (below ++ later) known in
+      All-append (IsNamed text K) here (below ++ later)
+      (head_named surrounding head (all_left K here (below ++ later) known) spans.0)
+      (All-append (IsNamed text K) below later (body_named around inner (all_left K below later behind) spans.1)
+      (body_named surrounding others (all_right K below later behind) spans.2))
+
+  item_named : (surrounding : Surrounding) (item : FileItem) → All K (in_item text surrounding item)
+      → OfItem (IsPart text) item → Named (in_item text surrounding item)
+  item_named surrounding (item.Block block) known spans =
+      let around = within text surrounding (scope_heading block.head) in
+      let here = in_head text surrounding block.head in
+      let below = in_body text around block.body in
+      All-append (IsNamed text K) here below
+      (head_named surrounding block.head (all_left K here below known) spans.0)
+      (body_named around block.body (all_right K here below known) spans.1)
+  item_named surrounding (item.Enum enum) known spans = enum_named surrounding enum spans
+  item_named surrounding (item.Service service) known spans =
+      All-cons (IsNamed text K) _ _ (named surrounding kind.Service service.heading spans.0)
       (each_named (inside text surrounding kind.Service service.heading) kind.Method
       (λ (method : Method). method.heading) (OfMethod (IsPart text)) (λ method has. has.0) service.methods spans.1)
 
-  outlines_named : (file : File) → All (OfItem (IsPart text)) file.items → All (IsNamed text) (outlines_of text file)
-  outlines_named file spans =
-      flat_named (in_item text (file_surrounding text file)) (OfItem (IsPart text))
-      (item_named (file_surrounding text file)) file.items spans
+  items_named : (surrounding : Surrounding) (items : List FileItem)
+      → All K (flat_map (in_item text surrounding) items) → All (OfItem (IsPart text)) items
+      → Named (flat_map (in_item text surrounding) items)
+  items_named surrounding [] known spans = All-nil (IsNamed text K)
+  items_named surrounding (item ∷ items) known spans =
+      let here = in_item text surrounding item in
+      let later = flat_map (in_item text surrounding) items in
+      All-append (IsNamed text K) here later
+      (item_named surrounding item (all_left K here later known) (All-head (OfItem (IsPart text)) item items spans))
+      (items_named surrounding items (all_right K here later known) (All-tail (OfItem (IsPart text)) item items spans))
 
-declared_named : (lexed : Lexed) (o : Outline) (d : Declaration) → IsDeclaration lexed o d → IsNamed lexed.text o
-    → IsNamedAt lexed.text d
-declared_named lexed o d is named = record {
-  place = rw is.name named.place;
-  simple = ap simple_name is.path ∙ (named.simple ∙ ap (part_of lexed.text) (sym is.name));
-  scope = named.scope;
-  full = is.full_name ∙ (named.full ∙ ap (λ span. qualified named.scope (part_of lexed.text span)) (sym is.name));
-}
+-- from outlines to declarations
+module _ (lexed : Lexed) (declarations : List Declaration) where
+  -- a declaration of the outline is among all
+  record IsDeclared (outline : Outline) : Type 0 where
+    found : Declaration
+    listed : Contains declarations found
+    declared : IsDeclaration lexed outline found
 
-all_named : (lexed : Lexed) (os : List Outline) (ds : List Declaration) → AllZip (IsDeclaration lexed) os ds
-    → All (IsNamed lexed.text) os → All (IsNamedAt lexed.text) ds
-all_named lexed [] [] all names = All-nil (IsNamedAt lexed.text)
-all_named lexed [] (d ∷ ds) all names = absurd all
-all_named lexed (o ∷ os) [] all names = absurd all
-all_named lexed (o ∷ os) (d ∷ ds) all names =
-    All-cons (IsNamedAt lexed.text) d ds (declared_named lexed o d all.0 (All-head (IsNamed lexed.text) o os names))
-    (all_named lexed os ds all.1 (All-tail (IsNamed lexed.text) o os names))
+  all_declared : (os : List Outline) (ds : List Declaration) → AllZip (IsDeclaration lexed) os ds
+      → All (Contains declarations) ds → All IsDeclared os
+  all_declared [] [] all listed = All-nil IsDeclared
+  all_declared [] (d ∷ ds) all listed = absurd all
+  all_declared (o ∷ os) [] all listed = absurd all
+  all_declared (o ∷ os) (d ∷ ds) all listed =
+      All-cons IsDeclared o os
+      (record { found = d; listed = All-head (Contains declarations) d ds listed; declared = all.0 })
+      (all_declared os ds all.1 (All-tail (Contains declarations) d ds listed))
+
+  group_named : (o message : Outline) (d : Declaration) → IsDeclaration lexed o d → OfGroup lexed.text o message
+      → (found : Declaration) → IsDeclaration lexed message found → AreOfGroup lexed.text d found
+  group_named o message d is group found of_message = record {
+    place = rw of_message.name group.place;
+    outer = group.outer;
+    message_path = of_message.path ∙ (group.message_path
+        ∙ ap (λ span. group.outer ++ step_named kind.Message (part_of lexed.text span) ∷ []) (sym of_message.name));
+    field_path = is.path ∙ (group.field_path
+        ∙ ap (λ span. group.outer ++ step_named kind.Field (small_letters (part_of lexed.text span)) ∷ [])
+        (sym of_message.name));
+  }
+
+  name_spelled : (o : Outline) (d : Declaration) → IsDeclaration lexed o d → HasName lexed.text IsDeclared o
+      → IsSpelled lexed.text declarations d
+  name_spelled o d is (at_place simple) =
+      as_it_stands (ap simple_name is.path ∙ (simple ∙ ap (part_of lexed.text) (sym is.name)))
+  name_spelled o d is (of_group {message = message} known group) =
+      as_its_group known.listed (group_named o message d is group known.found known.declared)
+
+  declared_named : (o : Outline) (d : Declaration) → IsDeclaration lexed o d → IsNamed lexed.text IsDeclared o
+      → IsNamedAt lexed.text declarations d
+  declared_named o d is named = record {
+    place = rw is.name named.place;
+    spelled = name_spelled o d is named.name;
+    scope = named.scope;
+    full = is.full_name ∙ (named.full ∙ ap (λ path. qualified named.scope (simple_name path)) (sym is.path));
+  }
+
+  all_named : (os : List Outline) (ds : List Declaration) → AllZip (IsDeclaration lexed) os ds
+      → All (IsNamed lexed.text IsDeclared) os → All (IsNamedAt lexed.text declarations) ds
+  all_named [] [] all names = All-nil (IsNamedAt lexed.text declarations)
+  all_named [] (d ∷ ds) all names = absurd all
+  all_named (o ∷ os) [] all names = absurd all
+  all_named (o ∷ os) (d ∷ ds) all names =
+      All-cons (IsNamedAt lexed.text declarations) d ds
+      (declared_named o d all.0 (All-head (IsNamed lexed.text IsDeclared) o os names))
+      (all_named os ds all.1 (All-tail (IsNamed lexed.text IsDeclared) o os names))
 
 pub declarations_named : (lexed : Lexed) (file : File) (ds : List Declaration)
     → All (OfItem (IsPart lexed.text)) file.items
-    → AllZip (IsDeclaration lexed) (outlines_of lexed.text file) ds → All (IsNamedAt lexed.text) ds
+    → AllZip (IsDeclaration lexed) (outlines_of lexed.text file) ds → All (IsNamedAt lexed.text ds) ds
 declarations_named lexed file ds spans all =
-    all_named lexed (outlines_of lexed.text file) ds all (outlines_named lexed.text file spans)
+    let known = all_declared lexed ds (outlines_of lexed.text file) ds all (All-contains_itself ds) in
+    all_named lexed ds (outlines_of lexed.text file) ds all
+    (items_named lexed.text (IsDeclared lexed ds) (file_surrounding lexed.text file) file.items known spans)
 
 -- a name in a scope is no shorter than the name
 qualified-length : (scope name : List ℕ) → length name ≤ length (qualified scope name)
 qualified-length [] name = omega arith
 qualified-length (byte ∷ scope) name = omega (arith, length-append (byte ∷ scope) (46 ∷ name))
 
-part-length : (text : List ℕ) (span : Span) → IsPart text span → length (part_of text span) ≡ span.end - span.start
+part-length : (text : List ℕ) (span : Span) → IsPart text span → 0 < length (part_of text span)
 part-length text span is =
     let left = length-drop span.start text in
-    length-take-le (span.end - span.start) (drop span.start text) (omega (arith, is.some, is.within, left))
+    let count = length-take-le (span.end - span.start) (drop span.start text) (omega (arith, is.some, is.within, left))
+    in
+    omega (arith, is.some, count)
 
--- what is named as it stands isn't empty
-pub named_some : (text : List ℕ) (declaration : Declaration) → IsNamedAt text declaration
-    → 0 < length declaration.full_name
-named_some text declaration is =
-    let place = is.place in
-    let count = part-length text declaration.name place in
-    omega (arith, place.some, ap length is.full, count, qualified-length is.scope (part_of text declaration.name))
+-- no simple name is empty
+simple_some : (text : List ℕ) (declarations : List Declaration) (declaration : Declaration)
+    → IsPart text declaration.name → IsSpelled text declarations declaration → 0 < length (simple_name declaration.path)
+simple_some text declarations declaration place (as_it_stands simple) =
+    omega (arith, part-length text declaration.name place, ap length simple)
+simple_some text declarations declaration place (as_its_group {message = message} listed group) =
+    let name = part_of text message.name in
+    let simple = ap simple_name group.field_path
+    ∙ simple_name-push group.outer (step_named kind.Field (small_letters name)) in
+    omega (arith, part-length text message.name group.place, length-map name to_ascii_lowercase, ap length simple)
 
--- so the path to it has a step
-pub path_some : (text : List ℕ) (declaration : Declaration) → IsNamedAt text declaration → declaration.path ≢ []
-path_some text declaration is none =
-    let place = is.place in
-    let count = part-length text declaration.name place in
-    let nothing : part_of text declaration.name ≡ [] = sym is.simple ∙ ap simple_name none in
-    omega (arith, place.some, count, ap length nothing)
+-- so no full name is
+pub named_some : (text : List ℕ) (declarations : List Declaration) (declaration : Declaration)
+    → IsNamedAt text declarations declaration → 0 < length declaration.full_name
+named_some text declarations declaration is =
+    let some = simple_some text declarations declaration is.place is.spelled in
+    omega (arith, some, ap length is.full, qualified-length is.scope (simple_name declaration.path))
+
+-- and each path has a step
+pub path_some : (text : List ℕ) (declarations : List Declaration) (declaration : Declaration)
+    → IsNamedAt text declarations declaration → declaration.path ≢ []
+path_some text declarations declaration is none =
+    let some = simple_some text declarations declaration is.place is.spelled in
+    omega (arith, some, ap length (ap simple_name none))

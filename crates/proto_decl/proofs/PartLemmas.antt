@@ -1,5 +1,6 @@
 -- The places of a file's facts are parts of its text, as the spans of its tree are.
-use Rattle.std.proofs.Common.{sym, subst, ℕ, ◌<◌, ◌≤◌, Option, Some, None, List, [], ◌∷◌, length, map, arith}
+use Rattle.std.proofs.Common.{sym, subst, ℕ, ◌<◌, ◌≤◌, Option, Some, None, List, [], ◌∷◌, ◌++◌, length, map}
+use Rattle.std.proofs.Common.{arith}
 use Rattle.std.specs.Prelude.{IsCharBoundary}
 use Rattle.std.specs.List.{All, flat_map}
 use Rattle.std.proofs.lemmas.List.Elements.{All-nil, All-cons, All-head, All-tail, All-append}
@@ -8,7 +9,8 @@ use Rattle.proto_lex.specs.Lexed.{IsPart, AreInOrder}
 use Rattle.proto_parse.specs.tree.TypeName.{TypeName}
 use Rattle.proto_parse.specs.tree.FieldType.{FieldType}
 use Rattle.proto_parse.specs.tree.FieldType.TheVariants.{Scalar, Named}
-use Rattle.proto_parse.specs.tree.Field.{Field}
+use Rattle.proto_parse.specs.tree.Head.{Head}
+use Rattle.proto_parse.specs.tree.Head.TheVariants as head
 use Rattle.proto_parse.specs.tree.Leaf.{Leaf}
 use Rattle.proto_parse.specs.tree.Leaf.TheVariants as leaf
 use Rattle.proto_parse.specs.tree.Method.{Method}
@@ -17,14 +19,14 @@ use Rattle.proto_parse.specs.tree.FileItem.{FileItem}
 use Rattle.proto_parse.specs.tree.FileItem.TheVariants as item
 use Rattle.proto_parse.specs.tree.File.{File}
 use Rattle.proto_parse.specs.Tree.{Body}
-use Rattle.proto_parse.specs.Tree.Body.{NoMore, LeafThen, MessageThen}
+use Rattle.proto_parse.specs.Tree.Body.{NoMore, LeafThen, BlockThen}
 use Rattle.proto_parse.specs.Filled.{FilledImport}
 use Rattle.proto_decl.specs.Names.{qualified, components_at}
-use Rattle.proto_decl.specs.Spans.{OfTypeName, OfType, OfField, OfLeaf, OfBody, OfMethod, OfItem, OfPackage}
+use Rattle.proto_decl.specs.Spans.{OfTypeName, OfType, OfHead, OfLeaf, OfBody, OfMethod, OfItem, OfPackage}
 use Rattle.proto_decl.specs.Imports.{start_of, end_of, imports_of}
-use Rattle.proto_decl.specs.Outlines.{name_of, package_scope, package_spans}
-use Rattle.proto_decl.specs.Uses.{use_of, uses_of_type, uses_in_leaf, uses_in_body, uses_of_method, uses_in_item}
-use Rattle.proto_decl.specs.Uses.{uses_of}
+use Rattle.proto_decl.specs.Outlines.{name_of, scope_heading, package_scope, package_spans}
+use Rattle.proto_decl.specs.Uses.{use_of, uses_of_type, uses_in_leaf, uses_in_head, scope_within, uses_in_body}
+use Rattle.proto_decl.specs.Uses.{uses_of_method, uses_in_item, uses_of}
 use Rattle.proto_decl.specs.Facts.{component_spans, name_spans, use_spans}
 use Rattle.proto_decl.specs.Laws.{IsNamedAt}
 use Rattle.proto_decl.specs.declared.declaration.Declaration.{Declaration}
@@ -57,21 +59,27 @@ module _ (text : List ℕ) where
 
   leaf_part : (scope : List ℕ) (leaf : Leaf) → OfLeaf (IsPart text) leaf → All OfUse (uses_in_leaf text scope leaf)
   leaf_part scope (leaf.Enum enum) h = All-nil OfUse
-  leaf_part scope (leaf.Oneof oneof) h =
-      flat_part (λ (field : Field). uses_of_type text scope field.field_type) (OfField (IsPart text))
-      (λ field has. type_part scope field.field_type has.1) oneof.fields h.1
   leaf_part scope (leaf.Field field) h = type_part scope field.field_type h.1
   leaf_part scope (leaf.MapField field) h = type_part scope field.value h.1
+
+  head_part : (scope : List ℕ) (head : Head) → OfHead (IsPart text) head → All OfUse (uses_in_head text scope head)
+  head_part scope (head.Message heading) h = All-nil OfUse
+  head_part scope (head.Group group) h = All-nil OfUse
+  head_part scope (head.Oneof heading) h = All-nil OfUse
+  head_part scope (head.Extend type) h =
+      All-cons OfUse (use_of text scope type) [] (name_part scope type h) (All-nil OfUse)
 
   body_part : (scope : List ℕ) (body : Body) → OfBody (IsPart text) body → All OfUse (uses_in_body text scope body)
   body_part scope NoMore h = All-nil OfUse
   body_part scope (LeafThen leaf others) h =
       All-append OfUse (uses_in_leaf text scope leaf) (uses_in_body text scope others) (leaf_part scope leaf h.0)
       (body_part scope others h.1)
-  body_part scope (MessageThen heading inner others) h =
-      let within = qualified scope (name_of text heading) in
-      All-append OfUse (uses_in_body text within inner) (uses_in_body text scope others) (body_part within inner h.1)
-      (body_part scope others h.2)
+  body_part scope (BlockThen head inner others) h =
+      let inner_scope = scope_within text scope (scope_heading head) in
+      All-append OfUse (uses_in_head text scope head)
+      (uses_in_body text inner_scope inner ++ uses_in_body text scope others) (head_part scope head h.0)
+      (All-append OfUse (uses_in_body text inner_scope inner) (uses_in_body text scope others)
+      (body_part inner_scope inner h.1) (body_part scope others h.2))
 
   method_part : (scope : List ℕ) (method : Method) → OfMethod (IsPart text) method
       → All OfUse (uses_of_method text scope method)
@@ -81,7 +89,10 @@ module _ (text : List ℕ) where
       (All-cons OfUse (use_of text scope method.output) [] (name_part scope method.output h.2) (All-nil OfUse))
 
   item_part : (scope : List ℕ) (item : FileItem) → OfItem (IsPart text) item → All OfUse (uses_in_item text scope item)
-  item_part scope (item.Message message) h = body_part (qualified scope (name_of text message.heading)) message.body h.1
+  item_part scope (item.Block block) h =
+      let inner_scope = scope_within text scope (scope_heading block.head) in
+      All-append OfUse (uses_in_head text scope block.head) (uses_in_body text inner_scope block.body)
+      (head_part scope block.head h.0) (body_part inner_scope block.body h.1)
   item_part scope (item.Enum enum) h = All-nil OfUse
   item_part scope (item.Service service) h =
       let within = qualified scope (name_of text service.heading) in
@@ -108,12 +119,12 @@ module _ (text : List ℕ) where
       → All (IsPart text) (component_spans (components_at text (package_spans name)))
   package_part name h = components_part (package_spans name) (package_part_by name h)
 
-  pub names_part : (declarations : List Declaration) → All (IsNamedAt text) declarations
+  pub names_part : (known declarations : List Declaration) → All (IsNamedAt text known) declarations
       → All (IsPart text) (name_spans declarations)
-  names_part [] all = All-nil (IsPart text)
-  names_part (d ∷ ds) all =
-      All-cons (IsPart text) d.name (name_spans ds) ((All-head (IsNamedAt text) d ds all).place)
-      (names_part ds (All-tail (IsNamedAt text) d ds all))
+  names_part known [] all = All-nil (IsPart text)
+  names_part known (d ∷ ds) all =
+      All-cons (IsPart text) d.name (name_spans ds) ((All-head (IsNamedAt text known) d ds all).place)
+      (names_part known ds (All-tail (IsNamedAt text known) d ds all))
 
   -- the ends of spans that are parts
   ends_part : (spans : List Span) → 0 < length spans → All (IsPart text) spans

@@ -12,24 +12,25 @@ use Rattle.proto_parse.specs.tree.FieldType.TheVariants.{Scalar, Named}
 use Rattle.proto_parse.specs.tree.Field.{Field}
 use Rattle.proto_parse.specs.tree.MapField.{MapField}
 use Rattle.proto_parse.specs.tree.Enum.{Enum}
-use Rattle.proto_parse.specs.tree.Oneof.{Oneof}
+use Rattle.proto_parse.specs.tree.Head.{Head}
+use Rattle.proto_parse.specs.tree.Head.TheVariants as head
 use Rattle.proto_parse.specs.tree.Leaf.{Leaf}
 use Rattle.proto_parse.specs.tree.Leaf.TheVariants as leaf
 use Rattle.proto_parse.specs.tree.Method.{Method}
 use Rattle.proto_parse.specs.tree.Service.{Service}
 use Rattle.proto_parse.specs.tree.FileItem.{FileItem}
 use Rattle.proto_parse.specs.tree.FileItem.TheVariants as item
-use Rattle.proto_parse.specs.Tree.{Body, MessageTree}
-use Rattle.proto_parse.specs.Tree.Body.{NoMore, LeafThen, MessageThen}
+use Rattle.proto_parse.specs.Tree.{Body, BlockTree}
+use Rattle.proto_parse.specs.Tree.Body.{NoMore, LeafThen, BlockThen}
 use Rattle.proto_parse.specs.Walk.{Mark, each_then, names_then, dot_then, type_name_then, type_then, heading_then}
-use Rattle.proto_parse.specs.Walk.{field_then, map_field_then, enum_then, oneof_then, leaf_then, body_then}
-use Rattle.proto_parse.specs.Walk.{message_then, method_then, service_then, item_then}
+use Rattle.proto_parse.specs.Walk.{field_then, map_field_then, enum_then, head_then, leaf_then, body_then}
+use Rattle.proto_parse.specs.Walk.{block_then, method_then, service_then, item_then}
 use Rattle.proto_parse.specs.Walk.Mark.{Name, Other}
 use Rattle.proto_decl.specs.Names.{qualified, components_at}
-use Rattle.proto_decl.specs.Outlines.{name_of, outline_at, inside, beside, in_enum, in_oneof, in_leaf, in_body}
-use Rattle.proto_decl.specs.Outlines.{in_message, in_service, in_item}
-use Rattle.proto_decl.specs.Uses.{use_of, uses_of_type, uses_in_leaf, uses_in_body, uses_of_method, uses_in_message}
-use Rattle.proto_decl.specs.Uses.{uses_in_service, uses_in_item}
+use Rattle.proto_decl.specs.Outlines.{name_of, outline_at, inside, beside, within, scope_heading, in_enum, in_head}
+use Rattle.proto_decl.specs.Outlines.{in_leaf, in_body, in_block, in_service, in_item}
+use Rattle.proto_decl.specs.Uses.{use_of, uses_of_type, uses_in_leaf, uses_in_head, scope_within, uses_in_body}
+use Rattle.proto_decl.specs.Uses.{uses_of_method, uses_in_block, uses_in_service, uses_in_item}
 use Rattle.proto_decl.specs.Facts.{use_spans}
 use Rattle.proto_decl.specs.declared.kind.DeclarationKind.TheVariants as kind
 use Rattle.proto_decl.specs.declared.declaration.Outline.{Outline}
@@ -172,22 +173,18 @@ enum_picked text surrounding enum behind =
     (none_each enum.values)
     (each_picked heading_then (λ (value : Heading). value.name ∷ []) no_spans heading_picked enum.values behind))
 
-oneof_picked : (text scope : List ℕ) (surrounding : Surrounding) (oneof : Oneof) (behind : List Mark)
-    → Picked (oneof_then oneof behind) (heading_names (in_oneof text surrounding oneof))
-    (use_spans (flat_map (λ (field : Field). uses_of_type text scope field.field_type) oneof.fields)) behind
-oneof_picked text scope surrounding oneof behind =
-    join (heading_picked oneof.heading _)
-    (retyped (names_each (λ (field : Field). outline_at text surrounding kind.Field field.heading) oneof.fields)
-    (components_flat (λ (field : Field). uses_of_type text scope field.field_type) oneof.fields)
-    (each_picked field_then (λ (field : Field). field.heading.name ∷ [])
-    (λ (field : Field). use_spans (uses_of_type text scope field.field_type))
-    (field_picked text scope) oneof.fields behind))
+head_picked : (text scope : List ℕ) (surrounding : Surrounding) (head : Head) (behind : List Mark)
+    → Picked (head_then head behind) (heading_names (in_head text surrounding head))
+    (use_spans (uses_in_head text scope head)) behind
+head_picked text scope surrounding (head.Message heading) behind = heading_picked heading behind
+head_picked text scope surrounding (head.Group group) behind = skip (a_name (a_name (skip none)))
+head_picked text scope surrounding (head.Oneof heading) behind = heading_picked heading behind
+head_picked text scope surrounding (head.Extend type) behind = type_name_picked text scope type behind
 
 leaf_picked : (text scope : List ℕ) (surrounding : Surrounding) (leaf : Leaf) (behind : List Mark)
     → Picked (leaf_then leaf behind) (heading_names (in_leaf text surrounding leaf))
     (use_spans (uses_in_leaf text scope leaf)) behind
 leaf_picked text scope surrounding (leaf.Enum enum) behind = enum_picked text surrounding enum behind
-leaf_picked text scope surrounding (leaf.Oneof oneof) behind = oneof_picked text scope surrounding oneof behind
 leaf_picked text scope surrounding (leaf.Field field) behind = field_picked text scope field behind
 leaf_picked text scope surrounding (leaf.MapField field) behind = map_field_picked text scope field behind
 
@@ -199,21 +196,29 @@ body_picked text scope surrounding (LeafThen leaf others) behind =
     retyped (names-append (in_leaf text surrounding leaf) (in_body text surrounding others))
     (components-append (uses_in_leaf text scope leaf) (uses_in_body text scope others))
     (join (leaf_picked text scope surrounding leaf _) (body_picked text scope surrounding others behind))
-body_picked text scope surrounding (MessageThen heading inner others) behind =
-    let within = qualified scope (name_of text heading) in
-    let around = inside text surrounding kind.Message heading in
-    join (heading_picked heading _)
-    (retyped (names-append (in_body text around inner) (in_body text surrounding others))
-    (components-append (uses_in_body text within inner) (uses_in_body text scope others))
-    (join (body_picked text within around inner _) (body_picked text scope surrounding others behind)))
+body_picked text scope surrounding (BlockThen head inner others) behind =
+    let inner_scope = scope_within text scope (scope_heading head) in
+    let around = within text surrounding (scope_heading head) in
+    retyped (ap (λ (names : List Span). heading_names (in_head text surrounding head) ++ names)
+    (names-append (in_body text around inner) (in_body text surrounding others))
+    ∙ names-append (in_head text surrounding head) (in_body text around inner ++ in_body text surrounding others))
+    (ap (λ (spans : List Span). use_spans (uses_in_head text scope head) ++ spans)
+    (components-append (uses_in_body text inner_scope inner) (uses_in_body text scope others))
+    ∙ components-append (uses_in_head text scope head)
+    (uses_in_body text inner_scope inner ++ uses_in_body text scope others))
+    (join (head_picked text scope surrounding head _)
+    (join (body_picked text inner_scope around inner _) (body_picked text scope surrounding others behind)))
 
-message_picked : (text scope : List ℕ) (surrounding : Surrounding) (message : MessageTree) (behind : List Mark)
-    → Picked (message_then message behind) (heading_names (in_message text surrounding message))
-    (use_spans (uses_in_message text scope message)) behind
-message_picked text scope surrounding message behind =
-    join (heading_picked message.heading _)
-    (body_picked text (qualified scope (name_of text message.heading))
-    (inside text surrounding kind.Message message.heading) message.body behind)
+block_picked : (text scope : List ℕ) (surrounding : Surrounding) (block : BlockTree) (behind : List Mark)
+    → Picked (block_then block behind) (heading_names (in_block text surrounding block))
+    (use_spans (uses_in_block text scope block)) behind
+block_picked text scope surrounding block behind =
+    let inner_scope = scope_within text scope (scope_heading block.head) in
+    let around = within text surrounding (scope_heading block.head) in
+    retyped (names-append (in_head text surrounding block.head) (in_body text around block.body))
+    (components-append (uses_in_head text scope block.head) (uses_in_body text inner_scope block.body))
+    (join (head_picked text scope surrounding block.head _)
+    (body_picked text inner_scope around block.body behind))
 
 method_picked : (text scope : List ℕ) (method : Method) (behind : List Mark)
     → Picked (method_then method behind) (method.heading.name ∷ [])
@@ -240,7 +245,7 @@ service_picked text scope surrounding service behind =
 item_picked : (text scope : List ℕ) (surrounding : Surrounding) (item : FileItem) (behind : List Mark)
     → Picked (item_then item behind) (heading_names (in_item text surrounding item))
     (use_spans (uses_in_item text scope item)) behind
-item_picked text scope surrounding (item.Message message) behind = message_picked text scope surrounding message behind
+item_picked text scope surrounding (item.Block block) behind = block_picked text scope surrounding block behind
 item_picked text scope surrounding (item.Enum enum) behind = enum_picked text surrounding enum behind
 item_picked text scope surrounding (item.Service service) behind = service_picked text scope surrounding service behind
 

@@ -17,19 +17,24 @@ use Rattle.proto_parse.specs.tree.Heading.{Heading}
 use Rattle.proto_parse.specs.tree.Field.{Field}
 use Rattle.proto_parse.specs.tree.Method.{Method}
 use Rattle.proto_parse.specs.tree.Enum.{Enum}
+use Rattle.proto_parse.specs.tree.Head.{Head}
+use Rattle.proto_parse.specs.tree.Head.TheVariants as head
 use Rattle.proto_parse.specs.tree.Leaf.{Leaf}
 use Rattle.proto_parse.specs.tree.Leaf.TheVariants as leaf
 use Rattle.proto_parse.specs.tree.FileItem.{FileItem}
 use Rattle.proto_parse.specs.tree.FileItem.TheVariants as item
 use Rattle.proto_parse.specs.tree.File.{File}
 use Rattle.proto_parse.specs.Tree.{Body}
-use Rattle.proto_parse.specs.Tree.Body.{NoMore, LeafThen, MessageThen}
+use Rattle.proto_parse.specs.Tree.Body.{NoMore, LeafThen, BlockThen}
 use Rattle.proto_parse.specs.Walk.{Mark, Among, each_then, names_then, type_name_then, heading_then, field_then}
-use Rattle.proto_parse.specs.Walk.{enum_then, leaf_then, body_then, method_then, item_then, marks_of_items}
+use Rattle.proto_parse.specs.Walk.{enum_then, head_then, leaf_then, body_then, method_then, item_then, marks_of_items}
 use Rattle.proto_parse.specs.Walk.Mark.{Name, Other}
 use Rattle.proto_decl.proofs.MarkLemmas.{OfNames, of_lexemes, of_names, past_type_name, past_type}
-use Rattle.proto_decl.specs.Names.{qualified, IsSimple, dotted, components_at}
-use Rattle.proto_decl.specs.Outlines.{name_of, outline_at, inside, beside, in_enum, in_leaf, in_body, in_item}
+use Rattle.proto_decl.proofs.SmallLemmas.{simple_small}
+use Rattle.proto_decl.proofs.SplitLemmas.{all_left, all_right}
+use Rattle.proto_decl.specs.Names.{qualified, IsSimple, dotted, components_at, small_letters}
+use Rattle.proto_decl.specs.Outlines.{name_of, outline_at, group_field, inside, beside, within, scope_heading, in_enum}
+use Rattle.proto_decl.specs.Outlines.{in_head, in_leaf, in_body, in_item}
 use Rattle.proto_decl.specs.Outlines.{file_surrounding, package_scope, package_spans, outlines_of}
 use Rattle.proto_decl.specs.Declares.{IsDeclaration}
 use Rattle.proto_decl.specs.Facts.{Facts, AreFactsOf}
@@ -76,17 +81,6 @@ spelled_simple (literal e ends) is = never (ap is_identifier is)
 spelled_simple (sign {b} {k} e) is =
     never (sym (sign_cases (λ b k. is_identifier k ≡ false) b k e refl refl refl refl refl refl refl refl refl refl refl
     refl refl refl refl refl) ∙ ap is_identifier is)
-
--- a list's parts
-module _ {X : Type 0} (P : X → Type 0) where
-  all_left : (xs ys : List X) → All P (xs ++ ys) → All P xs
-  all_left [] ys all = All-nil P
-  all_left (x ∷ xs) ys all =
-      All-cons P x xs (All-head P x (xs ++ ys) all) (all_left xs ys (All-tail P x (xs ++ ys) all))
-
-  all_right : (xs ys : List X) → All P (xs ++ ys) → All P ys
-  all_right [] ys all = all
-  all_right (x ∷ xs) ys all = all_right xs ys (All-tail P x (xs ++ ys) all)
 
 -- a simple name in a scope that is known
 record IsScoped (K : List ℕ → Type 0) (outline : Outline) : Type 0 where
@@ -161,14 +155,6 @@ module _ (text : List ℕ) (K : List ℕ → Type 0) where
   leaf_scoped : (surrounding : Surrounding) (leaf : Leaf) (marks : List Mark) → K surrounding.scope
       → OfNames Simple (leaf_then leaf marks) → Scoped (in_leaf text surrounding leaf) × OfNames Simple marks
   leaf_scoped surrounding (leaf.Enum enum) marks known h = enum_scoped surrounding enum marks known h
-  leaf_scoped surrounding (leaf.Oneof oneof) marks known h =
-      let fields = each_scoped field_then
-      (λ (field : Field). field.heading) kind.Field surrounding known field_simple oneof.fields marks h.1 in (
-        All-cons (IsScoped K) (outline_at text surrounding kind.Oneof oneof.heading)
-            (map (λ (field : Field). outline_at text surrounding kind.Field field.heading) oneof.fields)
-            (scoped surrounding kind.Oneof oneof.heading known h.0) fields.0,
-        fields.1,
-      )
   leaf_scoped surrounding (leaf.Field field) marks known h =
       let name = field_simple field marks h in (
         All-cons (IsScoped K) (outline_at text surrounding kind.Field field.heading) []
@@ -182,6 +168,42 @@ module _ (text : List ℕ) (K : List ℕ → Type 0) where
         behind.1,
       )
 
+  -- what a block declares, and the scope of what is in it
+  head_scoped : (surrounding : Surrounding) (head : Head) (marks : List Mark) → K surrounding.scope
+      → All Known (in_head text surrounding head) → OfNames Simple (head_then head marks)
+      → Scoped (in_head text surrounding head) × K (within text surrounding (scope_heading head)).scope
+      × OfNames Simple marks
+  head_scoped surrounding (head.Message heading) marks known all h =
+      let self = outline_at text surrounding kind.Message heading in (
+        All-cons (IsScoped K) self [] (scoped surrounding kind.Message heading known h.0) (All-nil (IsScoped K)),
+        All-head Known self [] all,
+        h.1,
+      )
+  head_scoped surrounding (head.Group group) marks known all h =
+      let field = group_field text surrounding group in
+      let self = outline_at text surrounding kind.Message group.heading in (
+        All-cons (IsScoped K) field (self ∷ [])
+            (record {
+              scope = surrounding.scope;
+              name = small_letters (name_of text group.heading);
+              simple = simple_small (name_of text group.heading) h.1.0;
+              full = refl;
+              known = known;
+            })
+            (All-cons (IsScoped K) self [] (scoped surrounding kind.Message group.heading known h.1.0)
+            (All-nil (IsScoped K))),
+        All-head Known self [] (All-tail Known field (self ∷ []) all),
+        h.1.1,
+      )
+  head_scoped surrounding (head.Oneof heading) marks known all h = (
+    All-cons (IsScoped K) (outline_at text surrounding kind.Oneof heading) []
+        (scoped surrounding kind.Oneof heading known h.0) (All-nil (IsScoped K)),
+    known,
+    h.1,
+  )
+  head_scoped surrounding (head.Extend type) marks known all h =
+      (All-nil (IsScoped K), known, past_type_name Simple type marks h)
+
   body_scoped : (surrounding : Surrounding) (body : Body) (marks : List Mark) → K surrounding.scope
       → All Known (in_body text surrounding body) → OfNames Simple (body_then body marks)
       → Scoped (in_body text surrounding body) × OfNames Simple marks
@@ -191,33 +213,32 @@ module _ (text : List ℕ) (K : List ℕ → Type 0) where
       let rest = body_scoped surrounding others marks known
       (all_right Known (in_leaf text surrounding leaf) (in_body text surrounding others) all) first.1 in
       (All-append (IsScoped K) (in_leaf text surrounding leaf) (in_body text surrounding others) first.0 rest.0, rest.1)
-  body_scoped surrounding (MessageThen heading inner others) marks known all h =
-      let around = inside text surrounding kind.Message heading in
-      let self = outline_at text surrounding kind.Message heading in
-      let below = All-tail Known self (in_body text around inner ++ in_body text surrounding others) all in
-      let within = body_scoped around inner (body_then others marks)
-      (All-head Known self (in_body text around inner ++ in_body text surrounding others) all)
-      (all_left Known (in_body text around inner) (in_body text surrounding others) below) h.1 in
-      let rest = body_scoped surrounding others marks known
-      (all_right Known (in_body text around inner) (in_body text surrounding others) below) within.1 in (
-        All-cons (IsScoped K) self (in_body text around inner ++ in_body text surrounding others)
-            (scoped surrounding kind.Message heading known h.0)
-            (All-append (IsScoped K) (in_body text around inner) (in_body text surrounding others) within.0 rest.0),
+  body_scoped surrounding (BlockThen head inner others) marks known all h =
+      let around = within text surrounding (scope_heading head) in
+      let declared = in_head text surrounding head in
+      let below = in_body text around inner in
+      let later = in_body text surrounding others in
+      let behind = all_right Known declared (below ++ later) all in
+      let first = head_scoped surrounding head (body_then inner (body_then others marks)) known
+      (all_left Known declared (below ++ later) all) h in
+      let middle = body_scoped around inner (body_then others marks) first.1 (all_left Known below later behind) first.2 in
+      let rest = body_scoped surrounding others marks known (all_right Known below later behind) middle.1 in (
+        All-append (IsScoped K) declared (below ++ later) first.0
+            (All-append (IsScoped K) below later middle.0 rest.0),
         rest.1,
       )
 
   item_scoped : (surrounding : Surrounding) (item : FileItem) (marks : List Mark) → K surrounding.scope
       → All Known (in_item text surrounding item) → OfNames Simple (item_then item marks)
       → Scoped (in_item text surrounding item) × OfNames Simple marks
-  item_scoped surrounding (item.Message message) marks known all h =
-      let around = inside text surrounding kind.Message message.heading in
-      let self = outline_at text surrounding kind.Message message.heading in
-      let body = body_scoped around message.body marks (All-head Known self (in_body text around message.body) all)
-      (All-tail Known self (in_body text around message.body) all) h.1 in (
-        All-cons (IsScoped K) self (in_body text around message.body)
-            (scoped surrounding kind.Message message.heading known h.0) body.0,
-        body.1,
-      )
+  item_scoped surrounding (item.Block block) marks known all h =
+      let around = within text surrounding (scope_heading block.head) in
+      let declared = in_head text surrounding block.head in
+      let below = in_body text around block.body in
+      let first = head_scoped surrounding block.head (body_then block.body marks) known
+      (all_left Known declared below all) h in
+      let middle = body_scoped around block.body marks first.1 (all_right Known declared below all) first.2 in
+      (All-append (IsScoped K) declared below first.0 middle.0, middle.1)
   item_scoped surrounding (item.Enum enum) marks known all h = enum_scoped surrounding enum marks known h
   item_scoped surrounding (item.Service service) marks known all h =
       let around = inside text surrounding kind.Service service.heading in

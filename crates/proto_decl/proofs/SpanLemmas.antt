@@ -13,7 +13,8 @@ use Rattle.proto_parse.specs.tree.FieldType.TheVariants.{Scalar, Named}
 use Rattle.proto_parse.specs.tree.Field.{Field}
 use Rattle.proto_parse.specs.tree.MapField.{MapField}
 use Rattle.proto_parse.specs.tree.Enum.{Enum}
-use Rattle.proto_parse.specs.tree.Oneof.{Oneof}
+use Rattle.proto_parse.specs.tree.Head.{Head}
+use Rattle.proto_parse.specs.tree.Head.TheVariants as head
 use Rattle.proto_parse.specs.tree.Leaf.{Leaf}
 use Rattle.proto_parse.specs.tree.Leaf.TheVariants as leaf
 use Rattle.proto_parse.specs.tree.Method.{Method}
@@ -23,17 +24,17 @@ use Rattle.proto_parse.specs.tree.FileItem.TheVariants as item
 use Rattle.proto_parse.specs.tree.Import.{Import}
 use Rattle.proto_parse.specs.tree.File.{File}
 use Rattle.proto_parse.specs.Lexeme.{Lexeme, lexemes_of}
-use Rattle.proto_parse.specs.Tree.{Body, MessageTree}
-use Rattle.proto_parse.specs.Tree.Body.{NoMore, LeafThen, MessageThen}
+use Rattle.proto_parse.specs.Tree.{Body, BlockTree}
+use Rattle.proto_parse.specs.Tree.Body.{NoMore, LeafThen, BlockThen}
 use Rattle.proto_parse.specs.Walk.{Mark, Among, each_then, name_then, names_then, literal_then, dot_then}
 use Rattle.proto_parse.specs.Walk.{type_name_then, type_then, heading_then, field_then, map_field_then, enum_then}
-use Rattle.proto_parse.specs.Walk.{oneof_then, leaf_then, body_then, message_then, method_then, service_then, item_then}
+use Rattle.proto_parse.specs.Walk.{head_then, leaf_then, body_then, block_then, method_then, service_then, item_then}
 use Rattle.proto_parse.specs.Walk.{import_then, marks_of_items, marks_of_imports, marks_of_package}
 use Rattle.proto_parse.specs.Walk.Mark.{First, Name, Literal, Other}
 use Rattle.proto_parse.specs.Walk.Among.{none as no_marks, skip, first as at_first, name as at_name}
 use Rattle.proto_parse.specs.Walk.Among.{literal as at_literal, other as at_other}
-use Rattle.proto_decl.specs.Spans.{OfHeading, OfSome, OfTypeName, OfType, OfField, OfMapField, OfEnum, OfOneof}
-use Rattle.proto_decl.specs.Spans.{OfMethod, OfService, OfLeaf, OfBody, OfMessage, OfItem, OfPackage}
+use Rattle.proto_decl.specs.Spans.{OfHeading, OfSome, OfTypeName, OfType, OfField, OfMapField, OfEnum, OfHead}
+use Rattle.proto_decl.specs.Spans.{OfMethod, OfService, OfLeaf, OfBody, OfBlock, OfItem, OfPackage}
 
 -- P holds of the marks' spans, and Q of those of literals
 abbrev pub OfMarks : (P Q : Span → Type 0) → List Mark → Type 0
@@ -120,16 +121,14 @@ module _ (P Q : Span → Type 0) where
       let values = each_of heading_then (OfHeading P) heading_of enum.values marks heading.1 in
       ((heading.0, values.0), values.1)
 
-  oneof_of : (oneof : Oneof) (marks : List Mark) → OfMarks P Q (oneof_then oneof marks)
-      → OfOneof P oneof × OfMarks P Q marks
-  oneof_of oneof marks h =
-      let heading = heading_of oneof.heading (each_then field_then oneof.fields marks) h in
-      let fields = each_of field_then (OfField P) field_of oneof.fields marks heading.1 in
-      ((heading.0, fields.0), fields.1)
+  head_of : (head : Head) (marks : List Mark) → OfMarks P Q (head_then head marks) → OfHead P head × OfMarks P Q marks
+  head_of (head.Message heading) marks h = heading_of heading marks h
+  head_of (head.Group group) marks h = (((h.0, h.1.1.0, h.1.1.1.0), h.1.0), h.1.1.1.1)
+  head_of (head.Oneof heading) marks h = heading_of heading marks h
+  head_of (head.Extend type) marks h = type_name_of type marks h
 
   leaf_of : (leaf : Leaf) (marks : List Mark) → OfMarks P Q (leaf_then leaf marks) → OfLeaf P leaf × OfMarks P Q marks
   leaf_of (leaf.Enum enum) marks h = enum_of enum marks h
-  leaf_of (leaf.Oneof oneof) marks h = oneof_of oneof marks h
   leaf_of (leaf.Field field) marks h = field_of field marks h
   leaf_of (leaf.MapField field) marks h = map_field_of field marks h
 
@@ -139,18 +138,18 @@ module _ (P Q : Span → Type 0) where
       let first = leaf_of leaf (body_then others marks) h in
       let rest = body_of others marks first.1 in
       ((first.0, rest.0), rest.1)
-  body_of (MessageThen heading inner others) marks h =
-      let first = heading_of heading (body_then inner (body_then others marks)) h in
+  body_of (BlockThen head inner others) marks h =
+      let first = head_of head (body_then inner (body_then others marks)) h in
       let within = body_of inner (body_then others marks) first.1 in
       let rest = body_of others marks within.1 in
       ((first.0, within.0, rest.0), rest.1)
 
-  message_of : (message : MessageTree) (marks : List Mark) → OfMarks P Q (message_then message marks)
-      → OfMessage P message × OfMarks P Q marks
-  message_of message marks h =
-      let heading = heading_of message.heading (body_then message.body marks) h in
-      let body = body_of message.body marks heading.1 in
-      ((heading.0, body.0), body.1)
+  block_of : (block : BlockTree) (marks : List Mark) → OfMarks P Q (block_then block marks)
+      → OfBlock P block × OfMarks P Q marks
+  block_of block marks h =
+      let head = head_of block.head (body_then block.body marks) h in
+      let body = body_of block.body marks head.1 in
+      ((head.0, body.0), body.1)
 
   method_of : (method : Method) (marks : List Mark) → OfMarks P Q (method_then method marks)
       → OfMethod P method × OfMarks P Q marks
@@ -169,7 +168,7 @@ module _ (P Q : Span → Type 0) where
 
   item_of : (item : FileItem) (marks : List Mark) → OfMarks P Q (item_then item marks)
       → OfItem P item × OfMarks P Q marks
-  item_of (item.Message message) marks h = message_of message marks h
+  item_of (item.Block block) marks h = block_of block marks h
   item_of (item.Enum enum) marks h = enum_of enum marks h
   item_of (item.Service service) marks h = service_of service marks h
 

@@ -3,7 +3,7 @@ use Rattle.std.specs.Prelude.{ℕ, ◌≡◌, ◌<◌, List, ◌++◌, length, m
 use Rattle.std.specs.List.{flat_map}
 use Rattle.proto_lex.specs.declared.span.Span.{Span}
 use Rattle.proto_lex.specs.Lexed.{Lexed, IsLexed, AreInOrder}
-use Rattle.proto_parse.specs.tree.CustomOptions.{CustomOptions}
+use Rattle.proto_parse.specs.tree.Dialect.{Dialect}
 use Rattle.proto_parse.specs.tree.File.{File}
 use Rattle.proto_parse.specs.Derives.{Derives}
 use Rattle.proto_decl.specs.Names.{components_at}
@@ -36,9 +36,9 @@ pub record AreFactsOf (number : ℕ) (lexed : Lexed) (file : File) (facts : Fact
 pub record AreOfSomeFile (facts : Facts) : Type 0 where
   pub lexed : Lexed
   pub file : File
-  pub custom : CustomOptions
+  pub dialect : Dialect
   pub is_lexed : IsLexed lexed.text lexed.tokens lexed.comments
-  pub derives : Derives custom lexed.text lexed.tokens file
+  pub derives : Derives dialect lexed.text lexed.tokens file
   pub of_file : AreFactsOf facts.number lexed file facts
 
 -- Where declared names are.

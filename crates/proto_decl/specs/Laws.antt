@@ -1,14 +1,18 @@
 -- Laws of facts, comment texts and scopes.
-use Rattle.std.specs.Prelude.{ℕ, ◌≡◌, ◌<◌, ◌≤◌, List, ◌∷◌, length, take, map, All, Contains}
+use Rattle.std.specs.Prelude.{ℕ, ◌≡◌, ◌<◌, ◌≤◌, List, [], ◌∷◌, ◌++◌, length, map, All, Contains}
 use Rattle.proto_lex.specs.declared.span.Span.{Span}
 use Rattle.proto_lex.specs.Lexed.{Lexed, IsLexed, IsPart, part_of}
-use Rattle.proto_parse.specs.tree.CustomOptions.{CustomOptions}
+use Rattle.proto_parse.specs.tree.Dialect.{Dialect}
 use Rattle.proto_parse.specs.tree.File.{File}
 use Rattle.proto_parse.specs.Derives.{Derives}
-use Rattle.proto_decl.specs.Names.{qualified, IsSimple, dotted, components_of, package_of, prefix_of, scopes_of}
+use Rattle.proto_decl.specs.Names.{qualified, IsSimple, small_letters, dotted, components_of, package_of, prefix_of}
+use Rattle.proto_decl.specs.Names.{scopes_of}
+use Rattle.proto_decl.specs.Outlines.{step_named}
 use Rattle.proto_decl.specs.Comments.{IsLeadingText, IsTrailingText}
 use Rattle.proto_decl.specs.Declares.{simple_name}
 use Rattle.proto_decl.specs.Facts.{Facts, AreFactsOf, AreOfSomeFile, component_spans, name_spans, use_spans}
+use Rattle.proto_decl.specs.declared.kind.DeclarationKind.TheVariants.{Message, Field}
+use Rattle.proto_decl.specs.declared.declaration.DeclarationStep.{DeclarationStep}
 use Rattle.proto_decl.specs.declared.declaration.Declaration.{Declaration}
 use Rattle.proto_decl.specs.declared.imported.Imported.{Imported}
 
@@ -28,18 +32,33 @@ OneFacts = (number : ℕ) (lexed : Lexed) (file : File) (facts other : Facts)
     → IsLexed lexed.text lexed.tokens lexed.comments
     → AreFactsOf number lexed file facts → AreFactsOf number lexed file other → facts ≡ other
 
--- The simple name of a declaration is what is at its name's place, and its full name is that in its scope.
-pub record IsNamedAt (text : List ℕ) (declaration : Declaration) : Type 0 where
+-- The field and the message of one group: the message is named as it stands, and the field so in small letters.
+pub record AreOfGroup (text : List ℕ) (field message : Declaration) : Type 0 where
+  pub place : IsPart text message.name
+  pub outer : List DeclarationStep
+  pub message_path : message.path ≡ outer ++ step_named Message (part_of text message.name) ∷ []
+  pub field_path : field.path ≡ outer ++ step_named Field (small_letters (part_of text message.name)) ∷ []
+
+-- The simple name of a declaration is what is at its name's place, but for the field of a group: that is named by the
+-- group's message, which is declared in the same file.
+pub data IsSpelled (text : List ℕ) (declarations : List Declaration) (declaration : Declaration) : Type 0 where
+  as_it_stands : simple_name declaration.path ≡ part_of text declaration.name
+      → IsSpelled text declarations declaration
+  as_its_group : {message : Declaration} → Contains declarations message → AreOfGroup text declaration message
+      → IsSpelled text declarations declaration
+
+-- Its place is a part of the text, and its full name is its simple name in its scope.
+pub record IsNamedAt (text : List ℕ) (declarations : List Declaration) (declaration : Declaration) : Type 0 where
   pub place : IsPart text declaration.name
-  pub simple : simple_name declaration.path ≡ part_of text declaration.name
+  pub spelled : IsSpelled text declarations declaration
   pub scope : List ℕ
-  pub full : declaration.full_name ≡ qualified scope (part_of text declaration.name)
+  pub full : declaration.full_name ≡ qualified scope (simple_name declaration.path)
 
 abbrev pub NamesAreSpelled : Type 0
-NamesAreSpelled = (custom : CustomOptions) (number : ℕ) (lexed : Lexed) (file : File) (facts : Facts)
+NamesAreSpelled = (dialect : Dialect) (number : ℕ) (lexed : Lexed) (file : File) (facts : Facts)
     → IsLexed lexed.text lexed.tokens lexed.comments
-    → Derives custom lexed.text lexed.tokens file → AreFactsOf number lexed file facts
-    → All (IsNamedAt lexed.text) facts.declarations
+    → Derives dialect lexed.text lexed.tokens file → AreFactsOf number lexed file facts
+    → All (IsNamedAt lexed.text facts.declarations) facts.declarations
 
 -- The full name of a scope of a file: of its package, which is the root's if it has none, or of a declaration.
 pub data IsScope (facts : Facts) : List ℕ → Type 0 where

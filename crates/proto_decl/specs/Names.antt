@@ -1,6 +1,7 @@
 -- Names and scopes (proto3 specification, "Identifiers"; proto3 language guide, "Packages and Name Resolution").
 use Rattle.std.specs.Prelude.{ℕ, ◌≡◌, ◌<◌, ◌==◌, not, true, if◌then◌else◌, List, [], ◌∷◌, ◌++◌, length, take, map}
 use Rattle.std.specs.Prelude.{reverse}
+use Rattle.std.specs.Char.{to_ascii_lowercase}
 use Rattle.std.specs.List.{join_with_byte, list_all, slice_split}
 use Rattle.proto_lex.specs.declared.span.Span.{Span}
 use Rattle.proto_lex.specs.Ascii as ascii
@@ -16,6 +17,10 @@ qualified (byte ∷ scope) name = (byte ∷ scope) ++ ascii.dot ∷ name
 pub record IsSimple (name : List ℕ) : Type 0 where
   pub some : 0 < length name
   pub no_dot : list_all (λ byte. not (byte == ascii.dot)) name ≡ true
+
+-- The name with small letters for capitals.
+abbrev pub small_letters : (name : List ℕ) → List ℕ
+small_letters name = map to_ascii_lowercase name
 
 -- Components that are joined by dots.
 abbrev pub dotted : List (List ℕ) → List ℕ

@@ -8,15 +8,17 @@ use Rattle.proto_parse.specs.tree.FieldType.TheVariants.{Scalar, Named}
 use Rattle.proto_parse.specs.tree.Field.{Field}
 use Rattle.proto_parse.specs.tree.MapField.{MapField}
 use Rattle.proto_parse.specs.tree.Enum.{Enum}
-use Rattle.proto_parse.specs.tree.Oneof.{Oneof}
+use Rattle.proto_parse.specs.tree.Group.{Group}
+use Rattle.proto_parse.specs.tree.Head.{Head}
+use Rattle.proto_parse.specs.tree.Head.TheVariants as head
 use Rattle.proto_parse.specs.tree.Method.{Method}
 use Rattle.proto_parse.specs.tree.Service.{Service}
 use Rattle.proto_parse.specs.tree.Leaf.{Leaf}
 use Rattle.proto_parse.specs.tree.Leaf.TheVariants as leaf
 use Rattle.proto_parse.specs.tree.FileItem.{FileItem}
 use Rattle.proto_parse.specs.tree.FileItem.TheVariants as item
-use Rattle.proto_parse.specs.Tree.{Body, MessageTree}
-use Rattle.proto_parse.specs.Tree.Body.{NoMore, LeafThen, MessageThen}
+use Rattle.proto_parse.specs.Tree.{Body, BlockTree}
+use Rattle.proto_parse.specs.Tree.Body.{NoMore, LeafThen, BlockThen}
 
 module _ (P : Span → Type 0) where
   abbrev pub OfHeading : Heading → Type 0
@@ -42,8 +44,14 @@ module _ (P : Span → Type 0) where
   abbrev pub OfEnum : Enum → Type 0
   OfEnum enum = OfHeading enum.heading × All OfHeading enum.values
 
-  abbrev pub OfOneof : Oneof → Type 0
-  OfOneof oneof = OfHeading oneof.heading × All OfField oneof.fields
+  abbrev pub OfGroup : Group → Type 0
+  OfGroup group = OfHeading group.heading × P group.word
+
+  abbrev pub OfHead : Head → Type 0
+  OfHead (head.Message heading) = OfHeading heading
+  OfHead (head.Group group) = OfGroup group
+  OfHead (head.Oneof heading) = OfHeading heading
+  OfHead (head.Extend type) = OfTypeName type
 
   abbrev pub OfMethod : Method → Type 0
   OfMethod method = OfHeading method.heading × OfTypeName method.input × OfTypeName method.output
@@ -53,20 +61,19 @@ module _ (P : Span → Type 0) where
 
   abbrev pub OfLeaf : Leaf → Type 0
   OfLeaf (leaf.Enum enum) = OfEnum enum
-  OfLeaf (leaf.Oneof oneof) = OfOneof oneof
   OfLeaf (leaf.Field field) = OfField field
   OfLeaf (leaf.MapField field) = OfMapField field
 
   abbrev pub OfBody : Body → Type 0
   OfBody NoMore = Unit {0}
   OfBody (LeafThen leaf others) = OfLeaf leaf × OfBody others
-  OfBody (MessageThen heading inner others) = OfHeading heading × OfBody inner × OfBody others
+  OfBody (BlockThen head inner others) = OfHead head × OfBody inner × OfBody others
 
-  abbrev pub OfMessage : MessageTree → Type 0
-  OfMessage message = OfHeading message.heading × OfBody message.body
+  abbrev pub OfBlock : BlockTree → Type 0
+  OfBlock block = OfHead block.head × OfBody block.body
 
   abbrev pub OfItem : FileItem → Type 0
-  OfItem (item.Message message) = OfMessage message
+  OfItem (item.Block block) = OfBlock block
   OfItem (item.Enum enum) = OfEnum enum
   OfItem (item.Service service) = OfService service
 

@@ -15,7 +15,7 @@ use sequences::OwnedText;
 #[derive(Debug, Drop)]
 pub struct DeclarationStep<'t> {
     pub kind: DeclarationKind,
-    pub name: LentText<'t>,
+    pub name: KeptText<'t>,
 }
 
 /// A declaration of a file.
@@ -23,13 +23,15 @@ pub struct DeclarationStep<'t> {
 pub struct Declaration<'t> {
     pub kind: DeclarationKind,
     /// The full name of its scope, a dot and its simple name. An enum's value has its enum's scope,
-    /// and a oneof's field that of the message around the oneof.
+    /// a oneof's field that of the message around the oneof, and an extension the scope around the
+    /// `extend`.
     pub full_name: OwnedText,
     /// The path from the package to the declaration, outermost first: the messages or the service
     /// around it, for a value its enum, and last the declaration itself. A oneof stands in no path
-    /// but its own.
+    /// but its own, and an `extend` in none.
     pub path: DeclarationPath<'t>,
-    /// Where its simple name stands.
+    /// Where its simple name stands. The name of a group's field is the group's name in small
+    /// letters, which stands nowhere: its place is the word `group`.
     pub name: Span,
     /// The texts of the comments that stand directly before it, joined by `\n`.
     pub leading: KeptText<'t>,
@@ -38,7 +40,7 @@ pub struct Declaration<'t> {
 }
 
 /// The simple name of what a path leads to.
-fn simple_name<'t>(path: &DeclarationPath<'t>) -> &'t str
+fn simple_name<'a>(path: &'a DeclarationPath<'_>) -> &'a str
     ensures { result.now ≡ simple_name path.now }
 {
     let (_outer, last) = path.parts();
@@ -72,5 +74,6 @@ pub(crate) struct Outline<'t> {
     pub(crate) kind: DeclarationKind,
     pub(crate) full_name: OwnedText,
     pub(crate) path: DeclarationPath<'t>,
+    /// Where it stands. Its simple name, the last on the path, needn't be spelled at its name's place.
     pub(crate) heading: Heading,
 }

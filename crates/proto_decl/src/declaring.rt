@@ -4,7 +4,7 @@ ghost use Rattle.std.specs.Prelude.{All, IfOk, []};
 ghost use Rattle.std.specs.List.{AllZip, flat_map};
 ghost use Rattle.proto_lex.specs.Lexed.{IsPart, IsLexed};
 ghost use Rattle.proto_parse.specs.Derives.{Derives};
-ghost use Rattle.proto_parse.specs.tree.CustomOptions.{CustomOptions};
+ghost use Rattle.proto_parse.specs.tree.Dialect.{Dialect};
 ghost use Rattle.proto_decl.specs.Spans.{OfItem, OfPackage};
 ghost use Rattle.proto_decl.specs.Imports.{IsLiteral};
 ghost use Rattle.proto_decl.specs.Outlines.{in_item};
@@ -35,7 +35,7 @@ fn are_lexed(lexed: &Tokens<'_, '_>)
 
 /// What is known of the spans of a tree that these tokens derive.
 fn spans_of_tree(lexed: &Tokens<'_, '_>, file: &File)
-    requires { (custom : CustomOptions) × Derives custom lexed.now.text lexed.now.tokens file.now }
+    requires { (dialect : Dialect) × Derives dialect lexed.now.text lexed.now.tokens file.now }
     ensures package_name { OfPackage (IsPart lexed.now.text) file.now.package_name }
     ensures imports { All (λ import. All (IsLiteral lexed.now.text) import.literals) file.now.imports }
     ensures items { All (OfItem (IsPart lexed.now.text)) file.now.items }
@@ -98,8 +98,7 @@ fn declarations_of<'t>(
     all_documented(alloc, lexed, outlines)
 }
 
-/// The facts of the file with this number, whose tree these tokens derive by either choice of what
-/// is done with custom options.
+/// The facts of the file with this number, whose tree these tokens derive by some dialect.
 ///
 /// The tree must be that of these tokens: its spans are read off their text, of which the names of the
 /// facts are parts. It is refused only for want of memory.
@@ -109,7 +108,7 @@ pub fn declare<'t>(
     lexed: &Tokens<'_, 't>,
     file: &File,
 ) -> Result<FileFacts<'t>, AllocError>
-    requires { (custom : CustomOptions) × Derives custom lexed.now.text lexed.now.tokens file.now }
+    requires { (dialect : Dialect) × Derives dialect lexed.now.text lexed.now.tokens file.now }
     ensures { IfOk result (AreFactsOf number lexed.now file.now) }
 {
     are_lexed(lexed);

@@ -63,7 +63,7 @@ pub fn facts_are_filled()
     names_are_spelled();
 }
 
-/// Names are spelled as they are in the text.
+/// Names are spelled as they are in the text; the field of a group is named as the group's message, in small letters.
 pub fn names_are_spelled()
     ensures { NamesAreSpelled }
 {

@@ -1,4 +1,4 @@
-//! What the syntax tree of a proto3 source declares and uses, and the comments that document it.
+//! What the syntax tree of a source declares and uses, and the comments that document it.
 #![tactic(auto)]
 
 mod ancestors;

@@ -2,7 +2,7 @@
 
 ghost use Rattle.std.specs.Prelude.{◌≡◌, IfOk};
 ghost use Rattle.proto_lex.specs.Lexed.{IsPart, part_of};
-ghost use Rattle.proto_decl.specs.Names.{qualified};
+ghost use Rattle.proto_decl.specs.Names.{qualified, small_letters};
 
 use proto_lex::Span;
 use sequences::OwnedText;
@@ -29,4 +29,11 @@ pub(crate) fn qualified(alloc: Global, scope: &str, name: &str) -> Result<OwnedT
     full.push_str(".")?;
     full.push_str(name)?;
     Ok(OwnedText::from_string(full))
+}
+
+/// The name with small letters for capitals.
+pub(crate) fn small_letters(alloc: Global, name: &str) -> Result<OwnedText, AllocError>
+    ensures { IfOk result (λ small. small ≡ small_letters name.now) }
+{
+    Ok(OwnedText::from_string(name.to_ascii_lowercase(alloc)?))
 }

@@ -3,18 +3,37 @@
 ghost use Rattle.std.specs.Prelude.{◌≡◌, ◌++◌, map, All, IfOk, OnOk};
 ghost use Rattle.std.specs.List.{flat_map};
 ghost use Rattle.proto_lex.specs.Lexed.{IsPart};
-ghost use Rattle.proto_decl.specs.Spans.{OfHeading, OfField, OfMethod, OfLeaf, OfEnum, OfOneof, OfMessage, OfService};
+ghost use Rattle.proto_parse.specs.tree.Head.TheVariants as Head;
+ghost use Rattle.proto_parse.specs.Items.{body_of};
+ghost use Rattle.proto_decl.specs.Spans.{OfHeading, OfGroup, OfHead, OfMethod, OfLeaf, OfEnum, OfBody, OfBlock, OfService};
 ghost use Rattle.proto_decl.specs.Spans.{OfItem};
 ghost use Rattle.proto_decl.specs.Outlines as spec;
 
-use crate::declaration::Outline;
+use crate::declaration::{DeclarationStep, Outline};
 use crate::kind::DeclarationKind;
-use crate::names::{qualified, spelling_at};
-use crate::surrounding::{Surrounding, beside, inside, path_to};
-use proto_parse::{
-    Enum, Field, FileItem, Heading, Leaf, Message, MessageItem, Method, Oneof, Service,
-};
+use crate::names::{qualified, small_letters, spelling_at};
+use crate::surrounding::{Surrounding, beside, inside, path_to, scope_heading};
+use lent_texts::KeptText;
+use proto_parse::{Block, Enum, FileItem, Group, Head, Heading, Item, Leaf, Method, Service};
 use std::alloc::{AllocError, Global};
+
+/// The outline of a declaration with this simple name, which stands at this heading.
+fn outline_named<'t>(
+    alloc: Global,
+    surrounding: &Surrounding<'t>,
+    kind: DeclarationKind,
+    name: KeptText<'t>,
+    heading: Heading,
+) -> Result<Outline<'t>, AllocError>
+    ensures { IfOk result (λ outline. outline ≡ spec.outline_named surrounding.now kind name.entry heading) }
+{
+    Ok(Outline {
+        kind,
+        full_name: qualified(alloc, surrounding.scope.as_str(), name.as_str())?,
+        path: path_to(&surrounding.path, DeclarationStep { kind, name })?,
+        heading,
+    })
+}
 
 /// The outline of a declaration with this heading.
 fn outline_at<'t>(
@@ -27,16 +46,8 @@ fn outline_at<'t>(
     requires { OfHeading (IsPart text.now) heading }
     ensures { IfOk result (λ outline. outline ≡ spec.outline_at text.now surrounding.now kind heading) }
 {
-    Ok(Outline {
-        kind,
-        full_name: qualified(
-            alloc,
-            surrounding.scope.as_str(),
-            spelling_at(text, heading.name),
-        )?,
-        path: path_to(text, &surrounding.path, kind, heading)?,
-        heading,
-    })
+    let name = KeptText::lent(spelling_at(text, heading.name));
+    outline_named(alloc, surrounding, kind, name, heading)
 }
 
 /// Appends the outlines of an enum and its values.
@@ -75,30 +86,6 @@ fn outline_values<'t>(
     Ok(())
 }
 
-/// Appends the outlines of fields.
-fn outline_fields<'t>(
-    alloc: Global,
-    text: &'t str,
-    surrounding: &Surrounding<'t>,
-    fields: &[Field],
-    outlines: &mut Vec<Outline<'t>>,
-) -> Result<(), AllocError>
-    requires { All (OfField (IsPart text.now)) fields.now }
-    ensures { OnOk result (outlines.new.items
-        ≡ outlines.old.items ++ map (λ field. spec.outline_at text.now surrounding.now DeclarationKind.Field field.heading) fields.now) }
-{
-    for field in fields {
-        outlines.push(outline_at(
-            alloc,
-            text,
-            surrounding,
-            DeclarationKind::Field,
-            field.heading,
-        )?)?;
-    }
-    Ok(())
-}
-
 /// Appends the outlines of methods.
 fn outline_methods<'t>(
     alloc: Global,
@@ -123,34 +110,6 @@ fn outline_methods<'t>(
     Ok(())
 }
 
-/// Appends the outlines of a oneof and its fields.
-fn outline_oneof<'t>(
-    alloc: Global,
-    text: &'t str,
-    surrounding: &Surrounding<'t>,
-    declared: &Oneof,
-    outlines: &mut Vec<Outline<'t>>,
-) -> Result<(), AllocError>
-    requires { OfOneof (IsPart text.now) declared.now }
-    ensures { OnOk result (outlines.new.items
-        ≡ outlines.old.items ++ spec.in_oneof text.now surrounding.now declared.now) }
-{
-    outlines.push(outline_at(
-        alloc,
-        text,
-        surrounding,
-        DeclarationKind::Oneof,
-        declared.heading,
-    )?)?;
-    outline_fields(
-        alloc,
-        text,
-        surrounding,
-        declared.fields.as_slice(),
-        outlines,
-    )
-}
-
 /// Appends the outlines of a service and its methods.
 fn outline_service<'t>(
     alloc: Global,
@@ -169,7 +128,7 @@ fn outline_service<'t>(
     outline_methods(alloc, text, &methods, declared.methods.as_slice(), outlines)
 }
 
-/// Appends the outlines of what stands in a message, other than a message.
+/// Appends the outlines of what stands in a block, other than a block.
 fn outline_leaf<'t>(
     alloc: Global,
     text: &'t str,
@@ -182,7 +141,6 @@ fn outline_leaf<'t>(
 {
     let heading = match leaf {
         Leaf::Enum(declared) => return outline_enum(alloc, text, surrounding, declared, outlines),
-        Leaf::Oneof(declared) => return outline_oneof(alloc, text, surrounding, declared, outlines),
         Leaf::Field(field) => field.heading,
         Leaf::MapField(field) => field.heading,
     };
@@ -190,28 +148,100 @@ fn outline_leaf<'t>(
     Ok(())
 }
 
-/// Appends the outlines of a message and of what stands in it.
-fn outline_message<'t>(
+/// Appends the outlines of the field and of the message that a group declares.
+fn outline_group<'t>(
     alloc: Global,
     text: &'t str,
     surrounding: &Surrounding<'t>,
-    message: &Message,
+    group: Group,
     outlines: &mut Vec<Outline<'t>>,
 ) -> Result<(), AllocError>
-    requires { OfMessage (IsPart text.now) message.now }
+    requires { OfGroup (IsPart text.now) group }
     ensures { OnOk result (outlines.new.items
-        ≡ outlines.old.items ++ spec.in_message text.now surrounding.now message.now) }
+        ≡ outlines.old.items ++ spec.in_head text.now surrounding.now (Head.Group group)) }
 {
-    let heading = message.heading;
-    outlines.push(outline_at(alloc, text, surrounding, DeclarationKind::Message, heading)?)?;
-    let inner = inside(alloc, text, surrounding, DeclarationKind::Message, heading)?;
-    for item in &message.items {
+    let name = small_letters(alloc, spelling_at(text, group.heading.name))?;
+    let place = Heading {
+        first: group.heading.first,
+        name: group.word,
+        closing: group.heading.closing,
+    };
+    let field = KeptText::owned(name);
+    outlines.push(outline_named(alloc, surrounding, DeclarationKind::Field, field, place)?)?;
+    outlines.push(outline_at(
+        alloc,
+        text,
+        surrounding,
+        DeclarationKind::Message,
+        group.heading,
+    )?)?;
+    Ok(())
+}
+
+/// Appends the outlines of what a block declares, without what stands in it.
+fn outline_head<'t>(
+    alloc: Global,
+    text: &'t str,
+    surrounding: &Surrounding<'t>,
+    head: &Head,
+    outlines: &mut Vec<Outline<'t>>,
+) -> Result<(), AllocError>
+    requires { OfHead (IsPart text.now) head.now }
+    ensures { OnOk result (outlines.new.items ≡ outlines.old.items ++ spec.in_head text.now surrounding.now head.now) }
+{
+    let (kind, heading) = match head {
+        Head::Message(heading) => (DeclarationKind::Message, *heading),
+        Head::Oneof(heading) => (DeclarationKind::Oneof, *heading),
+        Head::Group(group) => return outline_group(alloc, text, surrounding, *group, outlines),
+        Head::Extend(_) => return Ok(()),
+    };
+    outlines.push(outline_at(alloc, text, surrounding, kind, heading)?)?;
+    Ok(())
+}
+
+/// Appends the outlines of a block and of what stands in it.
+#[cycle(walk)]
+fn outline_block<'t>(
+    alloc: Global,
+    text: &'t str,
+    surrounding: &Surrounding<'t>,
+    block: &Block,
+    outlines: &mut Vec<Outline<'t>>,
+) -> Result<(), AllocError>
+    requires { OfBlock (IsPart text.now) block.now }
+    ensures { OnOk result (outlines.new.items
+        ≡ outlines.old.items ++ spec.in_block text.now surrounding.now block.now) }
+{
+    outline_head(alloc, text, surrounding, &block.head, outlines)?;
+    match scope_heading(&block.head) {
+        Some(heading) => {
+            let inner = inside(alloc, text, surrounding, DeclarationKind::Message, heading)?;
+            outline_items(alloc, text, &inner, &block.items, outlines)
+        }
+        None => outline_items(alloc, text, surrounding, &block.items, outlines),
+    }
+}
+
+/// Appends the outlines of what stands in a block.
+#[cycle(walk)]
+fn outline_items<'t>(
+    alloc: Global,
+    text: &'t str,
+    surrounding: &Surrounding<'t>,
+    items: &[Item],
+    outlines: &mut Vec<Outline<'t>>,
+) -> Result<(), AllocError>
+    requires { OfBody (IsPart text.now) (body_of items.now) }
+    ensures { OnOk result (outlines.new.items
+        ≡ outlines.old.items ++ spec.in_body text.now surrounding.now (body_of items.now)) }
+{
+    for item in items {
         match item {
-            MessageItem::Message(nested) => {
-                outline_message(alloc, text, &inner, nested, outlines)?;
+            Item::Block(block) => {
+                outline_block(alloc, text, surrounding, block, outlines)?;
             }
-            MessageItem::Leaf(leaf) => {
-                outline_leaf(alloc, text, &inner, leaf, outlines)?;
+            Item::Leaf(leaf) => {
+                outline_leaf(alloc, text, surrounding, leaf, outlines)?;
             }
         }
     }
@@ -230,7 +260,7 @@ fn outline_item<'t>(
     ensures { OnOk result (outlines.new.items ≡ outlines.old.items ++ spec.in_item text.now surrounding.now item.now) }
 {
     match item {
-        FileItem::Message(message) => outline_message(alloc, text, surrounding, message, outlines),
+        FileItem::Block(block) => outline_block(alloc, text, surrounding, block, outlines),
         FileItem::Enum(declared) => outline_enum(alloc, text, surrounding, declared, outlines),
         FileItem::Service(service) => outline_service(alloc, text, surrounding, service, outlines),
     }

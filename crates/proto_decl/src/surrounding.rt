@@ -2,14 +2,14 @@
 
 ghost use Rattle.std.specs.Prelude.{◌≡◌, ◌++◌, ◌∷◌, [], IfOk};
 ghost use Rattle.proto_lex.specs.Lexed.{IsPart};
-ghost use Rattle.proto_decl.specs.Outlines.{step_to, inside, beside};
+ghost use Rattle.proto_decl.specs.Outlines.{scope_heading, step_to, inside, beside};
 
 use crate::declaration::DeclarationStep;
 use crate::kind::DeclarationKind;
 use crate::names::{qualified, spelling_at};
 use crate::path::{DeclarationPath, SharedSteps};
-use lent_texts::LentText;
-use proto_parse::Heading;
+use lent_texts::KeptText;
+use proto_parse::{Head, Heading};
 use sequences::{OwnedText, Sequence};
 use std::alloc::{AllocError, Global};
 
@@ -22,6 +22,30 @@ pub(crate) struct Surrounding<'t> {
     pub(crate) path: SharedSteps<'t>,
 }
 
+/// The heading of a block that is a scope: of a message or a group.
+pub(crate) fn scope_heading(head: &Head) -> Option<Heading>
+    ensures { result ≡ scope_heading head.now }
+{
+    match head {
+        Head::Message(heading) => Some(*heading),
+        Head::Group(group) => Some(group.heading),
+        Head::Oneof(_) | Head::Extend(_) => None,
+    }
+}
+
+/// The same step once more.
+fn copy_step<'t>(
+    alloc: Global,
+    step: &DeclarationStep<'t>,
+) -> Result<DeclarationStep<'t>, AllocError>
+    ensures { IfOk result (λ copy. copy ≡ step.now) }
+{
+    Ok(DeclarationStep {
+        kind: step.kind,
+        name: step.name.copy(alloc)?,
+    })
+}
+
 /// A copy of a path, with room for one step more.
 fn copy_path<'t>(
     alloc: Global,
@@ -31,10 +55,7 @@ fn copy_path<'t>(
 {
     let mut copy = Vec::with_capacity(alloc, path.len().saturating_add(1))?;
     for step in path {
-        copy.push(DeclarationStep {
-            kind: step.kind,
-            name: LentText::new(step.name.as_str()),
-        })?;
+        copy.push(copy_step(alloc, step)?)?;
     }
     Ok(copy)
 }
@@ -46,21 +67,17 @@ fn step_to<'t>(text: &'t str, kind: DeclarationKind, heading: Heading) -> Declar
 {
     DeclarationStep {
         kind,
-        name: LentText::new(spelling_at(text, heading.name)),
+        name: KeptText::lent(spelling_at(text, heading.name)),
     }
 }
 
-/// The path to the declaration with this heading.
+/// The path with this step more.
 pub(crate) fn path_to<'t>(
-    text: &'t str,
     path: &SharedSteps<'t>,
-    kind: DeclarationKind,
-    heading: Heading,
+    last: DeclarationStep<'t>,
 ) -> Result<DeclarationPath<'t>, AllocError>
-    requires { IsPart text.now heading.name }
-    ensures { IfOk result (λ longer. longer ≡ path.now ++ step_to text.now kind heading ∷ []) }
+    ensures { IfOk result (λ longer. longer ≡ path.now ++ last.entry ∷ []) }
 {
-    let last = step_to(text, kind, heading);
     Ok(DeclarationPath::new(path.share()?, last))
 }
 

@@ -11,8 +11,8 @@ pub struct Component<'t> {
     pub span: Span,
 }
 
-/// A use of a message or an enum: the type of a field, of a map's values, or of what a method takes
-/// or gives.
+/// A use of a message or an enum: the type of a field, of a map's values, of what a method takes
+/// or gives, or the type that an `extend` extends.
 #[derive(Debug, Drop)]
 pub struct Use<'t> {
     /// The components of the name, in order, at least one.

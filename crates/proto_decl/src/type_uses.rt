@@ -3,17 +3,21 @@
 ghost use Rattle.std.specs.Prelude.{◌≡◌, ◌++◌, ◌∷◌, [], All, IfOk, OnOk};
 ghost use Rattle.std.specs.List.{flat_map};
 ghost use Rattle.proto_lex.specs.Lexed.{IsPart};
-ghost use Rattle.proto_decl.specs.Names.{components_at};
-ghost use Rattle.proto_decl.specs.Spans.{OfTypeName, OfType, OfField, OfMethod, OfLeaf, OfMessage, OfService, OfItem};
+ghost use Rattle.proto_parse.specs.Items.{body_of};
+ghost use Rattle.proto_decl.specs.Names.{qualified, components_at};
+ghost use Rattle.proto_decl.specs.Outlines.{name_of};
+ghost use Rattle.proto_decl.specs.Spans.{OfHeading, OfTypeName, OfType, OfHead, OfMethod, OfLeaf, OfBody, OfBlock, OfService};
+ghost use Rattle.proto_decl.specs.Spans.{OfItem};
 ghost use Rattle.proto_decl.specs.Uses as spec;
 
 use crate::imports::{end_of, start_of};
 use crate::names::{qualified, spelling_at};
+use crate::surrounding::scope_heading;
 use crate::type_use::{Component, Use};
 use lent_texts::{LentText, SharedText};
 use proto_lex::Span;
 use proto_parse::{
-    Field, FieldType, FileItem, Leaf, Message, MessageItem, Method, Service, TypeName,
+    Block, FieldType, FileItem, Head, Heading, Item, Leaf, Method, Service, TypeName,
 };
 use sequences::{OwnedText, Sequence};
 use std::alloc::{AllocError, Global};
@@ -89,24 +93,6 @@ fn use_type<'t>(
     }
 }
 
-/// Appends the uses of a oneof's fields.
-fn use_fields<'t>(
-    alloc: Global,
-    text: &'t str,
-    scope: &SharedText,
-    fields: &[Field],
-    uses: &mut Vec<Use<'t>>,
-) -> Result<(), AllocError>
-    requires { All (OfField (IsPart text.now)) fields.now }
-    ensures { OnOk result (uses.new.items
-        ≡ uses.old.items ++ flat_map (λ field. spec.uses_of_type text.now scope.now field.field_type) fields.now) }
-{
-    for field in fields {
-        use_type(alloc, text, scope, &field.field_type, uses)?;
-    }
-    Ok(())
-}
-
 /// Appends the uses of methods, of each what it takes, then what it gives.
 fn use_methods<'t>(
     alloc: Global,
@@ -126,7 +112,7 @@ fn use_methods<'t>(
     Ok(())
 }
 
-/// Appends the uses of what stands in a message, other than a message.
+/// Appends the uses of what stands in a block, other than a block.
 fn use_leaf<'t>(
     alloc: Global,
     text: &'t str,
@@ -139,37 +125,86 @@ fn use_leaf<'t>(
 {
     match leaf {
         Leaf::Enum(_) => Ok(()),
-        Leaf::Oneof(declared) => use_fields(alloc, text, scope, declared.fields.as_slice(), uses),
         Leaf::Field(field) => use_type(alloc, text, scope, &field.field_type, uses),
         Leaf::MapField(field) => use_type(alloc, text, scope, &field.value, uses),
     }
 }
 
-/// Appends the uses in a message that stands in the scope with this full name.
-fn use_message<'t>(
+/// Appends the use of the type that an extend extends.
+fn use_head<'t>(
     alloc: Global,
     text: &'t str,
     scope: &SharedText,
-    message: &Message,
+    head: &Head,
     uses: &mut Vec<Use<'t>>,
 ) -> Result<(), AllocError>
-    requires { OfMessage (IsPart text.now) message.now }
-    ensures { OnOk result (uses.new.items ≡ uses.old.items ++ spec.uses_in_message text.now scope.now message.now) }
+    requires { OfHead (IsPart text.now) head.now }
+    ensures { OnOk result (uses.new.items ≡ uses.old.items ++ spec.uses_in_head text.now scope.now head.now) }
 {
-    let full_name = qualified(
-        alloc,
-        scope.as_str(),
-        spelling_at(text, message.heading.name),
-    )?;
-    let shared = SharedText::new(alloc, full_name)?;
-    let inner = &shared;
-    for item in &message.items {
+    match head {
+        Head::Extend(name) => {
+            uses.push(use_of(alloc, text, scope, name)?)?;
+            Ok(())
+        }
+        Head::Message(_) | Head::Group(_) | Head::Oneof(_) => Ok(()),
+    }
+}
+
+/// The full name of what has this heading, in the scope with this full name.
+fn scope_in(
+    alloc: Global,
+    text: &str,
+    scope: &SharedText,
+    heading: Heading,
+) -> Result<SharedText, AllocError>
+    requires { OfHeading (IsPart text.now) heading }
+    ensures { IfOk result (λ inner. inner ≡ qualified scope.now (name_of text.now heading)) }
+{
+    let full_name = qualified(alloc, scope.as_str(), spelling_at(text, heading.name))?;
+    SharedText::new(alloc, full_name)
+}
+
+/// Appends the uses in a block that stands in the scope with this full name.
+#[cycle(walk)]
+fn use_block<'t>(
+    alloc: Global,
+    text: &'t str,
+    scope: &SharedText,
+    block: &Block,
+    uses: &mut Vec<Use<'t>>,
+) -> Result<(), AllocError>
+    requires { OfBlock (IsPart text.now) block.now }
+    ensures { OnOk result (uses.new.items ≡ uses.old.items ++ spec.uses_in_block text.now scope.now block.now) }
+{
+    use_head(alloc, text, scope, &block.head, uses)?;
+    match scope_heading(&block.head) {
+        Some(heading) => {
+            let inner = scope_in(alloc, text, scope, heading)?;
+            use_items(alloc, text, &inner, &block.items, uses)
+        }
+        None => use_items(alloc, text, scope, &block.items, uses),
+    }
+}
+
+/// Appends the uses of what stands in a block.
+#[cycle(walk)]
+fn use_items<'t>(
+    alloc: Global,
+    text: &'t str,
+    scope: &SharedText,
+    items: &[Item],
+    uses: &mut Vec<Use<'t>>,
+) -> Result<(), AllocError>
+    requires { OfBody (IsPart text.now) (body_of items.now) }
+    ensures { OnOk result (uses.new.items ≡ uses.old.items ++ spec.uses_in_body text.now scope.now (body_of items.now)) }
+{
+    for item in items {
         match item {
-            MessageItem::Message(nested) => {
-                use_message(alloc, text, inner, nested, uses)?;
+            Item::Block(block) => {
+                use_block(alloc, text, scope, block, uses)?;
             }
-            MessageItem::Leaf(leaf) => {
-                use_leaf(alloc, text, inner, leaf, uses)?;
+            Item::Leaf(leaf) => {
+                use_leaf(alloc, text, scope, leaf, uses)?;
             }
         }
     }
@@ -187,12 +222,7 @@ fn use_service<'t>(
     requires { OfService (IsPart text.now) service.now }
     ensures { OnOk result (uses.new.items ≡ uses.old.items ++ spec.uses_in_service text.now scope.now service.now) }
 {
-    let full_name = qualified(
-        alloc,
-        scope.as_str(),
-        spelling_at(text, service.heading.name),
-    )?;
-    let inner = SharedText::new(alloc, full_name)?;
+    let inner = scope_in(alloc, text, scope, service.heading)?;
     use_methods(alloc, text, &inner, service.methods.as_slice(), uses)
 }
 
@@ -208,7 +238,7 @@ fn use_item<'t>(
     ensures { OnOk result (uses.new.items ≡ uses.old.items ++ spec.uses_in_item text.now scope.now item.now) }
 {
     match item {
-        FileItem::Message(message) => use_message(alloc, text, scope, message, uses),
+        FileItem::Block(block) => use_block(alloc, text, scope, block, uses),
         FileItem::Enum(_) => Ok(()),
         FileItem::Service(service) => use_service(alloc, text, scope, service, uses),
     }

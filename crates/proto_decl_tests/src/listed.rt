@@ -5,7 +5,7 @@ use proto_decl::{
     Component, Declaration, DeclarationKind, DeclarationStep, FileFacts, Imported, Use,
 };
 use proto_lex::Span;
-use proto_parse::ImportKind;
+use proto_parse::{CustomOptions, Dialect, ImportKind};
 use std::alloc::Global;
 
 /// Every kind of import, of declaration, each with a text before and behind it, and of use.
@@ -47,17 +47,17 @@ const LISTED: &str = "package a b
 import ab.proto, \"a\" 'b.proto'
 import public c.proto, 'c.proto'
 import weak , \"\"
-message a.b.M (M): message M; M. m
-enum a.b.M.E (E): message M; enum E; E. e
-value a.b.M.V (V): message M; enum E; value V; V. v
-oneof a.b.M.o (o): message M; oneof o; o. o
-field a.b.M.f (f): message M; field f; f. f
-field a.b.M.g (g): message M; field g; g. g
-message a.b.M.N (N): message M; message N; N. n
-field a.b.M.N.h (h): message M; message N; field h; h. h
-field a.b.M.N.i (i): message M; message N; field i; i. i
-service a.b.S (S): service S; S. s
-method a.b.S.R (R): service S; method R; R. r
+message a.b.M (M): message M; [M.] [m]
+enum a.b.M.E (E): message M; enum E; [E.] [e]
+value a.b.M.V (V): message M; enum E; value V; [V.] [v]
+oneof a.b.M.o (o): message M; oneof o; [o.] [o]
+field a.b.M.f (f): message M; field f; [f.] [f]
+field a.b.M.g (g): message M; field g; [g.] [g]
+message a.b.M.N (N): message M; message N; [N.] [n]
+field a.b.M.N.h (h): message M; message N; field h; [h.] [h]
+field a.b.M.N.i (i): message M; message N; field i; [i.] [i]
+service a.b.S (S): service S; [S.] [s]
+method a.b.S.R (R): service S; method R; [R.] [r]
 use N: N in a.b.M
 use b . M: b M in a.b.M
 use E: E in a.b.M.N
@@ -69,10 +69,11 @@ use .a.b.M.N: . a b M N in a.b.S
 const COMMENTED: &str =
     "syntax = \"proto3\";\n// One.\n// Two.\nmessage A { // tail\n  int32 x = 1; /* unit */\n}\n";
 
-/// Its second line reads: the field `x` of `A` has no text before it, and ` unit ` behind it.
+/// Its last line reads: the field `x` of `A` has no text before it, and ` unit ` behind it.
 const COMMENTS_LISTED: &str = "package
-message A (A): message A; One.\nTwo. tail
-field A.x (x): message A; field x;   unit \n";
+message A (A): message A; [One.\nTwo.] [tail]
+field A.x (x): message A; field x; [] [ unit ]
+";
 
 /// Comments beside one another, one beside a declaration, and one of more than 256 bytes.
 const BESIDE: &str = "syntax = \"proto3\"; // zero
@@ -90,12 +91,80 @@ message B {}
 
 /// The comments on the line above lead `A`, and so does the long one `B`.
 const BESIDE_LISTED: &str = "package
-message A (A): message A;  one \n two   three \nmessage B (B): message B;  Five:
+message A (A): message A; [ one \n two ] [ three ]
+message B (B): message B; [ Five:
 0123456789012345678901234567890123456789012345678901234567890123456789
 0123456789012345678901234567890123456789012345678901234567890123456789
 0123456789012345678901234567890123456789012345678901234567890123456789
 0123456789012345678901234567890123456789012345678901234567890123456789
- \n";
+] []
+";
+
+/// Groups in a message, in a group, in a oneof and in an extend; extends in a message and in the file; and an extend of
+/// the type that an extension declares.
+const PROTO2: &str = "syntax = \"proto2\"; package a;
+message M {
+  // g.
+  optional group HTTPResult = 1 { // g
+    required M back = 2;
+    repeated group Inner = 3 {
+      optional HTTPResult up = 4;
+    }
+  }
+  oneof choice {
+    group Picked = 5 {
+      optional Picked same = 6;
+    }
+    M other = 7;
+  }
+  extend N.Deep {
+    // x.
+    optional M x = 100; // x
+  }
+  extensions 100 to max;
+}
+// top.
+extend .a.M {
+  repeated group Wide = 101 {
+    optional Wide w = 1;
+    extensions 2;
+  }
+}
+extend Wide {
+  optional int32 deep = 2;
+}
+";
+
+/// Its line of `httpresult` reads: the field `a.M.httpresult` is at the word `group`. That of `N.Deep` reads: the scope
+/// of the type that is extended is the message around the `extend`.
+const PROTO2_LISTED: &str = "package a
+message a.M (M): message M; [] []
+field a.M.httpresult (group): message M; field httpresult; [g.] [g]
+message a.M.HTTPResult (HTTPResult): message M; message HTTPResult; [g.] [g]
+field a.M.HTTPResult.back (back): message M; message HTTPResult; field back; [] []
+field a.M.HTTPResult.inner (group): message M; message HTTPResult; field inner; [] []
+message a.M.HTTPResult.Inner (Inner): message M; message HTTPResult; message Inner; [] []
+field a.M.HTTPResult.Inner.up (up): message M; message HTTPResult; message Inner; field up; [] []
+oneof a.M.choice (choice): message M; oneof choice; [] []
+field a.M.picked (group): message M; field picked; [] []
+message a.M.Picked (Picked): message M; message Picked; [] []
+field a.M.Picked.same (same): message M; message Picked; field same; [] []
+field a.M.other (other): message M; field other; [] []
+field a.M.x (x): message M; field x; [x.] [x]
+field a.wide (group): field wide; [] []
+message a.Wide (Wide): message Wide; [] []
+field a.Wide.w (w): message Wide; field w; [] []
+field a.deep (deep): field deep; [] []
+use M: M in a.M.HTTPResult
+use HTTPResult: HTTPResult in a.M.HTTPResult.Inner
+use Picked: Picked in a.M.Picked
+use M: M in a.M
+use N.Deep: N Deep in a.M
+use M: M in a.M
+use .a.M: . a M in a
+use Wide: Wide in a.Wide
+use Wide: Wide in a
+";
 
 /// Appends a part. One that memory isn't there for is left out, and then the listing is another.
 fn add(text: &mut String, part: &str) {
@@ -155,24 +224,25 @@ fn add_step(text: &mut String, step: &DeclarationStep) {
     add(text, "; ");
 }
 
-/// Appends a line for a declaration, with its full name, its name, its path, and
+/// Appends a line for a declaration, with its full name, what is at its name's place, its path, and
 /// its texts as a callback sees them.
 fn add_declaration(text: &mut String, source: &str, declaration: &Declaration) {
     let view = declaration.view();
     add(text, mark_of(view.kind()));
     add(text, view.full_name());
     add(text, " (");
-    add_name(text, source, declaration.name, view.name());
+    add_part(text, source, declaration.name);
     add(text, "): ");
     let (outer, last) = declaration.path.parts();
     for step in outer {
         add_step(text, step);
     }
     add_step(text, last);
+    add(text, "[");
     add(text, view.leading());
-    add(text, " ");
+    add(text, "] [");
     add(text, view.trailing());
-    add(text, "\n");
+    add(text, "]\n");
 }
 
 fn add_use(text: &mut String, source: &str, found: &Use) {
@@ -206,11 +276,16 @@ pub(crate) fn is_listed(alloc: Global, source: &str, facts: &FileFacts, want: &s
 
 #[test]
 fn facts_of_sources(rt: HostRuntime) {
-    for (source, want) in [
-        (EVERY_KIND, LISTED),
-        (COMMENTED, COMMENTS_LISTED),
-        (BESIDE, BESIDE_LISTED),
+    let proto3 = Dialect::Proto3(CustomOptions::Refuse);
+    for (source, dialect, want) in [
+        (EVERY_KIND, proto3, LISTED),
+        (COMMENTED, proto3, COMMENTS_LISTED),
+        (BESIDE, proto3, BESIDE_LISTED),
+        (PROTO2, Dialect::All, PROTO2_LISTED),
     ] {
-        assert!(rt; is_source_listed(rt.alloc(), source, want), "{want}");
+        assert!(rt;
+            is_source_listed(rt.alloc(), source, dialect, want),
+            "{want}"
+        );
     }
 }

@@ -25,22 +25,22 @@ returns c = λ facts origin.
     let moved : (found wanted : List Span) → found ≡ wanted → All P wanted → All P found =
     λ found wanted e all. subst (λ (spans : List Span). All P spans) (sym e) all in
     let each = parts lexed origin.is_lexed in
-    let filled = c.names_have_components.ensures origin.custom text lexed.tokens file origin.derives in
+    let filled = c.names_have_components.ensures origin.dialect text lexed.tokens file origin.derives in
     record {
       package_name = moved _ _ (ap component_spans origin.of_file.package_name)
           (package_part text file.package_name
           (package_holds P P text lexed.tokens file each
-          (c.spans_of_tokens.ensures.package_name origin.custom text lexed.tokens file origin.derives)));
+          (c.spans_of_tokens.ensures.package_name origin.dialect text lexed.tokens file origin.derives)));
       imports = moved _ _ (ap at_spans origin.of_file.imports)
           (imports_part text file.imports 0 filled.imports
           (imports_hold P P text lexed.tokens file each
-          (c.spans_of_tokens.ensures.imports origin.custom text lexed.tokens file origin.derives))
+          (c.spans_of_tokens.ensures.imports origin.dialect text lexed.tokens file origin.derives))
           (subst (λ (spans : List Span). AreInOrder 0 spans) (ap at_spans origin.of_file.imports)
           (c.facts_in_order.ensures.imports facts origin)));
-      names = names_part text facts.declarations
-          (c.names_are_spelled.ensures origin.custom facts.number lexed file facts origin.is_lexed origin.derives
+      names = names_part text facts.declarations facts.declarations
+          (c.names_are_spelled.ensures origin.dialect facts.number lexed file facts origin.is_lexed origin.derives
           origin.of_file);
       uses = moved _ _ (ap use_spans origin.of_file.uses)
           (uses_part text file (items_hold P P text lexed.tokens file each
-          (c.spans_of_tokens.ensures.items origin.custom text lexed.tokens file origin.derives)));
+          (c.spans_of_tokens.ensures.items origin.dialect text lexed.tokens file origin.derives)));
     }

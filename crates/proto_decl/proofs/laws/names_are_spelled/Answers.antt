@@ -10,7 +10,7 @@ parts : (lexed : Lexed) → IsLexed lexed.text lexed.tokens lexed.comments
 parts lexed is = λ k d h. (is.token_parts k d h, λ literal. is.token_parts k d h)
 
 pub returns : goal.returns
-returns c = λ custom number lexed file facts is derives of_file.
+returns c = λ dialect number lexed file facts is derives of_file.
     declarations_named lexed file facts.declarations
     (items_hold (IsPart lexed.text) (IsPart lexed.text) lexed.text lexed.tokens file (parts lexed is)
-    (c.spans_of_tokens.ensures.items custom lexed.text lexed.tokens file derives)) of_file.declarations
+    (c.spans_of_tokens.ensures.items dialect lexed.text lexed.tokens file derives)) of_file.declarations

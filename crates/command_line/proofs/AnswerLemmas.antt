@@ -35,7 +35,7 @@ asks_answer (k ∷ ks) program e r (inr among) p = (kind_of e, among, p.1)
 
 -- an answer that is neither help nor the version is a refusal
 pub refuses : (r : Request) → Prints kind.ValueValidation r → IsRefused r
-refuses (request.Dump custom_options explain) p = absurd p
+refuses (request.Dump options) p = absurd p
 refuses (request.Query index explain) p = absurd p
 refuses (request.Snapshot options) p = absurd p
 refuses (request.Pages options) p = absurd p

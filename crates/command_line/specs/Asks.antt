@@ -4,7 +4,8 @@ use Rattle.std.specs.Prelude.{◌≡◌, ◌≢◌, List, [], ◌∷◌, Option,
 use Rattle.std.specs.Option.{option_map}
 use Rattle.clap.specs.Words.{Kinds, IsAmong, Row, Text, fault_of, subcommand_of}
 use Rattle.clap.specs.declared.error.kind.ErrorKind.{ErrorKind}
-use Rattle.command_line.specs.Values.{Carries, CarriesPages, CarriesSnapshot, custom_options_of, explains_in, quiet_in, rows_in, text_of}
+use Rattle.command_line.specs.Values.{Carries, CarriesDump, CarriesPages, CarriesSnapshot}
+use Rattle.command_line.specs.Values.{explains_in, quiet_in, rows_in, text_of}
 use Rattle.command_line.specs.Program.{command_line}
 use Rattle.command_line.specs.Requests.{Prints}
 use Rattle.command_line.specs.Words.{AreListed}
@@ -31,13 +32,12 @@ Names program (request.Snapshot options) = (name_of program ≡ Some (codes "sna
     × CarriesSnapshot (rows_in program) options
 Names program (request.Pages options) = (name_of program ≡ Some (codes "pages"))
     × CarriesPages (rows_in program) options
-Names program (request.Dump custom_options explain) = (name_of program ≢ Some (codes "index"))
+Names program (request.Dump options) = (name_of program ≢ Some (codes "index"))
     × (name_of program ≢ Some (codes "shell"))
     × (name_of program ≢ Some (codes "query"))
     × (name_of program ≢ Some (codes "snapshot"))
     × (name_of program ≢ Some (codes "pages"))
-    × (custom_options ≡ custom_options_of (rows_in program))
-    × (explain ≡ explains_in (rows_in program))
+    × CarriesDump (rows_in program) options
 Names program (request.Print text) = ⊥
 Names program (request.Refuse text) = ⊥
 

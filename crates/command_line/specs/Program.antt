@@ -52,6 +52,9 @@ include_package_rule = record (option_rule (codes "include-package")) { value_na
 abbrev pub positions_rule : Bor (List (Bor Text)) → Rule
 positions_rule words = or_default (codes "utf8") (taking_words words (option_rule (codes "positions")))
 
+abbrev pub accept_rule : Bor (List (Bor Text)) → Rule
+accept_rule words = or_default (codes "proto3") (taking_words words (option_rule (codes "accept")))
+
 abbrev pub custom_options_rule : Bor (List (Bor Text)) → Rule
 custom_options_rule words =
     or_default (codes "refuse") (taking_words words (option_rule (codes "custom-options")))
@@ -85,6 +88,7 @@ choice_rules lists = option_rule (codes "only")
     ∷ include_rule
     ∷ include_package_rule
     ∷ positions_rule lists.positions
+    ∷ accept_rule lists.accept
     ∷ custom_options_rule lists.custom_options
     ∷ faulty_rule lists.faulty
     ∷ explain_rule
@@ -136,7 +140,9 @@ pages_line =
     (required_rule (codes "INDEX") ∷ required_rule (codes "ROOT") ∷ required_rule (codes "OUT") ∷ explain_rule ∷ [])
 
 abbrev pub dump_line : WordLists → Shape
-dump_line lists = line_of (codes "dump") (custom_options_rule lists.custom_options ∷ explain_rule ∷ [])
+dump_line lists =
+    line_of (codes "dump")
+    (accept_rule lists.accept ∷ custom_options_rule lists.custom_options ∷ explain_rule ∷ [])
 
 -- `protoscip` has a version and wants a program
 abbrev pub no_program : App

@@ -6,7 +6,7 @@ use Rattle.clap.specs.declared.error.kind.ErrorKind.TheVariants as kind
 use Rattle.command_line.specs.declared.options.IndexOptions.{IndexOptions}
 use Rattle.command_line.specs.declared.options.SnapshotOptions.{SnapshotOptions}
 use Rattle.command_line.specs.declared.options.PagesOptions.{PagesOptions}
-use Rattle.command_line.specs.declared.options.CustomOptionsWord.{CustomOptionsWord}
+use Rattle.command_line.specs.declared.options.DumpOptions.{DumpOptions}
 use Rattle.command_line.specs.declared.request.Request.{Request}
 use Rattle.command_line.specs.declared.request.Request.TheVariants as request
 
@@ -31,9 +31,9 @@ abbrev pub IsRefused : Request → Type 0
 IsRefused (request.Refuse text) = ⊤
 IsRefused _ = ⊥
 
--- what is done about custom options in the dump that is asked for
-abbrev pub dump_options : Request → Option CustomOptionsWord
-dump_options (request.Dump custom_options explain) = Some custom_options
+-- what the dump is asked for with
+abbrev pub dump_options : Request → Option DumpOptions
+dump_options (request.Dump options) = Some options
 dump_options _ = None
 
 -- the path of the index about which commands are to be answered
@@ -68,6 +68,6 @@ pages_options _ = None
 
 -- whether a fault of the dump or of the answers from a file is explained
 abbrev pub explains : Request → Bool
-explains (request.Dump custom_options explain) = explain
+explains (request.Dump options) = options.explain
 explains (request.Query index explain) = explain
 explains _ = false

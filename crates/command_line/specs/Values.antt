@@ -7,13 +7,15 @@ use Rattle.std.specs.Str.{bytes_eq}
 use Rattle.std.specs.Str.Parse.{digits_value, without_leading_plus}
 use Rattle.clap.specs.Words.{Row, Text, all_of, first_of, one_of}
 use Rattle.clap.specs.ValueTests.{is_unsigned_in}
-use Rattle.command_line.specs.Words.{custom_options_word, doc_word, faulty_word, positions_word}
+use Rattle.command_line.specs.Words.{accept_word, custom_options_word, doc_word, faulty_word, positions_word}
 use Rattle.command_line.specs.declared.options.IndexOptions.{IndexOptions}
+use Rattle.command_line.specs.declared.options.DumpOptions.{DumpOptions}
 use Rattle.command_line.specs.declared.options.SnapshotOptions.{SnapshotOptions}
 use Rattle.command_line.specs.declared.options.PagesOptions.{PagesOptions}
 use Rattle.command_line.specs.declared.options.PackageFolder.{PackageFolder}
 use Rattle.command_line.specs.declared.options.DocWord.{DocWord}
 use Rattle.command_line.specs.declared.options.PositionsWord.{PositionsWord}
+use Rattle.command_line.specs.declared.options.AcceptWord.{AcceptWord}
 use Rattle.command_line.specs.declared.options.CustomOptionsWord.{CustomOptionsWord}
 use Rattle.command_line.specs.declared.options.FaultyWord.{FaultyWord}
 
@@ -43,6 +45,9 @@ doc_of rows = option_map doc_word (first_of (codes "doc") rows)
 
 abbrev pub positions_of : List Row → PositionsWord
 positions_of rows = positions_word (text_of (codes "positions") rows)
+
+abbrev pub accept_of : List Row → AcceptWord
+accept_of rows = accept_word (text_of (codes "accept") rows)
 
 abbrev pub custom_options_of : List Row → CustomOptionsWord
 custom_options_of rows = custom_options_word (text_of (codes "custom-options") rows)
@@ -94,11 +99,18 @@ pub record Carries (rows : List Row) (options : IndexOptions) : Type 0 where
   pub include_packages : map folder_of options.include_packages.items
       ≡ folders_in (unwrap_or (all_of (codes "include-package") rows) [])
   pub positions : options.positions ≡ positions_of rows
+  pub accept : options.accept ≡ accept_of rows
   pub custom_options : options.custom_options ≡ custom_options_of rows
   pub faulty : options.faulty ≡ faulty_of rows
   pub explain : options.explain ≡ explains_in rows
 
--- and so those of `snapshot`
+-- and so those of `dump`
+pub record CarriesDump (rows : List Row) (options : DumpOptions) : Type 0 where
+  pub accept : options.accept ≡ accept_of rows
+  pub custom_options : options.custom_options ≡ custom_options_of rows
+  pub explain : options.explain ≡ explains_in rows
+
+-- and those of `snapshot`
 pub record CarriesSnapshot (rows : List Row) (options : SnapshotOptions) : Type 0 where
   pub index : string_bytes options.index ≡ text_of (codes "INDEX") rows
   pub root : string_bytes options.root ≡ text_of (codes "ROOT") rows

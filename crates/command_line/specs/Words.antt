@@ -8,6 +8,8 @@ use Rattle.command_line.specs.declared.options.DocWord.{DocWord}
 use Rattle.command_line.specs.declared.options.DocWord.TheVariants.{Leading, Trailing, Both, Nothing}
 use Rattle.command_line.specs.declared.options.PositionsWord.{PositionsWord}
 use Rattle.command_line.specs.declared.options.PositionsWord.TheVariants.{Utf8, Utf16}
+use Rattle.command_line.specs.declared.options.AcceptWord.{AcceptWord}
+use Rattle.command_line.specs.declared.options.AcceptWord.TheVariants as accept
 use Rattle.command_line.specs.declared.options.CustomOptionsWord.{CustomOptionsWord}
 use Rattle.command_line.specs.declared.options.CustomOptionsWord.TheVariants.{Refuse, Skip}
 use Rattle.command_line.specs.declared.options.FaultyWord.{FaultyWord}
@@ -17,10 +19,11 @@ use Rattle.command_line.specs.declared.options.FaultyWord.TheVariants as faulty
 abbrev pub texts_at : Bor (List (Bor Text)) → List Text
 texts_at list = map (λ (s : Bor Text). s.now) list.now
 
--- the lists hold the words of `--doc`, `--positions`, `--custom-options` and `--faulty`
+-- the lists hold the words of `--doc`, `--positions`, `--accept`, `--custom-options` and `--faulty`
 pub record AreListed (lists : WordLists) : Type 0 where
   pub doc : texts_at lists.doc ≡ codes "leading" ∷ codes "trailing" ∷ codes "both" ∷ codes "nothing" ∷ []
   pub positions : texts_at lists.positions ≡ codes "utf8" ∷ codes "utf16" ∷ []
+  pub accept : texts_at lists.accept ≡ codes "proto3" ∷ codes "all" ∷ []
   pub custom_options : texts_at lists.custom_options ≡ codes "refuse" ∷ codes "skip" ∷ []
   pub faulty : texts_at lists.faulty ≡ codes "refuse" ∷ codes "skip" ∷ []
 
@@ -32,6 +35,9 @@ doc_word text = if bytes_eq text (codes "leading") then Leading
 
 abbrev pub positions_word : Text → PositionsWord
 positions_word text = if bytes_eq text (codes "utf16") then Utf16 else Utf8
+
+abbrev pub accept_word : Text → AcceptWord
+accept_word text = if bytes_eq text (codes "all") then accept.All else accept.Proto3
 
 abbrev pub custom_options_word : Text → CustomOptionsWord
 custom_options_word text = if bytes_eq text (codes "skip") then Skip else Refuse

@@ -44,6 +44,8 @@ pub(crate) static PACKAGE_FOLDER: [&str; 4] = ["MANAGER", "NAME", "RELEASE", "DI
 
 pub(crate) const POSITIONS: &str = "positions";
 
+pub(crate) const ACCEPT: &str = "accept";
+
 pub(crate) const CUSTOM_OPTIONS: &str = "custom-options";
 
 pub(crate) const FAULTY: &str = "faulty";

@@ -27,6 +27,8 @@ pub struct IndexOptions {
     pub include_packages: Vec<PackageFolder>,
     /// The unit of columns; UTF-8 if it isn't given.
     pub positions: PositionsWord,
+    /// Which sources are read; proto3 alone if it isn't given.
+    pub accept: AcceptWord,
     /// What is done about custom options; they are refused if it isn't given.
     pub custom_options: CustomOptionsWord,
     /// What is done about a tree with faults; it is refused if it isn't given.
@@ -34,6 +36,17 @@ pub struct IndexOptions {
     /// Whether a fault is explained.
     pub explain: bool,
     ghost workers_fit: { (1 ≤ workers) × (workers ≤ 16) },
+}
+
+/// What `dump` is given.
+#[derive(Clone, Copy, Debug, PartialEq, Eq)]
+pub struct DumpOptions {
+    /// Which sources are read; proto3 alone if it isn't given.
+    pub accept: AcceptWord,
+    /// What is done about custom options; they are refused if it isn't given.
+    pub custom_options: CustomOptionsWord,
+    /// Whether a fault is explained.
+    pub explain: bool,
 }
 
 /// What `snapshot` is given.
@@ -95,6 +108,15 @@ pub enum PositionsWord {
     Utf8,
     /// `utf16`: columns count UTF-16 code units.
     Utf16,
+}
+
+/// A word of `--accept`.
+#[derive(Clone, Copy, Debug, PartialEq, Eq)]
+pub enum AcceptWord {
+    /// `proto3`: proto3 sources.
+    Proto3,
+    /// `all`: proto2 sources, too, and `extend`. Custom options are read past, whatever `--custom-options` says.
+    All,
 }
 
 /// A word of `--custom-options`.

@@ -17,7 +17,7 @@ ghost use Rattle.command_line.specs.Program.{
 };
 
 use crate::names::{DUMP, INDEX, INDEX_FILE, OUT, PAGES, QUERY, ROOT, SHELL, SNAPSHOT, TO};
-use crate::tree::{add_tree_options, custom_options, explain, option, quiet, required};
+use crate::tree::{accept, add_tree_options, custom_options, explain, option, quiet, required};
 use crate::words::WordLists;
 use clap::{Arg, Command};
 use std::alloc::{AllocError, Global};
@@ -153,7 +153,11 @@ fn dump_program<'a>(alloc: Global, lists: WordLists<'a>) -> Result<Command<'a>, 
     ensures local { IfOk result (λ c. (fields_of c).has_globals ≡ false) }
 {
     let about = "Indexes one source from standard input and prints its occurrences";
-    let args = vec![in alloc; custom_options(alloc, lists.custom_options), explain(alloc)]?;
+    let args = vec![in alloc;
+        accept(alloc, lists.accept),
+        custom_options(alloc, lists.custom_options),
+        explain(alloc),
+    ]?;
     program_of(alloc, DUMP, about, DUMP_EXAMPLE, args)
 }
 

@@ -5,15 +5,15 @@ ghost use Rattle.std.specs.IoError.{error_kind};
 ghost use Rattle.std.specs.declared.io.ErrorKind.TheVariants.{OutOfMemory as Memory};
 ghost use Rattle.clap.specs.Words.{kind_of, subcommand_rows_of};
 ghost use Rattle.command_line.specs.Asks.{Asks, Names};
-ghost use Rattle.command_line.specs.Values.{custom_options_of, explains_in, rows_in};
+ghost use Rattle.command_line.specs.Values.{CarriesDump, rows_in};
 ghost use Rattle.command_line.specs.Requests.{IsRefused, Prints};
 
 use crate::names::{INDEX, INDEX_FILE, OUT, PAGES, QUERY, SHELL, SNAPSHOT};
-use crate::options::CustomOptionsWord;
+use crate::options::{AcceptWord, CustomOptionsWord, DumpOptions};
 use crate::program::program;
 use crate::request::Request;
 use crate::values::{
-    custom_options_of, explains_in, options_of, pages_options_of, quiet_in, snapshot_options_of,
+    dump_options_of, explains_in, options_of, pages_options_of, quiet_in, snapshot_options_of,
     text_of,
 };
 use crate::words::WordLists;
@@ -57,19 +57,20 @@ fn named(alloc: Global, matches: &ArgMatches<'_>) -> Result<Request, AllocError>
     if let Some(given) = matches.subcommand_matches(PAGES) {
         return Ok(Request::Pages(pages_options_of(alloc, given)?));
     }
-    let (custom_options, explain) = dump_options(matches);
-    Ok(Request::Dump(custom_options, explain))
+    Ok(Request::Dump(dump_options(matches)))
 }
 
-/// What `dump` is given, if it is the program that is named: what is done about custom options, and whether a fault
-/// is explained.
-fn dump_options(matches: &ArgMatches<'_>) -> (CustomOptionsWord, bool)
-    ensures custom_options { result.0 ≡ custom_options_of (rows_in (subcommand_rows_of matches.now)) }
-    ensures explain { result.1 ≡ explains_in (rows_in (subcommand_rows_of matches.now)) }
+/// What `dump` is given, if it is the program that is named.
+fn dump_options(matches: &ArgMatches<'_>) -> DumpOptions
+    ensures { CarriesDump (rows_in (subcommand_rows_of matches.now)) result }
 {
     match matches.subcommand() {
-        Some((_, given)) => (custom_options_of(given), explains_in(given)),
-        None => (CustomOptionsWord::Refuse, false),
+        Some((_, given)) => dump_options_of(given),
+        None => DumpOptions {
+            accept: AcceptWord::Proto3,
+            custom_options: CustomOptionsWord::Refuse,
+            explain: false,
+        },
     }
 }
 

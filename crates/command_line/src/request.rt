@@ -1,12 +1,12 @@
 //! What a command line asks for.
 
-use crate::options::{CustomOptionsWord, IndexOptions, PagesOptions, SnapshotOptions};
+use crate::options::{DumpOptions, IndexOptions, PagesOptions, SnapshotOptions};
 
 /// What a command line asks for.
 #[derive(Debug, Drop)]
 pub enum Request {
-    /// The program `dump`, with what is done about custom options, and whether a fault is explained.
-    Dump(CustomOptionsWord, bool),
+    /// The program `dump`.
+    Dump(DumpOptions),
     /// The program `query`, about the index that the file with this path holds, and whether a fault
     /// is explained.
     Query(String, bool),

@@ -4,6 +4,7 @@ ghost use Rattle.std.specs.Prelude.{◌≡◌, ◌++◌, map, Some, IfOk, OnOk, 
 ghost use Rattle.clap.specs.Words.{rule_of};
 ghost use Rattle.command_line.specs.Program.{
   AreLocal,
+  accept_rule,
   choice_rules,
   custom_options_rule,
   doc_rule,
@@ -26,7 +27,7 @@ ghost use Rattle.command_line.specs.Program.{
 };
 
 use crate::names::{
-    CUSTOM_OPTIONS, DOC, EXPLAIN, FAULTY, INCLUDE, INCLUDE_PACKAGE, MANAGER, ONLY, PACKAGE,
+    ACCEPT, CUSTOM_OPTIONS, DOC, EXPLAIN, FAULTY, INCLUDE, INCLUDE_PACKAGE, MANAGER, ONLY, PACKAGE,
     PACKAGE_FOLDER, POSITIONS, PROJECT_ROOT, QUIET, RELEASE, WORKERS,
 };
 use crate::words::WordLists;
@@ -167,6 +168,20 @@ fn positions<'a>(alloc: Global, words: &'a [&'a str]) -> Arg<'a>
     or_default(taking_words(option, words), "utf8")
 }
 
+/// Which sources are read.
+pub(crate) fn accept<'a>(alloc: Global, words: &'a [&'a str]) -> Arg<'a>
+    ensures rule { rule_of result ≡ accept_rule words.entry }
+    ensures local { result.global ≡ false }
+{
+    let option = option(
+        alloc,
+        ACCEPT,
+        "WORD",
+        "Which sources are read: proto3 alone, or proto2 too, with extend and custom options",
+    );
+    or_default(taking_words(option, words), "proto3")
+}
+
 /// What is done about custom options.
 pub(crate) fn custom_options<'a>(alloc: Global, words: &'a [&'a str]) -> Arg<'a>
     ensures rule { rule_of result ≡ custom_options_rule words.entry }
@@ -176,7 +191,7 @@ pub(crate) fn custom_options<'a>(alloc: Global, words: &'a [&'a str]) -> Arg<'a>
         alloc,
         CUSTOM_OPTIONS,
         "WORD",
-        "What to do with custom options: refuse the source, or skip them",
+        "What to do with custom options: refuse the source, or skip them, as --accept all always does",
     );
     or_default(taking_words(option, words), "refuse")
 }
@@ -242,6 +257,7 @@ fn choices<'a>(alloc: Global, lists: WordLists<'a>) -> Result<Vec<Arg<'a>>, Allo
         include(alloc),
         include_package(alloc),
         positions(alloc, lists.positions),
+        accept(alloc, lists.accept),
         custom_options(alloc, lists.custom_options),
         faulty(alloc, lists.faulty),
         explain(alloc),

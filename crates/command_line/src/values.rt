@@ -4,8 +4,10 @@ ghost use Rattle.std.specs.Prelude.{◌≡◌, ◌≤◌, IfOk, [], map, codes, 
 ghost use Rattle.clap.specs.Words.{all_of, first_of, found_of, rows_of};
 ghost use Rattle.command_line.specs.Values.{
   Carries,
+  CarriesDump,
   CarriesPages,
   CarriesSnapshot,
+  accept_of,
   custom_options_of,
   doc_of,
   explains_in,
@@ -20,12 +22,12 @@ ghost use Rattle.command_line.specs.Values.{
 };
 
 use crate::names::{
-    CUSTOM_OPTIONS, DOC, EXPLAIN, FAULTY, INCLUDE, INCLUDE_PACKAGE, INDEX_FILE, MANAGER, ONLY, OUT,
-    PACKAGE, POSITIONS, PROJECT_ROOT, QUIET, RELEASE, ROOT, TO, WORKERS,
+    ACCEPT, CUSTOM_OPTIONS, DOC, EXPLAIN, FAULTY, INCLUDE, INCLUDE_PACKAGE, INDEX_FILE, MANAGER,
+    ONLY, OUT, PACKAGE, POSITIONS, PROJECT_ROOT, QUIET, RELEASE, ROOT, TO, WORKERS,
 };
 use crate::options::{
-    CustomOptionsWord, DocWord, FaultyWord, IndexOptions, PackageFolder, PagesOptions,
-    PositionsWord, SnapshotOptions,
+    AcceptWord, CustomOptionsWord, DocWord, DumpOptions, FaultyWord, IndexOptions, PackageFolder,
+    PagesOptions, PositionsWord, SnapshotOptions,
 };
 use clap::ArgMatches;
 use index_pool::MAX_WORKERS;
@@ -179,8 +181,15 @@ fn positions_of(given: &ArgMatches<'_>) -> PositionsWord
     PositionsWord::of(given_text(given, POSITIONS))
 }
 
+/// The word of `--accept`, or its default.
+fn accept_of(given: &ArgMatches<'_>) -> AcceptWord
+    ensures { result ≡ accept_of (rows_of (found_of given.now)) }
+{
+    AcceptWord::of(given_text(given, ACCEPT))
+}
+
 /// The word of `--custom-options`, or its default.
-pub(crate) fn custom_options_of(given: &ArgMatches<'_>) -> CustomOptionsWord
+fn custom_options_of(given: &ArgMatches<'_>) -> CustomOptionsWord
     ensures { result ≡ custom_options_of (rows_of (found_of given.now)) }
 {
     CustomOptionsWord::of(given_text(given, CUSTOM_OPTIONS))
@@ -223,10 +232,22 @@ pub(crate) fn options_of(alloc: Global, given: &ArgMatches<'_>) -> Result<IndexO
         include: texts_of(alloc, given, INCLUDE)?,
         include_packages: package_folders_of(alloc, given)?,
         positions: positions_of(given),
+        accept: accept_of(given),
         custom_options: custom_options_of(given),
         faulty: faulty_of(given),
         explain: explains_in(given),
     })
+}
+
+/// What `dump` is given.
+pub(crate) fn dump_options_of(given: &ArgMatches<'_>) -> DumpOptions
+    ensures { CarriesDump (rows_of (found_of given.now)) result }
+{
+    DumpOptions {
+        accept: accept_of(given),
+        custom_options: custom_options_of(given),
+        explain: explains_in(given),
+    }
 }
 
 /// What `snapshot` is given.

@@ -3,19 +3,21 @@
 ghost use Rattle.std.specs.Prelude.{◌≡◌};
 ghost use Rattle.command_line.specs.Words.{
   AreListed,
+  accept_word,
   custom_options_word,
   doc_word,
   faulty_word,
   positions_word,
 };
 
-use crate::options::{CustomOptionsWord, DocWord, FaultyWord, PositionsWord};
+use crate::options::{AcceptWord, CustomOptionsWord, DocWord, FaultyWord, PositionsWord};
 
 /// The lists of words of the options that take only listed words.
 #[derive(Clone, Copy)]
 pub(crate) struct WordLists<'a> {
     pub(crate) doc: &'a [&'a str],
     pub(crate) positions: &'a [&'a str],
+    pub(crate) accept: &'a [&'a str],
     pub(crate) custom_options: &'a [&'a str],
     pub(crate) faulty: &'a [&'a str],
 }
@@ -23,6 +25,8 @@ pub(crate) struct WordLists<'a> {
 static DOC: [&str; 4] = ["leading", "trailing", "both", "nothing"];
 
 static POSITIONS: [&str; 2] = ["utf8", "utf16"];
+
+static ACCEPT: [&str; 2] = ["proto3", "all"];
 
 static CUSTOM_OPTIONS: [&str; 2] = ["refuse", "skip"];
 
@@ -36,6 +40,7 @@ impl<'a> WordLists<'a> {
         WordLists {
             doc: DOC.as_slice(),
             positions: POSITIONS.as_slice(),
+            accept: ACCEPT.as_slice(),
             custom_options: CUSTOM_OPTIONS.as_slice(),
             faulty: FAULTY.as_slice(),
         }
@@ -64,6 +69,18 @@ impl PositionsWord {
         match text {
             "utf16" => PositionsWord::Utf16,
             _ => PositionsWord::Utf8,
+        }
+    }
+}
+
+impl AcceptWord {
+    /// What a word of `--accept` says. `clap` takes no other text than these words.
+    pub(crate) fn of(text: &str) -> AcceptWord
+        ensures { result ≡ accept_word text.now }
+    {
+        match text {
+            "all" => AcceptWord::All,
+            _ => AcceptWord::Proto3,
         }
     }
 }

@@ -28,8 +28,10 @@ const OPTIONS: &str = "      --workers <N>
           Like --include, for a folder whose files belong to this package; may be given again
       --positions <WORD>
           The unit of columns: bytes, or UTF-16 code units [default: utf8] [possible values: utf8, utf16]
+      --accept <WORD>
+          Which sources are read: proto3 alone, or proto2 too, with extend and custom options [default: proto3] [possible values: proto3, all]
       --custom-options <WORD>
-          What to do with custom options: refuse the source, or skip them [default: refuse] [possible values: refuse, skip]
+          What to do with custom options: refuse the source, or skip them, as --accept all always does [default: refuse] [possible values: refuse, skip]
       --faulty <WORD>
           What to do with faults: refuse the tree, or leave out what has one and report it [default: refuse] [possible values: refuse, skip]
       --explain
@@ -176,7 +178,8 @@ Example: make pages of the sources below api; then open pages/index.html in a br
 Usage: protoscip dump [OPTIONS]
 
 Options:
-      --custom-options <WORD>  What to do with custom options: refuse the source, or skip them [default: refuse] [possible values: refuse, skip]
+      --accept <WORD>          Which sources are read: proto3 alone, or proto2 too, with extend and custom options [default: proto3] [possible values: proto3, all]
+      --custom-options <WORD>  What to do with custom options: refuse the source, or skip them, as --accept all always does [default: refuse] [possible values: refuse, skip]
       --explain                Explains a fault: adds its line and column, a sentence, and the text of that line
   -h, --help                   Print help
 

@@ -11,7 +11,7 @@ struct Asked {
 
 // The fourth row reads: `dump --explain --custom-options skip` asks for a dump that reads past custom options, and
 // explains a fault.
-static ASKED: [Asked; 12] = [
+static ASKED: [Asked; 13] = [
     Asked {
         words: "query a.scip",
         request: "Query(\"a.scip\", false)",
@@ -22,27 +22,31 @@ static ASKED: [Asked; 12] = [
     },
     Asked {
         words: "dump",
-        request: "Dump(Refuse, false)",
+        request: "Dump(DumpOptions { accept: Proto3, custom_options: Refuse, explain: false })",
     },
     Asked {
         words: "dump --explain --custom-options skip",
-        request: "Dump(Skip, true)",
+        request: "Dump(DumpOptions { accept: Proto3, custom_options: Skip, explain: true })",
+    },
+    Asked {
+        words: "dump --accept all",
+        request: "Dump(DumpOptions { accept: All, custom_options: Refuse, explain: false })",
     },
     Asked {
         words: "index api out",
-        request: "Index(IndexOptions { root: \"api\", workers: 4, project_root: \"file:///\", manager: \"\", package: \"\", release: \"\", only: None, doc: None, include: [], include_packages: [], positions: Utf8, custom_options: Refuse, faulty: Refuse, explain: false }, \"out\", false)",
+        request: "Index(IndexOptions { root: \"api\", workers: 4, project_root: \"file:///\", manager: \"\", package: \"\", release: \"\", only: None, doc: None, include: [], include_packages: [], positions: Utf8, accept: Proto3, custom_options: Refuse, faulty: Refuse, explain: false }, \"out\", false)",
     },
     Asked {
-        words: "index --workers 2 --quiet --project-root u --manager m --package p --release r --only o --doc both --include j --include i --positions utf16 --custom-options skip --faulty skip --explain api out",
-        request: "Index(IndexOptions { root: \"api\", workers: 2, project_root: \"u\", manager: \"m\", package: \"p\", release: \"r\", only: Some(\"o\"), doc: Some(Both), include: [\"j\", \"i\"], include_packages: [], positions: Utf16, custom_options: Skip, faulty: Skip, explain: true }, \"out\", true)",
+        words: "index --workers 2 --quiet --project-root u --manager m --package p --release r --only o --doc both --include j --include i --positions utf16 --accept all --custom-options skip --faulty skip --explain api out",
+        request: "Index(IndexOptions { root: \"api\", workers: 2, project_root: \"u\", manager: \"m\", package: \"p\", release: \"r\", only: Some(\"o\"), doc: Some(Both), include: [\"j\", \"i\"], include_packages: [], positions: Utf16, accept: All, custom_options: Skip, faulty: Skip, explain: true }, \"out\", true)",
     },
     Asked {
-        words: "shell --workers 16 --project-root=u --manager=m --package=p --release=r --only=o --doc=trailing --include=i --positions=utf8 --custom-options=refuse --faulty=refuse -- -api",
-        request: "Shell(IndexOptions { root: \"-api\", workers: 16, project_root: \"u\", manager: \"m\", package: \"p\", release: \"r\", only: Some(\"o\"), doc: Some(Trailing), include: [\"i\"], include_packages: [], positions: Utf8, custom_options: Refuse, faulty: Refuse, explain: false })",
+        words: "shell --workers 16 --project-root=u --manager=m --package=p --release=r --only=o --doc=trailing --include=i --positions=utf8 --accept=proto3 --custom-options=refuse --faulty=refuse -- -api",
+        request: "Shell(IndexOptions { root: \"-api\", workers: 16, project_root: \"u\", manager: \"m\", package: \"p\", release: \"r\", only: Some(\"o\"), doc: Some(Trailing), include: [\"i\"], include_packages: [], positions: Utf8, accept: Proto3, custom_options: Refuse, faulty: Refuse, explain: false })",
     },
     Asked {
         words: "index api --include a --include-package m n r d --include b out --include-package '' '' '' e --include c",
-        request: "Index(IndexOptions { root: \"api\", workers: 4, project_root: \"file:///\", manager: \"\", package: \"\", release: \"\", only: None, doc: None, include: [\"a\", \"b\", \"c\"], include_packages: [PackageFolder { manager: \"m\", name: \"n\", release: \"r\", folder: \"d\" }, PackageFolder { manager: \"\", name: \"\", release: \"\", folder: \"e\" }], positions: Utf8, custom_options: Refuse, faulty: Refuse, explain: false }, \"out\", false)",
+        request: "Index(IndexOptions { root: \"api\", workers: 4, project_root: \"file:///\", manager: \"\", package: \"\", release: \"\", only: None, doc: None, include: [\"a\", \"b\", \"c\"], include_packages: [PackageFolder { manager: \"m\", name: \"n\", release: \"r\", folder: \"d\" }, PackageFolder { manager: \"\", name: \"\", release: \"\", folder: \"e\" }], positions: Utf8, accept: Proto3, custom_options: Refuse, faulty: Refuse, explain: false }, \"out\", false)",
     },
     Asked {
         words: "snapshot a.scip api",

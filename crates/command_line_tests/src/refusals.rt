@@ -40,6 +40,10 @@ shell api --positions UTF8
 error: invalid value 'UTF8' for '--positions <WORD>'
   [possible values: utf8, utf16]
 
+dump --accept proto2
+error: invalid value 'proto2' for '--accept <WORD>'
+  [possible values: proto3, all]
+
 dump --custom-options keep
 error: invalid value 'keep' for '--custom-options <WORD>'
   [possible values: refuse, skip]

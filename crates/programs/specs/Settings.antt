@@ -5,6 +5,8 @@ use Rattle.proto_lex.specs.declared.position.Encoding.{Encoding}
 use Rattle.proto_lex.specs.declared.position.Encoding.TheVariants as encoding
 use Rattle.proto_parse.specs.tree.CustomOptions.{CustomOptions}
 use Rattle.proto_parse.specs.tree.CustomOptions.TheVariants as custom
+use Rattle.proto_parse.specs.tree.Dialect.{Dialect}
+use Rattle.proto_parse.specs.tree.Dialect.TheVariants as dialect
 use Rattle.proto_decl.specs.Seen.{Seen}
 use Rattle.index_hooks.specs.declared.choice.Choice.{Choice}
 use Rattle.scip_symbol.specs.Package.{Package}
@@ -15,6 +17,8 @@ use Rattle.scip_build.specs.declared.settings.Settings.{Settings}
 use Rattle.command_line.specs.declared.options.IndexOptions.{IndexOptions}
 use Rattle.command_line.specs.declared.options.PositionsWord.{PositionsWord}
 use Rattle.command_line.specs.declared.options.PositionsWord.TheVariants as positions
+use Rattle.command_line.specs.declared.options.AcceptWord.{AcceptWord}
+use Rattle.command_line.specs.declared.options.AcceptWord.TheVariants as accept
 use Rattle.command_line.specs.declared.options.CustomOptionsWord.{CustomOptionsWord}
 use Rattle.command_line.specs.declared.options.CustomOptionsWord.TheVariants as word
 use Rattle.command_line.specs.declared.options.FaultyWord.{FaultyWord}
@@ -30,6 +34,11 @@ encoding_of positions.Utf16 = encoding.Utf16
 abbrev pub custom_options_of : CustomOptionsWord → CustomOptions
 custom_options_of word.Refuse = custom.Refuse
 custom_options_of word.Skip = custom.Skip
+
+-- which sources are accepted: what is said about custom options counts for proto3 alone
+abbrev pub dialect_of : AcceptWord → CustomOptionsWord → Dialect
+dialect_of accept.Proto3 custom_options = dialect.Proto3 (custom_options_of custom_options)
+dialect_of accept.All custom_options = dialect.All
 
 -- what is done about a tree with faults
 abbrev pub faulty_of : FaultyWord → Faulty
@@ -50,7 +59,7 @@ settings_in options ids = record {
   project_root = string_bytes options.project_root;
   «package» = ids;
   encoding = encoding_of options.positions;
-  custom_options = custom_options_of options.custom_options;
+  dialect = dialect_of options.accept options.custom_options;
   faulty = faulty_of options.faulty;
 }
 

@@ -5,12 +5,12 @@ ghost use Rattle.streams.specs.WholeReads.{IsReadBriefly};
 ghost use Rattle.protoscip.specs.declared.fault.Fault.{Fault};
 ghost use Rattle.protoscip.specs.Dump.{IsDumped, LeavesReader};
 ghost use Rattle.programs.specs.Dumping.{EndsDump};
-ghost use Rattle.programs.specs.Settings.{custom_options_of};
+ghost use Rattle.programs.specs.Settings.{dialect_of};
 
 use crate::host::Host;
 use crate::messages::report;
-use crate::settings::custom_options_of;
-use command_line::CustomOptionsWord;
+use crate::settings::dialect_of;
+use command_line::DumpOptions;
 use protoscip::{MEMORY_STATUS, dump_and_keep, dump_tree, fault_text};
 use std::alloc::AllocError;
 use std::sync::Wait;
@@ -21,27 +21,28 @@ use streams::{Feed, Sink};
 /// why, explained if that is asked for.
 pub(crate) fn dump_source<R: Threads + Wait, F, I: Feed, W: Sink, M: Sink>(
     host: &Host<'_, R, F>,
-    word: CustomOptionsWord,
-    explain: bool,
+    options: &DumpOptions,
     input: &mut I,
     out: &mut W,
     messages: &mut M,
 ) -> u8
     ensures { (done : Result (Unit {0}) Fault)
-        × IsDumped I.remaining W.contents W.failures (custom_options_of word) input.old out.old out.new done
+        × IsDumped I.remaining W.contents W.failures (dialect_of options.now.accept options.now.custom_options)
+        input.old out.old out.new done
         × LeavesReader I.failures I.reads I.ends input.old input.new done
         × IsReadBriefly I.reads input.old input.new
-        × EndsDump I.remaining M.contents M.failures explain input.old done messages.old messages.new result }
+        × EndsDump I.remaining M.contents M.failures options.now.explain input.old done messages.old messages.new
+        result }
 {
-    let custom = custom_options_of(word);
+    let dialect = dialect_of(options.accept, options.custom_options);
     let mut tree = match dump_tree(host.alloc, Vec::new(host.alloc)) {
         Ok(tree) => tree,
         Err(AllocError) => return report(Err(AllocError), MEMORY_STATUS, messages),
     };
-    match dump_and_keep(host.rt, host.alloc, custom, input, &mut tree, out) {
+    match dump_and_keep(host.rt, host.alloc, dialect, input, &mut tree, out) {
         Ok(()) => 0,
         Err(fault) => {
-            let text = fault_text(host.alloc, &tree, &fault, explain);
+            let text = fault_text(host.alloc, &tree, &fault, options.explain);
             report(text, fault.status(), messages)
         }
     }

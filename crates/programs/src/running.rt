@@ -28,7 +28,7 @@ ghost use Rattle.programs.specs.Paging.{RunsPages};
 ghost use Rattle.programs.specs.Printing.{Prints};
 ghost use Rattle.programs.specs.Queries.{Queried};
 ghost use Rattle.programs.specs.Serving.{Served};
-ghost use Rattle.programs.specs.Settings.{custom_options_of};
+ghost use Rattle.programs.specs.Settings.{dialect_of};
 ghost use Rattle.programs.specs.Snapshotting.{RunsSnapshot};
 ghost use Rattle.programs.specs.Streams.{reader, writer};
 
@@ -120,8 +120,10 @@ where
         (Appends (M.contents messages.old) (M.contents messages.new) text)
         × (input.new ≡ input.old) × (out.new ≡ out.old) × (file.new ≡ file.old))) }
     // What `dump` promises of its answer, and what becomes of that.
-    ensures dumped { IfOk asked.now (λ request. IfSome (dump_options request) (λ word. ((done : Result (Unit {0}) Fault)
-        × IsDumped I.remaining W.contents W.failures (custom_options_of word) input.old out.old out.new done
+    ensures dumped { IfOk asked.now (λ request. IfSome (dump_options request) (λ options.
+        ((done : Result (Unit {0}) Fault)
+        × IsDumped I.remaining W.contents W.failures (dialect_of options.accept options.custom_options) input.old
+        out.old out.new done
         × LeavesReader I.failures I.reads I.ends input.old input.new done
         × IsReadBriefly I.reads input.old input.new
         × EndsDump I.remaining M.contents M.failures (explains request) input.old done messages.old messages.new result)
@@ -161,9 +163,7 @@ where
 {
     match asked {
         Ok(request) => match request {
-            Request::Dump(word, explain) => {
-                dump_source(host, *word, *explain, input, out, messages)
-            }
+            Request::Dump(options) => dump_source(host, options, input, out, messages),
             Request::Query(path, explain) => {
                 answer(host, path.as_str(), *explain, input, out, messages)
             }

@@ -3,12 +3,18 @@
 ghost use Rattle.std.specs.Prelude.{◌≡◌, IfOk};
 ghost use Rattle.std.specs.Option.{option_map};
 ghost use Rattle.std.specs.String.{string_bytes};
-ghost use Rattle.programs.specs.Settings.{custom_options_of, encoding_of, faulty_of, settings_in};
+ghost use Rattle.programs.specs.Settings.{
+  custom_options_of,
+  dialect_of,
+  encoding_of,
+  faulty_of,
+  settings_in,
+};
 
-use command_line::{CustomOptionsWord, FaultyWord, IndexOptions, PositionsWord};
+use command_line::{AcceptWord, CustomOptionsWord, FaultyWord, IndexOptions, PositionsWord};
 use index_pool::Workers;
 use proto_lex::Encoding;
-use proto_parse::CustomOptions;
+use proto_parse::{CustomOptions, Dialect};
 use scip_build::{Faulty, Settings};
 use scip_document::FilePackages;
 use sequences::OwnedText;
@@ -25,12 +31,22 @@ fn encoding_of(word: PositionsWord) -> Encoding
 }
 
 /// What a word of `--custom-options` asks for.
-pub(crate) fn custom_options_of(word: CustomOptionsWord) -> CustomOptions
+fn custom_options_of(word: CustomOptionsWord) -> CustomOptions
     ensures { result ≡ custom_options_of word }
 {
     match word {
         CustomOptionsWord::Refuse => CustomOptions::Refuse,
         CustomOptionsWord::Skip => CustomOptions::Skip,
+    }
+}
+
+/// Which sources the words of `--accept` and of `--custom-options` accept.
+pub(crate) fn dialect_of(accept: AcceptWord, custom_options: CustomOptionsWord) -> Dialect
+    ensures { result ≡ dialect_of accept custom_options }
+{
+    match accept {
+        AcceptWord::Proto3 => Dialect::Proto3(custom_options_of(custom_options)),
+        AcceptWord::All => Dialect::All,
     }
 }
 
@@ -56,7 +72,7 @@ pub(crate) fn settings_of(
         project_root: OwnedText::copy_of(alloc, options.project_root.as_str())?,
         package: packages,
         encoding: encoding_of(options.positions),
-        custom_options: custom_options_of(options.custom_options),
+        dialect: dialect_of(options.accept, options.custom_options),
         faulty: faulty_of(options.faulty),
     })
 }

@@ -39,7 +39,7 @@ pub(crate) const SILENT: Row = Row {
 };
 
 // The second row reads: there is no program `nothing`, which is said, with status 2.
-static ROWS: [Row; 19] = [
+static ROWS: [Row; 21] = [
     Row {
         words: "--version",
         printed: "protoscip 1\n\0",
@@ -62,6 +62,12 @@ static ROWS: [Row; 19] = [
         input: " @",
         status: 1,
         said: "protoscip: input.proto@1: BadByte\n",
+        ..SILENT
+    },
+    Row {
+        words: "dump --accept all",
+        input: "message A {}",
+        printed: "0 0 0 0 1 scip-protobuf . . . `input.proto`/\n0 8 0 9 1 scip-protobuf . . . A#\n= 2\n\0",
         ..SILENT
     },
     Row {
@@ -189,6 +195,12 @@ protoscip: 1 sources indexed, 1 skipped, 1 imports and 0 uses without a target\n
         words: "shell said --doc both --only A --positions utf16 --custom-options skip --release r --workers 1",
         input: "doc 3 8 a.proto\ndef 5 16 a.proto\nsym a.proto",
         printed: "| One.\n| Two.\n= 2\n? nothing there\nscip-protobuf . . r A#\nscip-protobuf . . r `a.proto`/\n= 2\n\0",
+        ..SILENT
+    },
+    Row {
+        words: "shell said --accept all",
+        input: "sym a.proto",
+        printed: "scip-protobuf . . . A#\nscip-protobuf . . . B#\nscip-protobuf . . . `a.proto`/\n= 3\n\0",
         ..SILENT
     },
     Row {

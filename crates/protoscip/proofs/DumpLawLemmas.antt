@@ -1,6 +1,6 @@
 -- A source has one listing, and is refused for want of memory alone where it has one.
 use Rattle.std.proofs.Common.{◌≡◌, ◌∙◌, ℕ, ◌<◌, List, ap, sym, subst, refl, arith}
-use Rattle.proto_parse.specs.tree.CustomOptions.{CustomOptions}
+use Rattle.proto_parse.specs.tree.Dialect.{Dialect}
 use Rattle.scip_wire.specs.Decodes.{Decodes}
 use Rattle.protoscip.specs.Dump.{dump_tree, dump_settings, default_choices, IsListing, IsRefusal}
 use Rattle.protoscip.specs.DumpLaws.{OneListing, ListedUnlessMemory}
@@ -16,35 +16,35 @@ one_choice seen choice another is also =
     λ i. record { keep = keep i; doc = doc i }
 
 pub one_listing : OneIndexing default_choices default_choices → OneListing
-one_listing one custom bytes listing other is also =
-    let same = one (dump_settings custom)
+one_listing one dialect bytes listing other is also =
+    let same = one (dump_settings dialect)
     (dump_tree bytes) is.recorded also.recorded is.spelling also.spelling one_choice is.indexed also.indexed in
     let decodes = subst (λ (b : List ℕ). Decodes b also.indexed.index) (sym same.1) also.indexed.spelled.decodes in
     let index = is.indexed.spelled.alone also.indexed.index decodes in
     is.listing_is ∙ (ap dump_text (sym index) ∙ sym also.listing_is)
 
 module _ (accepted : OneIndexingHasNoFault default_choices default_choices) where
-  none : (custom : CustomOptions) (bytes listing : List ℕ) (e : Fault) → IsListing custom bytes listing
-      → IsRefusal custom bytes e → reason_of e ≡ outside
-  none custom bytes listing e is refused =
-      accepted (dump_settings custom) (dump_tree bytes) 1 is.recorded is.spelling e one_choice is.indexed refused
+  none : (dialect : Dialect) (bytes listing : List ℕ) (e : Fault) → IsListing dialect bytes listing
+      → IsRefusal dialect bytes e → reason_of e ≡ outside
+  none dialect bytes listing e is refused =
+      accepted (dump_settings dialect) (dump_tree bytes) 1 is.recorded is.spelling e one_choice is.indexed refused
 
   pub listed_unless_memory : ListedUnlessMemory
-  listed_unless_memory custom bytes listing fault.Spawn is refused =
+  listed_unless_memory dialect bytes listing fault.Spawn is refused =
       absurd (let more : 1 < 1 = refused in omega (arith, more))
-  listed_unless_memory custom bytes listing fault.Memory is refused = refl
-  listed_unless_memory custom bytes listing (fault.Lex number e) is refused =
-      absurd (let same = none custom bytes listing (fault.Lex number e) is refused in cc)
-  listed_unless_memory custom bytes listing (fault.Syntax number e) is refused =
-      absurd (let same = none custom bytes listing (fault.Syntax number e) is refused in cc)
-  listed_unless_memory custom bytes listing (fault.Duplicate first second) is refused =
-      absurd (let same = none custom bytes listing (fault.Duplicate first second) is refused in cc)
-  listed_unless_memory custom bytes listing (fault.MissingImport place) is refused =
-      absurd (let same = none custom bytes listing (fault.MissingImport place) is refused in cc)
-  listed_unless_memory custom bytes listing (fault.Unresolved place) is refused =
-      absurd (let same = none custom bytes listing (fault.Unresolved place) is refused in cc)
-  listed_unless_memory custom bytes listing fault.TooLarge is refused =
-      absurd (let same = none custom bytes listing fault.TooLarge is refused in cc)
-  listed_unless_memory custom bytes listing (fault.Write count) is refused = absurd refused
-  listed_unless_memory custom bytes listing fault.Read is refused = absurd refused
-  listed_unless_memory custom bytes listing (fault.Answer count) is refused = absurd refused
+  listed_unless_memory dialect bytes listing fault.Memory is refused = refl
+  listed_unless_memory dialect bytes listing (fault.Lex number e) is refused =
+      absurd (let same = none dialect bytes listing (fault.Lex number e) is refused in cc)
+  listed_unless_memory dialect bytes listing (fault.Syntax number e) is refused =
+      absurd (let same = none dialect bytes listing (fault.Syntax number e) is refused in cc)
+  listed_unless_memory dialect bytes listing (fault.Duplicate first second) is refused =
+      absurd (let same = none dialect bytes listing (fault.Duplicate first second) is refused in cc)
+  listed_unless_memory dialect bytes listing (fault.MissingImport place) is refused =
+      absurd (let same = none dialect bytes listing (fault.MissingImport place) is refused in cc)
+  listed_unless_memory dialect bytes listing (fault.Unresolved place) is refused =
+      absurd (let same = none dialect bytes listing (fault.Unresolved place) is refused in cc)
+  listed_unless_memory dialect bytes listing fault.TooLarge is refused =
+      absurd (let same = none dialect bytes listing fault.TooLarge is refused in cc)
+  listed_unless_memory dialect bytes listing (fault.Write count) is refused = absurd refused
+  listed_unless_memory dialect bytes listing fault.Read is refused = absurd refused
+  listed_unless_memory dialect bytes listing (fault.Answer count) is refused = absurd refused

@@ -8,7 +8,7 @@ use Rattle.proto_lex.specs.declared.fault.LexFault.{LexFault}
 use Rattle.proto_lex.specs.declared.fault.LexFault.TheVariants as lexing
 use Rattle.proto_lex.specs.Text.{IsText, IsNoText, max_text_length}
 use Rattle.proto_lex.specs.Faults.{IsFirstFault}
-use Rattle.proto_parse.specs.tree.CustomOptions.{CustomOptions}
+use Rattle.proto_parse.specs.tree.Dialect.{Dialect}
 use Rattle.proto_decl.specs.Seen.{Seen}
 use Rattle.index_hooks.specs.declared.choice.Choice.{Choice}
 use Rattle.source_tree.specs.Files.{TreeFile}
@@ -43,7 +43,7 @@ use Rattle.protoscip.specs.declared.fault.Fault.TheVariants as fault
 use Rattle.protoscip.proofs.FileLemmas.{files_of_build}
 
 refused_of_build : (allows : Seen → Choice → Type 0) (settings : Settings) (tree : List TreeFile) (workers : ℕ)
-    (e : BuildFault) → IsBuildFault allows settings.faulty settings.custom_options tree workers e
+    (e : BuildFault) → IsBuildFault allows settings.faulty settings.dialect tree workers e
     → IsRefused allows settings tree workers (fault_of_build e)
 refused_of_build allows settings tree workers build.Spawn is = is
 refused_of_build allows settings tree workers build.Memory is = is
@@ -53,28 +53,28 @@ refused_of_build allows settings tree workers (build.Duplicate first second) is 
 refused_of_build allows settings tree workers (build.MissingImport place) is = is
 refused_of_build allows settings tree workers (build.Unresolved place) is = is
 
-module _ (custom : CustomOptions) (bytes : List ℕ) (settings : Settings) (tree : List TreeFile)
-    (set : settings ≡ dump_settings custom) (alone : tree ≡ dump_tree bytes) where
+module _ (dialect : Dialect) (bytes : List ℕ) (settings : Settings) (tree : List TreeFile)
+    (set : settings ≡ dump_settings dialect) (alone : tree ≡ dump_tree bytes) where
   -- why its tree isn't built is why a source has no listing
   pub refusal_of_build : (workers : ℕ) (e : BuildFault) → workers ≡ 1
-      → IsBuildFault default_choices settings.faulty settings.custom_options tree workers e
-      → IsRefusal custom bytes (fault_of_build e)
+      → IsBuildFault default_choices settings.faulty settings.dialect tree workers e
+      → IsRefusal dialect bytes (fault_of_build e)
   refusal_of_build workers e one is =
       let of : IsRefused default_choices settings tree workers (fault_of_build e) =
       refused_of_build default_choices settings tree workers e is in
       let by_settings = subst (λ (s : Settings). IsRefused default_choices s tree workers (fault_of_build e)) set of in
-      let of_tree = subst (λ (t : List TreeFile). IsRefused default_choices (dump_settings custom) t workers
+      let of_tree = subst (λ (t : List TreeFile). IsRefused default_choices (dump_settings dialect) t workers
       (fault_of_build e)) alone by_settings in
-      subst (λ (n : ℕ). IsRefused default_choices (dump_settings custom) (dump_tree bytes) n (fault_of_build e)) one
+      subst (λ (n : ℕ). IsRefused default_choices (dump_settings dialect) (dump_tree bytes) n (fault_of_build e)) one
       of_tree
 
   -- the listing of its index is that of the source
   pub listing_of_built : (built : Built) (read : Index) (listing : List ℕ) → IsBuilt default_choices settings tree built
       → IsReadBack built.index read → listing ≡ dump_text read
-      → IsListing custom bytes listing
+      → IsListing dialect bytes listing
   listing_of_built built read listing is back text =
       let by_settings = subst (λ (s : Settings). IsBuilt default_choices s tree built) set is in
-      let of_tree = subst (λ (t : List TreeFile). IsBuilt default_choices (dump_settings custom) t built) alone
+      let of_tree = subst (λ (t : List TreeFile). IsBuilt default_choices (dump_settings dialect) t built) alone
       by_settings in
       record {
         recorded = recorded_of built.choices built.told;
@@ -96,21 +96,21 @@ whole : (P : List ℕ → Type 0) (bytes : List ℕ) → length (kept_bytes byte
 whole P bytes short p = subst P (all_kept bytes short) p
 
 -- a source that was read isn't too long
-module _ (custom : CustomOptions) (bytes : List ℕ) where
+module _ (dialect : Dialect) (bytes : List ℕ) where
   abbrev pub alone : TreeFile
   alone = record { path = source_path; bytes = bytes; is_included = false }
 
   short_contents : (contents : Result FileContents FileFault)
-      → HasContents Refuse custom default_choices zero alone contents → length bytes ≤ max_text_length
+      → HasContents Refuse dialect default_choices zero alone contents → length bytes ≤ max_text_length
   short_contents (Ok contents) has = has.1.facts_in.lexing.text.short
   short_contents (Err e) has = absurd (let same : false ≡ true = has.0 in cc)
 
-  pub short_source : (readings : List ReadFile) → AreReadingsOf Refuse custom default_choices (dump_tree bytes) readings
-      → length bytes ≤ max_text_length
+  pub short_source : (readings : List ReadFile)
+      → AreReadingsOf Refuse dialect default_choices (dump_tree bytes) readings → length bytes ≤ max_text_length
   short_source [] are = absurd (let none = are.one_each in omega (arith, none))
   short_source (reading ∷ others) are = short_contents reading.contents (are.each zero alone reading refl refl).contents
 
-module _ (custom : CustomOptions) (bytes : List ℕ) where
+module _ (dialect : Dialect) (bytes : List ℕ) where
   no_text_of_all : (e : LexFault) → IsNoText (kept_bytes bytes) e → IsNoText bytes e
   no_text_of_all lexing.TooLong is = longer bytes is
   no_text_of_all (lexing.NotUtf8 at) is = whole (λ b. IsNoText b (lexing.NotUtf8 at)) bytes is.0 is
@@ -121,17 +121,17 @@ module _ (custom : CustomOptions) (bytes : List ℕ) where
   no_text_of_all (lexing.BadNumber at) is = is
   no_text_of_all lexing.Memory is = is
 
-  unreadable_of_all : (e : FileFault) → IsUnreadable custom (kept_bytes bytes) e → IsUnreadable custom bytes e
+  unreadable_of_all : (e : FileFault) → IsUnreadable dialect (kept_bytes bytes) e → IsUnreadable dialect bytes e
   unreadable_of_all (file.Lex e) (inl none) = inl (no_text_of_all e none)
   unreadable_of_all (file.Lex e) (inr is) = inr (whole (λ b. IsText b × IsFirstFault b e) bytes is.0.short is)
-  unreadable_of_all (file.Syntax e) is = whole (λ b. IsUnparsed custom b e) bytes is.lexing.text.short is
+  unreadable_of_all (file.Syntax e) is = whole (λ b. IsUnparsed dialect b e) bytes is.lexing.text.short is
 
   -- the one source is the first that can't be read
-  faulty_of_all : (number : ℕ) (e : FileFault) → IsFirstFaulty custom (dump_tree (kept_bytes bytes)) number e
-      → IsFirstFaulty custom (dump_tree bytes) number e
+  faulty_of_all : (number : ℕ) (e : FileFault) → IsFirstFaulty dialect (dump_tree (kept_bytes bytes)) number e
+      → IsFirstFaulty dialect (dump_tree bytes) number e
   faulty_of_all zero e is =
-      let one : is.file ≡ alone custom (kept_bytes bytes) = sym (same_Some _ is.file is.numbered) in
-      let faulty = subst (λ (f : TreeFile). IsUnreadable custom f.bytes e) one is.faulty.unreadable in
+      let one : is.file ≡ alone dialect (kept_bytes bytes) = sym (same_Some _ is.file is.numbered) in
+      let faulty = subst (λ (f : TreeFile). IsUnreadable dialect f.bytes e) one is.faulty.unreadable in
       record {
         file = record { path = source_path; bytes = bytes; is_included = false };
         numbered = refl;
@@ -141,23 +141,23 @@ module _ (custom : CustomOptions) (bytes : List ℕ) where
   faulty_of_all (suc number) e is = absurd (none-some is.file is.numbered)
 
   of_readings : (P : List TreeFile → List ReadFile → Type 0)
-      → (readings : List ReadFile) × AreReadingsOf Refuse custom default_choices (dump_tree (kept_bytes bytes)) readings
-      × P (dump_tree (kept_bytes bytes)) readings
-      → (readings : List ReadFile) × AreReadingsOf Refuse custom default_choices (dump_tree bytes) readings
+      → (readings : List ReadFile)
+      × AreReadingsOf Refuse dialect default_choices (dump_tree (kept_bytes bytes)) readings × P (dump_tree (kept_bytes bytes)) readings
+      → (readings : List ReadFile) × AreReadingsOf Refuse dialect default_choices (dump_tree bytes) readings
       × P (dump_tree bytes) readings
   of_readings P of =
-      whole (λ b. (readings : List ReadFile) × AreReadingsOf Refuse custom default_choices (dump_tree b) readings
-      × P (dump_tree b) readings) bytes (short_source custom (kept_bytes bytes) of.0 of.1) of
+      whole (λ b. (readings : List ReadFile) × AreReadingsOf Refuse dialect default_choices (dump_tree b) readings
+      × P (dump_tree b) readings) bytes (short_source dialect (kept_bytes bytes) of.0 of.1) of
 
   fault_of_all : (number : ℕ) (e : FileFault)
-      → IsBuildFault default_choices Refuse custom (dump_tree (kept_bytes bytes)) 1 (build.File number e)
-      → IsBuildFault default_choices Refuse custom (dump_tree bytes) 1 (build.File number e)
+      → IsBuildFault default_choices Refuse dialect (dump_tree (kept_bytes bytes)) 1 (build.File number e)
+      → IsBuildFault default_choices Refuse dialect (dump_tree bytes) 1 (build.File number e)
   fault_of_all number e (refuse, inl first) = (refuse, inl (faulty_of_all number e first))
   fault_of_all number e (refuse, inr of) =
       (refuse, inr (of_readings (λ _ readings. MayRefuseReadings readings (build.File number e)) of))
 
   -- what holds of the bytes that are kept holds of all
-  pub refusal_of_all : (e : Fault) → IsRefusal custom (kept_bytes bytes) e → IsRefusal custom bytes e
+  pub refusal_of_all : (e : Fault) → IsRefusal dialect (kept_bytes bytes) e → IsRefusal dialect bytes e
   refusal_of_all fault.Spawn is = is
   refusal_of_all fault.Memory is = is
   refusal_of_all (fault.Lex number e) is = fault_of_all number (file.Lex e) is
@@ -172,20 +172,21 @@ module _ (custom : CustomOptions) (bytes : List ℕ) where
         (λ _ readings. CanBeLinked (linked_files readings) × IsLeastUnresolved (linked_files readings) place) is.1,
   )
   refusal_of_all fault.TooLarge is =
-      whole (λ b. IsRefusal custom b fault.TooLarge) bytes
-      (short_source custom (kept_bytes bytes) is.1.all is.1.read) is
+      whole (λ b. IsRefusal dialect b fault.TooLarge) bytes
+      (short_source dialect (kept_bytes bytes) is.1.all is.1.read) is
   refusal_of_all (fault.Write count) is = is
   refusal_of_all fault.Read is = is
   refusal_of_all (fault.Answer count) is = is
 
-  pub listing_of_all : (listing : List ℕ) → IsListing custom (kept_bytes bytes) listing → IsListing custom bytes listing
+  pub listing_of_all : (listing : List ℕ) → IsListing dialect (kept_bytes bytes) listing
+      → IsListing dialect bytes listing
   listing_of_all listing is =
       let built = is.indexed.built in
-      whole (λ b. IsListing custom b listing) bytes
-      (short_source custom (kept_bytes bytes) built.all built.read) is
+      whole (λ b. IsListing dialect b listing) bytes
+      (short_source dialect (kept_bytes bytes) built.all built.read) is
 
   -- a source that has no listing is refused,
-  pub refused_dumps : (due : List ℕ) (e : Fault) → IsRefusal custom bytes e → Dumps custom bytes due (Err e)
+  pub refused_dumps : (due : List ℕ) (e : Fault) → IsRefusal dialect bytes e → Dumps dialect bytes due (Err e)
   refused_dumps due fault.Spawn is = is
   refused_dumps due fault.Memory is = is
   refused_dumps due (fault.Lex number e) is = is
@@ -200,7 +201,7 @@ module _ (custom : CustomOptions) (bytes : List ℕ) where
 
   -- with the writer as it was,
   pub refused_writer : (W : Type 0) (contents : W → Option (List ℕ)) (failures : W → ℕ) (out : W) (due : List ℕ)
-      (e : Fault) → IsRefusal custom bytes e → LeavesWriter contents failures out out due (Err e)
+      (e : Fault) → IsRefusal dialect bytes e → LeavesWriter contents failures out out due (Err e)
   refused_writer W contents failures out due fault.Spawn is = refl
   refused_writer W contents failures out due fault.Memory is = refl
   refused_writer W contents failures out due (fault.Lex number e) is = refl
@@ -214,19 +215,19 @@ module _ (custom : CustomOptions) (bytes : List ℕ) where
   refused_writer W contents failures out due (fault.Answer count) is = refl
 
   -- and of no other file
-  pub dump_files : (e : Fault) → IsRefusal custom bytes e → HasFilesOf (dump_tree bytes) e
+  pub dump_files : (e : Fault) → IsRefusal dialect bytes e → HasFilesOf (dump_tree bytes) e
   dump_files fault.Spawn is = tt
   dump_files fault.Memory is = tt
   dump_files (fault.Lex number e) is =
-      files_of_build default_choices Refuse custom (dump_tree bytes) 1 (build.File number (file.Lex e)) is
+      files_of_build default_choices Refuse dialect (dump_tree bytes) 1 (build.File number (file.Lex e)) is
   dump_files (fault.Syntax number e) is =
-      files_of_build default_choices Refuse custom (dump_tree bytes) 1 (build.File number (file.Syntax e)) is
+      files_of_build default_choices Refuse dialect (dump_tree bytes) 1 (build.File number (file.Syntax e)) is
   dump_files (fault.Duplicate first second) is =
-      files_of_build default_choices Refuse custom (dump_tree bytes) 1 (build.Duplicate first second) is
+      files_of_build default_choices Refuse dialect (dump_tree bytes) 1 (build.Duplicate first second) is
   dump_files (fault.MissingImport place) is =
-      files_of_build default_choices Refuse custom (dump_tree bytes) 1 (build.MissingImport place) is
+      files_of_build default_choices Refuse dialect (dump_tree bytes) 1 (build.MissingImport place) is
   dump_files (fault.Unresolved place) is =
-      files_of_build default_choices Refuse custom (dump_tree bytes) 1 (build.Unresolved place) is
+      files_of_build default_choices Refuse dialect (dump_tree bytes) 1 (build.Unresolved place) is
   dump_files fault.TooLarge is = tt
   dump_files (fault.Write count) is = tt
   dump_files fault.Read is = tt
@@ -234,10 +235,10 @@ module _ (custom : CustomOptions) (bytes : List ℕ) where
 
 -- where the listing is written, or cut off
 module _ (W : Type 0) (contents : W → Option (List ℕ)) (failures : W → ℕ) (before after : W) (due : List ℕ) where
-  pub written_dumps : (custom : CustomOptions) (bytes : List ℕ) (done : Result (Unit {0}) Fault)
-      → IsListing custom bytes due → Writes contents failures before after due done → Dumps custom bytes due done
-  written_dumps custom bytes (Ok done) is wrote = is
-  written_dumps custom bytes (Err e) is wrote = let P : Fault → Type 0 = λ f. Dumps custom bytes due (Err f) in
+  pub written_dumps : (dialect : Dialect) (bytes : List ℕ) (done : Result (Unit {0}) Fault)
+      → IsListing dialect bytes due → Writes contents failures before after due done → Dumps dialect bytes due done
+  written_dumps dialect bytes (Ok done) is wrote = is
+  written_dumps dialect bytes (Err e) is wrote = let P : Fault → Type 0 = λ f. Dumps dialect bytes due (Err f) in
       subst P (sym wrote.1) is
 
   pub written_writer : (done : Result (Unit {0}) Fault) → Writes contents failures before after due done
@@ -254,11 +255,11 @@ said_of_read P read bytes is said = subst (λ o. IfSome o P) is said
 
 -- where the source isn't read nothing is due, of any bytes
 module _ {R W : Type 0} (remaining : R → Option (List ℕ)) (contents : W → Option (List ℕ)) (failures : W → ℕ)
-    (custom : CustomOptions) (reader : R) (out : W) where
-  pub unread_dumped : IsDumped remaining contents failures custom reader out out (Err fault.Read)
+    (dialect : Dialect) (reader : R) (out : W) where
+  pub unread_dumped : IsDumped remaining contents failures dialect reader out out (Err fault.Read)
   unread_dumped = record { due = []; writer = refl; some = ([], tt); told = λ bytes known. tt }
 
-  pub starved_dumped : IsDumped remaining contents failures custom reader out out (Err fault.Memory)
+  pub starved_dumped : IsDumped remaining contents failures dialect reader out out (Err fault.Memory)
   starved_dumped = record { due = []; writer = refl; some = ([], tt); told = λ bytes known. tt }
 
 -- the tree of a source has the same files, whatever it holds

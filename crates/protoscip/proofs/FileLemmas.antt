@@ -4,7 +4,7 @@ use Rattle.std.specs.List.{Contains, slice_get}
 use Rattle.std.proofs.lemmas.List.Elements.{All-contains_itself, All-weaker}
 use Rattle.std.proofs.lemmas.Option.{slice_get_within}
 use Rattle.std.proofs.lemmas.List.{length-map}
-use Rattle.proto_parse.specs.tree.CustomOptions.{CustomOptions}
+use Rattle.proto_parse.specs.tree.Dialect.{Dialect}
 use Rattle.proto_decl.specs.Seen.{Seen}
 use Rattle.proto_visibility.specs.declared.place.FilePlace.{FilePlace}
 use Rattle.proto_visibility.specs.declared.fault.LinkFault.{LinkFault}
@@ -47,14 +47,14 @@ of_import files number import (of_source source has listed) = slice_get_within f
 of_import files number import (of_included counts has listed public) =
     slice_get_within files number has.file has.numbered
 
-module _ (allows : Seen → Choice → Type 0) (faulty : Faulty) (custom : CustomOptions) (tree : List TreeFile) where
-  pub in_tree : (mode : Faulty) (readings : List ReadFile) (number : ℕ) → AreReadingsOf mode custom allows tree readings
-      → number < length (linked_files readings) → HasFile tree number
+module _ (allows : Seen → Choice → Type 0) (faulty : Faulty) (dialect : Dialect) (tree : List TreeFile) where
+  pub in_tree : (mode : Faulty) (readings : List ReadFile) (number : ℕ)
+      → AreReadingsOf mode dialect allows tree readings → number < length (linked_files readings) → HasFile tree number
   in_tree mode readings number are within =
       let count : length (linked_files readings) ≡ length tree = length-map readings linked_file ∙ are.one_each in
       subst (λ (n : ℕ). number < n) count within
 
-  pub files_of_build : (workers : ℕ) (e : BuildFault) → IsBuildFault allows faulty custom tree workers e
+  pub files_of_build : (workers : ℕ) (e : BuildFault) → IsBuildFault allows faulty dialect tree workers e
       → HasFilesOf tree (fault_of_build e)
   files_of_build workers build.Spawn is = tt
   files_of_build workers build.Memory is = tt
@@ -84,11 +84,11 @@ module _ (allows : Seen → Choice → Type 0) (faulty : Faulty) (custom : Custo
 
 -- ---- the files of what is told
 
-module _ (allows : Seen → Choice → Type 0) (faulty : Faulty) (custom : CustomOptions) (tree : List TreeFile)
-    (all : List ReadFile) (read : AreReadingsOf faulty custom allows tree all) (omissions : Omissions)
+module _ (allows : Seen → Choice → Type 0) (faulty : Faulty) (dialect : Dialect) (tree : List TreeFile)
+    (all : List ReadFile) (read : AreReadingsOf faulty dialect allows tree all) (omissions : Omissions)
     (are : AreOmissions (linked_files all) omissions) where
   within : (number : ℕ) → number < length (linked_files all) → HasFile tree number
-  within number = in_tree allows faulty custom tree faulty all number read
+  within number = in_tree allows faulty dialect tree faulty all number read
 
   abbrev kept : List File
   kept = linked_files (kept_of omissions all)
@@ -150,5 +150,5 @@ pub files_of_built : (allows : Seen → Choice → Type 0) (settings : Settings)
     → IsBuilt allows settings tree built → HaveFilesOf tree built.told
 files_of_built allows settings tree built is =
     let kept = is.of_files.kept in
-    files_of_told allows settings.faulty settings.custom_options tree is.all is.read kept.omissions kept.left_out
+    files_of_told allows settings.faulty settings.dialect tree is.all is.read kept.omissions kept.left_out
     built.told (λ fault there. (kept.told_is.exact fault).0 there)

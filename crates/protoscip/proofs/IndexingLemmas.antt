@@ -109,7 +109,7 @@ module _ (index : Index) (parts : Parts (List ℕ)) (are : ArePartsOf IsRecordOf
 module _ (W : Type 0) (contents : W → Option (List ℕ)) (failures : W → ℕ) (allows : Seen → Choice → Type 0)
     (settings : Settings) (tree : List TreeFile) (workers : ℕ) (before after : W) where
   -- a tree isn't built
-  pub unbuilt : (e : BuildFault) → IsBuildFault allows settings.faulty settings.custom_options tree workers e
+  pub unbuilt : (e : BuildFault) → IsBuildFault allows settings.faulty settings.dialect tree workers e
       → Indexes contents failures allows settings tree workers before before (Err (fault_of_build e))
   unbuilt build.Spawn is = (is, refl)
   unbuilt build.Memory is = (is, refl)

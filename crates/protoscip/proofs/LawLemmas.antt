@@ -41,7 +41,7 @@ IsLarge allows settings tree =
 record IsOfBuild (allows : Seen → Choice → Type 0) (settings : Settings) (tree : List TreeFile) (workers : ℕ)
     (of : Fault) : Type 0 where
   because : BuildFault
-  is : IsBuildFault allows settings.faulty settings.custom_options tree workers because
+  is : IsBuildFault allows settings.faulty settings.dialect tree workers because
   named : cause_of because ≢ link.Memory
   reason : reason_of of ≡ reason_of_cause (cause_of because)
 
@@ -67,7 +67,7 @@ split allows settings tree workers fault.Read is named = absurd is
 split allows settings tree workers (fault.Answer count) is named = absurd is
 
 set_itself : (settings : Settings) → SetTheSame settings settings
-set_itself settings = record { project_root = refl; id = refl; encoding = refl; custom_options = refl }
+set_itself settings = record { project_root = refl; id = refl; encoding = refl; dialect = refl }
 
 module _ (allows others : Seen → Choice → Type 0) where
   pub one_reason : OneBuildFault allows others → BuiltHasNoFault allows others → BuiltHasNoFault others allows
@@ -82,7 +82,7 @@ module _ (allows others : Seen → Choice → Type 0) where
         | inr built ↦ elim (split others settings tree more other is_other named_other) [
           | inl larger ↦ absurd (also settings tree workers larger.1.0 built.because larger.1.1 built.is built.named)
           | inr again ↦ built.reason
-              ∙ (ap reason_of_cause (one settings.faulty settings.custom_options tree workers more built.because
+              ∙ (ap reason_of_cause (one settings.faulty settings.dialect tree workers more built.because
               again.because built.is
               again.is built.named again.named) ∙ sym again.reason)
         ]
@@ -92,12 +92,12 @@ module _ (allows others : Seen → Choice → Type 0) where
     -- two files that can't be read are one, and two faults of its lexing one fault
     of_one : (settings : Settings) (tree : List TreeFile) (workers more number again : ℕ) (because : LexFault)
         (other : FileFault) → IsRefused allows settings tree workers (fault.Lex number because)
-        → IsBuildFault others settings.faulty settings.custom_options tree more (build.File again other)
+        → IsBuildFault others settings.faulty settings.dialect tree more (build.File again other)
         → unreadable number ≡ unreadable again → (number ≡ again) × AreAlike (file.Lex because) other
     of_one settings tree workers more number again because other is also same =
         let it : number ≡ again = cc in (
           it,
-          alike settings.faulty settings.custom_options tree workers more again (file.Lex because) other
+          alike settings.faulty settings.dialect tree workers more again (file.Lex because) other
               (subst (λ (n : ℕ). IsRefused allows settings tree workers (fault.Lex n because)) it is) also,
         )
 

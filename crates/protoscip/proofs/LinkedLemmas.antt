@@ -6,7 +6,7 @@ use Rattle.std.specs.Prelude.{All}
 use Rattle.std.specs.List.{slice_get}
 use Rattle.std.proofs.lemmas.Option.{same_Some, none-some, slice_get_within}
 use Rattle.std.proofs.lemmas.List.Elements.{All-contains}
-use Rattle.proto_parse.specs.tree.CustomOptions.{CustomOptions}
+use Rattle.proto_parse.specs.tree.Dialect.{Dialect}
 use Rattle.proto_decl.specs.Facts.{Facts, AreFactsOf, AreOfSomeFile}
 use Rattle.proto_decl.specs.Seen.{Seen}
 use Rattle.index_hooks.specs.declared.choice.Choice.{Choice}
@@ -53,16 +53,16 @@ at_all_linked omissions all number file at =
     at_all omissions (linked_files all) number file
     (subst (λ fs. slice_get fs number ≡ Some file) (linked_kept omissions all) at)
 
-module _ (faulty : Faulty) (custom : CustomOptions) (allows : Seen → Choice → Type 0) (tree : List TreeFile)
+module _ (faulty : Faulty) (dialect : Dialect) (allows : Seen → Choice → Type 0) (tree : List TreeFile)
     (readings : List ReadFile)
-    (are : AreReadingsOf faulty custom allows tree readings) where
+    (are : AreReadingsOf faulty dialect allows tree readings) where
   -- a linked file, as it was read and as it is in the tree
   record IsLinkedAt (number : ℕ) (file : File) : Type 0 where
     reading : ReadFile
     of : TreeFile
     linked : file ≡ linked_file reading
     numbered : slice_get tree number ≡ Some of
-    is : IsReadingOf faulty custom allows number of reading
+    is : IsReadingOf faulty dialect allows number of reading
 
   linked_at : (number : ℕ) (file : File) → slice_get (linked_files readings) number ≡ Some file → IsLinkedAt number file
   linked_at number file at =
@@ -77,21 +77,21 @@ module _ (faulty : Faulty) (custom : CustomOptions) (allows : Seen → Choice �
         is = are.each number there.0 read.0 there.1 read.1;
       }
 
-  of_some_file : (number : ℕ) (bytes : List ℕ) (facts : Facts) → AreFactsIn custom number bytes facts
+  of_some_file : (number : ℕ) (bytes : List ℕ) (facts : Facts) → AreFactsIn dialect number bytes facts
       → AreOfSomeFile facts
   of_some_file number bytes facts has =
       let Of : ℕ → Type 0 = λ n. AreFactsOf n has.lexed has.tree facts in
       record {
         lexed = has.lexed;
         file = has.tree;
-        custom = custom;
+        dialect = dialect;
         is_lexed = has.lexing.is_lexed;
         derives = has.derives;
         of_file = subst Of (sym has.of_tree.numbered) has.of_tree;
       }
 
   origin_in : (number : ℕ) (file : TreeFile) (contents : Result FileContents FileFault)
-      → HasContents faulty custom allows number file contents → (facts : Facts) → facts_in contents ≡ Some facts
+      → HasContents faulty dialect allows number file contents → (facts : Facts) → facts_in contents ≡ Some facts
       → AreOfSomeFile facts
   origin_in number file (Ok contents) has facts known =
       subst AreOfSomeFile (same_Some contents.facts facts known)

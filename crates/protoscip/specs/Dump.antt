@@ -2,7 +2,7 @@
 -- `failures`, `reads` and `ends` are the feed's, `contents` the sink's; `before` and `after` are it around the call.
 use Rattle.std.specs.Prelude.{◌≡◌, ℕ, false, List, [], ◌∷◌, Option, Some, Result, Ok, Err, codes}
 use Rattle.proto_lex.specs.declared.position.Encoding.TheVariants.{Utf8}
-use Rattle.proto_parse.specs.tree.CustomOptions.{CustomOptions}
+use Rattle.proto_parse.specs.tree.Dialect.{Dialect}
 use Rattle.proto_decl.specs.Seen.{Seen}
 use Rattle.index_hooks.specs.declared.choice.Choice.{Choice}
 use Rattle.index_hooks.specs.MayChoose.{IsDefaultChoice}
@@ -27,12 +27,12 @@ abbrev pub dump_tree : List ℕ → List TreeFile
 dump_tree bytes = record { path = source_path; bytes = bytes; is_included = false } ∷ []
 
 -- its settings: the package without manager, name and version; columns in UTF-8
-abbrev pub dump_settings : CustomOptions → Settings
-dump_settings custom = record {
+abbrev pub dump_settings : Dialect → Settings
+dump_settings dialect = record {
   project_root = codes "file:///";
   «package» = record { run = record { manager = []; name = []; version = [] }; roots = [] };
   encoding = Utf8;
-  custom_options = custom;
+  dialect = dialect;
   faulty = Refuse;
 }
 
@@ -41,23 +41,23 @@ abbrev pub default_choices : Seen → Choice → Type 0
 default_choices seen choice = IsDefaultChoice choice
 
 -- the listing of a source: that of its index
-pub record IsListing (custom : CustomOptions) (bytes listing : List ℕ) : Type 0 where
+pub record IsListing (dialect : Dialect) (bytes listing : List ℕ) : Type 0 where
   pub recorded : Recorded
   pub spelling : List ℕ
-  pub indexed : IsIndexed default_choices (dump_settings custom) (dump_tree bytes) recorded spelling
+  pub indexed : IsIndexed default_choices (dump_settings dialect) (dump_tree bytes) recorded spelling
   pub listing_is : listing ≡ dump_text indexed.index
 
 -- why a source has no listing: why its tree isn't indexed, by one worker
-abbrev pub IsRefusal : CustomOptions → List ℕ → Fault → Type 0
-IsRefusal custom bytes fault = IsRefused default_choices (dump_settings custom) (dump_tree bytes) 1 fault
+abbrev pub IsRefusal : Dialect → List ℕ → Fault → Type 0
+IsRefusal dialect bytes fault = IsRefused default_choices (dump_settings dialect) (dump_tree bytes) 1 fault
 
 -- what a dump of these bytes answers, and what it has to write: the listing, of which all is written, or, if a write
 -- fails, a part of it from its start; or why there is none. (Read says nothing about the bytes.)
-abbrev pub Dumps : CustomOptions → List ℕ → List ℕ → Result (Unit {0}) Fault → Type 0
-Dumps custom bytes due (Ok done) = IsListing custom bytes due
-Dumps custom bytes due (Err (Write count)) = IsListing custom bytes due
-Dumps custom bytes due (Err Read) = Unit {0}
-Dumps custom bytes due (Err fault) = IsRefusal custom bytes fault
+abbrev pub Dumps : Dialect → List ℕ → List ℕ → Result (Unit {0}) Fault → Type 0
+Dumps dialect bytes due (Ok done) = IsListing dialect bytes due
+Dumps dialect bytes due (Err (Write count)) = IsListing dialect bytes due
+Dumps dialect bytes due (Err Read) = Unit {0}
+Dumps dialect bytes due (Err fault) = IsRefusal dialect bytes fault
 
 -- the reader: it was read to its end; at Read, why it wasn't; at Memory, no read failed
 abbrev pub LeavesReader : {R : Type 0} → (failures reads ends : R → ℕ) → R → R → Result (Unit {0}) Fault → Type 0
@@ -76,12 +76,12 @@ LeavesWriter contents failures before after due (Err fault) = after ≡ before
 -- What a dump leaves of its writer, by the text that it has to write: that of the bytes which the reader tells that
 -- it has left; if it tells none, of some bytes.
 pub record IsDumped {R W : Type 0} (remaining : R → Option (List ℕ)) (contents : W → Option (List ℕ)) (failures : W → ℕ)
-    (custom : CustomOptions) (reader : R) (before after : W)
+    (dialect : Dialect) (reader : R) (before after : W)
     (done : Result (Unit {0}) Fault) : Type 0 where
   pub due : List ℕ
   pub writer : LeavesWriter contents failures before after due done
-  pub some : (bytes : List ℕ) × Dumps custom bytes due done
-  pub told : (bytes : List ℕ) → remaining reader ≡ Some bytes → Dumps custom bytes due done
+  pub some : (bytes : List ℕ) × Dumps dialect bytes due done
+  pub told : (bytes : List ℕ) → remaining reader ≡ Some bytes → Dumps dialect bytes due done
 
 -- The tree is that of what was kept of a source: of the bytes which the reader tells that it has left; if it tells
 -- none, of some bytes.

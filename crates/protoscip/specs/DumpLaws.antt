@@ -1,16 +1,16 @@
 -- What the definitions say about dumps, whatever the code does.
 use Rattle.std.specs.Prelude.{◌≡◌, ℕ, List}
-use Rattle.proto_parse.specs.tree.CustomOptions.{CustomOptions}
+use Rattle.proto_parse.specs.tree.Dialect.{Dialect}
 use Rattle.protoscip.specs.Dump.{IsListing, IsRefusal}
 use Rattle.protoscip.specs.declared.fault.Fault.{Fault}
 use Rattle.protoscip.specs.declared.fault.Fault.TheVariants.{Memory}
 
 -- a source has one listing at most
 abbrev pub OneListing : Type 0
-OneListing = (custom : CustomOptions) (bytes listing other : List ℕ) → IsListing custom bytes listing
-    → IsListing custom bytes other → listing ≡ other
+OneListing = (dialect : Dialect) (bytes listing other : List ℕ) → IsListing dialect bytes listing
+    → IsListing dialect bytes other → listing ≡ other
 
 -- a source that has a listing isn't refused, unless memory runs out
 abbrev pub ListedUnlessMemory : Type 0
-ListedUnlessMemory = (custom : CustomOptions) (bytes listing : List ℕ) (fault : Fault) → IsListing custom bytes listing
-    → IsRefusal custom bytes fault → fault ≡ Memory
+ListedUnlessMemory = (dialect : Dialect) (bytes listing : List ℕ) (fault : Fault) → IsListing dialect bytes listing
+    → IsRefusal dialect bytes fault → fault ≡ Memory

@@ -32,10 +32,13 @@ lex_sentence (lexing.BadNumber at) = codes "these letters and digits are no numb
 lex_sentence lexing.Memory = []
 
 abbrev pub syntax_sentence : SyntaxFault → List ℕ
-syntax_sentence (parsing.NotProto3 at) = codes "a source begins with `syntax = \"proto3\";`"
-syntax_sentence (parsing.CustomOption at) = codes "`--custom-options skip` reads past options with parentheses"
-syntax_sentence (parsing.Aggregate at) = codes "`--custom-options skip` reads past values in braces"
-syntax_sentence (parsing.Extend at) = codes "`--custom-options skip` reads past `extend`"
+syntax_sentence (parsing.NotProto3 at) =
+    codes "a source begins with `syntax = \"proto3\";`; with `--accept all` it may be proto2"
+syntax_sentence (parsing.CustomOption at) =
+    codes "`--custom-options skip`, or `--accept all`, reads past options with parentheses"
+syntax_sentence (parsing.Aggregate at) =
+    codes "`--custom-options skip`, or `--accept all`, reads past values in braces"
+syntax_sentence (parsing.Extend at) = codes "`--custom-options skip` reads past `extend`, and `--accept all` reads it"
 syntax_sentence (parsing.TwoPackages at) = codes "a source has one package statement at most"
 syntax_sentence (parsing.ImportEscape at) = codes "an import's path is written without `\\`"
 syntax_sentence (parsing.TooDeep at) = codes "messages nest at most 64 deep"

@@ -169,9 +169,9 @@ module _ {allows : Seen → Choice → Type 0} {settings : Settings} {tree : Lis
 
 -- ---- the headline
 
--- The bytes decode to one index only: the one that the grammar, the scoping rules, the recorded choices, which are
--- allowed, and the settings give the tree. And each query about references or definitions over it answers exactly the
--- occurrences of the name asked.
+-- The bytes decode to one index only: the one that the grammar of the settings' dialect, the scoping rules, the
+-- recorded choices, which are allowed, and the other settings give the tree. And each query about references or
+-- definitions over it answers exactly the occurrences of the name asked.
 pub record Navigates (allows : Seen → Choice → Type 0) (settings : Settings) (tree : List TreeFile)
     (recorded : Recorded)
     (bytes : List ℕ) (index : Index) : Type 0 where

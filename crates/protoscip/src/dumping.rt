@@ -22,7 +22,7 @@ use index_hooks::{Choice, Chooses, DocChoice};
 use index_pool::{NoGate, Workers};
 use proto_decl::DeclView;
 use proto_lex::Encoding;
-use proto_parse::CustomOptions;
+use proto_parse::Dialect;
 use scip_build::{Faulty, Settings, build};
 use scip_document::FilePackages;
 use scip_symbol::PackageId;
@@ -69,15 +69,15 @@ pub fn dump_tree(alloc: Global, bytes: Vec<u8>) -> Result<Tree, AllocError>
 }
 
 /// The settings of a dump.
-fn dump_settings(alloc: Global, custom_options: CustomOptions) -> Result<Settings, AllocError>
-    ensures { IfOk result (λ settings. settings ≡ dump_settings custom_options) }
+fn dump_settings(alloc: Global, dialect: Dialect) -> Result<Settings, AllocError>
+    ensures { IfOk result (λ settings. settings ≡ dump_settings dialect) }
 {
     let parts = [String::new(alloc), String::new(alloc), String::new(alloc)];
     Ok(Settings {
         project_root: OwnedText::copy_of(alloc, "file:///")?,
         package: FilePackages::of_run(alloc, PackageId::new(parts).unwrap()),
         encoding: Encoding::Utf8,
-        custom_options,
+        dialect,
         faulty: Faulty::Refuse,
     })
 }
@@ -93,13 +93,13 @@ fn one_worker() -> Workers
 fn listing_of<R: Threads + Wait>(
     rt: &R,
     alloc: Global,
-    custom: CustomOptions,
+    dialect: Dialect,
     tree: &Tree,
 ) -> Result<String, Fault>
     ensures { (bytes : List ℕ) → tree.now ≡ dump_tree bytes → MatchResult result
-        (λ listing. IsListing custom bytes (string_bytes listing)) (IsRefusal custom bytes) }
+        (λ listing. IsListing dialect bytes (string_bytes listing)) (IsRefusal dialect bytes) }
 {
-    let settings = dump_settings(alloc, custom)?;
+    let settings = dump_settings(alloc, dialect)?;
     let worker = one_worker();
     let built = build(rt, alloc, tree, &DefaultChoices, worker, &settings, &NoGate)?;
     let index = read_back(alloc, built.index)?;
@@ -120,12 +120,12 @@ fn keep_source(alloc: Global, bytes: Vec<u8>, tree: &mut Tree) -> Result<(), All
 pub fn dump_and_keep<R: Threads + Wait, F: Feed, W: Sink>(
     rt: &R,
     alloc: Global,
-    custom: CustomOptions,
+    dialect: Dialect,
     source: &mut F,
     tree: &mut Tree,
     out: &mut W,
 ) -> Result<(), Fault>
-    ensures dumped { IsDumped F.remaining W.contents W.failures custom source.old out.old out.new result }
+    ensures dumped { IsDumped F.remaining W.contents W.failures dialect source.old out.old out.new result }
     ensures tree { IfErr result (IsTreeOfFault F.remaining source.old tree.new) }
     ensures files { IfErr result (HasFilesOf tree.new) }
     ensures alone { IfErr result (HasFilesOf (dump_tree [])) }
@@ -137,7 +137,7 @@ pub fn dump_and_keep<R: Threads + Wait, F: Feed, W: Sink>(
         None => return Err(Fault::Read),
     };
     keep_source(alloc, bytes, tree)?;
-    let listing = listing_of(rt, alloc, custom, tree)?;
+    let listing = listing_of(rt, alloc, dialect, tree)?;
     write_text(out, listing.as_str())
 }
 
@@ -151,15 +151,15 @@ pub fn dump_and_keep<R: Threads + Wait, F: Feed, W: Sink>(
 pub fn dump<R: Threads + Wait, F: Feed, W: Sink>(
     rt: &R,
     alloc: Global,
-    custom: CustomOptions,
+    dialect: Dialect,
     source: &mut F,
     out: &mut W,
 ) -> Result<(), Fault>
-    ensures dumped { IsDumped F.remaining W.contents W.failures custom source.old out.old out.new result }
+    ensures dumped { IsDumped F.remaining W.contents W.failures dialect source.old out.old out.new result }
     ensures files { IfErr result (HasFilesOf (dump_tree [])) }
     ensures reader { LeavesReader F.failures F.reads F.ends source.old source.new result }
     ensures briefly { IsReadBriefly F.reads source.old source.new }
 {
     let mut tree = dump_tree(alloc, Vec::new(alloc))?;
-    dump_and_keep(rt, alloc, custom, source, &mut tree, out)
+    dump_and_keep(rt, alloc, dialect, source, &mut tree, out)
 }

@@ -1,4 +1,4 @@
-//! From a tree of proto3 sources to the bytes of its SCIP index, and to answers about it: over readers and
+//! From a tree of `.proto` sources to the bytes of its SCIP index, and to answers about it: over readers and
 //! writers, with no files.
 #![tactic(auto)]
 

@@ -28,12 +28,18 @@ fn syntax_sentence(fault: &SyntaxFault) -> &'static str
     ensures { result.now ≡ syntax_sentence fault.now }
 {
     match fault {
-        SyntaxFault::NotProto3(_) => "a source begins with `syntax = \"proto3\";`",
-        SyntaxFault::CustomOption(_) => {
-            "`--custom-options skip` reads past options with parentheses"
+        SyntaxFault::NotProto3(_) => {
+            "a source begins with `syntax = \"proto3\";`; with `--accept all` it may be proto2"
         }
-        SyntaxFault::Aggregate(_) => "`--custom-options skip` reads past values in braces",
-        SyntaxFault::Extend(_) => "`--custom-options skip` reads past `extend`",
+        SyntaxFault::CustomOption(_) => {
+            "`--custom-options skip`, or `--accept all`, reads past options with parentheses"
+        }
+        SyntaxFault::Aggregate(_) => {
+            "`--custom-options skip`, or `--accept all`, reads past values in braces"
+        }
+        SyntaxFault::Extend(_) => {
+            "`--custom-options skip` reads past `extend`, and `--accept all` reads it"
+        }
         SyntaxFault::TwoPackages(_) => "a source has one package statement at most",
         SyntaxFault::ImportEscape(_) => "an import's path is written without `\\`",
         SyntaxFault::TooDeep(_) => "messages nest at most 64 deep",

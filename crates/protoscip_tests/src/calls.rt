@@ -6,7 +6,7 @@ use crate::faulty_streams::{AT_ONCE, Failing, PACES, Pace};
 use index_hooks::Registry;
 use index_pool::{NoGate, Workers};
 use proto_lex::Encoding;
-use proto_parse::CustomOptions;
+use proto_parse::{CustomOptions, Dialect};
 use protoscip::{Fault, fault_line, index_tree, told_text};
 use scip_build::{BuildFault, Faulty, Settings};
 use scip_document::FilePackages;
@@ -93,7 +93,7 @@ pub(crate) fn given_of(
         project_root: OwnedText::copy_of(alloc, "file:///")?,
         package: FilePackages::of_run(alloc, id),
         encoding,
-        custom_options: CustomOptions::Refuse,
+        dialect: Dialect::Proto3(CustomOptions::Refuse),
         faulty: Faulty::Refuse,
     };
     let tree = tree_of(rt, alloc, files)?;

@@ -2,7 +2,7 @@
 
 use crate::calls::{Due, dues_of, is_due, paced_writer, see, whole, writer};
 use crate::faulty_streams::{AT_ONCE, Endless, drip, resting};
-use proto_parse::{CustomOptions, SyntaxFault};
+use proto_parse::{CustomOptions, Dialect, SyntaxFault};
 use protoscip::{Fault, dump};
 use std::alloc::{AllocError, Global};
 use std::io::Read;
@@ -12,17 +12,20 @@ use std::test::Fail;
 use std::thread::Threads;
 use streams::Std;
 
+/// What is accepted, if no option says otherwise.
+const PROTO3: Dialect = Dialect::Proto3(CustomOptions::Refuse);
+
 /// Whether `dump` answers as is due; none after `Memory`.
 fn is_dumped<R: Threads + Wait, S: Read + Drop>(
     rt: &R,
     alloc: Global,
-    custom: CustomOptions,
+    dialect: Dialect,
     reader: S,
     due: Due<'_>,
 ) -> Result<Option<bool>, AllocError> {
     let mut input = Std::new(reader);
     let mut output = paced_writer(alloc, due.room, due.pace)?;
-    let answer = dump(rt, alloc, custom, &mut input, &mut output).err();
+    let answer = dump(rt, alloc, dialect, &mut input, &mut output).err();
     Ok(is_due(answer, output, &due))
 }
 
@@ -31,43 +34,53 @@ fn is_dumped<R: Threads + Wait, S: Read + Drop>(
 fn see_dump<R: Threads + Wait + Abort, S: Read + Drop + Copy>(
     rt: &R,
     alloc: Global,
-    custom: CustomOptions,
+    dialect: Dialect,
     reader: S,
     due: Due<'_>,
     case: &str,
 ) -> Result<(), AllocError> {
-    let is_so = match is_dumped(rt, alloc, custom, reader, due)? {
-        None => is_dumped(rt, alloc, custom, reader, due)?,
+    let is_so = match is_dumped(rt, alloc, dialect, reader, due)? {
+        None => is_dumped(rt, alloc, dialect, reader, due)?,
         is_so => is_so,
     };
     see(rt, is_so == Some(true), case);
     Ok(())
 }
 
-/// A source, what is done with custom options, and the listing.
+/// A source, what is accepted, and the listing.
 struct Row {
     source: &'static str,
-    custom: CustomOptions,
+    dialect: Dialect,
     listing: &'static str,
 }
 
 // The first row reads: the file occurs at 0 to 0 of line 0, and `A#` at 8 to 9 of line 1, both as
 // definitions (1); they are two.
-static ROWS: [Row; 3] = [
+static ROWS: [Row; 5] = [
     Row {
         source: "syntax = \"proto3\";\nmessage A {}\n",
-        custom: CustomOptions::Refuse,
+        dialect: PROTO3,
         listing: "0 0 0 0 1 scip-protobuf . . . `input.proto`/\n1 8 1 9 1 scip-protobuf . . . A#\n= 2\n",
     },
     Row {
         source: "syntax = \"proto3\";\npackage p;\nmessage Foo {}\nmessage M { string Foo = 1; Foo x = 2; }\n",
-        custom: CustomOptions::Refuse,
+        dialect: PROTO3,
         listing: "0 0 0 0 1 scip-protobuf . . . `input.proto`/\n1 8 1 9 1 scip-protobuf . . . p/\n2 8 2 11 1 scip-protobuf . . . p/Foo#\n3 8 3 9 1 scip-protobuf . . . p/M#\n3 19 3 22 1 scip-protobuf . . . p/M#Foo.\n3 28 3 31 0 scip-protobuf . . . p/Foo#\n3 32 3 33 1 scip-protobuf . . . p/M#x.\n= 7\n",
     },
     Row {
         source: "syntax = \"proto3\";\noption (x).y = { a: 1 };\nmessage A {}\n",
-        custom: CustomOptions::Skip,
+        dialect: Dialect::Proto3(CustomOptions::Skip),
         listing: "0 0 0 0 1 scip-protobuf . . . `input.proto`/\n2 8 2 9 1 scip-protobuf . . . A#\n= 2\n",
+    },
+    Row {
+        source: "option (x).y = { a: 1 };\nmessage A {}\n",
+        dialect: Dialect::All,
+        listing: "0 0 0 0 1 scip-protobuf . . . `input.proto`/\n1 8 1 9 1 scip-protobuf . . . A#\n= 2\n",
+    },
+    Row {
+        source: "syntax = \"proto2\";\nmessage A { extensions 5 to 9; optional group G = 1 { required A a = 1; } }\nextend A { optional A.G x = 5; }\n",
+        dialect: Dialect::All,
+        listing: "0 0 0 0 1 scip-protobuf . . . `input.proto`/\n1 8 1 9 1 scip-protobuf . . . A#\n1 40 1 45 1 scip-protobuf . . . A#g.\n1 46 1 47 1 scip-protobuf . . . A#G#\n1 63 1 64 0 scip-protobuf . . . A#\n1 65 1 66 1 scip-protobuf . . . A#G#a.\n2 7 2 8 0 scip-protobuf . . . A#\n2 20 2 21 0 scip-protobuf . . . A#\n2 22 2 23 0 scip-protobuf . . . A#G#\n2 24 2 25 1 scip-protobuf . . . x.\n= 10\n",
     },
 ];
 
@@ -76,7 +89,7 @@ fn sources_that_have_a_listing(rt: HostRuntime) -> Result<(), Fail> {
     for row in &ROWS {
         let due = whole(row.listing.as_bytes());
         let source = row.source.as_bytes();
-        see_dump(&rt, rt.alloc(), row.custom, source, due, row.source)?;
+        see_dump(&rt, rt.alloc(), row.dialect, source, due, row.source)?;
     }
     Ok(())
 }
@@ -88,10 +101,9 @@ const OF_NONE: &[u8] = b"0 0 0 0 1 scip-protobuf . . . `input.proto`/\n= 1\n";
 
 #[test]
 fn writers_that_fail(rt: HostRuntime) -> Result<(), Fail> {
-    let custom = CustomOptions::Refuse;
     let dues = dues_of(rt.alloc(), OF_NONE, false)?;
     for due in &dues {
-        see_dump(&rt, rt.alloc(), custom, NONE, *due, "a write fails")?;
+        see_dump(&rt, rt.alloc(), PROTO3, NONE, *due, "a write fails")?;
     }
     Ok(())
 }
@@ -114,7 +126,6 @@ fn see_reads<R: Threads + Wait + Abort>(
     most: usize,
     to_end: usize,
 ) -> Result<(), AllocError> {
-    let custom = CustomOptions::Refuse;
     for calls in 0..20 {
         let due = if calls < to_end {
             UNREAD
@@ -124,7 +135,7 @@ fn see_reads<R: Threads + Wait + Abort>(
         see_dump(
             rt,
             alloc,
-            custom,
+            PROTO3,
             drip(NONE, most, calls),
             due,
             "a read fails",
@@ -151,7 +162,6 @@ const ENDED: [(usize, Option<Fault>, &[u8]); 3] = [
 
 #[test]
 fn readers_that_rest(rt: HostRuntime) -> Result<(), Fail> {
-    let custom = CustomOptions::Refuse;
     for (most, fault, written) in &ENDED {
         let due = Due {
             room: 49,
@@ -159,7 +169,7 @@ fn readers_that_rest(rt: HostRuntime) -> Result<(), Fail> {
             fault: *fault,
             written: *written,
         };
-        see_dump(&rt, rt.alloc(), custom, resting(NONE, *most), due, "an end")?;
+        see_dump(&rt, rt.alloc(), PROTO3, resting(NONE, *most), due, "an end")?;
     }
     Ok(())
 }
@@ -193,7 +203,7 @@ fn is_listed<R: Threads + Wait>(
 ) -> Result<Option<bool>, AllocError> {
     let mut input = Std::new(source);
     let mut output = writer(alloc, 512)?;
-    let answer = dump(rt, alloc, CustomOptions::Refuse, &mut input, &mut output).err();
+    let answer = dump(rt, alloc, PROTO3, &mut input, &mut output).err();
     let bytes = output.into_inner().bytes;
     Ok(match answer {
         None if bytes.as_slice().ends_with(b"\n") => Some(true),
@@ -233,6 +243,5 @@ fn each_beginning_of_a_source(rt: HostRuntime) -> Result<(), Fail> {
 
 #[test]
 fn a_source_without_an_end(rt: HostRuntime) -> Result<(), Fail> {
-    let custom = CustomOptions::Refuse;
-    Ok(see_dump(&rt, rt.alloc(), custom, Endless, UNREAD, "no end")?)
+    Ok(see_dump(&rt, rt.alloc(), PROTO3, Endless, UNREAD, "no end")?)
 }

@@ -6,7 +6,7 @@ use Rattle.std.proofs.lemmas.Bool.{cases_order}
 use Rattle.std.proofs.lemmas.Option.{same_Some, slice_get_within}
 use Rattle.std.proofs.lemmas.List.Elements.{All-head, All-tail, Contains-push, Contains-append_left}
 use Rattle.std.proofs.lemmas.List.Elements.{Contains-append_right}
-use Rattle.proto_parse.specs.tree.CustomOptions.{CustomOptions}
+use Rattle.proto_parse.specs.tree.Dialect.{Dialect}
 use Rattle.proto_lex.specs.declared.span.Span.{Span}
 use Rattle.proto_decl.specs.Facts.{Facts}
 use Rattle.proto_decl.specs.Seen.{Seen}
@@ -137,84 +137,84 @@ module _ (files : List File) where
   none_refuses can all fault (inr later) not = all_resolve all later.1 later.3
 
 -- a fault's reason: the first source that can't be read, or one of files that were read
-abbrev Reason : CustomOptions → (allows : Seen → Choice → Type 0) → List TreeFile → LinkFault → Type 0
-Reason custom allows tree cause =
-    ((number : ℕ) × (fault : FileFault) × (cause ≡ link.Broken number) × IsFirstFaulty custom tree number fault)
-    ⊎ OfReadings custom allows tree (λ readings. Refuses (linked_files readings) cause)
+abbrev Reason : Dialect → (allows : Seen → Choice → Type 0) → List TreeFile → LinkFault → Type 0
+Reason dialect allows tree cause =
+    ((number : ℕ) × (fault : FileFault) × (cause ≡ link.Broken number) × IsFirstFaulty dialect tree number fault)
+    ⊎ OfReadings dialect allows tree (λ readings. Refuses (linked_files readings) cause)
 
-reason : (faulty : Faulty) (custom : CustomOptions) (allows : Seen → Choice → Type 0) (tree : List TreeFile)
-    (workers : ℕ) (fault : BuildFault) → IsBuildFault allows faulty custom tree workers fault
-    → cause_of fault ≢ link.Memory → (faulty ≡ Refuse) × Reason custom allows tree (cause_of fault)
-reason faulty custom allows tree workers build.Spawn is not = absurd (not refl)
-reason faulty custom allows tree workers build.Memory is not = absurd (not refl)
-reason faulty custom allows tree workers (build.File number fault) (refuse, inl first) not =
+reason : (faulty : Faulty) (dialect : Dialect) (allows : Seen → Choice → Type 0) (tree : List TreeFile)
+    (workers : ℕ) (fault : BuildFault) → IsBuildFault allows faulty dialect tree workers fault
+    → cause_of fault ≢ link.Memory → (faulty ≡ Refuse) × Reason dialect allows tree (cause_of fault)
+reason faulty dialect allows tree workers build.Spawn is not = absurd (not refl)
+reason faulty dialect allows tree workers build.Memory is not = absurd (not refl)
+reason faulty dialect allows tree workers (build.File number fault) (refuse, inl first) not =
     (refuse, inl (number, fault, refl, first))
-reason faulty custom allows tree workers (build.File number fault) (refuse, inr later) not =
+reason faulty dialect allows tree workers (build.File number fault) (refuse, inr later) not =
     (refuse, inr (later.0, later.1, inl later.2.0))
-reason faulty custom allows tree workers (build.Duplicate first second) (refuse, is) not =
+reason faulty dialect allows tree workers (build.Duplicate first second) (refuse, is) not =
     (refuse, inr (is.0, is.1, inl is.2))
-reason faulty custom allows tree workers (build.MissingImport place) (refuse, is) not =
+reason faulty dialect allows tree workers (build.MissingImport place) (refuse, is) not =
     (refuse, inr (is.0, is.1, inl is.2))
-reason faulty custom allows tree workers (build.Unresolved place) (refuse, is) not =
+reason faulty dialect allows tree workers (build.Unresolved place) (refuse, is) not =
     (refuse, inr (is.0, is.1, inr (is.2.0, place, refl, is.2.1)))
 
 module _ (allows others : Seen → Choice → Type 0) (one_linking : OneLinking allows others)
     (none : NoReadingsWhereFaulty allows) (none_others : NoReadingsWhereFaulty others) where
   pub built_has_no_fault : BuiltHasNoFault allows others
   built_has_no_fault settings tree workers built fault is wrong not =
-      let why = reason settings.faulty settings.custom_options others tree workers fault wrong not in
-      let Read : Faulty → Type 0 = λ f. AreReadingsOf f settings.custom_options allows tree is.all in
+      let why = reason settings.faulty settings.dialect others tree workers fault wrong not in
+      let Read : Faulty → Type 0 = λ f. AreReadingsOf f settings.dialect allows tree is.all in
       let read : Read Refuse = subst Read why.0 is.read in
       let good = is.of_files.refused why.0 in
       elim why.1 [
-        | inl first ↦ none settings.custom_options tree is.all first.0 first.1 read first.3
+        | inl first ↦ none settings.dialect tree is.all first.0 first.1 read first.3
         | inr later ↦ (
             let Here : List File → Type 0 = λ files. Refuses files (cause_of fault) in
             let here = subst Here (sym
-            (one_linking Refuse Refuse settings.custom_options tree is.all later.0 read later.1)) later.2 in
+            (one_linking Refuse Refuse settings.dialect tree is.all later.0 read later.1)) later.2 in
             none_refuses (linked_files is.all) good.linked good.resolved (cause_of fault) here not)
       ]
 
   pub one_build_fault : OneFirstFaulty → OneRefusal → OneBuildFault allows others
-  one_build_fault one_first one_refusal faulty custom tree workers more fault other is also not nor =
-      both (reason faulty custom allows tree workers fault is not).1
-      (reason faulty custom others tree more other also nor).1
+  one_build_fault one_first one_refusal faulty dialect tree workers more fault other is also not nor =
+      both (reason faulty dialect allows tree workers fault is not).1
+      (reason faulty dialect others tree more other also nor).1
     where
-      both : Reason custom allows tree (cause_of fault) → Reason custom others tree (cause_of other)
+      both : Reason dialect allows tree (cause_of fault) → Reason dialect others tree (cause_of other)
           → cause_of fault ≡ cause_of other
-      both (inl a) (inl b) = a.2 ∙ (ap link.Broken (one_first custom tree a.0 b.0 a.1 b.1 a.3 b.3) ∙ sym b.2)
-      both (inl a) (inr b) = absurd (none_others custom tree b.0 a.0 a.1 b.1 a.3)
-      both (inr a) (inl b) = absurd (none custom tree a.0 b.0 b.1 a.1 b.3)
+      both (inl a) (inl b) = a.2 ∙ (ap link.Broken (one_first dialect tree a.0 b.0 a.1 b.1 a.3 b.3) ∙ sym b.2)
+      both (inl a) (inr b) = absurd (none_others dialect tree b.0 a.0 a.1 b.1 a.3)
+      both (inr a) (inl b) = absurd (none dialect tree a.0 b.0 b.1 a.1 b.3)
       both (inr a) (inr b) =
           let Here : List File → Type 0 = λ files. Refuses files (cause_of other) in
-          let here = subst Here (sym (one_linking Refuse Refuse custom tree a.0 b.0 a.1 b.1)) b.2 in
-          let origins = have_origins a.0 (whole_at Refuse custom allows tree a.0 a.1) in
+          let here = subst Here (sym (one_linking Refuse Refuse dialect tree a.0 b.0 a.1 b.1)) b.2 in
+          let origins = have_origins a.0 (whole_at Refuse dialect allows tree a.0 a.1) in
           one_cause (linked_files a.0) one_refusal origins (cause_of fault) (cause_of other) a.2 here not nor
 
 -- the file that is named can't be read, for the fault that is told
-record IsNamed (custom : CustomOptions) (tree : List TreeFile) (number : ℕ) (fault : FileFault) : Type 0 where
+record IsNamed (dialect : Dialect) (tree : List TreeFile) (number : ℕ) (fault : FileFault) : Type 0 where
   file : TreeFile
   numbered : slice_get tree number ≡ Some file
-  unreadable : IsUnreadable custom file.bytes fault
+  unreadable : IsUnreadable dialect file.bytes fault
 
-named : (faulty : Faulty) (custom : CustomOptions) (allows : Seen → Choice → Type 0) (tree : List TreeFile)
+named : (faulty : Faulty) (dialect : Dialect) (allows : Seen → Choice → Type 0) (tree : List TreeFile)
     (workers number : ℕ) (fault : FileFault)
-    → IsBuildFault allows faulty custom tree workers (build.File number fault) → IsNamed custom tree number fault
-named faulty custom allows tree workers number fault (refuse, inl first) =
+    → IsBuildFault allows faulty dialect tree workers (build.File number fault) → IsNamed dialect tree number fault
+named faulty dialect allows tree workers number fault (refuse, inl first) =
     record { file = first.file; numbered = first.numbered; unreadable = first.faulty.unreadable }
-named faulty custom allows tree workers number fault (refuse, inr later) =
+named faulty dialect allows tree workers number fault (refuse, inr later) =
     let has = later.2.1 in
     let within : number < length tree =
     rw (sym later.1.one_each) (slice_get_within later.0 number has.reading has.numbered) in
     let there = at_number tree number within in
-    let Contents : Result FileContents FileFault → Type 0 = HasContents Refuse custom allows number there.0 in
+    let Contents : Result FileContents FileFault → Type 0 = HasContents Refuse dialect allows number there.0 in
     let contents = subst Contents has.unread (later.1.each number there.0 has.reading there.1 has.numbered).contents in
     record { file = there.0; numbered = there.1; unreadable = contents.1 }
 
 pub file_faults_are_alike : FaultsAreAlike → (allows others : Seen → Choice → Type 0) → FileFaultsAreAlike allows others
-file_faults_are_alike alike allows others faulty custom tree workers more number fault other is also =
-    let first = named faulty custom allows tree workers number fault is in
-    let second = named faulty custom others tree more number other also in
+file_faults_are_alike alike allows others faulty dialect tree workers more number fault other is also =
+    let first = named faulty dialect allows tree workers number fault is in
+    let second = named faulty dialect others tree more number other also in
     let same : first.file ≡ second.file = same_Some first.file second.file (sym first.numbered ∙ second.numbered) in
-    let Of : TreeFile → Type 0 = λ file. IsUnreadable custom file.bytes other in
-    alike custom first.file.bytes fault other first.unreadable (subst Of (sym same) second.unreadable)
+    let Of : TreeFile → Type 0 = λ file. IsUnreadable dialect file.bytes other in
+    alike dialect first.file.bytes fault other first.unreadable (subst Of (sym same) second.unreadable)

@@ -138,7 +138,7 @@ kept_built Is all readings settings made numbers left once missing skip kept of 
 
 pub tree_built : {Out : Type 0} (Is : Document → Out → Type 0) (allows : Seen → Choice → Type 0) (settings : Settings)
     (tree : List TreeFile) (all : List ReadFile) (choices : Chosen) (told : List BuildFault) (parts : Parts Out)
-    → AreReadingsOf settings.faulty settings.custom_options allows tree all
+    → AreReadingsOf settings.faulty settings.dialect allows tree all
     → IsBuiltOfInForm Is all settings choices told parts → IsBuiltInForm Is allows settings tree choices told parts
 tree_built Is allows settings tree all choices told parts read of = record {
   index = of.index;

@@ -208,7 +208,7 @@ module _ (good : NothingIsLeftOutOfGoodFiles) where
 
   module _ (allows : Seen → Choice → Type 0) (settings another : Settings) (tree : List TreeFile)
       (same : SetTheSame settings another) (all : List ReadFile)
-      (read : AreReadingsOf settings.faulty settings.custom_options allows tree all)
+      (read : AreReadingsOf settings.faulty settings.dialect allows tree all)
       (clear : HaveClearNames (linked_files all)) where
     may_be : (faulty : Faulty) → may_be_unread faulty true ≡ true
     may_be Refuse = refl
@@ -218,13 +218,13 @@ module _ (good : NothingIsLeftOutOfGoodFiles) where
     read_so : (number : ℕ) (file : TreeFile) (reading : ReadFile) → slice_get tree number ≡ Some file
         → slice_get all number ≡ Some reading → (contents : Result FileContents FileFault)
         → reading.contents ≡ contents
-        → HasContents settings.faulty settings.custom_options allows number file contents
-        → HasContents another.faulty another.custom_options allows number file contents
+        → HasContents settings.faulty settings.dialect allows number file contents
+        → HasContents another.faulty another.dialect allows number file contents
     read_so number file reading at there (Ok contents) is has =
-        subst (λ c. AreContentsOf c allows number file.bytes contents) same.custom_options has
+        subst (λ c. AreContentsOf c allows number file.bytes contents) same.dialect has
     read_so number file reading at there (Err fault) is has = (
       included file.is_included refl,
-      subst (λ c. IsUnreadable c file.bytes fault) same.custom_options has.1,
+      subst (λ c. IsUnreadable c file.bytes fault) same.dialect has.1,
     )
       where
         linked : File
@@ -244,7 +244,7 @@ module _ (good : NothingIsLeftOutOfGoodFiles) where
               unread = ap facts_in is;
             }))
 
-    pub read_by : AreReadingsOf another.faulty another.custom_options allows tree all
+    pub read_by : AreReadingsOf another.faulty another.dialect allows tree all
     read_by = record {
       one_each = read.one_each;
       each = λ number file reading at there.

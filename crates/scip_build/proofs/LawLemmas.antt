@@ -11,7 +11,7 @@ use Rattle.proto_lex.specs.declared.fault.LexFault.{LexFault}
 use Rattle.proto_lex.specs.declared.fault.LexFault.TheVariants.{TooLong, NotUtf8, BadByte, OpenString, OpenComment}
 use Rattle.proto_lex.specs.declared.fault.LexFault.TheVariants.{BadEscape, BadNumber, Memory}
 use Rattle.proto_lex.specs.declared.token.Token.{Token}
-use Rattle.proto_parse.specs.tree.CustomOptions.{CustomOptions}
+use Rattle.proto_parse.specs.tree.Dialect.{Dialect}
 use Rattle.proto_parse.specs.tree.File.{File}
 use Rattle.proto_parse.specs.fault.SyntaxFault.{SyntaxFault}
 use Rattle.proto_parse.specs.Derives.{Derives}
@@ -26,8 +26,8 @@ use Rattle.scip_build.specs.Laws.{OneListOfFacts, NoFactsWhereUnreadable, LexedW
 use Rattle.scip_build.specs.Laws.{OneFirstFaulty}
 
 abbrev pub OneTree : Type 0
-OneTree = (custom : CustomOptions) (text : List ℕ) (tokens : List Token) (file other : File)
-    → Derives custom text tokens file → Derives custom text tokens other → file ≡ other
+OneTree = (dialect : Dialect) (text : List ℕ) (tokens : List Token) (file other : File)
+    → Derives dialect text tokens file → Derives dialect text tokens other → file ≡ other
 
 -- a text isn't called none
 text_is_text : (bytes : List ℕ) (fault : LexFault) → IsText bytes → IsNoText bytes fault → ⊥
@@ -83,12 +83,12 @@ one_unlexed one bytes fault other (inr a) (inr b) = one bytes fault other a.1 b.
 
 -- so two faults of one file are alike
 pub faults_are_alike : OneFirstFault → LexedWhereUnparsed → FaultsAreAlike
-faults_are_alike one apart custom bytes (Lex fault) (Lex other) is also = one_unlexed one bytes fault other is also
-faults_are_alike one apart custom bytes (Lex fault) (Syntax other) is also =
-    absurd (apart custom bytes fault other also is)
-faults_are_alike one apart custom bytes (Syntax fault) (Lex other) is also =
-    absurd (apart custom bytes other fault is also)
-faults_are_alike one apart custom bytes (Syntax fault) (Syntax other) is also = tt
+faults_are_alike one apart dialect bytes (Lex fault) (Lex other) is also = one_unlexed one bytes fault other is also
+faults_are_alike one apart dialect bytes (Lex fault) (Syntax other) is also =
+    absurd (apart dialect bytes fault other also is)
+faults_are_alike one apart dialect bytes (Syntax fault) (Lex other) is also =
+    absurd (apart dialect bytes other fault is also)
+faults_are_alike one apart dialect bytes (Syntax fault) (Syntax other) is also = tt
 
 module _ (one_tokens : OneTokens) (one_comments : OneComments) where
   -- a file has one lexing
@@ -104,20 +104,20 @@ module _ (one_tokens : OneTokens) (one_comments : OneComments) where
       λ i. record { text = same_text i; tokens = tokens i; comments = comments i }
 
   pub one_list_of_facts : OneTree → OneFacts → OneListOfFacts
-  one_list_of_facts one_tree one_facts custom number bytes facts other a b =
+  one_list_of_facts one_tree one_facts dialect number bytes facts other a b =
       let Here : Lexed → Type 0 =
-      λ lexed. Derives custom lexed.text lexed.tokens b.tree × AreFactsOf number lexed b.tree other in
+      λ lexed. Derives dialect lexed.text lexed.tokens b.tree × AreFactsOf number lexed b.tree other in
       let moved : Here a.lexed =
       subst Here (sym (same_lexing bytes a.lexed b.lexed a.lexing b.lexing)) (b.derives, b.of_tree) in
-      let trees : a.tree ≡ b.tree = one_tree custom a.lexed.text a.lexed.tokens a.tree b.tree a.derives moved.0 in
+      let trees : a.tree ≡ b.tree = one_tree dialect a.lexed.text a.lexed.tokens a.tree b.tree a.derives moved.0 in
       let Of : File → Type 0 = λ tree. AreFactsOf number a.lexed tree other in
       one_facts number a.lexed a.tree facts other a.lexing.is_lexed a.of_tree (subst Of (sym trees) moved.1)
 
   -- tokens of a file that derive a tree aren't said to derive none
-  parsed_is_parsed : (custom : CustomOptions) (number : ℕ) (bytes : List ℕ) (facts : Facts) (fault : SyntaxFault)
-      → AreFactsIn custom number bytes facts → IsUnparsed custom bytes fault → ⊥
-  parsed_is_parsed custom number bytes facts fault has un =
-      let Here : Lexed → Type 0 = λ lexed. Derives custom lexed.text lexed.tokens has.tree in
+  parsed_is_parsed : (dialect : Dialect) (number : ℕ) (bytes : List ℕ) (facts : Facts) (fault : SyntaxFault)
+      → AreFactsIn dialect number bytes facts → IsUnparsed dialect bytes fault → ⊥
+  parsed_is_parsed dialect number bytes facts fault has un =
+      let Here : Lexed → Type 0 = λ lexed. Derives dialect lexed.text lexed.tokens has.tree in
       un.no_tree has.tree (subst Here (same_lexing bytes has.lexed un.lexed has.lexing un.lexing) has.derives)
 
   module _ (no_fault : NoFaultWhereItLexes) where
@@ -130,27 +130,27 @@ module _ (one_tokens : OneTokens) (one_comments : OneComments) where
         no_fault bytes lexed.tokens lexed.comments fault (subst Of has.of_bytes has.is_lexed.lexes) first.1
 
     pub no_facts_where_unreadable : NoFactsWhereUnreadable
-    no_facts_where_unreadable custom number bytes facts (Lex fault) has un =
+    no_facts_where_unreadable dialect number bytes facts (Lex fault) has un =
         lexed_is_lexed bytes has.lexed fault has.lexing un
-    no_facts_where_unreadable custom number bytes facts (Syntax fault) has un =
-        parsed_is_parsed custom number bytes facts fault has un
+    no_facts_where_unreadable dialect number bytes facts (Syntax fault) has un =
+        parsed_is_parsed dialect number bytes facts fault has un
 
     pub lexed_where_unparsed : LexedWhereUnparsed
-    lexed_where_unparsed custom bytes lexing parsing un = lexed_is_lexed bytes un.lexed lexing un.lexing
+    lexed_where_unparsed dialect bytes lexing parsing un = lexed_is_lexed bytes un.lexed lexing un.lexing
 
 module _ (no_facts : NoFactsWhereUnreadable) where
   -- no source before the first faulty one is faulty
-  not_before : (custom : CustomOptions) (files : List TreeFile) (number other : ℕ) (fault another : FileFault)
-      → IsFirstFaulty custom files number fault → IsFirstFaulty custom files other another → number < other → ⊥
-  not_before custom files number other fault another first second less =
+  not_before : (dialect : Dialect) (files : List TreeFile) (number other : ℕ) (fault another : FileFault)
+      → IsFirstFaulty dialect files number fault → IsFirstFaulty dialect files other another → number < other → ⊥
+  not_before dialect files number other fault another first second less =
       let has = second.before number first.file less first.numbered first.faulty.source in
-      no_facts custom number first.file.bytes has.0 fault has.1 first.faulty.unreadable
+      no_facts dialect number first.file.bytes has.0 fault has.1 first.faulty.unreadable
 
   pub one_first_faulty : OneFirstFaulty
-  one_first_faulty custom files number other fault another first second = elim (cases_order number other) [
+  one_first_faulty dialect files number other fault another first second = elim (cases_order number other) [
     | inl same ↦ same
     | inr apart ↦ elim apart [
-      | inl less ↦ absurd (not_before custom files number other fault another first second less)
-      | inr more ↦ absurd (not_before custom files other number another fault second first more)
+      | inl less ↦ absurd (not_before dialect files number other fault another first second less)
+      | inr more ↦ absurd (not_before dialect files other number another fault second first more)
     ]
   ]

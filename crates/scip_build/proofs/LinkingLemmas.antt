@@ -6,7 +6,7 @@ use Rattle.std.specs.Option.{unwrap_or}
 use Rattle.std.proofs.lemmas.Option.{slice_get_within, none-some}
 use Rattle.proto_visibility.specs.Files.{File}
 use Rattle.proto_visibility.specs.Files as link
-use Rattle.proto_parse.specs.tree.CustomOptions.{CustomOptions}
+use Rattle.proto_parse.specs.tree.Dialect.{Dialect}
 use Rattle.proto_decl.specs.Seen.{Seen}
 use Rattle.index_hooks.specs.declared.choice.Choice.{Choice}
 use Rattle.source_tree.specs.Files.{TreeFile}
@@ -29,8 +29,8 @@ mapped_at f [] k y at = absurd (none-some y at)
 mapped_at f (x ∷ xs) zero y at = (x, refl, sym (same_some (f x) y at))
 mapped_at f (x ∷ xs) (suc k) y at = mapped_at f xs k y at
 
-module _ (faulty : Faulty) (custom : CustomOptions) (allows : Seen → Choice → Type 0) (files : List TreeFile)
-    (readings : List ReadFile) (are : AreReadingsOf faulty custom allows files readings) where
+module _ (faulty : Faulty) (dialect : Dialect) (allows : Seen → Choice → Type 0) (files : List TreeFile)
+    (readings : List ReadFile) (are : AreReadingsOf faulty dialect allows files readings) where
   -- the file of the tree that a linked file is
   pub in_tree : (number : ℕ) (file : File) → slice_get (linked_files readings) number ≡ Some file
       → (of : TreeFile) × (slice_get files number ≡ Some of) × (file.path ≡ of.path)
@@ -57,22 +57,22 @@ same_mapped f (x ∷ xs) (y ∷ ys) few each =
     let others = same_mapped f xs ys (omega (arith, few)) (λ k a b. each (suc k) a b) in
     λ i. here i ∷ others i
 
-module _ (one : OneListOfFacts) (apart : NoFactsWhereUnreadable) (faulty other : Faulty) (custom : CustomOptions)
+module _ (one : OneListOfFacts) (apart : NoFactsWhereUnreadable) (faulty other : Faulty) (dialect : Dialect)
     (allows others : Seen → Choice → Type 0) where
   -- two readings of a file have the same facts, or both none
   pub same_facts : (number : ℕ) (file : TreeFile) (a b : Result FileContents FileFault)
-      → HasContents faulty custom allows number file a → HasContents other custom others number file b
+      → HasContents faulty dialect allows number file a → HasContents other dialect others number file b
       → facts_in a ≡ facts_in b
   same_facts number file (Ok a) (Ok b) has also =
-      ap Some (one custom number file.bytes a.facts b.facts has.1.facts_in also.1.facts_in)
+      ap Some (one dialect number file.bytes a.facts b.facts has.1.facts_in also.1.facts_in)
   same_facts number file (Ok a) (Err f) has also =
-      absurd (apart custom number file.bytes a.facts f has.1.facts_in also.1)
+      absurd (apart dialect number file.bytes a.facts f has.1.facts_in also.1)
   same_facts number file (Err f) (Ok b) has also =
-      absurd (apart custom number file.bytes b.facts f also.1.facts_in has.1)
+      absurd (apart dialect number file.bytes b.facts f also.1.facts_in has.1)
   same_facts number file (Err f) (Err g) has also = refl
 
-  same_linked : (number : ℕ) (file : TreeFile) (a b : ReadFile) → IsReadingOf faulty custom allows number file a
-      → IsReadingOf other custom others number file b → linked_file a ≡ linked_file b
+  same_linked : (number : ℕ) (file : TreeFile) (a b : ReadFile) → IsReadingOf faulty dialect allows number file a
+      → IsReadingOf other dialect others number file b → linked_file a ≡ linked_file b
   same_linked number file a b reads again =
       let path = reads.path ∙ sym again.path in
       let facts = same_facts number file a.contents b.contents reads.contents again.contents in
@@ -80,7 +80,7 @@ module _ (one : OneListOfFacts) (apart : NoFactsWhereUnreadable) (faulty other :
       λ i. record { path = path i; facts = facts i; is_included = is_included i }
 
   pub one_linking : (files : List TreeFile) (readings again : List ReadFile)
-      → AreReadingsOf faulty custom allows files readings → AreReadingsOf other custom others files again
+      → AreReadingsOf faulty dialect allows files readings → AreReadingsOf other dialect others files again
       → linked_files readings ≡ linked_files again
   one_linking files readings again are also =
       same_mapped linked_file readings again (are.one_each ∙ sym also.one_each) (λ k a b at and.

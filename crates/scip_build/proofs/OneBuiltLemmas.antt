@@ -10,7 +10,7 @@ use Rattle.std.specs.List.Sorted.{IsStrictlySortedBy}
 use Rattle.std.specs.Option.{option_map}
 use Rattle.std.proofs.lemmas.List.{length-map}
 use Rattle.std.proofs.lemmas.Option.{same_Some, slice_get-map, slice_get_within}
-use Rattle.proto_parse.specs.tree.CustomOptions.{CustomOptions}
+use Rattle.proto_parse.specs.tree.Dialect.{Dialect}
 use Rattle.proto_decl.specs.Facts.{Facts}
 use Rattle.proto_decl.specs.Seen.{Seen}
 use Rattle.proto_decl.specs.declared.declaration.Declaration.{Declaration}
@@ -56,15 +56,15 @@ use Rattle.scip_build.proofs.ToldLemmas.{key_total, of_same, one_told}
 use Rattle.scip_build.proofs.GoodTreeLemmas.{fault_of}
 
 -- a file with a fault can't be read
-unreadable : (faulty : Faulty) (custom : CustomOptions) (allows : Seen → Choice → Type 0) (tree : List TreeFile)
-    (readings : List ReadFile) → AreReadingsOf faulty custom allows tree readings → (number : ℕ) (fault : FileFault)
+unreadable : (faulty : Faulty) (dialect : Dialect) (allows : Seen → Choice → Type 0) (tree : List TreeFile)
+    (readings : List ReadFile) → AreReadingsOf faulty dialect allows tree readings → (number : ℕ) (fault : FileFault)
     → HasFault readings number fault
-    → (file : TreeFile) × (slice_get tree number ≡ Some file) × IsUnreadable custom file.bytes fault
-unreadable faulty custom allows tree readings are number fault has =
+    → (file : TreeFile) × (slice_get tree number ≡ Some file) × IsUnreadable dialect file.bytes fault
+unreadable faulty dialect allows tree readings are number fault has =
     let within : number < length tree =
     rw (sym are.one_each) (slice_get_within readings number has.reading has.numbered) in
     let there = at_number tree number within in
-    let Contents : Result FileContents FileFault → Type 0 = HasContents faulty custom allows number there.0 in
+    let Contents : Result FileContents FileFault → Type 0 = HasContents faulty dialect allows number there.0 in
     let contents = subst Contents has.unread (are.each number there.0 has.reading there.1 has.numbered).contents in
     (there.0, there.1, contents.1)
 
@@ -87,25 +87,25 @@ module _ (one : OneListOfFacts) (apart : NoFactsWhereUnreadable) (allows others 
   abbrev AreSame : (a b : Result FileContents FileFault) → Type 0
   AreSame a b = (choices_in a ≡ choices_in b) × (text_in a ≡ text_in b)
 
-  module _ (faulty another : Faulty) (custom : CustomOptions) where
+  module _ (faulty another : Faulty) (dialect : Dialect) where
     same_contents : (number : ℕ) (file : TreeFile) (a b : Result FileContents FileFault)
-        → HasContents faulty custom allows number file a → HasContents another custom others number file b
+        → HasContents faulty dialect allows number file a → HasContents another dialect others number file b
         → AreSame a b
     same_contents number file (Ok a) (Ok b) has also =
-        let facts : a.facts ≡ b.facts = one custom number file.bytes a.facts b.facts has.1.facts_in also.1.facts_in in
+        let facts : a.facts ≡ b.facts = one dialect number file.bytes a.facts b.facts has.1.facts_in also.1.facts_in in
         let Of : Facts → Type 0 = λ f. AreChosen others f.declarations b.choices in (
           same_choices a.facts.declarations a.choices b.choices has.1.chosen (subst Of (sym facts) also.1.chosen),
           has.0 ∙ sym also.0,
         )
     same_contents number file (Ok a) (Err fault) has also =
-        absurd (apart custom number file.bytes a.facts fault has.1.facts_in also.1)
+        absurd (apart dialect number file.bytes a.facts fault has.1.facts_in also.1)
     same_contents number file (Err fault) (Ok b) has also =
-        absurd (apart custom number file.bytes b.facts fault also.1.facts_in has.1)
+        absurd (apart dialect number file.bytes b.facts fault also.1.facts_in has.1)
     same_contents number file (Err fault) (Err other) has also = (refl, refl)
 
     module _ (tree : List TreeFile) (readings again : List ReadFile)
-        (are : AreReadingsOf faulty custom allows tree readings)
-        (also : AreReadingsOf another custom others tree again) where
+        (are : AreReadingsOf faulty dialect allows tree readings)
+        (also : AreReadingsOf another dialect others tree again) where
       same_at : (k : ℕ) (a b : ReadFile) → slice_get readings k ≡ Some a → slice_get again k ≡ Some b
           → AreSame a.contents b.contents
       same_at k a b at and =
@@ -148,21 +148,21 @@ module _ (one : OneListOfFacts) (apart : NoFactsWhereUnreadable) (alike : Faults
   abbrev b : Omissions
   b = also.of_files.kept.omissions
 
-  read_again : AreReadingsOf another.faulty settings.custom_options others tree again
+  read_again : AreReadingsOf another.faulty settings.dialect others tree again
   read_again =
-      let Read : CustomOptions → Type 0 = λ c. AreReadingsOf another.faulty c others tree again in
-      subst Read (sym same.custom_options) also.read
+      let Read : Dialect → Type 0 = λ c. AreReadingsOf another.faulty c others tree again in
+      subst Read (sym same.dialect) also.read
 
   all_linked : linked_files all ≡ linked_files again
   all_linked =
-      one_linking one apart settings.faulty another.faulty settings.custom_options allows others tree all again is.read
+      one_linking one apart settings.faulty another.faulty settings.dialect allows others tree all again is.read
       read_again
 
   same_omissions : a ≡ b
   same_omissions =
       let Are : List File → Type 0 = λ files. AreOmissions files b in
       one_list (linked_files all)
-      (have_origins all (whole_at settings.faulty settings.custom_options allows tree all is.read)) a b
+      (have_origins all (whole_at settings.faulty settings.dialect allows tree all is.read)) a b
       is.of_files.kept.left_out (subst Are (sym all_linked) also.of_files.kept.left_out)
 
   kept_alike : {Y : Type 0} (f : ReadFile → Y) → map f all ≡ map f again
@@ -175,12 +175,12 @@ module _ (one : OneListOfFacts) (apart : NoFactsWhereUnreadable) (alike : Faults
 
   choices_are : built.choices ≡ other.choices
   choices_are = is.of_files.choices ∙ (kept_alike choices_of
-      (same_lists one apart allows others agree settings.faulty another.faulty settings.custom_options tree all again
+      (same_lists one apart allows others agree settings.faulty another.faulty settings.dialect tree all again
       is.read read_again) ∙ sym also.of_files.choices)
 
   texts_are : texts_of is.of_files.readings ≡ texts_of also.of_files.readings
   texts_are = kept_alike text_of
-      (same_texts one apart allows others agree settings.faulty another.faulty settings.custom_options tree all again
+      (same_texts one apart allows others agree settings.faulty another.faulty settings.dialect tree all again
       is.read read_again)
 
   index_is : built.index ≡ other.index
@@ -329,7 +329,7 @@ set_the_same settings another same = record {
   project_root = sym same.project_root;
   id = sym same.id;
   encoding = sym same.encoding;
-  custom_options = sym same.custom_options;
+  dialect = sym same.dialect;
 }
 
 allow_one : (allows others : Seen → Choice → Type 0) → AllowOne allows others → AllowOne others allows
@@ -396,12 +396,12 @@ module _ (one : OneListOfFacts) (apart : NoFactsWhereUnreadable) (alike : Faults
           ((is.of_files.kept.told_is.exact (build.File number fault)).0 there) number fault refl in
           let second = file_told also.all also.of_files.kept.omissions (build.File number more)
           ((also.of_files.kept.told_is.exact (build.File number more)).0 too) number more refl in
-          let a = unreadable settings.faulty settings.custom_options allows tree is.all is.read number fault first in
-          let b = unreadable another.faulty another.custom_options others tree also.all also.read number more second in
+          let a = unreadable settings.faulty settings.dialect allows tree is.all is.read number fault first in
+          let b = unreadable another.faulty another.dialect others tree also.all also.read number more second in
           let file : a.0 ≡ b.0 = same_Some a.0 b.0 (sym a.1 ∙ b.1) in
-          let bytes = subst (λ (f : TreeFile). IsUnreadable another.custom_options f.bytes more) (sym file) b.2 in
-          let custom = subst (λ c. IsUnreadable c a.0.bytes more) (sym same.custom_options) bytes in
-          alike settings.custom_options a.0.bytes fault more a.2 custom
+          let bytes = subst (λ (f : TreeFile). IsUnreadable another.dialect f.bytes more) (sym file) b.2 in
+          let dialect = subst (λ c. IsUnreadable c a.0.bytes more) (sym same.dialect) bytes in
+          alike settings.dialect a.0.bytes fault more a.2 dialect
 
       whole : settings.faulty ≡ Refuse → built ≡ other
       whole refuse =

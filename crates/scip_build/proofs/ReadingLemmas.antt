@@ -4,7 +4,7 @@ use Rattle.std.proofs.Common.{Result, Ok, Err, sym, refl, subst, arith}
 use Rattle.std.specs.List.{slice_get}
 use Rattle.std.specs.Option.{IfSome}
 use Rattle.std.proofs.lemmas.Option.{slice_get_within}
-use Rattle.proto_parse.specs.tree.CustomOptions.{CustomOptions}
+use Rattle.proto_parse.specs.tree.Dialect.{Dialect}
 use Rattle.proto_decl.specs.Seen.{Seen}
 use Rattle.index_hooks.specs.declared.choice.Choice.{Choice}
 use Rattle.index_pool.specs.Phase.{AnswersEach, IsLeastFault}
@@ -32,35 +32,35 @@ holds_at {X} P xs k x at holds = let Q : Option X → Type 0 = λ o. IfSome o P 
 
 -- a source that was read has facts, where it is refused else
 pub source_has_facts : (faulty : Faulty) → faulty ≡ Refuse
-    → (custom : CustomOptions) (allows : Seen → Choice → Type 0) (number : ℕ) (file : TreeFile)
+    → (dialect : Dialect) (allows : Seen → Choice → Type 0) (number : ℕ) (file : TreeFile)
     (contents : Result FileContents FileFault)
-    → HasContents faulty custom allows number file contents → IsReadIfSource custom number file
-source_has_facts faulty refused custom allows number file (Ok contents) has source = (contents.facts, has.1.facts_in)
-source_has_facts faulty refused custom allows number file (Err fault) has source =
+    → HasContents faulty dialect allows number file contents → IsReadIfSource dialect number file
+source_has_facts faulty refused dialect allows number file (Ok contents) has source = (contents.facts, has.1.facts_in)
+source_has_facts faulty refused dialect allows number file (Err fault) has source =
     let May : Faulty → Type 0 = λ f. may_be_unread f file.is_included ≡ true in
     absurd (true≢false (sym (subst May refused has.0) ∙ source))
 
-module _ (faulty : Faulty) (custom : CustomOptions) (allows : Seen → Choice → Type 0) (files : List TreeFile) where
+module _ (faulty : Faulty) (dialect : Dialect) (allows : Seen → Choice → Type 0) (files : List TreeFile) where
   pub readings_of : (readings : List ReadFile)
-      → AnswersEach (GivesReading faulty custom allows files) (length files) readings
-      → AreReadingsOf faulty custom allows files readings
+      → AnswersEach (GivesReading faulty dialect allows files) (length files) readings
+      → AreReadingsOf faulty dialect allows files readings
   readings_of readings answers = record {
     one_each = answers.0;
     each = λ number file reading at is. holds_at
-        (λ f. IsReadingOf faulty custom allows number f reading) files number file at (answers.1 number reading is);
+        (λ f. IsReadingOf faulty dialect allows number f reading) files number file at (answers.1 number reading is);
   }
 
   -- why a file stops the run, the first of those that do, is why the files aren't read
   pub refused_of : (workers number : ℕ) (fault : BuildFault)
-      → IsLeastFault (GivesReading faulty custom allows files) (length files) number fault
-      → MayRefuseFiles faulty custom files workers fault
+      → IsLeastFault (GivesReading faulty dialect allows files) (length files) number fault
+      → MayRefuseFiles faulty dialect files workers fault
   refused_of workers number fault least =
       let there = at_number files number least.0 in
       by fault there.0 there.1
-      (holds_at (λ f. MayRefuseReading faulty custom number f fault) files number there.0 there.1 least.1)
+      (holds_at (λ f. MayRefuseReading faulty dialect number f fault) files number there.0 there.1 least.1)
     where
       by : (fault : BuildFault) (file : TreeFile) → slice_get files number ≡ Some file
-          → MayRefuseReading faulty custom number file fault → MayRefuseFiles faulty custom files workers fault
+          → MayRefuseReading faulty dialect number file fault → MayRefuseFiles faulty dialect files workers fault
       by build.Spawn file at may = absurd may
       by build.Memory file at may = tt
       by (build.File other of_file) file at may =
@@ -73,8 +73,8 @@ module _ (faulty : Faulty) (custom : CustomOptions) (allows : Seen → Choice �
               before = λ lesser before less there.
                   let Below : ℕ → Type 0 = λ k. lesser < k in
                   let read = least.2 lesser (subst Below may.1 less) in
-                  source_has_facts faulty may.0 custom allows lesser before read.0.contents
-                  (holds_at (λ f. IsReadingOf faulty custom allows lesser f read.0) files lesser before there
+                  source_has_facts faulty may.0 dialect allows lesser before read.0.contents
+                  (holds_at (λ f. IsReadingOf faulty dialect allows lesser f read.0) files lesser before there
                   read.1).contents;
             },
           )
@@ -84,12 +84,12 @@ module _ (faulty : Faulty) (custom : CustomOptions) (allows : Seen → Choice �
 
   -- files with readings have no faulty source, where it is refused
   pub no_readings_where_faulty : faulty ≡ Refuse → NoFactsWhereUnreadable
-      → (readings : List ReadFile) (number : ℕ) (fault : FileFault) → AreReadingsOf faulty custom allows files readings
-      → IsFirstFaulty custom files number fault → ⊥
+      → (readings : List ReadFile) (number : ℕ) (fault : FileFault) → AreReadingsOf faulty dialect allows files readings
+      → IsFirstFaulty dialect files number fault → ⊥
   no_readings_where_faulty refused no_facts readings number fault are first =
       let within : number < length readings =
       rw are.one_each (slice_get_within files number first.file first.numbered) in
       let there = at_number readings number within in
-      let has = source_has_facts faulty refused custom allows number first.file there.0.contents
+      let has = source_has_facts faulty refused dialect allows number first.file there.0.contents
       (are.each number first.file there.0 first.numbered there.1).contents first.faulty.source in
-      no_facts custom number first.file.bytes has.0 fault has.1 first.faulty.unreadable
+      no_facts dialect number first.file.bytes has.0 fault has.1 first.faulty.unreadable

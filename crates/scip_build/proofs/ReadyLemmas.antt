@@ -9,7 +9,7 @@ use Rattle.std.specs.Ordering.{nat_cmp, bool_cmp, ordering_then}
 use Rattle.std.specs.Cmp.Lexicographic.{slice_cmp}
 use Rattle.std.proofs.lemmas.List.{length-map}
 use Rattle.std.proofs.lemmas.Option.{same_Some, none-some, slice_get-map, slice_get_within, get_or_from_slice_get}
-use Rattle.proto_parse.specs.tree.CustomOptions.{CustomOptions}
+use Rattle.proto_parse.specs.tree.Dialect.{Dialect}
 use Rattle.proto_decl.specs.Facts.{Facts, AreFactsOf, AreOfSomeFile}
 use Rattle.proto_decl.specs.Seen.{Seen}
 use Rattle.proto_decl.specs.declared.declaration.Declaration.{Declaration}
@@ -44,15 +44,15 @@ mapped f xs k x at = slice_get-map f xs k ∙ ap (option_map f) at
 -- ---- of a tree
 
 -- facts of a file's bytes are facts of that text
-of_text : (custom : CustomOptions) (number : ℕ) (bytes : List ℕ) (facts : Facts) → AreFactsIn custom number bytes facts
+of_text : (dialect : Dialect) (number : ℕ) (bytes : List ℕ) (facts : Facts) → AreFactsIn dialect number bytes facts
     → AreOfText bytes facts
-of_text custom number bytes facts has =
+of_text dialect number bytes facts has =
     let Of : ℕ → Type 0 = λ n. AreFactsOf n has.lexed has.tree facts in
     record {
       origin = record {
         lexed = has.lexed;
         file = has.tree;
-        custom = custom;
+        dialect = dialect;
         is_lexed = has.lexing.is_lexed;
         derives = has.derives;
         of_file = subst Of (sym has.of_tree.numbered) has.of_tree;
@@ -60,26 +60,26 @@ of_text custom number bytes facts has =
       text_is = has.lexing.of_bytes;
     }
 
-whole : (faulty : Faulty) (custom : CustomOptions) (allows : Seen → Choice → Type 0) (number : ℕ) (file : TreeFile)
+whole : (faulty : Faulty) (dialect : Dialect) (allows : Seen → Choice → Type 0) (number : ℕ) (file : TreeFile)
     (contents : Result FileContents FileFault)
-    → HasContents faulty custom allows number file contents → AreWholeIfRead contents
-whole faulty custom allows number file (Ok contents) has =
+    → HasContents faulty dialect allows number file contents → AreWholeIfRead contents
+whole faulty dialect allows number file (Ok contents) has =
     let Of : List ℕ → Type 0 = λ bytes. AreOfText bytes contents.facts in
     let may_come : Declaration → Choice → Type 0 = λ declaration choice. allows (seen_of declaration) choice in
     record {
-      of_text = subst Of (sym has.0) (of_text custom number file.bytes contents.facts has.1.facts_in);
+      of_text = subst Of (sym has.0) (of_text dialect number file.bytes contents.facts has.1.facts_in);
       chosen = λ index declared at.
           beside may_come contents.facts.declarations contents.choices index declared has.1.chosen at;
     }
-whole faulty custom allows number file (Err fault) has = tt
+whole faulty dialect allows number file (Err fault) has = tt
 
-module _ (faulty : Faulty) (custom : CustomOptions) (allows : Seen → Choice → Type 0) (tree : List TreeFile)
-    (readings : List ReadFile) (are : AreReadingsOf faulty custom allows tree readings) where
+module _ (faulty : Faulty) (dialect : Dialect) (allows : Seen → Choice → Type 0) (tree : List TreeFile)
+    (readings : List ReadFile) (are : AreReadingsOf faulty dialect allows tree readings) where
   -- the file that a reading is one of
   record IsReadAt (number : ℕ) (reading : ReadFile) : Type 0 where
     file : TreeFile
     numbered : slice_get tree number ≡ Some file
-    is : IsReadingOf faulty custom allows number file reading
+    is : IsReadingOf faulty dialect allows number file reading
 
   read_at : (number : ℕ) (reading : ReadFile) → slice_get readings number ≡ Some reading → IsReadAt number reading
   read_at number reading at =
@@ -91,7 +91,7 @@ module _ (faulty : Faulty) (custom : CustomOptions) (allows : Seen → Choice �
       → AreWholeIfRead reading.contents
   whole_at number reading at =
       let read = read_at number reading at in
-      whole faulty custom allows number read.file reading.contents read.is.contents
+      whole faulty dialect allows number read.file reading.contents read.is.contents
 
   module _ (is_tree : IsTree tree) where
     good_at : (number : ℕ) (reading : ReadFile) → slice_get readings number ≡ Some reading → IsGoodPath reading.path
@@ -124,7 +124,7 @@ module _ (faulty : Faulty) (custom : CustomOptions) (allows : Seen → Choice �
       few = rw are.one_each is_tree.few;
       each = λ number reading at.
           record { good = good_at number reading at; contents = whole_at number reading at };
-      own = own_paths faulty custom allows tree readings are is_tree.own;
+      own = own_paths faulty dialect allows tree readings are is_tree.own;
       rising = rises;
     }
 

@@ -1,7 +1,7 @@
 -- A refusal of a stage is one of the whole.
 use Rattle.std.proofs.Common.{◌≡◌, ℕ, List, Result, Ok, Err, sym, ◌∙◌, inl, inr}
 use Rattle.std.specs.Prelude.{MatchResult}
-use Rattle.proto_parse.specs.tree.CustomOptions.{CustomOptions}
+use Rattle.proto_parse.specs.tree.Dialect.{Dialect}
 use Rattle.proto_decl.specs.Seen.{Seen}
 use Rattle.index_hooks.specs.declared.choice.Choice.{Choice}
 use Rattle.proto_visibility.specs.Files.{File}
@@ -69,11 +69,11 @@ linked_of Is readings settings workers linked (Ok made) is = record { linked = l
 linked_of Is readings settings workers linked (Err fault) is =
     of_documents settings.faulty readings workers fault linked is
 
-module _ (allows : Seen → Choice → Type 0) (faulty : Faulty) (custom : CustomOptions) (tree : List TreeFile)
+module _ (allows : Seen → Choice → Type 0) (faulty : Faulty) (dialect : Dialect) (tree : List TreeFile)
     (workers : ℕ) where
   -- why files aren't read
-  pub of_reading : (fault : BuildFault) → MayRefuseFiles faulty custom tree workers fault
-      → IsBuildFault allows faulty custom tree workers fault
+  pub of_reading : (fault : BuildFault) → MayRefuseFiles faulty dialect tree workers fault
+      → IsBuildFault allows faulty dialect tree workers fault
   of_reading build.Spawn is = is
   of_reading build.Memory is = tt
   of_reading (build.File number fault) is = (is.0, inl is.1)
@@ -82,9 +82,9 @@ module _ (allows : Seen → Choice → Type 0) (faulty : Faulty) (custom : Custo
   of_reading (build.Unresolved place) is = absurd is
 
   -- why files that were read make no index
-  pub of_making : faulty ≡ Refuse → (readings : List ReadFile) → AreReadingsOf Refuse custom allows tree readings
+  pub of_making : faulty ≡ Refuse → (readings : List ReadFile) → AreReadingsOf Refuse dialect allows tree readings
       → (fault : BuildFault) → MayRefuseMaking readings workers fault
-      → IsBuildFault allows faulty custom tree workers fault
+      → IsBuildFault allows faulty dialect tree workers fault
   of_making refuse readings are build.Spawn is = is
   of_making refuse readings are build.Memory is = tt
   of_making refuse readings are (build.File number fault) is = (refuse, inr (readings, are, is))
@@ -94,7 +94,7 @@ module _ (allows : Seen → Choice → Type 0) (faulty : Faulty) (custom : Custo
 
   -- why what is kept of them makes none
   pub of_kept : (fault : BuildFault) → MayRefuseSkipping workers fault
-      → IsBuildFault allows faulty custom tree workers fault
+      → IsBuildFault allows faulty dialect tree workers fault
   of_kept build.Spawn is = is
   of_kept build.Memory is = tt
   of_kept (build.File number fault) is = absurd is

@@ -1,6 +1,6 @@
 -- What the definitions say about builds, whatever the code does.
 use Rattle.std.specs.Prelude.{◌≡◌, ◌≢◌, ℕ, List, [], map, Contains}
-use Rattle.proto_parse.specs.tree.CustomOptions.{CustomOptions}
+use Rattle.proto_parse.specs.tree.Dialect.{Dialect}
 use Rattle.proto_decl.specs.Seen.{Seen}
 use Rattle.proto_visibility.specs.declared.fault.LinkFault.{LinkFault}
 use Rattle.proto_visibility.specs.declared.fault.LinkFault.TheVariants as link
@@ -32,23 +32,23 @@ abbrev pub BuiltHasNoFault : (allows others : Seen → Choice → Type 0) → Ty
 BuiltHasNoFault allows others =
     (settings : Settings) (tree : List TreeFile) (workers : ℕ) (built : Built) (fault : BuildFault)
     → IsBuilt allows settings tree built
-    → IsBuildFault others settings.faulty settings.custom_options tree workers fault → cause_of fault ≢ link.Memory → ⊥
+    → IsBuildFault others settings.faulty settings.dialect tree workers fault → cause_of fault ≢ link.Memory → ⊥
 
 -- and those of any tree one at most
 abbrev pub OneBuildFault : (allows others : Seen → Choice → Type 0) → Type 0
 OneBuildFault allows others =
-    (faulty : Faulty) (custom : CustomOptions) (tree : List TreeFile) (workers more : ℕ) (fault other : BuildFault)
-    → IsBuildFault allows faulty custom tree workers fault → IsBuildFault others faulty custom tree more other
+    (faulty : Faulty) (dialect : Dialect) (tree : List TreeFile) (workers more : ℕ) (fault other : BuildFault)
+    → IsBuildFault allows faulty dialect tree workers fault → IsBuildFault others faulty dialect tree more other
     → cause_of fault ≢ link.Memory → cause_of other ≢ link.Memory
     → cause_of fault ≡ cause_of other
 
 -- The faults of the file that is named are alike.
 abbrev pub FileFaultsAreAlike : (allows others : Seen → Choice → Type 0) → Type 0
 FileFaultsAreAlike allows others =
-    (faulty : Faulty) (custom : CustomOptions) (tree : List TreeFile) (workers more number : ℕ)
+    (faulty : Faulty) (dialect : Dialect) (tree : List TreeFile) (workers more number : ℕ)
     (fault other : FileFault)
-    → IsBuildFault allows faulty custom tree workers (File number fault)
-    → IsBuildFault others faulty custom tree more (File number other) → AreAlike fault other
+    → IsBuildFault allows faulty dialect tree workers (File number fault)
+    → IsBuildFault others faulty dialect tree more (File number other) → AreAlike fault other
 
 -- Two that are built are alike: they have one index and one list of choices, and what is told names the same. The
 -- faults of a file that can't be read are alike; two of syntax may differ, and tests show which one comes.
@@ -64,7 +64,7 @@ pub record SetTheSame (settings other : Settings) : Type 0 where
   pub project_root : settings.project_root ≡ other.project_root
   pub id : settings.package ≡ other.package
   pub encoding : settings.encoding ≡ other.encoding
-  pub custom_options : settings.custom_options ≡ other.custom_options
+  pub dialect : settings.dialect ≡ other.dialect
 
 -- only one choice may come for what is seen of a declaration, whichever of the two is asked
 abbrev pub AllowOne : (allows others : Seen → Choice → Type 0) → Type 0

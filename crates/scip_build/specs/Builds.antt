@@ -1,6 +1,6 @@
 -- What is built from a tree, and why nothing is.
 use Rattle.std.specs.Prelude.{◌≡◌, ◌⊎◌, ◌<◌, ℕ, ⊤, List, map}
-use Rattle.proto_parse.specs.tree.CustomOptions.{CustomOptions}
+use Rattle.proto_parse.specs.tree.Dialect.{Dialect}
 use Rattle.proto_decl.specs.Seen.{Seen}
 use Rattle.index_hooks.specs.declared.choice.Choice.{Choice}
 use Rattle.proto_visibility.specs.Linked.{CanBeLinked, HaveClearNames}
@@ -35,29 +35,29 @@ pub record IsBuiltOf (all : List ReadFile) (settings : Settings) (built : Built)
 pub record IsBuilt (allows : Seen → Choice → Type 0) (settings : Settings) (tree : List TreeFile)
     (built : Built) : Type 0 where
   pub all : List ReadFile
-  pub read : AreReadingsOf settings.faulty settings.custom_options allows tree all
+  pub read : AreReadingsOf settings.faulty settings.dialect allows tree all
   pub of_files : IsBuiltOf all settings built
 
 -- this holds of some readings of the tree: so each source could be read
-abbrev pub OfReadings : (custom : CustomOptions) → (allows : Seen → Choice → Type 0) → List TreeFile
+abbrev pub OfReadings : (dialect : Dialect) → (allows : Seen → Choice → Type 0) → List TreeFile
     → (List ReadFile → Type 0) → Type 0
-OfReadings custom allows tree Holds =
-    (readings : List ReadFile) × AreReadingsOf Refuse custom allows tree readings × Holds readings
+OfReadings dialect allows tree Holds =
+    (readings : List ReadFile) × AreReadingsOf Refuse dialect allows tree readings × Holds readings
 
 -- Why a tree has no index: the first source that can't be read; else what the linking of its files refuses; else the
 -- first use that names no type; all this only if faults are refused. A thread is refused only if one is to be
 -- started; nothing is said about memory.
-abbrev pub IsBuildFault : (allows : Seen → Choice → Type 0) → Faulty → (custom : CustomOptions) → List TreeFile
+abbrev pub IsBuildFault : (allows : Seen → Choice → Type 0) → Faulty → (dialect : Dialect) → List TreeFile
     → (workers : ℕ) → BuildFault → Type 0
-IsBuildFault allows faulty custom tree workers Spawn = 1 < workers
-IsBuildFault allows faulty custom tree workers Memory = ⊤
-IsBuildFault allows faulty custom tree workers (File number fault) =
-    (faulty ≡ Refuse) × (IsFirstFaulty custom tree number fault
-    ⊎ OfReadings custom allows tree (λ readings. MayRefuseReadings readings (File number fault)))
-IsBuildFault allows faulty custom tree workers (Duplicate first second) =
-    (faulty ≡ Refuse) × OfReadings custom allows tree (λ readings. MayRefuseReadings readings (Duplicate first second))
-IsBuildFault allows faulty custom tree workers (MissingImport place) =
-    (faulty ≡ Refuse) × OfReadings custom allows tree (λ readings. MayRefuseReadings readings (MissingImport place))
-IsBuildFault allows faulty custom tree workers (Unresolved place) =
-    (faulty ≡ Refuse) × OfReadings custom allows tree
+IsBuildFault allows faulty dialect tree workers Spawn = 1 < workers
+IsBuildFault allows faulty dialect tree workers Memory = ⊤
+IsBuildFault allows faulty dialect tree workers (File number fault) =
+    (faulty ≡ Refuse) × (IsFirstFaulty dialect tree number fault
+    ⊎ OfReadings dialect allows tree (λ readings. MayRefuseReadings readings (File number fault)))
+IsBuildFault allows faulty dialect tree workers (Duplicate first second) =
+    (faulty ≡ Refuse) × OfReadings dialect allows tree (λ readings. MayRefuseReadings readings (Duplicate first second))
+IsBuildFault allows faulty dialect tree workers (MissingImport place) =
+    (faulty ≡ Refuse) × OfReadings dialect allows tree (λ readings. MayRefuseReadings readings (MissingImport place))
+IsBuildFault allows faulty dialect tree workers (Unresolved place) =
+    (faulty ≡ Refuse) × OfReadings dialect allows tree
     (λ readings. CanBeLinked (linked_files readings) × IsLeastUnresolved (linked_files readings) place)

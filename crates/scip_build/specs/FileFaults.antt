@@ -3,7 +3,7 @@
 use Rattle.std.specs.Prelude.{◌≡◌, ℕ, ⊤, List}
 use Rattle.proto_lex.specs.declared.fault.LexFault.{LexFault}
 use Rattle.proto_lex.specs.declared.fault.LexFault.TheVariants as lexing
-use Rattle.proto_parse.specs.tree.CustomOptions.{CustomOptions}
+use Rattle.proto_parse.specs.tree.Dialect.{Dialect}
 use Rattle.proto_parse.specs.fault.SyntaxFault.{SyntaxFault}
 use Rattle.proto_parse.specs.fault.SyntaxFault.TheVariants as parsing
 use Rattle.scip_build.specs.declared.fault.FileFault.TheVariants.{Lex, Syntax}
@@ -21,10 +21,10 @@ fault_of_parsing number parsing.Memory = Memory
 fault_of_parsing number fault = File number (Syntax fault)
 
 -- why the file with this number and these bytes has no contents; nothing is said about memory
-abbrev pub MayRefuseFile : CustomOptions → (number : ℕ) → (bytes : List ℕ) → BuildFault → Type 0
-MayRefuseFile custom number bytes Spawn = ⊥
-MayRefuseFile custom number bytes Memory = ⊤
-MayRefuseFile custom number bytes (File other fault) = (other ≡ number) × IsUnreadable custom bytes fault
-MayRefuseFile custom number bytes (Duplicate first second) = ⊥
-MayRefuseFile custom number bytes (MissingImport place) = ⊥
-MayRefuseFile custom number bytes (Unresolved place) = ⊥
+abbrev pub MayRefuseFile : Dialect → (number : ℕ) → (bytes : List ℕ) → BuildFault → Type 0
+MayRefuseFile dialect number bytes Spawn = ⊥
+MayRefuseFile dialect number bytes Memory = ⊤
+MayRefuseFile dialect number bytes (File other fault) = (other ≡ number) × IsUnreadable dialect bytes fault
+MayRefuseFile dialect number bytes (Duplicate first second) = ⊥
+MayRefuseFile dialect number bytes (MissingImport place) = ⊥
+MayRefuseFile dialect number bytes (Unresolved place) = ⊥

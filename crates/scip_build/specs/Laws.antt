@@ -1,7 +1,7 @@
 -- What the definitions say about readings and faults, whatever the code does.
 use Rattle.std.specs.Prelude.{◌≡◌, ℕ, ⊤, List}
 use Rattle.proto_lex.specs.declared.fault.LexFault.{LexFault}
-use Rattle.proto_parse.specs.tree.CustomOptions.{CustomOptions}
+use Rattle.proto_parse.specs.tree.Dialect.{Dialect}
 use Rattle.proto_parse.specs.fault.SyntaxFault.{SyntaxFault}
 use Rattle.proto_decl.specs.Facts.{Facts}
 use Rattle.proto_decl.specs.Seen.{Seen}
@@ -21,19 +21,19 @@ use Rattle.scip_build.specs.Linking.{linked_files}
 -- A file has one list of facts at most,
 abbrev pub OneListOfFacts : Type 0
 OneListOfFacts =
-    (custom : CustomOptions) (number : ℕ) (bytes : List ℕ) (facts other : Facts) → AreFactsIn custom number bytes facts
-    → AreFactsIn custom number bytes other → facts ≡ other
+    (dialect : Dialect) (number : ℕ) (bytes : List ℕ) (facts other : Facts) → AreFactsIn dialect number bytes facts
+    → AreFactsIn dialect number bytes other → facts ≡ other
 
 -- and none if it can't be read,
 abbrev pub NoFactsWhereUnreadable : Type 0
 NoFactsWhereUnreadable =
-    (custom : CustomOptions) (number : ℕ) (bytes : List ℕ) (facts : Facts) (fault : FileFault)
-    → AreFactsIn custom number bytes facts → IsUnreadable custom bytes fault → ⊥
+    (dialect : Dialect) (number : ℕ) (bytes : List ℕ) (facts : Facts) (fault : FileFault)
+    → AreFactsIn dialect number bytes facts → IsUnreadable dialect bytes fault → ⊥
 
 -- which it can't be for one kind of fault.
 abbrev pub LexedWhereUnparsed : Type 0
-LexedWhereUnparsed = (custom : CustomOptions) (bytes : List ℕ) (lexing : LexFault) (parsing : SyntaxFault)
-    → IsUnparsed custom bytes parsing → IsUnlexed bytes lexing → ⊥
+LexedWhereUnparsed = (dialect : Dialect) (bytes : List ℕ) (lexing : LexFault) (parsing : SyntaxFault)
+    → IsUnparsed dialect bytes parsing → IsUnlexed bytes lexing → ⊥
 
 -- Two faults of one file are alike: two of lexing are one fault; two of syntax may differ, and tests show which one
 -- comes.
@@ -44,31 +44,31 @@ AreAlike (Syntax fault) (Lex other) = ⊥
 AreAlike (Syntax fault) (Syntax other) = ⊤
 
 abbrev pub FaultsAreAlike : Type 0
-FaultsAreAlike = (custom : CustomOptions) (bytes : List ℕ) (fault other : FileFault) → IsUnreadable custom bytes fault
-    → IsUnreadable custom bytes other → AreAlike fault other
+FaultsAreAlike = (dialect : Dialect) (bytes : List ℕ) (fault other : FileFault) → IsUnreadable dialect bytes fault
+    → IsUnreadable dialect bytes other → AreAlike fault other
 
 -- One of the sources that can't be read is the first.
 abbrev pub OneFirstFaulty : Type 0
 OneFirstFaulty =
-    (custom : CustomOptions) (files : List TreeFile) (number other : ℕ) (fault another : FileFault)
-    → IsFirstFaulty custom files number fault → IsFirstFaulty custom files other another → number ≡ other
+    (dialect : Dialect) (files : List TreeFile) (number other : ℕ) (fault another : FileFault)
+    → IsFirstFaulty dialect files number fault → IsFirstFaulty dialect files other another → number ≡ other
 
 -- If there is one, the files have no readings, if it is refused.
 abbrev pub NoReadingsWhereFaulty : (allows : Seen → Choice → Type 0) → Type 0
 NoReadingsWhereFaulty allows =
-    (custom : CustomOptions) (files : List TreeFile) (readings : List ReadFile) (number : ℕ) (fault : FileFault)
-    → AreReadingsOf Refuse custom allows files readings → IsFirstFaulty custom files number fault → ⊥
+    (dialect : Dialect) (files : List TreeFile) (readings : List ReadFile) (number : ℕ) (fault : FileFault)
+    → AreReadingsOf Refuse dialect allows files readings → IsFirstFaulty dialect files number fault → ⊥
 
 -- Files that were read have paths of their own, as the tree's have, so that they can be handed to the linker.
 abbrev pub ReadingsHaveOwnPaths : (allows : Seen → Choice → Type 0) → Type 0
 ReadingsHaveOwnPaths allows =
-    (faulty : Faulty) (custom : CustomOptions) (files : List TreeFile) (readings : List ReadFile)
-    → AreReadingsOf faulty custom allows files readings → HaveOwnPaths files
+    (faulty : Faulty) (dialect : Dialect) (files : List TreeFile) (readings : List ReadFile)
+    → AreReadingsOf faulty dialect allows files readings → HaveOwnPaths files
     → link.HaveOwnPaths (linked_files readings)
 
 -- Files that were read link as one list of files, whatever was chosen.
 abbrev pub OneLinking : (allows others : Seen → Choice → Type 0) → Type 0
 OneLinking allows others =
-    (faulty other : Faulty) (custom : CustomOptions) (files : List TreeFile) (readings again : List ReadFile)
-    → AreReadingsOf faulty custom allows files readings → AreReadingsOf other custom others files again
+    (faulty other : Faulty) (dialect : Dialect) (files : List TreeFile) (readings again : List ReadFile)
+    → AreReadingsOf faulty dialect allows files readings → AreReadingsOf other dialect others files again
     → linked_files readings ≡ linked_files again

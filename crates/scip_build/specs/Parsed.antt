@@ -1,16 +1,17 @@
--- What the bytes of a file say, and why they say nothing (proto3 language specification).
+-- What the bytes of a file say, and why they say nothing (proto3 and proto2 language specifications).
 use Rattle.std.specs.Prelude.{◌≡◌, ◌≢◌, ◌⊎◌, ℕ, false, List}
 use Rattle.proto_lex.specs.Text.{IsText, IsNoText}
 use Rattle.proto_lex.specs.Lexed.{Lexed, IsLexed}
 use Rattle.proto_lex.specs.Faults.{IsFirstFault}
 use Rattle.proto_lex.specs.declared.fault.LexFault.{LexFault}
-use Rattle.proto_parse.specs.tree.CustomOptions.{CustomOptions}
 use Rattle.proto_parse.specs.tree.CustomOptions.TheVariants.{Skip}
+use Rattle.proto_parse.specs.tree.Dialect.{Dialect}
 use Rattle.proto_parse.specs.tree.File.{File}
 use Rattle.proto_parse.specs.fault.SyntaxFault.{SyntaxFault}
 use Rattle.proto_parse.specs.fault.SyntaxFault.TheVariants.{Memory}
 use Rattle.proto_parse.specs.Derives.{Derives}
 use Rattle.proto_parse.specs.Faults.{is_of_custom_options}
+use Rattle.proto_parse.specs.Syntax.{custom_in}
 use Rattle.proto_decl.specs.Facts.{Facts, AreFactsOf}
 use Rattle.scip_build.specs.declared.fault.FileFault.{FileFault}
 use Rattle.scip_build.specs.declared.fault.FileFault.TheVariants.{Lex, Syntax}
@@ -22,11 +23,11 @@ pub record HasLexing (bytes : List ℕ) (lexed : Lexed) : Type 0 where
   pub is_lexed : IsLexed lexed.text lexed.tokens lexed.comments
 
 -- the facts of the file with this number and these bytes: those of a tree that the tokens of its text derive
-pub record AreFactsIn (custom : CustomOptions) (number : ℕ) (bytes : List ℕ) (facts : Facts) : Type 0 where
+pub record AreFactsIn (dialect : Dialect) (number : ℕ) (bytes : List ℕ) (facts : Facts) : Type 0 where
   pub lexed : Lexed
   pub tree : File
   pub lexing : HasLexing bytes lexed
-  pub derives : Derives custom lexed.text lexed.tokens tree
+  pub derives : Derives dialect lexed.text lexed.tokens tree
   pub of_tree : AreFactsOf number lexed tree facts
 
 -- the bytes are no text, or the text has no lexing
@@ -34,15 +35,15 @@ abbrev pub IsUnlexed : List ℕ → LexFault → Type 0
 IsUnlexed bytes fault = IsNoText bytes fault ⊎ (IsText bytes × IsFirstFault bytes fault)
 
 -- The text has a lexing, but its tokens derive no tree. Which fault it is, tests show: not Memory, and none of custom
--- options if these are read past.
-pub record IsUnparsed (custom : CustomOptions) (bytes : List ℕ) (fault : SyntaxFault) : Type 0 where
+-- options and `extend` unless the dialect refuses these.
+pub record IsUnparsed (dialect : Dialect) (bytes : List ℕ) (fault : SyntaxFault) : Type 0 where
   pub lexed : Lexed
   pub lexing : HasLexing bytes lexed
-  pub no_tree : (tree : File) → Derives custom lexed.text lexed.tokens tree → ⊥
+  pub no_tree : (tree : File) → Derives dialect lexed.text lexed.tokens tree → ⊥
   pub not_memory : fault ≢ Memory
-  pub skipped : custom ≡ Skip → is_of_custom_options fault ≡ false
+  pub skipped : custom_in dialect ≡ Skip → is_of_custom_options fault ≡ false
 
 -- why a file with these bytes has no facts
-abbrev pub IsUnreadable : CustomOptions → List ℕ → FileFault → Type 0
-IsUnreadable custom bytes (Lex fault) = IsUnlexed bytes fault
-IsUnreadable custom bytes (Syntax fault) = IsUnparsed custom bytes fault
+abbrev pub IsUnreadable : Dialect → List ℕ → FileFault → Type 0
+IsUnreadable dialect bytes (Lex fault) = IsUnlexed bytes fault
+IsUnreadable dialect bytes (Syntax fault) = IsUnparsed dialect bytes fault

@@ -2,7 +2,7 @@
 use Rattle.std.specs.Prelude.{◌≡◌, ◌<◌, ℕ, ⊤, Bool, true, false, Result, Ok, Err, Some, List, length, MatchResult}
 use Rattle.std.specs.Prelude.{IfSome}
 use Rattle.std.specs.List.{AllZip, slice_get}
-use Rattle.proto_parse.specs.tree.CustomOptions.{CustomOptions}
+use Rattle.proto_parse.specs.tree.Dialect.{Dialect}
 use Rattle.proto_decl.specs.Facts.{Facts}
 use Rattle.proto_decl.specs.Seen.{Seen}
 use Rattle.proto_decl.specs.Declares.{simple_name}
@@ -34,16 +34,16 @@ AreChosen allows declarations choices =
     AllZip (λ declaration choice. allows (seen_of declaration) choice) declarations choices
 
 -- what the file with this number and these bytes is read as
-pub record IsReadAs (custom : CustomOptions) (allows : Seen → Choice → Type 0) (number : ℕ) (bytes : List ℕ)
+pub record IsReadAs (dialect : Dialect) (allows : Seen → Choice → Type 0) (number : ℕ) (bytes : List ℕ)
     (facts : Facts) (choices : List Choice) : Type 0 where
-  pub facts_in : AreFactsIn custom number bytes facts
+  pub facts_in : AreFactsIn dialect number bytes facts
   pub chosen : AreChosen allows facts.declarations choices
 
 -- the contents of the file with this number and these bytes
-abbrev pub AreContentsOf : CustomOptions → (allows : Seen → Choice → Type 0) → (number : ℕ) → (bytes : List ℕ)
+abbrev pub AreContentsOf : Dialect → (allows : Seen → Choice → Type 0) → (number : ℕ) → (bytes : List ℕ)
     → FileContents → Type 0
-AreContentsOf custom allows number bytes contents =
-    (contents.text ≡ bytes) × IsReadAs custom allows number bytes contents.facts contents.choices
+AreContentsOf dialect allows number bytes contents =
+    (contents.text ≡ bytes) × IsReadAs dialect allows number bytes contents.facts contents.choices
 
 -- a file may be without contents if it is included, and any may if it isn't refused for it
 abbrev pub may_be_unread : Faulty → (is_included : Bool) → Bool
@@ -51,71 +51,71 @@ may_be_unread Refuse is_included = is_included
 may_be_unread Skip is_included = true
 
 -- the contents of a file, or, if it may be without, why it has none
-abbrev pub HasContents : Faulty → CustomOptions → (allows : Seen → Choice → Type 0) → (number : ℕ) → TreeFile
+abbrev pub HasContents : Faulty → Dialect → (allows : Seen → Choice → Type 0) → (number : ℕ) → TreeFile
     → Result FileContents FileFault → Type 0
-HasContents faulty custom allows number file (Ok contents) = AreContentsOf custom allows number file.bytes contents
-HasContents faulty custom allows number file (Err fault) =
-    (may_be_unread faulty file.is_included ≡ true) × IsUnreadable custom file.bytes fault
+HasContents faulty dialect allows number file (Ok contents) = AreContentsOf dialect allows number file.bytes contents
+HasContents faulty dialect allows number file (Err fault) =
+    (may_be_unread faulty file.is_included ≡ true) × IsUnreadable dialect file.bytes fault
 
 -- a file after it was read
-pub record IsReadingOf (faulty : Faulty) (custom : CustomOptions) (allows : Seen → Choice → Type 0) (number : ℕ)
+pub record IsReadingOf (faulty : Faulty) (dialect : Dialect) (allows : Seen → Choice → Type 0) (number : ℕ)
     (file : TreeFile) (reading : ReadFile) : Type 0 where
   pub path : reading.path ≡ file.path
   pub is_included : reading.is_included ≡ file.is_included
-  pub contents : HasContents faulty custom allows number file reading.contents
+  pub contents : HasContents faulty dialect allows number file reading.contents
 
 -- the files after they were read, each under its number
-pub record AreReadingsOf (faulty : Faulty) (custom : CustomOptions) (allows : Seen → Choice → Type 0)
+pub record AreReadingsOf (faulty : Faulty) (dialect : Dialect) (allows : Seen → Choice → Type 0)
     (files : List TreeFile) (readings : List ReadFile) : Type 0 where
   pub one_each : length readings ≡ length files
   pub each : (number : ℕ) (file : TreeFile) (reading : ReadFile) → slice_get files number ≡ Some file
       → slice_get readings number ≡ Some reading
-      → IsReadingOf faulty custom allows number file reading
+      → IsReadingOf faulty dialect allows number file reading
 
 -- a source, which can't be read
-pub record IsFaultySource (custom : CustomOptions) (file : TreeFile) (fault : FileFault) : Type 0 where
+pub record IsFaultySource (dialect : Dialect) (file : TreeFile) (fault : FileFault) : Type 0 where
   pub source : file.is_included ≡ false
-  pub unreadable : IsUnreadable custom file.bytes fault
+  pub unreadable : IsUnreadable dialect file.bytes fault
 
 -- the file has facts, if it is a source
-abbrev pub IsReadIfSource : CustomOptions → ℕ → TreeFile → Type 0
-IsReadIfSource custom number file = file.is_included ≡ false
-    → (facts : Facts) × AreFactsIn custom number file.bytes facts
+abbrev pub IsReadIfSource : Dialect → ℕ → TreeFile → Type 0
+IsReadIfSource dialect number file = file.is_included ≡ false
+    → (facts : Facts) × AreFactsIn dialect number file.bytes facts
 
 -- the file with this number is the first source that can't be read
-pub record IsFirstFaulty (custom : CustomOptions) (files : List TreeFile) (number : ℕ)
+pub record IsFirstFaulty (dialect : Dialect) (files : List TreeFile) (number : ℕ)
     (fault : FileFault) : Type 0 where
   pub file : TreeFile
   pub numbered : slice_get files number ≡ Some file
-  pub faulty : IsFaultySource custom file fault
+  pub faulty : IsFaultySource dialect file fault
   pub before : (lesser : ℕ) (other : TreeFile) → lesser < number → slice_get files lesser ≡ Some other
-      → IsReadIfSource custom lesser other
+      → IsReadIfSource dialect lesser other
 
 -- Why the files aren't read: a source can't be, and such sources are refused. A thread is refused only if one is to
 -- be started, that is, for two workers or more; nothing is said about memory.
-abbrev pub MayRefuseFiles : Faulty → CustomOptions → List TreeFile → (workers : ℕ) → BuildFault → Type 0
-MayRefuseFiles faulty custom files workers Spawn = 1 < workers
-MayRefuseFiles faulty custom files workers Memory = ⊤
-MayRefuseFiles faulty custom files workers (File number fault) =
-    (faulty ≡ Refuse) × IsFirstFaulty custom files number fault
-MayRefuseFiles faulty custom files workers (Duplicate first second) = ⊥
-MayRefuseFiles faulty custom files workers (MissingImport place) = ⊥
-MayRefuseFiles faulty custom files workers (Unresolved place) = ⊥
+abbrev pub MayRefuseFiles : Faulty → Dialect → List TreeFile → (workers : ℕ) → BuildFault → Type 0
+MayRefuseFiles faulty dialect files workers Spawn = 1 < workers
+MayRefuseFiles faulty dialect files workers Memory = ⊤
+MayRefuseFiles faulty dialect files workers (File number fault) =
+    (faulty ≡ Refuse) × IsFirstFaulty dialect files number fault
+MayRefuseFiles faulty dialect files workers (Duplicate first second) = ⊥
+MayRefuseFiles faulty dialect files workers (MissingImport place) = ⊥
+MayRefuseFiles faulty dialect files workers (Unresolved place) = ⊥
 
 -- why the file with this number stops the run: it is a source that can't be read; nothing is said about memory
-abbrev pub MayRefuseReading : Faulty → CustomOptions → (number : ℕ) → TreeFile → BuildFault → Type 0
-MayRefuseReading faulty custom number file Spawn = ⊥
-MayRefuseReading faulty custom number file Memory = ⊤
-MayRefuseReading faulty custom number file (File other fault) =
-    (faulty ≡ Refuse) × (other ≡ number) × IsFaultySource custom file fault
-MayRefuseReading faulty custom number file (Duplicate first second) = ⊥
-MayRefuseReading faulty custom number file (MissingImport place) = ⊥
-MayRefuseReading faulty custom number file (Unresolved place) = ⊥
+abbrev pub MayRefuseReading : Faulty → Dialect → (number : ℕ) → TreeFile → BuildFault → Type 0
+MayRefuseReading faulty dialect number file Spawn = ⊥
+MayRefuseReading faulty dialect number file Memory = ⊤
+MayRefuseReading faulty dialect number file (File other fault) =
+    (faulty ≡ Refuse) × (other ≡ number) × IsFaultySource dialect file fault
+MayRefuseReading faulty dialect number file (Duplicate first second) = ⊥
+MayRefuseReading faulty dialect number file (MissingImport place) = ⊥
+MayRefuseReading faulty dialect number file (Unresolved place) = ⊥
 
 -- what the reading of the file with this number gives
-abbrev pub GivesReading : Faulty → CustomOptions → (allows : Seen → Choice → Type 0) → List TreeFile → ℕ
+abbrev pub GivesReading : Faulty → Dialect → (allows : Seen → Choice → Type 0) → List TreeFile → ℕ
     → Result ReadFile BuildFault → Type 0
-GivesReading faulty custom allows files number result =
+GivesReading faulty dialect allows files number result =
     IfSome (slice_get files number)
-    (λ file. MatchResult result (IsReadingOf faulty custom allows number file)
-    (MayRefuseReading faulty custom number file))
+    (λ file. MatchResult result (IsReadingOf faulty dialect allows number file)
+    (MayRefuseReading faulty dialect number file))

@@ -229,11 +229,11 @@ pub fn build_in_form<'a, R: Threads + Wait, C: Chooses + Sync, G: Gate, F: Docum
 ) -> Result<BuiltParts<'a, F::Kept>, BuildFault>
     ensures built { IfOk result (λ built. IsBuiltInForm F.is_kept (C.allows chooser.now) settings.now tree.now
         built.choices built.told built.parts) }
-    ensures refused { IfErr result (IsBuildFault (C.allows chooser.now) settings.now.faulty settings.now.custom_options
+    ensures refused { IfErr result (IsBuildFault (C.allows chooser.now) settings.now.faulty settings.now.dialect
         tree.now run.now.workers) }
 {
     tree.file_count();
-    let all = read_files(run, tree, chooser, settings.custom_options, settings.faulty)?;
+    let all = read_files(run, tree, chooser, settings.dialect, settings.faulty)?;
     match settings.faulty {
         Faulty::Refuse => build_whole(run, all, settings, form),
         Faulty::Skip => build_kept(run, all, settings, form),
@@ -271,7 +271,7 @@ pub fn build<R: Threads + Wait, C: Chooses + Sync, G: Gate>(
     gate: &G,
 ) -> Result<Built, BuildFault>
     ensures built { IfOk result (IsBuilt (C.allows chooser.now) settings.now tree.now) }
-    ensures refused { IfErr result (IsBuildFault (C.allows chooser.now) settings.now.faulty settings.now.custom_options
+    ensures refused { IfErr result (IsBuildFault (C.allows chooser.now) settings.now.faulty settings.now.dialect
         tree.now workers) }
 {
     let run = Run {

@@ -13,17 +13,17 @@ use crate::reading::{Contents, Reading};
 use index_hooks::Chooses;
 use proto_decl::{FileFacts, declare};
 use proto_lex::{LexFault, Text, lex};
-use proto_parse::{CustomOptions, SyntaxFault, parse_with};
+use proto_parse::{Dialect, SyntaxFault, parse_with};
 use source_tree::Tree;
 use std::alloc::Global;
 
-/// By what files are read: what chooses for their declarations, and what is done with custom options
-/// and with files that can't be read.
+/// By what files are read: what chooses for their declarations, which are accepted, and what is done with those that
+/// can't be read.
 #[derive(Drop)]
 pub(crate) struct Reader<'c, C> {
     pub(crate) alloc: Global,
     pub(crate) chooser: &'c C,
-    pub(crate) custom: CustomOptions,
+    pub(crate) dialect: Dialect,
     pub(crate) faulty: Faulty,
 }
 
@@ -52,16 +52,16 @@ fn facts_of<'a>(
     alloc: Global,
     number: usize,
     text: &Text<'a>,
-    custom: CustomOptions,
+    dialect: Dialect,
 ) -> Result<FileFacts<'a>, BuildFault>
     requires { IsText text.now }
-    ensures { MatchResult result (AreFactsIn custom number text.now) (MayRefuseFile custom number text.now) }
+    ensures { MatchResult result (AreFactsIn dialect number text.now) (MayRefuseFile dialect number text.now) }
 {
     let lexed = match lex(alloc, text) {
         Ok(lexed) => lexed,
         Err(fault) => return Err(unlexed(number, fault)),
     };
-    let tree = match parse_with(alloc, &lexed, custom) {
+    let tree = match parse_with(alloc, &lexed, dialect) {
         Ok(tree) => tree,
         Err(fault) => return Err(unparsed(number, fault)),
     };
@@ -75,14 +75,14 @@ fn contents_of<'a, C: Chooses>(
     bytes: &'a [u8],
 ) -> Result<Contents<'a>, BuildFault>
     ensures { MatchResult result
-        (AreContentsOf reader.now.custom (C.allows reader.now.chooser.now) number bytes.now)
-        (MayRefuseFile reader.now.custom number bytes.now) }
+        (AreContentsOf reader.now.dialect (C.allows reader.now.chooser.now) number bytes.now)
+        (MayRefuseFile reader.now.dialect number bytes.now) }
 {
     let text = match Text::new(reader.alloc, bytes) {
         Ok(text) => text,
         Err(fault) => return Err(unlexed(number, fault)),
     };
-    let facts = facts_of(reader.alloc, number, &text, reader.custom)?;
+    let facts = facts_of(reader.alloc, number, &text, reader.dialect)?;
     let choices = choose_each(reader.alloc, reader.chooser, facts.declarations())?;
     Ok(Contents {
         text,
@@ -101,9 +101,9 @@ fn read_parts<'a, C: Chooses>(
     is_included: bool,
 ) -> Result<Reading<'a>, BuildFault>
     ensures { MatchResult result
-        (IsReadingOf reader.now.faulty reader.now.custom (C.allows reader.now.chooser.now) number
+        (IsReadingOf reader.now.faulty reader.now.dialect (C.allows reader.now.chooser.now) number
         (record { path = path.now; bytes = bytes.now; is_included = is_included }))
-        (MayRefuseReading reader.now.faulty reader.now.custom number
+        (MayRefuseReading reader.now.faulty reader.now.dialect number
         (record { path = path.now; bytes = bytes.now; is_included = is_included })) }
 {
     match contents_of(reader, number, bytes) {
@@ -134,7 +134,7 @@ pub(crate) fn read_file<'a, C: Chooses>(
     tree: &'a Tree,
 ) -> Result<Reading<'a>, BuildFault>
     requires { number < length tree.now }
-    ensures { GivesReading reader.now.faulty reader.now.custom (C.allows reader.now.chooser.now) tree.now number
+    ensures { GivesReading reader.now.faulty reader.now.dialect (C.allows reader.now.chooser.now) tree.now number
         result }
 {
     read_parts(

@@ -10,7 +10,7 @@ use crate::reading::Reading;
 use crate::run::Run;
 use index_hooks::Chooses;
 use index_pool::{Gate, Job, PoolFault, Ticket, run_phase};
-use proto_parse::CustomOptions;
+use proto_parse::Dialect;
 use source_tree::Tree;
 use std::sync::Wait;
 use std::thread::Threads;
@@ -32,7 +32,7 @@ impl<'a, 'c, C: Chooses + Sync> Job for PhaseOne<'a, 'c, C> {
 
     ghost inputs = { λ s. length s.tree.now };
 
-    ghost gives = { λ s number result. GivesReading s.reader.faulty s.reader.custom (C.allows s.reader.chooser.now)
+    ghost gives = { λ s number result. GivesReading s.reader.faulty s.reader.dialect (C.allows s.reader.chooser.now)
         s.tree.now number result };
 
     fn run(&self, ticket: Ticket) -> Result<Reading<'a>, BuildFault> {
@@ -40,8 +40,8 @@ impl<'a, 'c, C: Chooses + Sync> Job for PhaseOne<'a, 'c, C> {
     }
 }
 
-/// Reads the files of a tree, by one choice of what is done with custom options, and chooses for each declaration, on
-/// this many workers, with the gate's calls round each file.
+/// Reads the files of a tree, all in one dialect, and chooses for each declaration, on this many workers, with the
+/// gate's calls round each file.
 ///
 /// A source that isn't text, or has no lexing or no tree, is refused, unless faulty files are skipped: `File` names
 /// the first of them, and memory sufficed for every file before it. An included file like that isn't refused, and no
@@ -55,17 +55,17 @@ pub fn read_files<'a, R: Threads + Wait, C: Chooses + Sync, G: Gate>(
     run: &Run<'_, R, G>,
     tree: &'a Tree,
     chooser: &C,
-    custom: CustomOptions,
+    dialect: Dialect,
     faulty: Faulty,
 ) -> Result<Vec<Reading<'a>>, BuildFault>
     ensures { MatchResult result
-        (λ readings. AreReadingsOf faulty custom (C.allows chooser.now) tree.now readings.items)
-        (MayRefuseFiles faulty custom tree.now run.now.workers) }
+        (λ readings. AreReadingsOf faulty dialect (C.allows chooser.now) tree.now readings.items)
+        (MayRefuseFiles faulty dialect tree.now run.now.workers) }
 {
     let reader = Reader {
         alloc: run.alloc,
         chooser,
-        custom,
+        dialect,
         faulty,
     };
     let job = PhaseOne { reader, tree };

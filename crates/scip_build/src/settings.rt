@@ -2,7 +2,7 @@
 
 use crate::faulty::Faulty;
 use proto_lex::Encoding;
-use proto_parse::CustomOptions;
+use proto_parse::Dialect;
 use scip_document::FilePackages;
 use sequences::OwnedText;
 
@@ -15,8 +15,8 @@ pub struct Settings {
     pub package: FilePackages,
     /// In which code units the columns of the documents count.
     pub encoding: Encoding,
-    /// Whether custom options are refused or read past, in sources and in included files.
-    pub custom_options: CustomOptions,
+    /// Which sources and included files are accepted.
+    pub dialect: Dialect,
     /// Whether a tree with faults is refused, or what has one is left out and reported.
     pub faulty: Faulty,
 }

@@ -4,7 +4,7 @@ use crate::calls::tree_of;
 use index_hooks::Chooses;
 use index_pool::{Gate, Workers};
 use proto_lex::Encoding;
-use proto_parse::CustomOptions;
+use proto_parse::{CustomOptions, Dialect};
 use scip_build::{BuildFault, Built, Faulty, Settings, build};
 use scip_document::FilePackages;
 use scip_model::{Document, Occurrence};
@@ -69,7 +69,7 @@ pub(crate) fn site_of(
         project_root: OwnedText::copy_of(alloc, "file:///")?,
         package: FilePackages::of_run(alloc, id),
         encoding: Encoding::Utf8,
-        custom_options: CustomOptions::Refuse,
+        dialect: Dialect::Proto3(CustomOptions::Refuse),
         faulty,
     };
     let tree = tree_of(rt, alloc, files)?;

@@ -9,6 +9,7 @@ use Rattle.std.proofs.lemmas.List.Elements.{All-get_or}
 use Rattle.index_hooks.specs.declared.choice.Choice.{Choice}
 use Rattle.proto_decl.specs.Facts.{Facts}
 use Rattle.proto_parse.specs.tree.CustomOptions.TheVariants.{Refuse}
+use Rattle.proto_parse.specs.tree.Dialect.TheVariants.{Proto3}
 use Rattle.scip_symbol.specs.Path.{IsGoodPath}
 use Rattle.proto_visibility.specs.Files.{File}
 use Rattle.scip_document.specs.Chosen.{Chosen, HaveChoices}
@@ -41,7 +42,7 @@ are_of_text reading fine =
       origin = record {
         lexed = read.lexed;
         file = read.parsed;
-        custom = Refuse;
+        dialect = Proto3 Refuse;
         is_lexed = read.is_lexed;
         derives = read.derives;
         of_file = record {

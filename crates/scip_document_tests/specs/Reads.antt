@@ -2,6 +2,7 @@
 use Rattle.std.specs.Prelude.{◌≡◌, ℕ, Bool, Some, List, map, length, Contains}
 use Rattle.proto_lex.specs.Lexed.{Lexed, IsLexed}
 use Rattle.proto_parse.specs.tree.CustomOptions.TheVariants.{Refuse}
+use Rattle.proto_parse.specs.tree.Dialect.TheVariants.{Proto3}
 use Rattle.proto_parse.specs.tree.File as tree
 use Rattle.proto_parse.specs.Derives.{Derives}
 use Rattle.proto_decl.specs.Facts.{Facts, AreFactsOf}
@@ -17,13 +18,13 @@ pub record ReadFile : Type 0 where
   pub text : List ℕ
   pub facts : Facts
 
--- the facts of a text, under a number, where custom options are refused
+-- the facts of a text, under a number, as proto3 without custom options
 pub record IsReadAs (number : ℕ) (text : List ℕ) (facts : Facts) : Type 0 where
   pub lexed : Lexed
   pub parsed : tree.File
   pub of_text : lexed.text ≡ text
   pub is_lexed : IsLexed lexed.text lexed.tokens lexed.comments
-  pub derives : Derives Refuse lexed.text lexed.tokens parsed
+  pub derives : Derives (Proto3 Refuse) lexed.text lexed.tokens parsed
   pub of_tree : AreFactsOf number lexed parsed facts
 
 -- it has a good path, and the facts of its text

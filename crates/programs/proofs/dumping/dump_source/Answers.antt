@@ -1,6 +1,6 @@
 use Rattle.std.specs.String.{string_bytes}
 use Rattle.std.proofs.Common.{inr, refl, arith, [], Result, Err, subst}
-use Rattle.proto_parse.specs.tree.CustomOptions.{CustomOptions}
+use Rattle.proto_parse.specs.tree.Dialect.{Dialect}
 use Rattle.protoscip.specs.declared.fault.Fault.{Fault}
 use Rattle.protoscip.specs.declared.fault.Fault.TheVariants.{Memory}
 use Rattle.protoscip.specs.Dump.{IsDumped, dump_tree}
@@ -18,7 +18,7 @@ returns-in-Err g c =
       record { due = []; writer = refl; some = ([], tt); told = λ bytes known. tt },
       refl,
       omega arith,
-      of_fault g.I.Feed.remaining g.M.Sink.contents g.M.Sink.failures c.args.explain c.args.input.now
+      of_fault g.I.Feed.remaining g.M.Sink.contents g.M.Sink.failures c.args.options.now.explain c.args.input.now
           c.args.messages.now c.report.new.messages c.report.result Memory (dump_tree []) tt (inr c.report.ensures),
     )
 
@@ -30,17 +30,18 @@ returns g c =
     let of = c.in-Err-dump_and_keep.ensures in
     let done : Result (Unit {0}) Fault = Err fault in
     let tree = c.dump_and_keep.new.tree in
-    let Dumped : CustomOptions → Type 0 =
-    λ custom. IsDumped g.I.Feed.remaining g.W.Sink.contents g.W.Sink.failures custom c.args.input.now c.args.out.now
+    let explain = c.args.options.now.explain in
+    let Dumped : Dialect → Type 0 =
+    λ dialect. IsDumped g.I.Feed.remaining g.W.Sink.contents g.W.Sink.failures dialect c.args.input.now c.args.out.now
     c.dump_and_keep.new.out done in
     let said = told g.M.Sink.contents g.M.Sink.failures c.args.messages.now c.report-in-Err-dump_and_keep.new.messages
-    c.report-in-Err-dump_and_keep.result _ _ string_bytes c.fault_text-text.result (told_of c.args.explain tree fault)
+    c.report-in-Err-dump_and_keep.result _ _ string_bytes c.fault_text-text.result (told_of explain tree fault)
     c.status.ensures c.fault_text-text.ensures c.report-in-Err-dump_and_keep.ensures in (
       done,
-      subst Dumped c.custom_options_of-custom.ensures of.dumped,
+      subst Dumped c.dialect_of-dialect.ensures of.dumped,
       of.reader,
       of.briefly,
-      of_fault g.I.Feed.remaining g.M.Sink.contents g.M.Sink.failures c.args.explain c.args.input.now
+      of_fault g.I.Feed.remaining g.M.Sink.contents g.M.Sink.failures explain c.args.input.now
           c.args.messages.now c.report-in-Err-dump_and_keep.new.messages c.report-in-Err-dump_and_keep.result fault tree
           of.tree said,
     )

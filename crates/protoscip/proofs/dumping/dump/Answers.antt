@@ -5,5 +5,5 @@ use Rattle.protoscip.proofs.dumping.dump.Goals as goal
 pub returns-in_err-tree-clause-dumped : goal.returns-in_err-tree-clause-dumped
 returns-in_err-tree-clause-dumped g c =
     let p = err_from_is_err_and c.from_residual.result c.from_residual.ensures.1 in
-    rw (p.1, p.2) (starved_dumped g.F.Feed.remaining g.W.Sink.contents g.W.Sink.failures c.args.custom c.args.source.now
-    c.args.out.now)
+    rw (p.1, p.2) (starved_dumped g.F.Feed.remaining g.W.Sink.contents g.W.Sink.failures c.args.dialect
+    c.args.source.now c.args.out.now)

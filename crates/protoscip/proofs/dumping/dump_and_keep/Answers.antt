@@ -15,12 +15,12 @@ use Rattle.protoscip.proofs.dumping.dump_and_keep.Goals as goal
 pub returns-in_err-bytes-clause-dumped : goal.returns-in_err-bytes-clause-dumped
 returns-in_err-bytes-clause-dumped g c =
     let p = err_from_is_err_and c.from_residual.result c.from_residual.ensures.1 in
-    rw (p.1, p.2) (starved_dumped g.F.Feed.remaining g.W.Sink.contents g.W.Sink.failures c.args.custom c.args.source.now
-    c.args.out.now)
+    rw (p.1, p.2) (starved_dumped g.F.Feed.remaining g.W.Sink.contents g.W.Sink.failures c.args.dialect
+    c.args.source.now c.args.out.now)
 
 pub returns-in-None-clause-dumped : goal.returns-in-None-clause-dumped
 returns-in-None-clause-dumped g c =
-    unread_dumped g.F.Feed.remaining g.W.Sink.contents g.W.Sink.failures c.args.custom c.args.source.now c.args.out.now
+    unread_dumped g.F.Feed.remaining g.W.Sink.contents g.W.Sink.failures c.args.dialect c.args.source.now c.args.out.now
 
 pub returns-in-None-clause-reader : goal.returns-in-None-clause-reader
 returns-in-None-clause-reader g c = c.in_ok-bytes.ensures.read (ap Ok c.in-None.is)
@@ -31,8 +31,8 @@ pub returns-in_err-keep_source-clause-dumped : goal.returns-in_err-keep_source-c
 returns-in_err-keep_source-clause-dumped g c =
     let p = err_from_is_err_and c.from_residual-in_err-keep_source.result c.from_residual-in_err-keep_source.ensures.1
     in
-    rw (p.1, p.2) (starved_dumped g.F.Feed.remaining g.W.Sink.contents g.W.Sink.failures c.args.custom c.args.source.now
-    c.args.out.now)
+    rw (p.1, p.2) (starved_dumped g.F.Feed.remaining g.W.Sink.contents g.W.Sink.failures c.args.dialect
+    c.args.source.now c.args.out.now)
 
 -- where the source is refused
 
@@ -45,12 +45,12 @@ returns-in_err-listing-clause-dumped g c =
     let kept = said_of_read _ c.in_ok-bytes.field-0 c.in-Some.bytes c.in-Some.is c.in_ok-bytes.ensures.bytes in
     rw (p.1, p.2) (record {
       due = [];
-      writer = refused_writer c.args.custom bytes _ g.W.Sink.contents g.W.Sink.failures c.args.out.now [] e is;
-      some = (bytes, refused_dumps c.args.custom bytes [] e is);
+      writer = refused_writer c.args.dialect bytes _ g.W.Sink.contents g.W.Sink.failures c.args.out.now [] e is;
+      some = (bytes, refused_dumps c.args.dialect bytes [] e is);
       told = λ all known.
-          let refused = refusal_of_all c.args.custom all e
-          (subst (λ (b : List ℕ). IsRefusal c.args.custom b e) (kept all known) is) in
-          refused_dumps c.args.custom all [] e refused;
+          let refused = refusal_of_all c.args.dialect all e
+          (subst (λ (b : List ℕ). IsRefusal c.args.dialect b e) (kept all known) is) in
+          refused_dumps c.args.dialect all [] e refused;
     })
 
 pub returns-in_err-listing-clause-tree : goal.returns-in_err-listing-clause-tree
@@ -67,7 +67,7 @@ returns-in_err-listing-clause-files g c =
     let bytes = c.in-Some.bytes.items in
     let is = c.in_err-listing.ensures bytes c.in_ok-keep_source.ensures in
     rw (p.1, p.2) (subst (λ (t : List TreeFile). HasFilesOf t e) (sym c.in_ok-keep_source.ensures)
-    (dump_files c.args.custom bytes e is))
+    (dump_files c.args.dialect bytes e is))
 
 pub returns-in_err-listing-clause-alone : goal.returns-in_err-listing-clause-alone
 returns-in_err-listing-clause-alone g c =
@@ -75,7 +75,7 @@ returns-in_err-listing-clause-alone g c =
     let e = c.in_err-listing.field-0.0 in
     let bytes = c.in-Some.bytes.items in
     let is = c.in_err-listing.ensures bytes c.in_ok-keep_source.ensures in
-    rw (p.1, p.2) (any_dump_files e bytes [] (dump_files c.args.custom bytes e is))
+    rw (p.1, p.2) (any_dump_files e bytes [] (dump_files c.args.dialect bytes e is))
 
 -- where the listing is written, or cut off
 
@@ -94,12 +94,12 @@ returns-clause-dumped g c =
       some = (
         bytes,
         written_dumps _ g.W.Sink.contents g.W.Sink.failures c.args.out.now c.write_text.new.out due
-            c.args.custom bytes c.write_text.result listed wrote,
+            c.args.dialect bytes c.write_text.result listed wrote,
       );
       told = λ all known.
-          let is = listing_of_all c.args.custom all due
-          (subst (λ (b : List ℕ). IsListing c.args.custom b due) (kept all known) listed) in
-          written_dumps _ g.W.Sink.contents g.W.Sink.failures c.args.out.now c.write_text.new.out due c.args.custom all
+          let is = listing_of_all c.args.dialect all due
+          (subst (λ (b : List ℕ). IsListing c.args.dialect b due) (kept all known) listed) in
+          written_dumps _ g.W.Sink.contents g.W.Sink.failures c.args.out.now c.write_text.new.out due c.args.dialect all
           c.write_text.result is wrote;
     }
 

@@ -4,12 +4,12 @@ use Rattle.scip_build.proofs.building.build_in_form.Goals as goal
 
 pub build_whole-requires-clause-tree : goal.build_whole-requires-clause-tree
 build_whole-requires-clause-tree g c = λ _ _.
-    of_tree c.args.settings.now.faulty c.args.settings.now.custom_options (g.C.Chooses.allows c.args.chooser.now)
+    of_tree c.args.settings.now.faulty c.args.settings.now.dialect (g.C.Chooses.allows c.args.chooser.now)
     c.args.tree.now c.in_ok-all.all.items c.in_ok-all.ensures c.file_count.ensures.tree
 
 pub build_kept-requires-clause-tree : goal.build_kept-requires-clause-tree
 build_kept-requires-clause-tree g c = λ _ _.
-    of_tree c.args.settings.now.faulty c.args.settings.now.custom_options (g.C.Chooses.allows c.args.chooser.now)
+    of_tree c.args.settings.now.faulty c.args.settings.now.dialect (g.C.Chooses.allows c.args.chooser.now)
     c.args.tree.now c.in_ok-all.all.items c.in_ok-all.ensures c.file_count.ensures.tree
 
 pub returns-in-Refuse-clause-built : goal.returns-in-Refuse-clause-built

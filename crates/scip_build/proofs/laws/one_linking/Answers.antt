@@ -2,5 +2,6 @@ use Rattle.scip_build.proofs.LinkingLemmas.{one_linking}
 use Rattle.scip_build.proofs.laws.one_linking.Goals as goal
 
 pub returns : goal.returns
-returns g c = λ faulty other custom. one_linking c.one_list_of_facts_a_file.ensures c.faults_exclude_facts.ensures.facts
-    faulty other custom (g.C.Chooses.allows c.args.chooser.now) (g.D.Chooses.allows c.args.other.now)
+returns g c = λ faulty other dialect.
+    one_linking c.one_list_of_facts_a_file.ensures c.faults_exclude_facts.ensures.facts
+    faulty other dialect (g.C.Chooses.allows c.args.chooser.now) (g.D.Chooses.allows c.args.other.now)

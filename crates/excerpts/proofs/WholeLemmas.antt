@@ -91,7 +91,7 @@ are_of_the_text text utf8 = subst (λ (bytes : List ℕ). characters bytes ≡ m
     (rw (chars-encodes utf8.0 utf8.1.0) (each utf8.0))
 
 pub length_is : (text : List ℕ) → IsUtf8 text → length (characters text) ≡ length (chars text)
-length_is text utf8 = ap length (are_of_the_text text utf8) ∙ length-map encode (chars text)
+length_is text utf8 = ap length (are_of_the_text text utf8) ∙ length-map (chars text) encode
 
 -- ---- a text in which nothing is obeyed
 

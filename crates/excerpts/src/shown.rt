@@ -165,12 +165,7 @@ pub(crate) fn push_text(out: &mut String, text: &str) -> Result<(), AllocError>
 }
 
 /// Appends what is below the first characters of bytes, at most this many, character by character.
-fn push_all_signs(
-    out: &mut String,
-    bytes: &[u8],
-    most: usize,
-    sign: &str,
-) -> Result<(), AllocError>
+fn push_all_signs(out: &mut String, bytes: &[u8], most: usize, sign: &str) -> Result<(), AllocError>
     ensures { OnOk result (string_bytes out.new ≡ string_bytes out.old ++ flat_map (signs sign.now) (take most (characters bytes.now))) }
 {
     let mut rest = bytes;

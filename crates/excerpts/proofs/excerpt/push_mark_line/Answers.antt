@@ -1,4 +1,4 @@
-use Rattle.std.proofs.Common.{◌≡◌, ◌∙◌, ap, ap₂, List, ℕ, take, ◌++◌}
+use Rattle.std.proofs.Common.{◌∙◌, ap, ap₂, ℕ, take, ◌++◌}
 use Rattle.std.specs.Prelude.{codes, length, nat_lt}
 use Rattle.std.specs.String.{string_bytes}
 use Rattle.std.proofs.lemmas.Result.{on_ok_weaker}

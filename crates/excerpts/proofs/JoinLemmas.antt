@@ -114,8 +114,9 @@ plain_begins (b ∷ bs) e = by (cases_lt b 128)
   where
     by : (b < 128) ⊎ (128 ≤ b) → goes_on b ≡ false
     by (inl small) = low_begins b small
-    by (inr large) = high_begins b
-        ((IsCharBoundary-start (b ∷ bs) (IsUtf8-from_is_utf8 (b ∷ bs) (plain_parts (b ∷ bs) e).0)).1 (omega arith) large)
+    by (inr large) =
+        let utf8 = IsUtf8-from_is_utf8 (b ∷ bs) (plain_parts (b ∷ bs) e).0 in
+        high_begins b ((IsCharBoundary-start (b ∷ bs) utf8).1 (omega arith) large)
 
 -- ---- escapes
 

@@ -8,12 +8,13 @@ use Rattle.std.specs.Str.{NonePass, chars, encode_utf8_all}
 use Rattle.std.proofs.lemmas.Bool.Decides.{nat_tests}
 use Rattle.std.proofs.lemmas.Grind.{common_steps}
 use Rattle.std.proofs.lemmas.Fmt.{decimal_by_steps_wide}
-use Rattle.std.proofs.lemmas.Str.{IsUtf8-from_is_utf8, NoCharPasses-nil, NoCharPasses-append, encodes-chars, encode_ascii}
+use Rattle.std.proofs.lemmas.Str.{IsUtf8-from_is_utf8, NoCharPasses-nil, NoCharPasses-append}
+use Rattle.std.proofs.lemmas.Str.{encodes-chars, encode_ascii}
 use Rattle.proto_lex.specs.Position.{is_line_end, line_before}
 use Rattle.proto_lex.specs.Bytes.{starts}
 use Rattle.excerpts.specs.Characters.{characters, goes_on}
-use Rattle.excerpts.specs.Excerpts.{where_cut, carets, shown_before, shown_marked, shown_behind, shown_line, mark_line, blanks}
-use Rattle.excerpts.specs.Excerpts.{Parts, parts_of, last_of, room}
+use Rattle.excerpts.specs.Excerpts.{where_cut, carets, shown_before, shown_marked, shown_behind, shown_line}
+use Rattle.excerpts.specs.Excerpts.{mark_line, blanks, Parts, parts_of, last_of, room}
 use Rattle.excerpts.specs.Laws.{IsTame, PlacesAreTame, QuotesAreTame, ExcerptsAreTame}
 use Rattle.excerpts.specs.Places.{line_number, column}
 use Rattle.excerpts.specs.Shown.{escaped, is_obeyed, is_plain, is_tab, mark, marks, shown, shown_text}
@@ -40,7 +41,8 @@ tame_byte b bs small passes rest = (
 
 pub tame_printable : (text : List ℕ) → AllByRecursion IsPrintable text → IsTame text
 tame_printable [] all = NoCharPasses-nil is_obeyed
-tame_printable (b ∷ bs) all = tame_byte b bs (omega (arith, all.0.1)) (printable_passes b all.0) (tame_printable bs all.1)
+tame_printable (b ∷ bs) all =
+    tame_byte b bs (omega (arith, all.0.1)) (printable_passes b all.0) (tame_printable bs all.1)
 
 -- a written text, by a test
 test_by : (b : ℕ) (bs : List ℕ) → list_all (λ b. nat_le 32 b && nat_lt b 127) (b ∷ bs) ≡ true
@@ -234,5 +236,6 @@ excerpts_are_tame text at len fits =
       codes "  " ++ blanks number ++ codes " | " ++ mark_line parts,
       refl,
       four (codes "  ") number (codes " | ") (shown_line parts) edge of_number bar (tame_line parts),
-      four (codes "  ") (blanks number) (codes " | ") (mark_line parts) edge (tame_blanks number) bar (tame_below parts),
+      four (codes "  ") (blanks number) (codes " | ") (mark_line parts) edge (tame_blanks number) bar
+      (tame_below parts),
     )

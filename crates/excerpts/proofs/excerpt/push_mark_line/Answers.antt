@@ -18,7 +18,8 @@ returns c =
     ∙ mark_line_is text (carets (shown_marked parts)) (nat_lt (room parts) (length parts.before))
     (last_of (room parts) parts.before) next spaces
     (c.in_ok-push_where_cut.ensures
-    ∙ ap₂ (λ (r n : ℕ). text ++ where_cut (nat_lt r n) (codes "   ")) c.room-room.ensures c.count_characters.ensures.count)
+    ∙ ap₂ (λ (r n : ℕ). text ++ where_cut (nat_lt r n) (codes "   ")) c.room-room.ensures
+    c.count_characters.ensures.count)
     (c.in_ok-push_spaces.ensures
     ∙ ap (λ (r : ℕ). next ++ marks (codes " ") (shown_text (last_of r parts.before))) c.room-room.ensures))
     c.push_carets.ensures

@@ -1,5 +1,5 @@
 -- The characters of bytes, one after the other.
-use Rattle.std.proofs.Common.{◌≡◌, ◌∙◌, ap, refl, sym, subst, ℕ, zero, suc, ◌+◌, ◌-◌, ◌≤◌, ◌<◌, Bool, true, false, cond}
+use Rattle.std.proofs.Common.{◌≡◌, ◌∙◌, ap, refl, sym, ℕ, zero, suc, ◌+◌, ◌-◌, ◌≤◌, ◌<◌, Bool, true, false, cond}
 use Rattle.std.proofs.Common.{List, [], ◌∷◌, length, take, drop, ◌++◌, append_assoc, append-nil, get_or, arith}
 use Rattle.std.specs.List.{flat_map, onto_first, prefix_len}
 use Rattle.std.proofs.lemmas.List.{take_all, take_more}

@@ -1,7 +1,6 @@
 -- The characters of joined bytes, and of what is shown.
-use Rattle.std.proofs.Common.{◌≡◌, ◌∙◌, ap, refl, sym, subst, ℕ, zero, suc, ◌+◌, ◌/◌, ◌%◌, ◌≤◌, ◌<◌, Bool, true, false}
-use Rattle.std.proofs.Common.{List, [], ◌∷◌, length, take, drop, ◌++◌, ◌⊎◌, inl, inr, arith, cond, not, ◌&&◌}
-use Rattle.std.specs.Prelude.{⊤}
+use Rattle.std.proofs.Common.{◌≡◌, ◌∙◌, ap, refl, sym, subst, ℕ, zero, suc, ◌/◌, ◌%◌, ◌≤◌, ◌<◌, Bool, true, false}
+use Rattle.std.proofs.Common.{List, [], ◌∷◌, take, drop, ◌++◌, ◌⊎◌, inl, inr, arith, cond, not, ◌&&◌}
 use Rattle.std.specs.Char.{digit_char}
 use Rattle.std.specs.List.{AllByRecursion, flat_map, onto_first}
 use Rattle.std.specs.Str.{is_utf8, chars}
@@ -115,8 +114,9 @@ plain_begins (b ∷ bs) e = by (cases_lt b 128)
   where
     by : (b < 128) ⊎ (128 ≤ b) → goes_on b ≡ false
     by (inl small) = low_begins b small
-    by (inr large) = high_begins b
-        ((IsCharBoundary-start (b ∷ bs) (IsUtf8-from_is_utf8 (b ∷ bs) (plain_parts (b ∷ bs) e).0)).1 (omega arith) large)
+    by (inr large) =
+        let utf8 = IsUtf8-from_is_utf8 (b ∷ bs) (plain_parts (b ∷ bs) e).0 in
+        high_begins b ((IsCharBoundary-start (b ∷ bs) utf8).1 (omega arith) large)
 
 -- ---- escapes
 

@@ -1,5 +1,5 @@
 -- What stands below what is shown.
-use Rattle.std.proofs.Common.{◌≡◌, ◌∙◌, ap, ap₂, refl, sym, ℕ, zero, suc, ◌+◌, ◌≤◌, ◌<◌, Bool, true, false, cond}
+use Rattle.std.proofs.Common.{◌≡◌, ◌∙◌, ap, ap₂, refl, sym, ℕ, zero, suc, ◌≤◌, ◌<◌, Bool, true, false, cond}
 use Rattle.std.proofs.Common.{List, [], ◌∷◌, length, take, ◌++◌, append-nil, append_assoc, arith}
 use Rattle.std.specs.Prelude.{codes, ◌==◌, nat_eq}
 use Rattle.std.specs.List.{AllByRecursion, flat_map}

@@ -1,22 +1,22 @@
 -- Nothing that is shown is obeyed by a terminal.
-use Rattle.std.proofs.Common.{◌≡◌, ◌∙◌, ap, refl, sym, subst, ℕ, zero, suc, ◌+◌, ◌/◌, ◌%◌, ◌≤◌, ◌<◌, ◌^◌, Bool, true, false}
+use Rattle.std.proofs.Common.{◌≡◌, ◌∙◌, ap, refl, sym, subst, ℕ, ◌+◌, ◌%◌, ◌≤◌, ◌<◌, ◌^◌, Bool, true, false}
 use Rattle.std.proofs.Common.{List, [], ◌∷◌, length, take, ◌++◌, ◌-◌, cond, not, ◌&&◌, arith, length-take, length-drop}
 use Rattle.std.specs.Prelude.{codes, nat_le, nat_lt}
-use Rattle.std.specs.Char.{encode_utf8}
 use Rattle.std.specs.Fmt.{decimal}
 use Rattle.std.specs.List.{AllByRecursion, flat_map, list_any, list_all, count_by, suffix_len, onto_first}
-use Rattle.std.specs.Str.{NoCharPasses, NonePass, chars, encode_utf8_all}
+use Rattle.std.specs.Str.{NonePass, chars, encode_utf8_all}
 use Rattle.std.proofs.lemmas.Bool.Decides.{nat_tests}
 use Rattle.std.proofs.lemmas.Grind.{common_steps}
 use Rattle.std.proofs.lemmas.Fmt.{decimal_by_steps_wide}
-use Rattle.std.proofs.lemmas.Str.{IsUtf8-from_is_utf8, NoCharPasses-nil, NoCharPasses-append, encodes-chars, encode_ascii}
-use Rattle.proto_lex.specs.Position.{is_line_end, line_of, line_before}
+use Rattle.std.proofs.lemmas.Str.{IsUtf8-from_is_utf8, NoCharPasses-nil, NoCharPasses-append}
+use Rattle.std.proofs.lemmas.Str.{encodes-chars, encode_ascii}
+use Rattle.proto_lex.specs.Position.{is_line_end, line_before}
 use Rattle.proto_lex.specs.Bytes.{starts}
 use Rattle.excerpts.specs.Characters.{characters, goes_on}
-use Rattle.excerpts.specs.Excerpts.{where_cut, carets, shown_before, shown_marked, shown_behind, shown_line, mark_line, blanks}
-use Rattle.excerpts.specs.Excerpts.{Parts, parts_of, last_of, room, quoted, excerpt}
+use Rattle.excerpts.specs.Excerpts.{where_cut, carets, shown_before, shown_marked, shown_behind, shown_line}
+use Rattle.excerpts.specs.Excerpts.{mark_line, blanks, Parts, parts_of, last_of, room}
 use Rattle.excerpts.specs.Laws.{IsTame, PlacesAreTame, QuotesAreTame, ExcerptsAreTame}
-use Rattle.excerpts.specs.Places.{line_number, column, place_text}
+use Rattle.excerpts.specs.Places.{line_number, column}
 use Rattle.excerpts.specs.Shown.{escaped, is_obeyed, is_plain, is_tab, mark, marks, shown, shown_text}
 use Rattle.excerpts.proofs.JoinLemmas.{high_digit, low_digit, high_is, low_is, escape_is, plain_parts}
 
@@ -32,13 +32,17 @@ printable_passes : (b : ℕ) → IsPrintable b → is_obeyed b ≡ false
 printable_passes b h = let low = h.0 in let high = h.1 in grind (arith, nat_tests)
 
 tame_byte : (b : ℕ) (bs : List ℕ) → b < 128 → is_obeyed b ≡ false → IsTame bs → IsTame (b ∷ bs)
-tame_byte b bs small passes rest =
-    (b ∷ rest.0, ap (λ (xs : List ℕ). xs ++ encode_utf8_all rest.0) (encode_ascii b small)
-    ∙ ap (λ (xs : List ℕ). b ∷ xs) rest.1, (passes, rest.2))
+tame_byte b bs small passes rest = (
+  b ∷ rest.0,
+  ap (λ (xs : List ℕ). xs ++ encode_utf8_all rest.0) (encode_ascii b small)
+      ∙ ap (λ (xs : List ℕ). b ∷ xs) rest.1,
+  (passes, rest.2),
+)
 
 pub tame_printable : (text : List ℕ) → AllByRecursion IsPrintable text → IsTame text
 tame_printable [] all = NoCharPasses-nil is_obeyed
-tame_printable (b ∷ bs) all = tame_byte b bs (omega (arith, all.0.1)) (printable_passes b all.0) (tame_printable bs all.1)
+tame_printable (b ∷ bs) all =
+    tame_byte b bs (omega (arith, all.0.1)) (printable_passes b all.0) (tame_printable bs all.1)
 
 -- a written text, by a test
 test_by : (b : ℕ) (bs : List ℕ) → list_all (λ b. nat_le 32 b && nat_lt b 127) (b ∷ bs) ≡ true
@@ -163,8 +167,12 @@ characters_le [] = omega arith
 characters_le (b ∷ bs) = one_by b bs (starts goes_on bs) refl (characters_le bs)
 
 pub column_fits : (text : List ℕ) (at : ℕ) → length text < 2 ^ 64 → column text at < 10 ^ 64
-column_fits text at fits = omega (arith, characters_le (line_before text at), length-take at text,
-    length-drop (length (take at text) - suffix_len (λ x. not (is_line_end x)) (take at text)) (take at text))
+column_fits text at fits = omega (
+  arith,
+  characters_le (line_before text at),
+  length-take at text,
+  length-drop (length (take at text) - suffix_len (λ x. not (is_line_end x)) (take at text)) (take at text),
+)
 
 -- of two to six parts
 two : (a b : List ℕ) → IsTame a → IsTame b → IsTame (a ++ b)
@@ -223,8 +231,11 @@ excerpts_are_tame text at len fits =
     let parts = parts_of text at len in
     let of_number = tame_decimal (line_number text at) (line_fits text at fits) in
     let edge = tame_text (codes "  ") refl in
-    let bar = tame_text (codes " | ") refl in
-    (codes "  " ++ number ++ codes " | " ++ shown_line parts, codes "  " ++ blanks number ++ codes " | " ++ mark_line parts,
-    refl,
-    four (codes "  ") number (codes " | ") (shown_line parts) edge of_number bar (tame_line parts),
-    four (codes "  ") (blanks number) (codes " | ") (mark_line parts) edge (tame_blanks number) bar (tame_below parts))
+    let bar = tame_text (codes " | ") refl in (
+      codes "  " ++ number ++ codes " | " ++ shown_line parts,
+      codes "  " ++ blanks number ++ codes " | " ++ mark_line parts,
+      refl,
+      four (codes "  ") number (codes " | ") (shown_line parts) edge of_number bar (tame_line parts),
+      four (codes "  ") (blanks number) (codes " | ") (mark_line parts) edge (tame_blanks number) bar
+      (tame_below parts),
+    )

@@ -1,6 +1,6 @@
 -- What is shown as it is.
-use Rattle.std.proofs.Common.{◌≡◌, ◌∙◌, ap, ap₂, refl, sym, subst, ℕ, zero, suc, ◌+◌, ◌-◌, ◌/◌, ◌≤◌, ◌<◌}
-use Rattle.std.proofs.Common.{Bool, true, false, cond, not, ◌&&◌, ◌||◌, List, [], ◌∷◌, length, map, take, drop, ◌++◌}
+use Rattle.std.proofs.Common.{◌≡◌, ◌∙◌, ap, ap₂, refl, sym, subst, ℕ, ◌+◌, ◌-◌, ◌/◌, ◌≤◌, ◌<◌}
+use Rattle.std.proofs.Common.{true, false, cond, not, ◌&&◌, ◌||◌, List, [], ◌∷◌, length, map, take, drop, ◌++◌}
 use Rattle.std.proofs.Common.{◌⊎◌, inl, inr, arith, append-nil, append_assoc, length-append}
 use Rattle.std.specs.Prelude.{codes, IsUtf8, chars, nat_lt}
 use Rattle.std.specs.Char.{IsScalar}
@@ -91,7 +91,7 @@ are_of_the_text text utf8 = subst (λ (bytes : List ℕ). characters bytes ≡ m
     (rw (chars-encodes utf8.0 utf8.1.0) (each utf8.0))
 
 pub length_is : (text : List ℕ) → IsUtf8 text → length (characters text) ≡ length (chars text)
-length_is text utf8 = ap length (are_of_the_text text utf8) ∙ length-map encode (chars text)
+length_is text utf8 = ap length (are_of_the_text text utf8) ∙ length-map (chars text) encode
 
 -- ---- a text in which nothing is obeyed
 
@@ -178,8 +178,8 @@ whole_parts : (before marked behind after : List ℕ) → marked ++ behind ≡ a
 whole_parts before marked behind after are a b c tame few =
     let ends : IsUtf8 after = subst IsUtf8 are (IsUtf8-append marked behind b c) in
     let chars_are : chars (before ++ after) ≡ chars before ++ (chars marked ++ chars behind) =
-      chars-append before after a
-      ∙ ap (λ (t : List ℕ). chars before ++ t) (ap chars (sym are) ∙ chars-append marked behind b) in
+    chars-append before after a
+    ∙ ap (λ (t : List ℕ). chars before ++ t) (ap chars (sym are) ∙ chars-append marked behind b) in
     let all = free_of (before ++ after) (IsUtf8-append before after a ends) tame in
     let free = subst (NonePass is_obeyed) chars_are all in
     let front = free_parts (chars before) (chars marked ++ chars behind) free in
@@ -201,8 +201,8 @@ whole_parts before marked behind after are a b c tame few =
 
 pub short_lines_are_whole : ShortLinesAreWhole
 short_lines_are_whole text at len a b c tame few =
-    whole_parts (line_before text at) (take len (line_after text at)) (drop len (line_after text at)) (line_after text at)
-    (take-append-drop len (line_after text at)) a b c tame few
+    let after = line_after text at in
+    whole_parts (line_before text at) (take len after) (drop len after) after (take-append-drop len after) a b c tame few
 
 pub paths_are_whole : PathsAreWhole
 paths_are_whole path text at utf8 tame =

@@ -1,6 +1,6 @@
 -- What stands below is as wide as what stands above.
-use Rattle.std.proofs.Common.{◌≡◌, ◌∙◌, ap, ap₂, refl, sym, subst, ℕ, ◌+◌, ◌≤◌, ◌<◌, ◌^◌, Bool, true, false, cond}
-use Rattle.std.proofs.Common.{List, [], ◌∷◌, length, map, ◌++◌, ◌⊎◌, inl, inr, arith, append_assoc}
+use Rattle.std.proofs.Common.{◌≡◌, ◌∙◌, ap, ap₂, refl, sym, ℕ, Bool, true, false}
+use Rattle.std.proofs.Common.{List, [], ◌∷◌, map, ◌++◌, ◌⊎◌, inl, inr, arith, append_assoc}
 use Rattle.std.specs.Prelude.{codes, nat_eq}
 use Rattle.std.specs.Fmt.{decimal}
 use Rattle.std.specs.List.{AllByRecursion, flat_map}
@@ -87,7 +87,7 @@ only_blanks (d ∷ ds) = (inl refl, only_blanks ds)
 below_margin : (ds : List ℕ) → AllByRecursion IsDigit ds → IsBelow 32 (codes "  " ++ blanks ds) (codes "  " ++ ds)
 below_margin ds all = (
   blank_alone (32 ∷ ds) ∙ ap (λ (l : List Bool). false ∷ l) (blank_alone ds)
-  ∙ ap (λ (l : List Bool). false ∷ false ∷ l) (width_digits ds all) ∙ sym (behind_two ds all),
+      ∙ ap (λ (l : List Bool). false ∷ false ∷ l) (width_digits ds all) ∙ sym (behind_two ds all),
   (inl refl, (inl refl, only_blanks ds)),
 )
 
@@ -101,10 +101,13 @@ marks_stand_below text at len fits =
     let parts = parts_of text at len in
     let edge = codes "  " ++ blanks number in
     let under = marks (codes " ") (shown_before parts) in
-    let last = carets (shown_marked parts) in
-    (edge, under, last,
-    ap (λ (l : List ℕ). 10 ∷ (margin text at ++ codes " | " ++ shown_line parts ++ 10 ∷ l))
-    (sym (append_assoc (edge ++ codes " | ") under last)),
-    below_margin number (digits_of (line_number text at) (line_fits text at fits)),
-    marks_below 32 (shown_before parts) (refl, refl),
-    mark_it (shown_marked parts))
+    let last = carets (shown_marked parts) in (
+      edge,
+      under,
+      last,
+      ap (λ (l : List ℕ). 10 ∷ (margin text at ++ codes " | " ++ shown_line parts ++ 10 ∷ l))
+          (sym (append_assoc (edge ++ codes " | ") under last)),
+      below_margin number (digits_of (line_number text at) (line_fits text at fits)),
+      marks_below 32 (shown_before parts) (refl, refl),
+      mark_it (shown_marked parts),
+    )

@@ -35,7 +35,8 @@ where_cut cut text = if cut then text else []
 -- what is shown of a line before its marked part, of this part, and after it: with `...` where the line is cut
 abbrev pub shown_before : Parts → List ℕ
 shown_before parts =
-    where_cut (nat_lt (room parts) (length parts.before)) (codes "...") ++ shown_text (last_of (room parts) parts.before)
+    where_cut (nat_lt (room parts) (length parts.before)) (codes "...")
+    ++ shown_text (last_of (room parts) parts.before)
 
 abbrev pub shown_marked : Parts → List ℕ
 shown_marked parts = shown_text (take (room parts) parts.marked)

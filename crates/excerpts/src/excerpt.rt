@@ -64,14 +64,16 @@ fn last_characters(bytes: &[u8], most: usize) -> &[u8]
 
 /// Appends the last characters, at most this many, as they are shown.
 fn push_last(out: &mut String, bytes: &[u8], most: usize) -> Result<(), AllocError>
-    ensures { OnOk result (string_bytes out.new ≡ string_bytes out.old ++ shown_text (last_of most (characters bytes.now))) }
+    ensures { OnOk result (string_bytes out.new
+        ≡ string_bytes out.old ++ shown_text (last_of most (characters bytes.now))) }
 {
     push_shown(out, last_characters(bytes, most), most)
 }
 
 /// Appends spaces below the last characters, at most this many.
 fn push_spaces(out: &mut String, bytes: &[u8], most: usize) -> Result<(), AllocError>
-    ensures { OnOk result (string_bytes out.new ≡ string_bytes out.old ++ marks (codes " ") (shown_text (last_of most (characters bytes.now)))) }
+    ensures { OnOk result (string_bytes out.new
+        ≡ string_bytes out.old ++ marks (codes " ") (shown_text (last_of most (characters bytes.now)))) }
 {
     push_marks(out, last_characters(bytes, most), most, " ")
 }
@@ -83,7 +85,8 @@ fn push_line(
     marked: &[u8],
     behind: &[u8],
 ) -> Result<(), AllocError>
-    ensures { OnOk result (string_bytes out.new ≡ string_bytes out.old ++ shown_line (parts_in before.now marked.now behind.now)) }
+    ensures { OnOk result (string_bytes out.new
+        ≡ string_bytes out.old ++ shown_line (parts_in before.now marked.now behind.now)) }
 {
     let room = room(before, marked, behind);
     let count = count_characters(marked);
@@ -98,7 +101,8 @@ fn push_line(
 /// Appends carets below what is marked, at most this many characters of it, or one caret below a place.
 fn push_carets(out: &mut String, marked: &[u8], most: usize) -> Result<(), AllocError>
     requires { 0 < most }
-    ensures { OnOk result (string_bytes out.new ≡ string_bytes out.old ++ carets (shown_text (take most (characters marked.now)))) }
+    ensures { OnOk result (string_bytes out.new
+        ≡ string_bytes out.old ++ carets (shown_text (take most (characters marked.now)))) }
 {
     if marked.is_empty() {
         out.push_str("^")
@@ -114,7 +118,8 @@ fn push_mark_line(
     marked: &[u8],
     behind: &[u8],
 ) -> Result<(), AllocError>
-    ensures { OnOk result (string_bytes out.new ≡ string_bytes out.old ++ mark_line (parts_in before.now marked.now behind.now)) }
+    ensures { OnOk result (string_bytes out.new
+        ≡ string_bytes out.old ++ mark_line (parts_in before.now marked.now behind.now)) }
 {
     let room = room(before, marked, behind);
     push_where_cut(out, count_characters(before) > room, "   ")?;
@@ -140,7 +145,8 @@ fn push_numbered(
     marked: &[u8],
     behind: &[u8],
 ) -> Result<(), AllocError>
-    ensures { OnOk result (string_bytes out.new ≡ string_bytes out.old ++ numbered number.now (parts_in before.now marked.now behind.now)) }
+    ensures { OnOk result (string_bytes out.new
+        ≡ string_bytes out.old ++ numbered number.now (parts_in before.now marked.now behind.now)) }
 {
     out.push_str("\n  ")?;
     out.push_str(number)?;
@@ -156,7 +162,8 @@ fn push_below(
     marked: &[u8],
     behind: &[u8],
 ) -> Result<(), AllocError>
-    ensures { OnOk result (string_bytes out.new ≡ string_bytes out.old ++ below number.now (parts_in before.now marked.now behind.now)) }
+    ensures { OnOk result (string_bytes out.new
+        ≡ string_bytes out.old ++ below number.now (parts_in before.now marked.now behind.now)) }
 {
     out.push_str("\n  ")?;
     push_blanks(out, number.as_bytes())?;

@@ -51,7 +51,8 @@ fn is_tab(character: &[u8]) -> bool
 
 /// The character, if it is shown as it is.
 fn plain_text(character: &[u8]) -> Option<&str>
-    ensures { MatchOption result (is_plain character.now ≡ false) (λ text. (is_plain character.now ≡ true) × (text.now ≡ character.now)) }
+    ensures { MatchOption result (is_plain character.now ≡ false)
+        (λ text. (is_plain character.now ≡ true) × (text.now ≡ character.now)) }
 {
     match str::from_utf8(character) {
         Ok(text) => if has_obeyed(text) { None } else { Some(text) },
@@ -139,7 +140,8 @@ fn push_signs(out: &mut String, character: &[u8], sign: &str) -> Result<(), Allo
 
 /// Appends the first characters of bytes, at most this many, as they are shown.
 pub(crate) fn push_shown(out: &mut String, bytes: &[u8], most: usize) -> Result<(), AllocError>
-    ensures { OnOk result (string_bytes out.new ≡ string_bytes out.old ++ shown_text (take most (characters bytes.now))) }
+    ensures { OnOk result (string_bytes out.new
+        ≡ string_bytes out.old ++ shown_text (take most (characters bytes.now))) }
 {
     let mut rest = bytes;
     let mut left = most;
@@ -165,13 +167,9 @@ pub(crate) fn push_text(out: &mut String, text: &str) -> Result<(), AllocError>
 }
 
 /// Appends what is below the first characters of bytes, at most this many, character by character.
-fn push_all_signs(
-    out: &mut String,
-    bytes: &[u8],
-    most: usize,
-    sign: &str,
-) -> Result<(), AllocError>
-    ensures { OnOk result (string_bytes out.new ≡ string_bytes out.old ++ flat_map (signs sign.now) (take most (characters bytes.now))) }
+fn push_all_signs(out: &mut String, bytes: &[u8], most: usize, sign: &str) -> Result<(), AllocError>
+    ensures { OnOk result (string_bytes out.new
+        ≡ string_bytes out.old ++ flat_map (signs sign.now) (take most (characters bytes.now))) }
 {
     let mut rest = bytes;
     let mut left = most;

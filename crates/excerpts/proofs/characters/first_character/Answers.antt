@@ -1,4 +1,4 @@
-use Rattle.std.proofs.Common.{◌≡◌, ◌∙◌, ap₂, sym, List, ℕ, ◌∷◌}
+use Rattle.std.proofs.Common.{◌∙◌, ap₂, sym, List, ℕ, ◌∷◌}
 use Rattle.excerpts.specs.Characters.{characters}
 use Rattle.excerpts.proofs.CharacterLemmas.{first_at, behind_first}
 use Rattle.excerpts.proofs.characters.first_character.Goals as goal

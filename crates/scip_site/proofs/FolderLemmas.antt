@@ -1,158 +1,102 @@
 -- The first page has the places of folders.
-use Rattle.std.proofs.Common.{◌≡◌, ◌∙◌, sym, refl, ap, subst, ℕ, zero, suc, ◌-◌, ◌+◌, ◌==◌, Bool, true, false, cond}
-use Rattle.std.proofs.Common.{List, [], ◌∷◌, ◌++◌, take, length, arith, append_assoc, ◌⊎◌, inl, inr}
+use Rattle.std.proofs.Common.{◌≡◌, ◌∙◌, sym, refl, ap, subst, ℕ, zero, suc, ◌-◌, Bool, true, false, cond, List, [], ◌∷◌}
+use Rattle.std.proofs.Common.{◌++◌, map, take, length, ◌⊎◌, inl, inr}
 use Rattle.std.specs.Prelude.{codes}
+use Rattle.std.specs.List.{flat_map, slice_get}
 use Rattle.std.specs.Str.{bytes_eq}
-use Rattle.std.proofs.lemmas.Bool.Decides.{nat_tests}
-use Rattle.std.proofs.lemmas.Slice.Eq.{bytes_eq-Decides}
-use Rattle.scip_pages.specs.Code.{attribute}
-use Rattle.scip_pages.specs.Escapes.{escape}
-use Rattle.scip_pages.specs.Paths.{components}
 use Rattle.scip_pages.specs.Urls.{folder_of}
+use Rattle.source_page.specs.Crumbs.{folder_id, folders_on}
 use Rattle.source_page.specs.Ids.{HasId}
-use Rattle.source_page.specs.Crumbs.{folder_id, head_text}
-use Rattle.scip_site.specs.Tree.{common, closes, is_open, open_text, open_or_none, opens, folders_on, leaf_with, but_last}
-use Rattle.scip_site.specs.Tree.{step, tree, search_text, first_page}
+use Rattle.source_page.specs.Tags.{Tag, ids_of, is_id, is_url, tags_of, values_of}
+use Rattle.source_page.proofs.ElementLemmas.{In, contained, from_append, from_map, in_at, in_map}
 use Rattle.scip_site.specs.Laws.{FoldersHavePlaces}
-use Rattle.source_page.proofs.ElementLemmas.{In, in_at}
-use Rattle.source_page.proofs.IdLemmas.{has_own, has_behind, has_before}
+use Rattle.scip_site.specs.Nesting.{Leaf, leaf_of, leaves_behind, leaves_in, open_behind}
+use Rattle.scip_site.specs.Tree.{first_page}
+use Rattle.scip_site.proofs.NestLemmas.{tree_shows_folders}
 
-abbrev place : List ℕ → List ℕ
-place folder = folder_id folder
+-- ---- what is open was opened
 
--- ---- a folder that begins
+pub in_left : {X : Type 0} (x : X) (xs ys : List X) → In x xs → In x (xs ++ ys)
+in_left x [] ys is = absurd is
+in_left x (y ∷ xs) ys (inl same) = inl same
+in_left x (y ∷ xs) ys (inr is) = inr (in_left x xs ys is)
 
-open_has : (above name : List ℕ) → HasId (place (above ++ name)) (open_text above name)
-open_has above name =
-    let id : List ℕ = place (above ++ name) in
-    let start : List ℕ = codes "<li><details" ++ attribute (codes "id") id in
-    let begun : HasId id start = has_behind id (codes "<li><details") (attribute (codes "id") id) (has_own id) in
-    has_before id (start ++ is_open above ++ codes "><summary>" ++ escape name) (codes "/</summary><ul>\n")
-    (has_before id (start ++ is_open above ++ codes "><summary>") (escape name)
-    (has_before id (start ++ is_open above) (codes "><summary>") (has_before id start (is_open above) begun)))
+pub in_right : {X : Type 0} (x : X) (xs ys : List X) → In x ys → In x (xs ++ ys)
+in_right x [] ys is = is
+in_right x (y ∷ xs) ys is = inr (in_right x xs ys is)
 
--- ---- folders that begin, or are there
+from_take : {X : Type 0} (x : X) (n : ℕ) (xs : List X) → In x (take n xs) → In x xs
+from_take x zero xs is = absurd is
+from_take x (suc n) [] is = absurd is
+from_take x (suc n) (y ∷ xs) (inl same) = inl same
+from_take x (suc n) (y ∷ xs) (inr is) = inr (from_take x n xs is)
 
-not_none : (k : ℕ) → (suc k == 0) ≡ false
-not_none k = grind (arith, nat_tests)
-
-one_less : (k : ℕ) → suc k - 1 ≡ k
-one_less k = omega arith
-
--- of no folders all begin
-all_begin : (above : List ℕ) (names : List (List ℕ)) (folder : List ℕ) → In folder (folders_on above names)
-    → HasId (place folder) (opens 0 above names)
-all_begin above [] folder is = absurd is
-all_begin above (name ∷ names) folder (inl same) =
-    has_before (place folder) (open_text above name) (opens 0 (above ++ name ++ codes "/") names)
-    (subst (λ (f : List ℕ). HasId (place f) (open_text above name)) (sym same) (open_has above name))
-all_begin above (name ∷ names) folder (inr is) =
-    has_behind (place folder) (open_text above name) (opens 0 (above ++ name ++ codes "/") names)
-    (all_begin (above ++ name ++ codes "/") names folder is)
-
-begins_or_is_there : (kept : ℕ) (above : List ℕ) (names : List (List ℕ)) (folder : List ℕ)
-    → In folder (folders_on above names)
-    → In folder (folders_on above (take kept names)) ⊎ HasId (place folder) (opens kept above names)
-begins_or_is_there zero above names folder is = inr (all_begin above names folder is)
-begins_or_is_there (suc kept) above [] folder is = absurd is
-begins_or_is_there (suc kept) above (name ∷ names) folder (inl same) = inl (inl same)
-begins_or_is_there (suc kept) above (name ∷ names) folder (inr is) =
-    lower (begins_or_is_there kept (above ++ name ++ codes "/") names folder is)
+open_is : (open_ : List (List ℕ)) (tag : Tag) (id : List ℕ) → In id (open_behind open_ tag)
+    → In id open_ ⊎ In id (values_of is_id tag)
+open_is open_ tag id = by (bytes_eq tag.name (codes "details")) (bytes_eq tag.name (codes "/details"))
   where
-    same : opens kept (above ++ name ++ codes "/") names ≡ opens (suc kept) above (name ∷ names)
-    same = sym (rw (not_none kept, one_less kept) refl)
+    by : (b c : Bool)
+        → In id (cond b (open_ ++ values_of is_id tag) (cond c (take (length open_ - 1) open_) open_))
+        → In id open_ ⊎ In id (values_of is_id tag)
+    by true c is = from_append id open_ (values_of is_id tag) is
+    by false true is = inl (from_take id (length open_ - 1) open_ is)
+    by false false is = inl is
 
-    lower : In folder (folders_on (above ++ name ++ codes "/") (take kept names))
-        ⊎ HasId (place folder) (opens kept (above ++ name ++ codes "/") names)
-        → In folder (folders_on above (take (suc kept) (name ∷ names)))
-        ⊎ HasId (place folder) (opens (suc kept) above (name ∷ names))
-    lower (inl there) = inl (inr there)
-    lower (inr has) = inr (subst (HasId (place folder)) same has)
-
--- ---- folders that are on two ways
-
-still_on : (kept : ℕ) (above : List ℕ) (names : List (List ℕ)) (folder : List ℕ)
-    → In folder (folders_on above (take kept names)) → In folder (folders_on above names)
-still_on zero above names folder is = absurd is
-still_on (suc kept) above [] folder is = is
-still_on (suc kept) above (name ∷ names) folder (inl same) = inl same
-still_on (suc kept) above (name ∷ names) folder (inr is) =
-    inr (still_on kept (above ++ name ++ codes "/") names folder is)
-
-more : (n : ℕ) → n + 1 ≡ suc n
-more n = omega arith
-
-same_front : (open_ names : List (List ℕ)) → take (common open_ names) names ≡ take (common open_ names) open_
-same_front [] [] = refl
-same_front [] (b ∷ names) = refl
-same_front (a ∷ open_) [] = refl
-same_front (a ∷ open_) (b ∷ names) = by (bytes_eq a b) refl (same_front open_ names)
+leaf_is : (open_ : List (List ℕ)) (tag : Tag) (leaf : Leaf) → In leaf (leaves_in open_ tag) → leaf.folders ≡ open_
+leaf_is open_ tag leaf = by (bytes_eq tag.name (codes "a"))
   where
-    by : (c : Bool) → bytes_eq a b ≡ c → take (common open_ names) names ≡ take (common open_ names) open_
-        → take (cond c (common open_ names + 1) 0) (b ∷ names) ≡ take (cond c (common open_ names + 1) 0) (a ∷ open_)
-    by true e others =
-        rw (more (common open_ names))
-        (ap (λ (n : List ℕ). n ∷ take (common open_ names) names) (sym ((bytes_eq-Decides a b).0 e))
-        ∙ ap (λ (ns : List (List ℕ)). a ∷ ns) others)
-    by false e others = refl
+    by : (b : Bool)
+        → In leaf (cond b (map (λ (url : List ℕ). record { folders = open_; url = url }) (values_of is_url tag)) [])
+        → leaf.folders ≡ open_
+    by true is =
+        let from = from_map (λ (url : List ℕ). record { folders = open_; url = url }) leaf (values_of is_url tag) is in
+        ap (λ (l : Leaf). l.folders) from.2
+    by false is = absurd is
 
--- ---- texts that have the places of all folders on a way
-
-abbrev AllHave : (text : List ℕ) → List (List ℕ) → Type 0
-AllHave text names = (folder : List ℕ) → In folder (folders_on [] names) → HasId (place folder) text
-
-step_has : (text before path : List ℕ) → AllHave text (folder_of before)
-    → AllHave (text ++ step before path) (folder_of path)
-step_has text before path have folder is = by (begins_or_is_there kept [] names folder is)
+opened : (open_ : List (List ℕ)) (tags : List Tag) (leaf : Leaf) (id : List ℕ) → In leaf (leaves_behind open_ tags)
+    → In id leaf.folders → In id open_ ⊎ In id (flat_map (values_of is_id) tags)
+opened open_ [] leaf id is has = absurd is
+opened open_ (tag ∷ tags) leaf id is has =
+    by (from_append leaf (leaves_in open_ tag) (leaves_behind (open_behind open_ tag) tags) is)
+    (λ there. opened (open_behind open_ tag) tags leaf id there has)
   where
-    open_ : List (List ℕ)
-    open_ = folder_of before
+    ids : List (List ℕ)
+    ids = values_of is_id tag
 
-    names : List (List ℕ)
-    names = folder_of path
+    others : List (List ℕ)
+    others = flat_map (values_of is_id) tags
 
-    kept : ℕ
-    kept = common open_ names
+    behind : In id (open_behind open_ tag) ⊎ In id others → In id open_ ⊎ In id (ids ++ others)
+    behind (inr later) = inr (in_right id ids others later)
+    behind (inl now) = here (open_is open_ tag id now)
+      where
+        here : In id open_ ⊎ In id ids → In id open_ ⊎ In id (ids ++ others)
+        here (inl before) = inl before
+        here (inr begun) = inr (in_left id ids others begun)
 
-    closed : List ℕ
-    closed = closes (length open_ - kept)
+    by : In leaf (leaves_in open_ tag) ⊎ In leaf (leaves_behind (open_behind open_ tag) tags)
+        → (In leaf (leaves_behind (open_behind open_ tag) tags) → In id (open_behind open_ tag) ⊎ In id others)
+        → In id open_ ⊎ In id (ids ++ others)
+    by (inl now) later = inl (subst (In id) (leaf_is open_ tag leaf now) has)
+    by (inr there) later = behind (later there)
 
-    opened : List ℕ
-    opened = opens kept [] names
+-- ---- so the first page has the ids of all folders
 
-    end : List ℕ
-    end = leaf_with path (components path)
-
-    by : In folder (folders_on [] (take kept names)) ⊎ HasId (place folder) opened
-        → HasId (place folder) (text ++ step before path)
-    by (inl there) =
-        let on_both : In folder (folders_on [] (take kept open_)) =
-        subst (λ (ns : List (List ℕ)). In folder (folders_on [] ns)) (same_front open_ names) there in
-        has_before (place folder) text (step before path) (have folder (still_on kept [] open_ folder on_both))
-    by (inr has) =
-        has_behind (place folder) text (step before path)
-        (has_before (place folder) (closed ++ opened) end (has_behind (place folder) closed opened has))
-
-tree_has : (text before : List ℕ) (paths : List (List ℕ)) (path : List ℕ) → AllHave text (folder_of before)
-    → In path paths → AllHave (text ++ tree before paths) (folder_of path)
-tree_has text before [] path have is folder is_on = absurd is
-tree_has text before (other ∷ paths) path have (inl same) folder is_on =
-    let here : AllHave (text ++ step before other) (folder_of other) = step_has text before other have in
-    let there : AllHave (text ++ step before other) (folder_of path) =
-    subst (λ (p : List ℕ). AllHave (text ++ step before other) (folder_of p)) (sym same) here in
-    subst (HasId (place folder)) (append_assoc text (step before other) (tree other paths))
-    (has_before (place folder) (text ++ step before other) (tree other paths) (there folder is_on))
-tree_has text before (other ∷ paths) path have (inr is) folder is_on =
-    subst (HasId (place folder)) (append_assoc text (step before other) (tree other paths))
-    (tree_has (text ++ step before other) other paths path (step_has text before other have) is folder is_on)
+pub folder_has : (paths : List (List ℕ)) (path folder : List ℕ) → In path paths
+    → In folder (folders_on [] (folder_of path)) → HasId (folder_id folder) (first_page paths)
+folder_has paths path folder listed is =
+    let page : List ℕ = first_page paths in
+    let id : List ℕ = folder_id folder in
+    let leaf : In (leaf_of path) (leaves_behind [] (tags_of page)) =
+    subst (In (leaf_of path)) (sym (tree_shows_folders paths).0) (in_map leaf_of path paths listed) in
+    contained (ids_of page) id
+    (by (opened [] (tags_of page) (leaf_of path) id leaf (in_map folder_id folder (folders_on [] (folder_of path)) is)))
+  where
+    by : In (folder_id folder) [] ⊎ In (folder_id folder) (ids_of (first_page paths))
+        → In (folder_id folder) (ids_of (first_page paths))
+    by (inl none) = absurd none
+    by (inr has) = has
 
 pub folders_have : FoldersHavePlaces
 folders_have paths number at path folder listed is =
-    let id : List ℕ = place folder in
-    let front : List ℕ = head_text (codes "index.html") (codes "Sources") ++ search_text in
-    let has : HasId id (tree [] paths) =
-    tree_has [] [] paths path (λ f none. absurd none) (in_at paths number path listed) folder
-    (in_at (folders_on [] (folder_of path)) at folder is) in
-    has_before id (front ++ tree [] paths)
-    (codes "</ul>\n</main>\n<script src=\"symbols.js\"></script>\n<script src=\"search.js\"></script>\n</body>\n</html>\n")
-    (has_behind id front (tree [] paths) has)
+    folder_has paths path folder (in_at paths number path listed) (in_at (folders_on [] (folder_of path)) at folder is)

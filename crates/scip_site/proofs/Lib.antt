@@ -1,9 +1,11 @@
 mod PagePathLemmas
 mod RepeatLemmas
 mod TreeLemmas
+mod NestLemmas
 mod OrderLemmas
 mod ReadLemmas
 mod MakeLemmas
 mod ScriptLemmas
 mod GoodLemmas
 mod FolderLemmas
+mod FileUrlLemmas

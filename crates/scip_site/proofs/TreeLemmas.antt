@@ -7,6 +7,7 @@ use Rattle.std.specs.List.{flat_map, range_with_len, slice_get}
 use Rattle.std.specs.Str.{bytes_eq}
 use Rattle.std.proofs.lemmas.Grind.{flat_map-append}
 use Rattle.std.proofs.lemmas.List.{take-map, length-map, drop_all}
+use Rattle.std.proofs.lemmas.Slice.Eq.{bytes_eq-Decides}
 use Rattle.scip_site.specs.Tree.{common, is_name, same_or_not, same_at, closes, opens, but_last, leaf_with, step_with}
 use Rattle.source_page.proofs.CodeLemmas.{range_more}
 
@@ -101,3 +102,22 @@ between page closed opened open_ folders names path kept count f k c e1 e2 =
     (e2 ∙ ap (λ (l : List ℕ). l ++ opens kept [] folders) e1
     ∙ append_assoc page (closes count) (opens kept [] folders) ∙ ap (λ (l : List ℕ). page ++ l) parts)
     ∙ append_assoc page (closes (length open_ - least) ++ opens least [] (but_last names)) (leaf_with path names)
+
+-- ---- folders that two ways have
+
+more : (n : ℕ) → n + 1 ≡ suc n
+more n = omega arith
+
+pub same_front : (open_ names : List (List ℕ)) → take (common open_ names) names ≡ take (common open_ names) open_
+same_front [] [] = refl
+same_front [] (b ∷ names) = refl
+same_front (a ∷ open_) [] = refl
+same_front (a ∷ open_) (b ∷ names) = by (bytes_eq a b) refl (same_front open_ names)
+  where
+    by : (c : Bool) → bytes_eq a b ≡ c → take (common open_ names) names ≡ take (common open_ names) open_
+        → take (cond c (common open_ names + 1) 0) (b ∷ names) ≡ take (cond c (common open_ names + 1) 0) (a ∷ open_)
+    by true e others =
+        rw (more (common open_ names))
+        (ap (λ (n : List ℕ). n ∷ take (common open_ names) names) (sym ((bytes_eq-Decides a b).0 e))
+        ∙ ap (λ (ns : List (List ℕ)). a ∷ ns) others)
+    by false e others = refl

@@ -1,12 +1,14 @@
 -- Laws of the places of pages.
-use Rattle.std.specs.Prelude.{ℕ, ◌≡◌, List, [], None, Some}
+use Rattle.std.specs.Prelude.{ℕ, ◌≡◌, List, [], map, None, Some}
 use Rattle.std.specs.List.{slice_get}
 use Rattle.scip_pages.specs.Paths.{path_fault}
 use Rattle.scip_pages.specs.Urls.{folder_of}
-use Rattle.source_page.specs.Crumbs.{folder_id}
+use Rattle.source_page.specs.Crumbs.{folder_id, folders_on}
 use Rattle.source_page.specs.Site.{page_path}
 use Rattle.source_page.specs.Ids.{HasId}
-use Rattle.scip_site.specs.Tree.{folders_on, first_page}
+use Rattle.source_page.specs.Tags.{tags_of}
+use Rattle.scip_site.specs.Nesting.{all_open, leaf_of, leaves_behind}
+use Rattle.scip_site.specs.Tree.{first_page}
 
 -- The path of a page has no fault if that of its document has none. So it leads to a place below the folder of all
 -- pages, by a URL too (`PathLaws` and `UrlLaws` of `scip_pages`),
@@ -24,3 +26,11 @@ FoldersHavePlaces =
     (paths : List (List ℕ)) (number at : ℕ) (path folder : List ℕ)
     → slice_get paths number ≡ Some path → slice_get (folders_on [] (folder_of path)) at ≡ Some folder
     → HasId (folder_id folder) (first_page paths)
+
+-- Round the link to the page of each document in the tree the folders on its way are open, and no others; behind the
+-- tree none is.
+abbrev pub TreeShowsFolders : Type 0
+TreeShowsFolders =
+    (paths : List (List ℕ))
+    → (leaves_behind [] (tags_of (first_page paths)) ≡ map leaf_of paths)
+    × (all_open [] (tags_of (first_page paths)) ≡ [])

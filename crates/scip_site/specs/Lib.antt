@@ -1,7 +1,9 @@
 pub mod Tree
+pub mod Nesting
 pub mod Repeats
 pub mod Script
 pub mod Reading
 pub mod Making
 pub mod FolderLaws
 pub mod Laws
+pub mod UrlLaws

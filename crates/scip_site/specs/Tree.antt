@@ -51,11 +51,6 @@ opens kept above [] = []
 opens kept above (name ∷ names) =
     open_or_none kept above name ++ opens (kept - 1) (above ++ name ++ codes "/") names
 
--- the folders on a way, each with those above it
-abbrev pub folders_on : (above : List ℕ) → List (List ℕ) → List (List ℕ)
-folders_on above [] = []
-folders_on above (name ∷ names) = (above ++ name) ∷ folders_on (above ++ name ++ codes "/") names
-
 -- the last name of a way
 abbrev pub last_of : List (List ℕ) → List ℕ
 last_of names = line_at names (length names - 1)

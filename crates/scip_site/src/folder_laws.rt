@@ -1,6 +1,7 @@
 //! Laws of a folder of pages, each the contract of a function that does nothing.
 
 ghost use Rattle.scip_site.specs.FolderLaws.{ReadsAreGood, GoodSourcesFit, FilesStayBelow, PagesAreMadeOnce, QuotesShowTheText, QuotesEndNothing};
+ghost use Rattle.scip_site.specs.UrlLaws.{PageUrlsLead, FirstUrlsLead, ListedUrlsLead};
 
 use source_files::ReadFiles;
 
@@ -22,4 +23,12 @@ pub fn folders_have_their_pages()
 pub fn quotes_show_the_text()
     ensures text { QuotesShowTheText }
     ensures end { QuotesEndNothing }
+{}
+
+/// Each URL that stands in a page, in the first page, or in the list of symbols leads to a file that is made, and if it
+/// has a fragment to an element of the file.
+pub fn urls_lead_to_files()
+    ensures pages { PageUrlsLead }
+    ensures first { FirstUrlsLead }
+    ensures listed { ListedUrlsLead }
 {}

@@ -12,6 +12,7 @@ fn bytes_at(path: &str) -> Option<&'static [u8]> {
     match path {
         "src/b/x" => Some(b"S".as_slice()),
         "src/a/y" => Some(b"S\n".as_slice()),
+        "src/b/a%/z" => Some(b"".as_slice()),
         "src/bytes" => Some(b"\xff".as_slice()),
         "src/unit" => Some(b"".as_slice()),
         "src/short" => Some(b"a".as_slice()),

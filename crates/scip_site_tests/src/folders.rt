@@ -12,9 +12,10 @@ use streams::Std;
 /// The most bytes that files hold in these tests, and that are said.
 const ROOM: usize = 4096;
 
-/// An index of eight documents: `b/x`, which defines a symbol; one whose path leads out of the root; `a/y`, which uses
+/// An index of nine documents: `b/x`, which defines a symbol; one whose path leads out of the root; `a/y`, which uses
 /// the symbol; `b/x` again; one whose source can't be read; one whose source isn't UTF-8; one without a position
-/// encoding; and one with a range past its source's end.
+/// encoding; one with a range past its source's end; and one in a folder of `b` that ends before `b/x`, with a name that
+/// a URL encodes.
 const INDEX: &[u8] = b"\x12\x14\x0a\x03b/x\x12\x0b\x0a\x03\x00\x00\x01\x12\x02S#\x18\x010\x01\
 \x12\x08\x0a\x04../x0\x01\
 \x12\x12\x0a\x03a/y\x12\x09\x0a\x03\x00\x00\x01\x12\x02S#0\x01\
@@ -22,7 +23,8 @@ const INDEX: &[u8] = b"\x12\x14\x0a\x03b/x\x12\x0b\x0a\x03\x00\x00\x01\x12\x02S#
 \x12\x06\x0a\x02no0\x01\
 \x12\x09\x0a\x05bytes0\x01\
 \x12\x06\x0a\x04unit\
-\x12\x14\x0a\x05short\x12\x09\x0a\x03\x00\x00\x02\x12\x02S#0\x01";
+\x12\x14\x0a\x05short\x12\x09\x0a\x03\x00\x00\x02\x12\x02S#0\x01\
+\x12\x0a\x0a\x06b/a%/z0\x01";
 
 /// What is said of those that have no page.
 const TOLD: &str = "protoscip: ../x: BadPath
@@ -75,11 +77,31 @@ const MADE: &str = "[out/src/b/x.html]<!DOCTYPE html>
 </main>
 </body>
 </html>
+[out/src/b/a%/z.html]<!DOCTYPE html>
+<html lang=\"en\">
+<head>
+<meta charset=\"utf-8\">
+<meta name=\"viewport\" content=\"width=device-width, initial-scale=1\">
+<title>b/a%/z</title>
+<link rel=\"stylesheet\" href=\"../../../pages.css\">
+</head>
+<body>
+<header><nav><a href=\"../../../index.html\">All sources</a> <span><a href=\"../../../index.html#d/b\">b</a>/<wbr><a href=\"../../../index.html#d/b/a%25\">a%</a>/<wbr><b>z</b></span></nav></header>
+<main>
+<pre><a id=\"L1\"></a></pre>
+<aside><h2>Definitions and their uses</h2>
+<dl>
+</dl>
+</aside>
+</main>
+</body>
+</html>
 [out/pages.css]
 [out/search.js]
 [out/symbols.js]const sources = [
 [\"src/b/x.html\",\"b/x\",[[1,\"S\"],]],
 [\"src/a/y.html\",\"a/y\",[]],
+[\"src/b/a%25/z.html\",\"b/a%/z\",[]],
 ];
 [out/index.html]<!DOCTYPE html>
 <html lang=\"en\">
@@ -99,6 +121,9 @@ const MADE: &str = "[out/src/b/x.html]<!DOCTYPE html>
 <li><a href=\"src/a/y.html\">y</a></li>
 </ul></details></li>
 <li><details id=\"d/b\" open><summary>b/</summary><ul>
+<li><details id=\"d/b/a%25\"><summary>a%/</summary><ul>
+<li><a href=\"src/b/a%25/z.html\">z</a></li>
+</ul></details></li>
 <li><a href=\"src/b/x.html\">x</a></li>
 </ul></details></li>
 </ul>

@@ -222,7 +222,7 @@ some_is : {X : Type 0} (o : Option X) → IsSome o → (x : X) × (o ≡ Some x)
 some_is None e = absurd cc
 some_is (Some x) e = (x, refl)
 
-sourced : (source : Option (Option (List ℕ)))
+pub sourced : (source : Option (Option (List ℕ)))
     → option_map_or (λ (s : Option (List ℕ)). is_some s) source false ≡ true
     → (bytes : List ℕ) × (source ≡ Some (Some bytes))
 sourced None e = absurd cc
@@ -239,7 +239,7 @@ pub record HasLine (index : Index) (sources : Sources) (place : Place) : Type 0 
   pub is_page : IsPage index sources place.document page
   pub has : HasId (line_id (line_listed index.documents place)) page
 
-there : (index : Index) (sources : Sources) → AllFit index sources → (place : Place) → IsShown index sources place
+pub there : (index : Index) (sources : Sources) → AllFit index sources → (place : Place) → IsShown index sources place
     → HasLine index sources place
 there index sources fit place shown =
     let o = some_is (occurrence_listed index.documents place) shown.listed in

@@ -7,5 +7,5 @@ mod LawLemmas
 pub mod TagLemmas
 pub mod PartLemmas
 pub mod IdLemmas
-mod PageUrlLemmas
+pub mod PageUrlLemmas
 mod UrlLemmas

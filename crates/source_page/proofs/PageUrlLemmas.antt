@@ -49,11 +49,11 @@ module _ (index : Index) (sources : Sources) (fit : AllFit index sources) (numbe
   shown_has = ap (λ (o : Option (Option (List ℕ))). option_map_or (λ (s : Option (List ℕ)). is_some s) o false) has
 
   -- the places of the document are shown
-  record IsIts (place : Place) : Type 0 where
-    of : place.document ≡ number
-    shown : IsShown index sources place
+  pub record IsIts (place : Place) : Type 0 where
+    pub of : place.document ≡ number
+    pub shown : IsShown index sources place
 
-  its : (place : Place) → In place (places_in number d) → IsIts place
+  pub its : (place : Place) → In place (places_in number d) → IsIts place
   its place is =
       let from = from_map (λ (k : ℕ). record { document = number; occurrence = k }) place
       (numbers (length d.occurrences)) is in

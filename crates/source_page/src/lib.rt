@@ -20,7 +20,8 @@ pub use crumbs::{components_of, push_head};
 pub use document_page::{Asked, page, page_and_firsts};
 pub use facts::{Fact, Facts, Known};
 pub use laws::{
-    links_lead_to_places, pages_have_their_source, urls_are_those_of_links, uses_lead_to_definitions,
+    links_lead_to_places, pages_have_their_source, urls_are_those_of_links,
+    uses_lead_to_definitions,
 };
 pub use marks::push_link;
 pub use places::{line_listed, occurrence_listed, path_listed};

@@ -1,4 +1,4 @@
-use Rattle.std.proofs.Common.{◌≡◌, ◌-◌, ◌<◌, true, false, Some, refl, ◌∙◌, arith}
+use Rattle.std.proofs.Common.{◌≡◌, ◌-◌, ◌<◌, true, false, refl, ◌∙◌, arith}
 use Rattle.std.proofs.lemmas.Result.{err_from_is_err_and}
 use Rattle.proto_grammar.specs.Terminal.{closes}
 use Rattle.proto_grammar.specs.Reading.Repetition.{adding}
@@ -72,6 +72,7 @@ unfolding group_at
 group-returns t c =
     let some : 0 < c.args.levels = omega arith in
     rw (
+      ← c.custom_options.ensures,
       c.in_ok-group.ensures,
       inside_further c.args.syntax c.args.levels c.group_head.new.self some ∙ c.in_ok-items.ensures,
     ) refl
@@ -85,6 +86,7 @@ group-returns-in_err-items t c =
     rw (p.1, p.2)
     (Fails-of _ _ (braced_at inside c.group_head.new.self) _
     (λ none. rw (
+      ← c.custom_options.ensures,
       c.in_ok-group.ensures,
       inside_further c.args.syntax c.args.levels c.group_head.new.self some ∙ none,
     ) refl) c.in_err-items.ensures)

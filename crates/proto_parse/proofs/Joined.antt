@@ -1,6 +1,6 @@
 -- The literals of a syntax statement, joined.
-use Rattle.std.proofs.Common.{◌≡◌, ℕ, Bool, true, false, Option, Some, None, List, [], ◌∷◌, ◌++◌, length, drop, refl, sym}
-use Rattle.std.proofs.Common.{◌∙◌, subst, bytes_eq, nat_eq}
+use Rattle.std.proofs.Common.{◌≡◌, ℕ, Bool, true, false, not, Option, Some, None, List, [], ◌∷◌, ◌++◌, length, drop, refl, sym}
+use Rattle.std.proofs.Common.{◌∙◌, ap, bytes_eq, nat_eq}
 use Rattle.std.specs.List.{starts_with}
 use Rattle.std.proofs.lemmas.Slice.Eq.{starts_is, bytes_eq-Decides}
 use Rattle.std.proofs.Math.Seq.{drop-append_seam}
@@ -14,22 +14,27 @@ use Rattle.proto_parse.specs.Grammar.Files.{SpellsJoined}
 use Rattle.proto_parse.specs.Grammar.Files.SpellsJoined.{none, some}
 use Rattle.proto_parse.specs.Reading.Syntax.{stripped_of, is_left, content_of, joined_of, behind_literals, version_at}
 
+pub not_true : (b : Bool) → not b ≡ true → b ≡ false
+not_true true e = cc
+not_true false e = refl
+
 -- what is joined is spelled
 pub joined_found : (tokens : List Lexeme) → SpellsJoined tokens (joined_of tokens) (behind_literals tokens)
 joined_found [] = none refl
-joined_found (t ∷ rest) = by_kind (of_kind StringLiteral t) refl
+joined_found (t ∷ rest) = by_kind (of_kind StringLiteral t) refl (joined_found rest)
   where
     by_kind : (b : Bool) → of_kind StringLiteral t ≡ b
+        → SpellsJoined rest (joined_of rest) (behind_literals rest)
         → SpellsJoined (t ∷ rest) (joined_of (t ∷ rest)) (behind_literals (t ∷ rest))
-    by_kind true is = rw is (some is (joined_found rest))
-    by_kind false is = rw is (none (rw is refl))
+    by_kind true is behind = rw is (some is behind)
+    by_kind false is behind = rw is (none {a = t ∷ rest} (rw is refl))
 
 -- what is spelled is joined
 pub joined_exact : {a b : List Lexeme} {text : List ℕ} → SpellsJoined a text b
     → (joined_of a ≡ text) × (behind_literals a ≡ b)
 joined_exact (none {a = []} past) = (refl, refl)
 joined_exact (none {a = t ∷ rest} past) =
-    let is : of_kind StringLiteral t ≡ false = cc in (rw is refl, rw is refl)
+    let is : of_kind StringLiteral t ≡ false = not_true (of_kind StringLiteral t) past in (rw is refl, rw is refl)
 joined_exact (some {t = t} {rest = rest} is behind) =
     let later = joined_exact behind in (rw (is, later.0) refl, rw (is, later.1) refl)
 
@@ -74,6 +79,18 @@ left_behind (Some left) content text = by_start (starts_with nat_eq left content
         let starts : starts_with nat_eq left content ≡ true =
         (starts_is (λ a b. Decides-eqb a b) left content (starts_with nat_eq left content) refl).1 text (sym e) in
         sym is ∙ starts))
+
+pub left_further : (left now : Option (List ℕ)) (content : List ℕ) (tokens rest : List Lexeme) (b : Bool)
+    → first_is (of_kind StringLiteral) tokens ≡ true → content ≡ content_of (first tokens) → rest ≡ others tokens
+    → now ≡ stripped_of left content → is_left left (joined_of tokens) ≡ b
+    → is_left now (joined_of rest) ≡ b
+left_further left now content tokens rest b is here behind stripped so_far =
+    ap (λ n. is_left n (joined_of rest)) stripped
+    ∙ ap (λ r. is_left (stripped_of left content) (joined_of r)) behind
+    ∙ left_behind left content (joined_of (others tokens))
+    ∙ ap (λ c. is_left left (c ++ joined_of (others tokens))) here
+    ∙ ap (is_left left) (sym (joined_further tokens is).0)
+    ∙ so_far
 
 -- no version where no literal is
 pub no_literal : (dialect : Dialect) (tokens : List Lexeme) → first_is (of_kind StringLiteral) tokens ≡ false

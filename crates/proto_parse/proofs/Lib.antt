@@ -1,4 +1,4 @@
--- What is not there is not read
+-- What is not there is not read, and levels
 pub mod Stops
 -- Literals joined
 pub mod Joined
@@ -12,3 +12,5 @@ pub mod Exact
 pub mod Walk
 -- The lists of a tree that are never empty
 pub mod Filled
+-- What is proto3 is among all sources
+pub mod Widened

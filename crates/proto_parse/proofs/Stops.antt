@@ -1,12 +1,14 @@
--- What is not there is not read.
-use Rattle.std.proofs.Common.{◌≡◌, ℕ, Option, Some, None, option_and_then, List, refl, codes}
+-- What is not there is not read, and what is inside is read a level down.
+use Rattle.std.proofs.Common.{◌≡◌, ℕ, zero, suc, ◌-◌, ◌<◌, Option, Some, None, option_and_then, List, refl, sym, ap}
+use Rattle.std.proofs.Common.{codes, arith}
 use Rattle.proto_lex.specs.declared.span.Span.{Span}
 use Rattle.proto_grammar.specs.declared.tree.CustomOptions.{CustomOptions}
 use Rattle.proto_grammar.specs.declared.tree.Syntax.{Syntax}
 use Rattle.proto_grammar.specs.declared.tree.Label.{Label}
+use Rattle.proto_parse.specs.declared.statement.Within.TheVariants.{Message}
 use Rattle.proto_grammar.specs.Lexeme.{Lexeme}
 use Rattle.proto_grammar.specs.Reading.Fields.{group_head_at}
-use Rattle.proto_parse.specs.Reading.Messages.{heading_at, group_at, message_at, inside_at}
+use Rattle.proto_parse.specs.Reading.Messages.{heading_at, braced_at, group_at, message_at, item_at, inside_at}
 
 -- nothing behind anything
 none_behind : {A B : Type 0} (o : Option A) (f : A → Option B) → ((x : A) → f x ≡ None) → option_and_then f o ≡ None
@@ -25,3 +27,12 @@ pub no_group : (syntax : Syntax) (custom : CustomOptions) (levels : ℕ) (first 
 unfolding group_at inside_at
 no_group syntax custom levels first label tokens e =
     rw e (none_behind (group_head_at custom first label tokens) _ (λ group. refl))
+
+-- behind the "{" of a message or a group
+pub inside_further : (syntax : Syntax) (levels : ℕ) (tokens : List Lexeme) → 0 < levels
+    → inside_at syntax levels tokens ≡ braced_at (item_at Message syntax (inside_at syntax (levels - 1))) tokens
+unfolding inside_at
+inside_further syntax zero tokens some = absurd (omega arith)
+inside_further syntax (suc levels) tokens some =
+    let one : suc levels - 1 ≡ levels = omega arith in
+    ap (λ n. braced_at (item_at Message syntax (inside_at syntax n)) tokens) (sym one)

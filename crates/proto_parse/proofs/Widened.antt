@@ -182,6 +182,7 @@ module _ (Inner Wide : List Lexeme → List Item → List Lexeme → Type 0) (wi
   message_item_wide a b x (items-map_field is f) = items-map_field is (map_field_wide f)
   message_item_wide a b x (items-reserved is r) = items-reserved is r
   message_item_wide a b x (items-extend is (kept keeps e)) = absurd (let none : false ≡ true = keeps in cc)
+  message_item_wide a b x (items-extend is (passed e)) = elim e [ ]
   message_item_wide a b x (items-extensions is proto2 r) = absurd (let none : false ≡ true = proto2 in cc)
   message_item_wide a b x (items-member is m) = items-member is (member_wide m)
 
@@ -221,6 +222,7 @@ statement_wide f g a b (statements-message m is (message {b = c} {items = items}
 statement_wide f g a b (statements-enum is e) = statements-enum is (enum_wide e)
 statement_wide f g a b (statements-service is s) = statements-service is (service_wide s)
 statement_wide f g a b (statements-extend is (kept keeps e)) = absurd (let none : false ≡ true = keeps in cc)
+statement_wide f g a b (statements-extend is (passed e)) = elim e [ ]
 
 pub file_wide : {a : List Lexeme} {x : File} → IsFile (dialect.Proto3 Refuse) a x → IsFile dialect.All a x
 file_wide (file (proto3 k q t s) u) = file (proto3 k q t s) (until_wide statement_wide u)

@@ -8,7 +8,9 @@ ghost use Rattle.proto_parse.specs.Walk.{Mark, Among, MarksAreInOrder, marks_of_
 ghost use Rattle.proto_parse.specs.Walk.{marks_of_package, PackageIsAmongItems};
 ghost use Rattle.proto_parse.specs.Filled.{FilledFile};
 ghost use Rattle.proto_parse.specs.Derives.{Derives};
+ghost use Rattle.proto_grammar.specs.declared.tree.CustomOptions.TheVariants.{Refuse};
 ghost use Rattle.proto_grammar.specs.declared.tree.Dialect.{Dialect};
+ghost use Rattle.proto_grammar.specs.declared.tree.Dialect.TheVariants.{Proto3, All};
 ghost use Rattle.proto_grammar.specs.declared.tree.File.{File};
 
 /// Tokens derive at most one tree.
@@ -43,4 +45,11 @@ pub fn spans_in_order()
 pub fn names_have_components()
     ensures { (dialect : Dialect) (text : List ℕ) (tokens : List Token) (file : File)
         → Derives dialect text tokens file → FilledFile file }
+{}
+
+/// A tree that tokens derive where only proto3 without custom options is accepted, they derive where all sources are,
+/// too.
+pub fn proto3_among_all()
+    ensures { (text : List ℕ) (tokens : List Token) (file : File)
+        → Derives (Proto3 Refuse) text tokens file → Derives All text tokens file }
 {}

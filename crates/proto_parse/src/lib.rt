@@ -11,7 +11,9 @@ mod services;
 mod statement;
 mod syntax;
 
-pub use laws::{names_have_components, one_tree, spans_in_order, spans_of_tokens};
+pub use laws::{
+    names_have_components, one_tree, proto3_among_all, spans_in_order, spans_of_tokens,
+};
 pub use messages::MAX_MESSAGE_DEPTH;
 pub use parsing::{parse, parse_with};
 pub use proto_grammar::{

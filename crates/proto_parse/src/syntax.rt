@@ -15,14 +15,14 @@ use proto_lex::TokenKind;
 
 /// What is left of a text behind what a literal spells, if the text begins with it.
 fn stripped<'s>(text: Option<&'s [u8]>, content: &[u8]) -> Option<&'s [u8]>
-    ensures { option_map (λ t. t.now) result ≡ stripped_of (option_map (λ t. t.now) text) content.now }
+    ensures { option_map (λ t. t.now) result ≡ stripped_of (option_map (λ t. t.now) text.entry) content.now }
 {
     text?.strip_prefix(content)
 }
 
 /// Whether there is a text, and nothing in it.
 fn is_spelled(left: Option<&[u8]>) -> bool
-    ensures { result ≡ is_left (option_map (λ t. t.now) left) [] }
+    ensures { result ≡ is_left (option_map (λ t. t.now) left.entry) [] }
 {
     match left {
         Some(text) => text.is_empty(),

@@ -61,20 +61,16 @@ use Rattle.proto_grammar.proofs.Found.Names.{name_found}
 use Rattle.proto_grammar.proofs.Found.Options.{left_of, option_found}
 use Rattle.proto_parse.proofs.Found.Messages.{enum_found, extend_statement_found, inside_found, message_found}
 use Rattle.proto_parse.proofs.Found.Messages.{service_found}
-use Rattle.proto_parse.proofs.Joined.{joined_found}
-
-not_true : (b : Bool) → not b ≡ true → b ≡ false
-not_true true e = cc
-not_true false e = refl
+use Rattle.proto_parse.proofs.Joined.{joined_found, not_true}
 
 -- the version that a text names
 version_text : {P : Type 0} (text : List ℕ) → (text ≡ codes "proto3" → version_of text ≡ version.Proto3 → P)
     → (text ≡ codes "proto2" → version_of text ≡ version.Proto2 → P) → (version_of text ≡ version.Other → P) → P
-version_text text proto3 proto2 other =
+version_text text three two other =
     chosen (bytes_eq text (codes "proto3")) _ _ (version_of text) refl
-    (λ is named. proto3 ((bytes_eq-Decides text (codes "proto3")).0 is) (sym named))
+    (λ is named. three ((bytes_eq-Decides text (codes "proto3")).0 is) (sym named))
     (λ no_proto3 named. chosen (bytes_eq text (codes "proto2")) _ _ (version_of text) named
-    (λ is named. proto2 ((bytes_eq-Decides text (codes "proto2")).0 is) (sym named))
+    (λ is named. two ((bytes_eq-Decides text (codes "proto2")).0 is) (sym named))
     (λ no_proto2 named. other (sym named)))
 
 -- what stands behind the word `syntax` and `=`
@@ -124,7 +120,7 @@ syntax_statement_found dialect tokens x e =
     by_version dialect syntax k q (inl (is, text)) s = rw is (proto3 k q text s)
     by_version dialect syntax k q (inr (all, (is, text))) s = rw (all, is) (proto2 k q text s)
 
-syntax_found : (dialect : Dialect) (tokens : List Lexeme) (x : Syntax × List Lexeme) → syntax_at dialect tokens ≡ Some x
+pub syntax_found : (dialect : Dialect) (tokens : List Lexeme) (x : Syntax × List Lexeme) → syntax_at dialect tokens ≡ Some x
     → IsSyntax dialect tokens x.0 x.1
 unfolding syntax_at
 syntax_found dialect tokens x e =

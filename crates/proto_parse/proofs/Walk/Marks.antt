@@ -1,6 +1,6 @@
 -- The spans of a tree are at tokens, in the order of a walk.
 use Rattle.std.proofs.Common.{◌≡◌, ℕ, zero, suc, ◌≤◌, Bool, Option, Some, None, option_map, option_to_list, List, [], ◌∷◌}
-use Rattle.std.proofs.Common.{◌++◌, map, refl, sym, ◌∙◌, ap, append_assoc, append-nil, arith}
+use Rattle.std.proofs.Common.{◌++◌, map, refl, sym, ◌∙◌, ap, append_assoc, append-nil, codes, arith}
 use Rattle.proto_lex.specs.declared.span.Span.{Span}
 use Rattle.proto_lex.specs.declared.token.Token.{Token}
 use Rattle.proto_lex.specs.declared.token.TokenKind.TheVariants.{Identifier}
@@ -254,7 +254,7 @@ group_marks : (custom : CustomOptions) (Inner : List Lexeme → List Item → Li
     → Among (block_then x marks) (t ∷ rest)
 group_marks custom Inner marked t label rest a c x earlier
     (group {b = b} {items = items} (group_head w n q i o k) inside) marks behind =
-    at_first (earlier _ (at_a_word w (at_a_group_name n (past q (past i (options_past o
+    at_first (earlier _ (at_a_word (codes "group") w (at_a_group_name n (past q (past i (options_past o
     (at_another k (marked b c items inside marks behind))))))))
 
 field_marks : {custom : CustomOptions} {t : Lexeme} {label : Option Label} {rest a b : List Lexeme} {x : Field}
@@ -338,7 +338,7 @@ message_item_marks syntax Inner marked a b x (items-map_field is f) marks behind
 message_item_marks syntax Inner marked a b x (items-reserved is r) marks behind = reserved_past r behind
 message_item_marks syntax Inner marked a b x (items-extend {extend = y} is e) marks behind =
     rw (block_item_marks y marks) (extend_statement_marks syntax Inner marked a b y e marks behind)
-message_item_marks syntax Inner marked a b x (items-extensions is proto2 r) marks behind = extensions_past r behind
+message_item_marks syntax Inner marked a b x (items-extensions is allowed r) marks behind = extensions_past r behind
 message_item_marks syntax Inner marked a b x (items-member {item = y} is m) marks behind =
     member_marks syntax Inner marked a b y m marks behind
 

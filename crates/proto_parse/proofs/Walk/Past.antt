@@ -165,10 +165,10 @@ pub at_a_name : {a b : List Lexeme} {span : Span} {marks : List Mark} → One (o
     → Among marks b → Among (Name span ∷ marks) a
 at_a_name (one {t} e) behind = at_name (same_kind Identifier t.kind e) behind
 
-pub at_a_word : {word : List ℕ} {a b : List Lexeme} {span : Span} {marks : List Mark} → One (is_word word) a span b
+pub at_a_word : (word : List ℕ) {a b : List Lexeme} {span : Span} {marks : List Mark} → One (is_word word) a span b
     → Among marks b
     → Among (Name span ∷ marks) a
-at_a_word (one {t} e) behind =
+at_a_word word (one {t} e) behind =
     at_name (same_kind Identifier t.kind (both_true (is_kind Identifier t.kind) _ e).0) behind
 
 pub at_a_group_name : {a b : List Lexeme} {span : Span} {marks : List Mark} → One is_group_name a span b

@@ -1,9 +1,11 @@
-use Rattle.std.proofs.Common.{◌≡◌, true, false}
+use Rattle.std.proofs.Common.{◌≡◌, ◌-◌, ◌<◌, true, false, Some, refl, ◌∙◌, arith}
 use Rattle.std.proofs.lemmas.Result.{err_from_is_err_and}
 use Rattle.proto_grammar.specs.Terminal.{closes}
 use Rattle.proto_grammar.specs.Reading.Repetition.{adding}
-use Rattle.proto_parse.specs.Reading.Messages.{item_at, inside_at}
+use Rattle.proto_parse.specs.declared.statement.Within.TheVariants.{Message}
+use Rattle.proto_parse.specs.Reading.Messages.{braced_at, group_at, message_at, item_at, inside_at}
 use Rattle.proto_grammar.proofs.UntilLemmas.{Fails-of, goes_on, is_done, stops, adding-step, adding-none}
+use Rattle.proto_parse.proofs.Stops.{inside_further}
 use Rattle.proto_parse.proofs.StepsFall.{items_fall}
 use Rattle.proto_parse.proofs.messages.+parser.Goals as goal
 
@@ -42,3 +44,49 @@ items-returns t c =
     is_done closes (adding (item_at c.args.within c.args.syntax (inside_at c.args.syntax c.args.levels)))
     (items_fall c.args.within c.args.syntax c.args.levels)
     c.items.items.items c.items.parser _ c.items.invariant past
+
+pub message-returns : goal.message-returns
+unfolding message_at
+message-returns t c =
+    let some : 0 < c.args.levels = omega arith in
+    rw (
+      c.in_ok-heading.ensures,
+      inside_further c.args.syntax c.args.levels c.heading.new.parser some ∙ c.in_ok-items.ensures,
+    ) refl
+
+pub message-returns-in_err-items : goal.message-returns-in_err-items
+unfolding message_at
+message-returns-in_err-items t c =
+    let some : 0 < c.args.levels = omega arith in
+    let inside = item_at Message c.args.syntax (inside_at c.args.syntax (c.args.levels - 1)) in
+    let p = err_from_is_err_and c.from_residual-in_err-items.result c.from_residual-in_err-items.ensures.1 in
+    rw (p.1, p.2)
+    (Fails-of _ _ (braced_at inside c.heading.new.parser) _
+    (λ none. rw (
+      c.in_ok-heading.ensures,
+      inside_further c.args.syntax c.args.levels c.heading.new.parser some ∙ none,
+    ) refl) c.in_err-items.ensures)
+
+pub group-returns : goal.group-returns
+unfolding group_at
+group-returns t c =
+    let some : 0 < c.args.levels = omega arith in
+    rw (
+      ← c.custom_options.ensures,
+      c.in_ok-group.ensures,
+      inside_further c.args.syntax c.args.levels c.group_head.new.self some ∙ c.in_ok-items.ensures,
+    ) refl
+
+pub group-returns-in_err-items : goal.group-returns-in_err-items
+unfolding group_at
+group-returns-in_err-items t c =
+    let some : 0 < c.args.levels = omega arith in
+    let inside = item_at Message c.args.syntax (inside_at c.args.syntax (c.args.levels - 1)) in
+    let p = err_from_is_err_and c.from_residual-in_err-items.result c.from_residual-in_err-items.ensures.1 in
+    rw (p.1, p.2)
+    (Fails-of _ _ (braced_at inside c.group_head.new.self) _
+    (λ none. rw (
+      ← c.custom_options.ensures,
+      c.in_ok-group.ensures,
+      inside_further c.args.syntax c.args.levels c.group_head.new.self some ∙ none,
+    ) refl) c.in_err-items.ensures)

@@ -18,7 +18,7 @@ pub record IsSimple (name : List ℕ) : Type 0 where
   pub some : 0 < length name
   pub no_dot : list_all (λ byte. not (byte == ascii.dot)) name ≡ true
 
--- The name with small letters for capitals.
+-- The name with small letters for its capitals A to Z.
 abbrev pub small_letters : (name : List ℕ) → List ℕ
 small_letters name = map to_ascii_lowercase name
 

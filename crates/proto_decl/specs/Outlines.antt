@@ -66,8 +66,8 @@ in_enum text surrounding enum =
     outline_at text surrounding EnumKind enum.heading
     ∷ map (outline_at text (beside text surrounding EnumKind enum.heading) Value) enum.values
 
--- A group declares a field, which is named as the group, but in small letters. It is at the word `group` (own: so that
--- no two declarations have one place).
+-- A group declares a field, which is named as the group, but in small letters. It is at the word `group` (the
+-- profile's, so that no two declarations have one place).
 abbrev pub field_heading : Group → Heading
 field_heading group =
     record { first = group.heading.first; name = group.word; closing = group.heading.closing }

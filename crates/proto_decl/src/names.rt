@@ -31,7 +31,7 @@ pub(crate) fn qualified(alloc: Global, scope: &str, name: &str) -> Result<OwnedT
     Ok(OwnedText::from_string(full))
 }
 
-/// The name with small letters for capitals.
+/// The name with small letters for its capitals A to Z.
 pub(crate) fn small_letters(alloc: Global, name: &str) -> Result<OwnedText, AllocError>
     ensures { IfOk result (λ small. small ≡ small_letters name.now) }
 {

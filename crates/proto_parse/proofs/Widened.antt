@@ -155,7 +155,6 @@ braced_wide : {Is Wide : List Lexeme → Option Item → List Lexeme → Type 0}
 braced_wide wide a b x (braced u c) = braced (until_wide (adds_wide wide) u) c
 
 module _ (Inner Wide : List Lexeme → List Item → List Lexeme → Type 0) (wide : Widens Inner Wide) where
-
   labelled_wide : {first : Span} {label : Option Label} {a b : List Lexeme} {x : Item}
       → IsLabelled (Proto3 Refuse) Inner first label a x b → IsLabelled Extended Wide first label a x b
   labelled_wide (labelled-field is f) = labelled-field refl (typed_wide f)

@@ -92,8 +92,10 @@ version_found dialect tokens x e =
     (λ text named.
     let given : Some (proto3_in dialect) ≡ Some v.0 =
     subst (λ n. syntax_by n dialect ≡ Some v.0) named v.1 in
-    inl (sym (same_Some (proto3_in dialect) v.0 given),
-    subst (λ t. SpellsJoined tokens t (behind_literals tokens)) text (joined_found tokens)))
+    inl (
+      sym (same_Some (proto3_in dialect) v.0 given),
+      subst (λ t. SpellsJoined tokens t (behind_literals tokens)) text (joined_found tokens),
+    ))
     (λ text named.
     let given = proto2_accepted dialect v.0 (subst (λ n. syntax_by n dialect ≡ Some v.0) named v.1) in
     inr (given.0, (given.1, subst (λ t. SpellsJoined tokens t (behind_literals tokens)) text (joined_found tokens))))

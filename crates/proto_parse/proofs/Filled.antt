@@ -37,8 +37,8 @@ use Rattle.proto_grammar.specs.Grammar.Names.IsType.{scalar, named}
 use Rattle.proto_grammar.specs.Grammar.Fields.{IsTyped, IsMapField}
 use Rattle.proto_grammar.specs.Grammar.Fields.IsTyped.{typed}
 use Rattle.proto_grammar.specs.Grammar.Fields.IsMapField.{map_field}
-use Rattle.proto_parse.specs.Grammar.Messages.{IsBraced, IsGroup, IsLabelled, IsMember, IsOneofItem, IsOneof}
-use Rattle.proto_parse.specs.Grammar.Messages.{IsExtendItem, IsExtend, IsExtendStatement, IsMessage, IsMessageItem}
+use Rattle.proto_parse.specs.Grammar.Messages.{IsBraced, IsLabelled, IsMember, IsOneofItem}
+use Rattle.proto_parse.specs.Grammar.Messages.{IsExtendItem, IsExtendStatement, IsMessage, IsMessageItem}
 use Rattle.proto_parse.specs.Grammar.Messages.{IsInside}
 use Rattle.proto_parse.specs.Grammar.Messages.IsBraced.{braced}
 use Rattle.proto_parse.specs.Grammar.Messages.IsGroup.{group}

@@ -7,9 +7,8 @@ use Rattle.std.proofs.Math.Seq.{drop-append_seam}
 use Rattle.std.proofs.lemmas.Bool.Decides.{Decides-eqb}
 use Rattle.proto_lex.specs.declared.token.TokenKind.TheVariants.{StringLiteral}
 use Rattle.proto_grammar.specs.declared.tree.Dialect.{Dialect}
-use Rattle.proto_grammar.specs.declared.tree.Syntax.{Syntax}
 use Rattle.proto_grammar.specs.Lexeme.{Lexeme}
-use Rattle.proto_grammar.specs.Terminal.{first, others, first_is, of_kind, between_quotes, not_next}
+use Rattle.proto_grammar.specs.Terminal.{first, others, first_is, of_kind}
 use Rattle.proto_parse.specs.Grammar.Files.{SpellsJoined}
 use Rattle.proto_parse.specs.Grammar.Files.SpellsJoined.{none, some}
 use Rattle.proto_parse.specs.Reading.Syntax.{stripped_of, is_left, content_of, joined_of, behind_literals, version_at}

@@ -1,5 +1,5 @@
 -- What is proto3 without custom options is proto3 if all sources are accepted.
-use Rattle.std.proofs.Common.{◌≡◌, ℕ, zero, suc, Bool, true, false, Option, Some, None, List, [], ◌∷◌, refl}
+use Rattle.std.proofs.Common.{◌≡◌, ℕ, zero, suc, Bool, true, false, Option, List, refl}
 use Rattle.proto_lex.specs.declared.span.Span.{Span}
 use Rattle.proto_grammar.specs.declared.tree.CustomOptions.TheVariants.{Refuse, Skip}
 use Rattle.proto_grammar.specs.declared.tree.Dialect.TheVariants as dialect
@@ -34,8 +34,8 @@ use Rattle.proto_grammar.specs.Grammar.Fields.IsNumbered.{numbered}
 use Rattle.proto_grammar.specs.Grammar.Fields.IsTyped.{typed}
 use Rattle.proto_grammar.specs.Grammar.Fields.IsLabel.{repeated, optional, no_label}
 use Rattle.proto_grammar.specs.Grammar.Fields.IsMapField.{map_field}
-use Rattle.proto_parse.specs.Grammar.Messages.{IsValue, IsEnumItem, IsEnum, IsBraced, IsLabelled, IsMember}
-use Rattle.proto_parse.specs.Grammar.Messages.{IsOneofItem, IsMessage, IsMessageItem, IsInside}
+use Rattle.proto_parse.specs.Grammar.Messages.{IsEnumItem, IsEnum, IsBraced, IsLabelled, IsMember}
+use Rattle.proto_parse.specs.Grammar.Messages.{IsOneofItem, IsMessageItem, IsInside}
 use Rattle.proto_parse.specs.Grammar.Messages.IsValue.{value}
 use Rattle.proto_parse.specs.Grammar.Messages.IsEnumItem.{empty as enums-empty, option as enums-option}
 use Rattle.proto_parse.specs.Grammar.Messages.IsEnumItem.{reserved as enums-reserved, value as enums-value}
@@ -54,7 +54,7 @@ use Rattle.proto_parse.specs.Grammar.Messages.IsMessageItem.{enum as items-enum,
 use Rattle.proto_parse.specs.Grammar.Messages.IsMessageItem.{oneof as items-oneof, map_field as items-map_field}
 use Rattle.proto_parse.specs.Grammar.Messages.IsMessageItem.{reserved as items-reserved, extend as items-extend}
 use Rattle.proto_parse.specs.Grammar.Messages.IsMessageItem.{extensions as items-extensions, member as items-member}
-use Rattle.proto_parse.specs.Grammar.Services.{IsMethodItem, IsMethodEnd, IsMethod, IsServiceItem, IsService}
+use Rattle.proto_parse.specs.Grammar.Services.{IsMethodItem, IsMethodEnd, IsServiceItem, IsService}
 use Rattle.proto_parse.specs.Grammar.Services.IsMethodItem.{empty as method_items-empty, option as method_items-option}
 use Rattle.proto_parse.specs.Grammar.Services.IsMethodEnd.{semicolon, body}
 use Rattle.proto_parse.specs.Grammar.Services.IsMethod.{method}
@@ -155,7 +155,6 @@ braced_wide : {Is Wide : List Lexeme → Option Item → List Lexeme → Type 0}
 braced_wide wide a b x (braced u c) = braced (until_wide (adds_wide wide) u) c
 
 module _ (Inner Wide : List Lexeme → List Item → List Lexeme → Type 0) (wide : Widens Inner Wide) where
-
   labelled_wide : {first : Span} {label : Option Label} {a b : List Lexeme} {x : Item}
       → IsLabelled (Proto3 Refuse) Inner first label a x b → IsLabelled Extended Wide first label a x b
   labelled_wide (labelled-field is f) = labelled-field refl (typed_wide f)

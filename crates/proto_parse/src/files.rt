@@ -173,11 +173,7 @@ fn statement(
 }
 
 /// The statements after the syntax statement, up to the last token.
-fn statements(
-    parser: &mut Parser<'_>,
-    alloc: Global,
-    syntax: Syntax,
-) -> Result<File, SyntaxFault>
+fn statements(parser: &mut Parser<'_>, alloc: Global, syntax: Syntax) -> Result<File, SyntaxFault>
     ensures { Gives (custom_of syntax) (λ x. x) parser.new result (statements_at syntax parser.old) }
 {
     let mut file = File {

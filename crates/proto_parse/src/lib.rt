@@ -18,5 +18,6 @@ pub use messages::MAX_MESSAGE_DEPTH;
 pub use parsing::{parse, parse_with};
 pub use proto_grammar::{
     Block, CustomOptions, Dialect, Enum, Field, FieldType, File, FileItem, Group, Head, Heading,
-    Import, ImportKind, Item, Label, Leaf, MapField, Method, Service, Syntax, SyntaxFault, TypeName,
+    Import, ImportKind, Item, Label, Leaf, MapField, Method, Service, Syntax, SyntaxFault,
+    TypeName,
 };

@@ -149,7 +149,8 @@ fn member(
     syntax: Syntax,
     levels: usize,
 ) -> Result<Item, SyntaxFault>
-    ensures { Gives (custom_of syntax) (λ x. x) parser.new result (member_at syntax (inside_at syntax levels) parser.old) }
+    ensures { Gives (custom_of syntax) (λ x. x) parser.new result
+        (member_at syntax (inside_at syntax levels) parser.old) }
 {
     let first = parser.span()?;
     let label = parser.label(syntax)?;
@@ -223,7 +224,8 @@ fn oneof(
     syntax: Syntax,
     levels: usize,
 ) -> Result<Block, SyntaxFault>
-    ensures { Gives (custom_of syntax) (λ x. x) parser.new result (oneof_at syntax (inside_at syntax levels) parser.old) }
+    ensures { Gives (custom_of syntax) (λ x. x) parser.new result
+        (oneof_at syntax (inside_at syntax levels) parser.old) }
 {
     let heading = heading(parser, "oneof")?;
     let items = braced(parser, alloc, syntax, levels, Within::Oneof)?;
@@ -242,7 +244,8 @@ fn extend(
     syntax: Syntax,
     levels: usize,
 ) -> Result<Block, SyntaxFault>
-    ensures { Gives (custom_of syntax) (λ x. x) parser.new result (extend_at syntax (inside_at syntax levels) parser.old) }
+    ensures { Gives (custom_of syntax) (λ x. x) parser.new result
+        (extend_at syntax (inside_at syntax levels) parser.old) }
 {
     parser.word("extend")?;
     let extended = parser.named_type(alloc)?;

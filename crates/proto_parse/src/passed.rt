@@ -32,7 +32,10 @@ fn passed_items(parser: &mut Parser<'_>) -> Result<(), SyntaxFault>
 
 /// An extend that isn't kept, only if custom options are read past.
 #[tactic(auto, unfolding(crate::specs::Reading::Messages::passed_extend_at))]
-pub(crate) fn passed_extend(parser: &mut Parser<'_>, custom: CustomOptions) -> Result<(), SyntaxFault>
+pub(crate) fn passed_extend(
+    parser: &mut Parser<'_>,
+    custom: CustomOptions,
+) -> Result<(), SyntaxFault>
     ensures { Gives custom (λ x. x) parser.new result (passed_extend_at custom parser.old) }
 {
     if custom == CustomOptions::Refuse {

@@ -21,19 +21,23 @@ message M { extend N {} option o = { < p ( }; int32 q = 1 [(r).s = -inf, t = {}]
 enum E { option (x) = {}; extend = 0 [(y) = 'z']; } service S { rpc F(A) returns (B) { option (c) = { {} {} }; } }";
 
 /// A source with every production of proto2 that proto3 doesn't have.
-const RICH_PROTO2: &str = "syntax = 'pro' \"to2\"; import 'a'; package p; option (o).p = q; extend E { ; required F g = 1; }
-message M { required int32 a = 1 [default = -inf]; optional .G b = 2; repeated group H = 3 [(x) = 1, y = 'z'] { ;
-optional group I = 4 { extensions 5; } extend J.K { repeated group L = 6 { message N {} } optional int32 map = 7; }
-} oneof o { option c = d; group P = 8 { enum Q { R = 0; } } group.S e = 9; optional f = 10; ; } map<int32, group> h = 11;
-extensions 100, 200 to 300, 400 to max [i = j, (k) = 1]; reserved 12, 13 to max; optional group.T group = 14; }
-extend .U { optional group V = 15 { required W l = 16; } } enum X { Y = -1; } service Z { rpc A(B) returns (C); }";
+const RICH_PROTO2: &str = "syntax = 'pro' \"to2\"; import 'a'; package p; option (o).p = q;
+extend E { ; required F g = 1; } message M { required int32 a = 1 [default = -inf]; optional .G b = 2;
+repeated group H = 3 [(x) = 1, y = 'z'] { ; optional group I = 4 { extensions 5; }
+extend J.K { repeated group L = 6 { message N {} } optional int32 map = 7; } }
+oneof o { option c = d; group P = 8 { enum Q { R = 0; } } group.S e = 9; optional f = 10; ; }
+map<int32, group> h = 11; extensions 100, 200 to 300, 400 to max [i = j, (k) = 1]; reserved 12, 13 to max;
+optional group.T group = 14; } extend .U { optional group V = 15 { required W l = 16; } } enum X { Y = -1; }
+service Z { rpc A(B) returns (C); }";
 
 /// Words of proto2 as names in a source of proto3, and extends that declare.
-const RICH_EXTENDED: &str = "syntax = 'pro' \"to3\"; extend g.H { ; repeated int32 i = 1; group l = 2; required r = 3; }
+const RICH_EXTENDED: &str = "syntax = 'pro' \"to3\";
+extend g.H { ; repeated int32 i = 1; group l = 2; required r = 3; }
 message M { extend N { map m = 1; optional extensions n = 2; } group g = 1; required extensions = 2;
 optional group.T group = 3; oneof o { required q = 4; extensions.E e = 5; } message required {}
-enum group { required = 0; extensions = 1; } map<string, group> p = 6; } service extensions { rpc group(required) returns
-(group); } enum required { group = 0; } option group = required; message extensions { extension f = 1; }";
+enum group { required = 0; extensions = 1; } map<string, group> p = 6; }
+service extensions { rpc group(required) returns (group); } enum required { group = 0; } option group = required;
+message extensions { extension f = 1; }";
 
 /// Where these three texts, joined, fail, or None.
 fn failed_at(

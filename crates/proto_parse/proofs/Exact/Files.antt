@@ -1,5 +1,5 @@
 -- What is in the grammar is read: files.
-use Rattle.std.proofs.Common.{◌≡◌, ℕ, Option, Some, List, ◌∷◌, refl, sym, ◌∙◌, ap, subst, codes}
+use Rattle.std.proofs.Common.{◌≡◌, ℕ, Option, Some, List, refl, sym, ◌∙◌, ap, subst, codes}
 use Rattle.std.specs.Prelude.{Result, Ok, Err, MatchResult}
 use Rattle.proto_lex.specs.declared.span.Span.{Span}
 use Rattle.proto_lex.specs.declared.token.TokenKind.TheVariants.{StringLiteral}

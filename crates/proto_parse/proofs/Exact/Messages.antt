@@ -2,36 +2,29 @@
 use Rattle.std.proofs.Common.{◌≡◌, ℕ, zero, suc, true, false, Option, Some, None, List, ◌∷◌, refl, sym, subst}
 use Rattle.std.proofs.Common.{codes}
 use Rattle.proto_lex.specs.declared.span.Span.{Span}
-use Rattle.proto_lex.specs.declared.token.TokenKind.TheVariants.{Identifier, Semicolon, Equals, OpenBrace, CloseBrace}
-use Rattle.proto_lex.specs.declared.token.TokenKind.TheVariants.{OpenParenthesis, CloseParenthesis}
+use Rattle.proto_lex.specs.declared.token.TokenKind.TheVariants.{Identifier, Semicolon, OpenBrace}
 use Rattle.proto_grammar.specs.declared.tree.CustomOptions.{CustomOptions}
-use Rattle.proto_grammar.specs.declared.tree.CustomOptions.TheVariants.{Refuse, Skip}
 use Rattle.proto_grammar.specs.declared.tree.Syntax.{Syntax}
 use Rattle.proto_grammar.specs.declared.tree.Syntax.TheVariants.{Proto3, Extended, Proto2}
 use Rattle.proto_grammar.specs.declared.tree.Heading.{Heading}
 use Rattle.proto_grammar.specs.declared.tree.Label.{Label}
 use Rattle.proto_grammar.specs.declared.tree.TypeName.{TypeName}
-use Rattle.proto_grammar.specs.declared.tree.Field.{Field}
 use Rattle.proto_grammar.specs.declared.tree.Enum.{Enum}
 use Rattle.proto_grammar.specs.declared.tree.Method.{Method}
 use Rattle.proto_grammar.specs.declared.tree.Service.{Service}
 use Rattle.proto_grammar.specs.declared.tree.Item.{Item}
 use Rattle.proto_parse.specs.declared.statement.MessageStatement.{MessageStatement}
-use Rattle.proto_parse.specs.declared.statement.MessageStatement.TheVariants as choice
 use Rattle.proto_parse.specs.declared.statement.Within.{Within}
 use Rattle.proto_parse.specs.declared.statement.Within.TheVariants as within
 use Rattle.proto_grammar.specs.Lexeme.{Lexeme}
-use Rattle.proto_grammar.specs.Terminal.{first_is, of_kind, is_word, closes, begins_group}
-use Rattle.proto_grammar.specs.Syntax.{custom_of, is_proto2}
+use Rattle.proto_grammar.specs.Terminal.{first_is, of_kind, is_word, closes}
+use Rattle.proto_grammar.specs.Syntax.{custom_of}
 use Rattle.proto_parse.specs.Choice.{message_statement_of}
-use Rattle.proto_grammar.specs.Tree.{BlockTree}
 use Rattle.proto_grammar.specs.Grammar.Repetition.{Passes, Adds}
-use Rattle.proto_grammar.specs.Grammar.Options.{IsOption}
-use Rattle.proto_grammar.specs.Grammar.Options.IsOption.{option as an_option}
 use Rattle.proto_parse.specs.Grammar.Messages.{IsHeading, IsValue, IsEnumItem, IsEnum, IsBraced, IsGroup, IsLabelled}
 use Rattle.proto_parse.specs.Grammar.Messages.{IsMember, IsOneofMember, IsOneofItem, IsOneof, IsExtendItem, IsExtend}
 use Rattle.proto_parse.specs.Grammar.Messages.{IsPassedItem, IsPassedExtend, IsExtendStatement, IsMessage}
-use Rattle.proto_parse.specs.Grammar.Messages.{IsMessageItem, IsItem, IsInside}
+use Rattle.proto_parse.specs.Grammar.Messages.{IsMessageItem, IsInside}
 use Rattle.proto_parse.specs.Grammar.Messages.IsHeading.{heading}
 use Rattle.proto_parse.specs.Grammar.Messages.IsValue.{value}
 use Rattle.proto_parse.specs.Grammar.Messages.IsEnumItem.{empty as enums-empty, option as enums-option}
@@ -66,11 +59,7 @@ use Rattle.proto_parse.specs.Grammar.Services.IsMethod.{method}
 use Rattle.proto_parse.specs.Grammar.Services.IsServiceItem.{empty as services-empty, option as services-option}
 use Rattle.proto_parse.specs.Grammar.Services.IsServiceItem.{method as services-method}
 use Rattle.proto_parse.specs.Grammar.Services.IsService.{service}
-use Rattle.proto_grammar.specs.Reading.Repetition.{Read, token_that, span_at, adding, passing, until_at}
-use Rattle.proto_grammar.specs.Reading.Names.{named_type_at, pass_type_name_at}
-use Rattle.proto_grammar.specs.Reading.Options.{option_at, options_at}
-use Rattle.proto_grammar.specs.Reading.Fields.{typed_at, label_at, group_head_at, map_field_at}
-use Rattle.proto_grammar.specs.Reading.Reserved.{integer_at, reserved_at, extensions_at}
+use Rattle.proto_grammar.specs.Reading.Repetition.{Read, span_at, adding, passing}
 use Rattle.proto_parse.specs.Reading.Messages.{heading_at, value_at, enum_item_at, enum_items_at, enum_at, braced_at}
 use Rattle.proto_parse.specs.Reading.Messages.{group_at, labelled_at, member_at, oneof_member_at, oneof_item_at}
 use Rattle.proto_parse.specs.Reading.Messages.{extend_item_at, oneof_at, extend_at, passed_item_at, passed_items_at}

@@ -1,6 +1,6 @@
 -- What is read is in the grammar: files.
-use Rattle.std.proofs.Common.{◌≡◌, ℕ, Bool, true, false, ◌&&◌, not, cond, Option, Some, None, is_some, ◌⊎◌, inl, inr, List}
-use Rattle.std.proofs.Common.{[], ◌∷◌, ◌++◌, option_map, option_to_list, refl, sym, ◌∙◌, subst, codes, bytes_eq}
+use Rattle.std.proofs.Common.{◌≡◌, ℕ, true, false, ◌&&◌, not, cond, Option, Some, None, is_some, ◌⊎◌, inl, inr, List}
+use Rattle.std.proofs.Common.{[], ◌∷◌, refl, sym, ◌∙◌, subst, codes, bytes_eq}
 use Rattle.std.specs.Prelude.{Result, Ok, Err, IfOk, IfErr}
 use Rattle.proto_grammar.specs.declared.fault.SyntaxFault.{SyntaxFault}
 use Rattle.proto_grammar.specs.declared.fault.SyntaxFault.TheVariants.{NotProto3, CustomOption, Aggregate, Extend}
@@ -19,7 +19,6 @@ use Rattle.proto_lex.specs.declared.span.Span.{Span}
 use Rattle.proto_lex.specs.declared.token.TokenKind.TheVariants.{StringLiteral, Semicolon, Equals}
 use Rattle.proto_grammar.specs.declared.tree.Import.{Import}
 use Rattle.proto_grammar.specs.declared.tree.ImportKind.{ImportKind}
-use Rattle.proto_grammar.specs.declared.tree.FileItem.TheVariants as item
 use Rattle.proto_grammar.specs.declared.tree.File.{File}
 use Rattle.proto_parse.specs.declared.statement.FileStatement.{FileStatement}
 use Rattle.proto_parse.specs.declared.statement.FileStatement.TheVariants as choice
@@ -58,7 +57,7 @@ use Rattle.proto_grammar.proofs.OptionSteps.{bind_some, guard_some, kept_some, c
 use Rattle.proto_grammar.proofs.TokenLemmas.{token_found, next_found}
 use Rattle.proto_grammar.proofs.UntilLemmas.{until_at-found, adding-found}
 use Rattle.proto_grammar.proofs.Found.Names.{name_found}
-use Rattle.proto_grammar.proofs.Found.Options.{left_of, option_found}
+use Rattle.proto_grammar.proofs.Found.Options.{option_found}
 use Rattle.proto_parse.proofs.Found.Messages.{enum_found, extend_statement_found, inside_found, message_found}
 use Rattle.proto_parse.proofs.Found.Messages.{service_found}
 use Rattle.proto_parse.proofs.Joined.{joined_found, not_true}
@@ -93,8 +92,10 @@ version_found dialect tokens x e =
     (λ text named.
     let given : Some (proto3_in dialect) ≡ Some v.0 =
     subst (λ n. syntax_by n dialect ≡ Some v.0) named v.1 in
-    inl (sym (same_Some (proto3_in dialect) v.0 given),
-    subst (λ t. SpellsJoined tokens t (behind_literals tokens)) text (joined_found tokens)))
+    inl (
+      sym (same_Some (proto3_in dialect) v.0 given),
+      subst (λ t. SpellsJoined tokens t (behind_literals tokens)) text (joined_found tokens),
+    ))
     (λ text named.
     let given = proto2_accepted dialect v.0 (subst (λ n. syntax_by n dialect ≡ Some v.0) named v.1) in
     inr (given.0, (given.1, subst (λ t. SpellsJoined tokens t (behind_literals tokens)) text (joined_found tokens))))

@@ -15,7 +15,6 @@ use Rattle.proto_grammar.specs.declared.tree.FieldType.{FieldType}
 use Rattle.proto_grammar.specs.declared.tree.Field.{Field}
 use Rattle.proto_grammar.specs.declared.tree.MapField.{MapField}
 use Rattle.proto_grammar.specs.declared.tree.Enum.{Enum}
-use Rattle.proto_grammar.specs.declared.tree.Group.{Group}
 use Rattle.proto_grammar.specs.declared.tree.Method.{Method}
 use Rattle.proto_grammar.specs.declared.tree.Service.{Service}
 use Rattle.proto_grammar.specs.declared.tree.Item.{Item}
@@ -30,7 +29,7 @@ use Rattle.proto_grammar.specs.Tree.{BlockTree}
 use Rattle.proto_grammar.specs.Items.{body_of}
 use Rattle.proto_parse.specs.Walk.{Mark, Among, MarksAreInOrder, each_then, name_then, names_then, literal_then}
 use Rattle.proto_parse.specs.Walk.{type_name_then, type_then, heading_then, field_then, map_field_then, enum_then}
-use Rattle.proto_parse.specs.Walk.{group_then, leaf_then, body_then, block_then, method_then, service_then, item_then}
+use Rattle.proto_parse.specs.Walk.{leaf_then, body_then, block_then, method_then, service_then, item_then}
 use Rattle.proto_parse.specs.Walk.{import_then, marks_of_items, marks_of_imports, marks_of_package}
 use Rattle.proto_parse.specs.Walk.Mark.{Name, Other}
 use Rattle.proto_parse.specs.Walk.Among.{none as no_marks, skip, first as at_first, name as at_name}
@@ -44,7 +43,7 @@ use Rattle.proto_grammar.specs.Grammar.Names.IsDotName.{dot_name}
 use Rattle.proto_grammar.specs.Grammar.Names.IsName.{name}
 use Rattle.proto_grammar.specs.Grammar.Names.IsTypeName.{rooted, plain as plain_name}
 use Rattle.proto_grammar.specs.Grammar.Names.IsType.{scalar, named}
-use Rattle.proto_grammar.specs.Grammar.Fields.{IsNumbered, IsTyped, IsGroupHead, IsMapField}
+use Rattle.proto_grammar.specs.Grammar.Fields.{IsNumbered, IsTyped, IsMapField}
 use Rattle.proto_grammar.specs.Grammar.Fields.IsNumbered.{numbered}
 use Rattle.proto_grammar.specs.Grammar.Fields.IsTyped.{typed}
 use Rattle.proto_grammar.specs.Grammar.Fields.IsGroupHead.{group_head}

@@ -26,7 +26,6 @@ use Rattle.proto_grammar.specs.declared.tree.ImportKind.{ImportKind}
 use Rattle.proto_grammar.specs.Lexeme.{Lexeme}
 use Rattle.proto_grammar.specs.Terminal.{number_of, is_kind, of_kind, is_word, is_group_name, is_key, is_scalar}
 use Rattle.proto_grammar.specs.Terminal.{is_plain_literal}
-use Rattle.proto_grammar.specs.Tree.{BlockTree}
 use Rattle.proto_grammar.specs.Syntax.{custom_of}
 use Rattle.proto_parse.specs.Limits.{max_message_depth}
 use Rattle.proto_parse.specs.Walk.{Mark, Among}
@@ -74,7 +73,7 @@ use Rattle.proto_grammar.specs.Grammar.Reserved.IsCommaItem.{comma_item}
 use Rattle.proto_grammar.specs.Grammar.Reserved.IsReserved.{reserved}
 use Rattle.proto_grammar.specs.Grammar.Reserved.IsExtensions.{extensions}
 use Rattle.proto_parse.specs.Grammar.Messages.{IsHeading, IsEnumItem, IsEnum, IsBraced, IsGroup, IsLabelled, IsMember}
-use Rattle.proto_parse.specs.Grammar.Messages.{IsOneofMember, IsOneofItem, IsOneof, IsExtendItem, IsExtend}
+use Rattle.proto_parse.specs.Grammar.Messages.{IsOneofItem, IsExtendItem}
 use Rattle.proto_parse.specs.Grammar.Messages.{IsPassedItem, IsPassedExtend, IsExtendStatement, IsMessage}
 use Rattle.proto_parse.specs.Grammar.Messages.{IsMessageItem, IsInside}
 use Rattle.proto_parse.specs.Grammar.Messages.IsHeading.{heading}

@@ -1,7 +1,7 @@
 -- Enums, messages, groups, oneofs and extends (proto3 specification, "Enum definition", "Oneof and oneof field" and
 -- "Message definition"; proto2 specification, "Group field", "Oneof and oneof field", "Message definition" and
 -- "Extend").
-use Rattle.std.specs.Prelude.{◌≡◌, ℕ, zero, suc, Bool, true, false, ◌&&◌, Option, Some, None, option_map, List, []}
+use Rattle.std.specs.Prelude.{◌≡◌, ℕ, zero, suc, true, false, ◌&&◌, Option, Some, None, option_map, List, []}
 use Rattle.std.specs.Prelude.{◌∷◌, codes}
 use Rattle.proto_lex.specs.declared.span.Span.{Span}
 use Rattle.proto_lex.specs.declared.token.TokenKind.TheVariants.{Identifier, Semicolon, Equals, OpenBrace, CloseBrace}

@@ -1,4 +1,4 @@
-use Rattle.std.proofs.Common.{◌≡◌, ℕ, Option, Some, List, length, codes, option_map}
+use Rattle.std.proofs.Common.{◌≡◌, Some, length, codes, option_map}
 use Rattle.proto_parse.specs.Reading.Syntax.{is_left, joined_of, behind_literals}
 use Rattle.proto_parse.proofs.syntax.version.Given as goal
 

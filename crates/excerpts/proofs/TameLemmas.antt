@@ -237,5 +237,5 @@ excerpts_are_tame text at len fits =
       refl,
       four (codes "  ") number (codes " | ") (shown_line parts) edge of_number bar (tame_line parts),
       four (codes "  ") (blanks number) (codes " | ") (mark_line parts) edge (tame_blanks number) bar
-      (tame_below parts),
+          (tame_below parts),
     )

@@ -37,22 +37,14 @@ pub fn tokens_of<'a>(alloc: Global, text: &'a Text<'a>) -> Result<Tokens<'a, 'a>
 }
 
 /// What `parse` answers, or `parse_with` in another dialect.
-fn parse_so(
-    alloc: Global,
-    tokens: &Tokens<'_, '_>,
-    dialect: Dialect,
-) -> Result<File, SyntaxFault> {
+fn parse_so(alloc: Global, tokens: &Tokens<'_, '_>, dialect: Dialect) -> Result<File, SyntaxFault> {
     match dialect {
         Dialect::Proto3(CustomOptions::Refuse) => parse(alloc, tokens),
         Dialect::Proto3(CustomOptions::Skip) | Dialect::All => parse_with(alloc, tokens, dialect),
     }
 }
 
-fn tree_of(
-    alloc: Global,
-    tokens: &Tokens<'_, '_>,
-    dialect: Dialect,
-) -> Result<File, SyntaxFault> {
+fn tree_of(alloc: Global, tokens: &Tokens<'_, '_>, dialect: Dialect) -> Result<File, SyntaxFault> {
     match parse_so(alloc, tokens, dialect) {
         Err(SyntaxFault::Memory) => parse_with(alloc, tokens, dialect),
         answer => answer,

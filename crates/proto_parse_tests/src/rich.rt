@@ -91,11 +91,7 @@ fn fails_elsewhere(alloc: Global, source: &str, span: Span, dialect: Dialect) ->
 }
 
 /// The first token of a source with which a change goes wrong, or where the source itself fails.
-fn first_wrong_token(
-    alloc: Global,
-    tokens: &Tokens<'_, '_>,
-    dialect: Dialect,
-) -> Option<usize> {
+fn first_wrong_token(alloc: Global, tokens: &Tokens<'_, '_>, dialect: Dialect) -> Option<usize> {
     let source = tokens.text().as_str();
     for token in tokens.tokens() {
         if fails_early(alloc, source, token.span, dialect)

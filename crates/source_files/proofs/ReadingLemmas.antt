@@ -98,9 +98,9 @@ module _ (lists : List ℕ → Option (List (List ℕ)) → Type 0) (gives : Lis
       let Read : List SourceFile → Type 0 = λ all. AreReadBut paths behind all in
       subst Read (sym adds.1) (
         ap (λ (ps : List (List ℕ)). ps ++ behind) (map-append (λ (file : SourceFile). file.path) sources here)
-        ∙ (append_assoc (paths_of sources) (paths_of here) behind
-        ∙ (ap (λ (ps : List (List ℕ)). paths_of sources ++ (ps ++ behind)) adds.2.0
-        ∙ (ap (λ (ps : List (List ℕ)). paths_of sources ++ ps) parts ∙ read.0))),
+            ∙ (append_assoc (paths_of sources) (paths_of here) behind
+            ∙ (ap (λ (ps : List (List ℕ)). paths_of sources ++ (ps ++ behind)) adds.2.0
+            ∙ (ap (λ (ps : List (List ℕ)). paths_of sources ++ ps) parts ∙ read.0))),
         All-append (IsHeld lists gives root) sources here read.1 adds.2.1,
       )
 

@@ -19,7 +19,8 @@ returns c =
     c.deref.ensures.value ∙ c.in_ok-extend_from_slice.ensures.items
     ∙ ap (λ (l : List ℕ). l ++ name) c.in_ok-folder.ensures.items in
     let same : c.deref-2.result.now ≡ folder_id (above ++ name) =
-    c.deref-2.ensures.value ∙ c.in_ok-push_folder_id.ensures ∙ ap folder_id folder in
+    c.deref-2.ensures.value ∙ c.in_ok-push_folder_id.ensures
+    ∙ ap (λ (l : List ℕ). l ++ folder_id c.deref.result.now) c.new-id.ensures.items ∙ ap folder_id folder in
     more page (start ++ id ++ is_open above ++ middle ++ escape name) (codes "/</summary><ul>\n")
     (more page (start ++ id ++ is_open above ++ middle) (escape name)
     (more page (start ++ id ++ is_open above) middle

@@ -51,16 +51,13 @@ One &lt;b&gt;.</span></a></dt>
 </html>
 ";
 
-/// The page of the first document.
-fn taken(alloc: Global, queries: &Queries) -> Result<Vec<u8>, AllocError> {
-    let sources = [
-        Some(OwnedText::copy_of(alloc, "S T;\n<&\t")?),
-        Some(OwnedText::copy_of(alloc, "T S")?),
-    ];
-    let site = Site {
-        queries,
-        sources: &sources,
-    };
+/// The page of the first document, by these sources.
+fn page_by(
+    alloc: Global,
+    queries: &Queries,
+    sources: &[Option<OwnedText>],
+) -> Result<Vec<u8>, AllocError> {
+    let site = Site { queries, sources };
     let mut facts = Facts::new(alloc, queries)?;
     match queries.documents() {
         [document, ..] => {
@@ -74,6 +71,15 @@ fn taken(alloc: Global, queries: &Queries) -> Result<Vec<u8>, AllocError> {
         }
         [] => Ok(Vec::new(alloc)),
     }
+}
+
+/// The page of the first document.
+fn taken(alloc: Global, queries: &Queries) -> Result<Vec<u8>, AllocError> {
+    let sources = [
+        Some(OwnedText::copy_of(alloc, "S T;\n<&\t")?),
+        Some(OwnedText::copy_of(alloc, "T S")?),
+    ];
+    page_by(alloc, queries, &sources)
 }
 
 /// Sees the page. After want of memory it is asked for again, and the second answer counts.

@@ -4,7 +4,7 @@ ghost use Rattle.std.specs.Prelude.{◌≡◌, ◌∷◌, [], IfOk};
 ghost use Rattle.proto_decl.specs.declared.kind.DeclarationKind.TheVariants.{Message};
 
 use crate::calls::{see, text_of_symbol};
-use lent_texts::LentText;
+use lent_texts::{KeptText, LentText};
 use proto_decl::{Component, DeclarationKind, DeclarationPath, DeclarationStep};
 use proto_lex::Span;
 use scip_symbol::{
@@ -41,7 +41,7 @@ fn way<'t>(alloc: Global, name: &'t str) -> Result<DeclarationPath<'t>, AllocErr
 {
     let step = DeclarationStep {
         kind: DeclarationKind::Message,
-        name: LentText::new(name),
+        name: KeptText::lent(name),
     };
     DeclarationPath::from_steps(alloc, Sequence::new(alloc), step)
 }

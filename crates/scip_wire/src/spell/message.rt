@@ -1,16 +1,14 @@
 //! Messages inside messages.
 
-ghost use Rattle.std.specs.Prelude.{◌≡◌, ◌^◌, ◌<◌, ◌≤◌, List, [], ◌∷◌, All, IfSome};
+ghost use Rattle.std.specs.Prelude.{◌≡◌, ◌++◌, ◌^◌, ◌<◌, ◌≤◌, List, [], ◌∷◌, All, IfSome, OnOk};
 ghost use Rattle.scip_wire.specs.Fields.{Field, max_field_number};
 ghost use Rattle.scip_wire.specs.Spelling.{bytes_of, bytes_field, optional_message_fields, repeated_message_fields};
 ghost use Rattle.scip_wire.specs.Saturated.{saturated, fields_len};
-ghost use Rattle.scip_wire.specs.Buffered.{IsPut};
 
-use super::buffer::Buffer;
 use super::fields::record_len;
 use super::varint::encode_varint;
 use sequences::Sequence;
-use streams::Sink;
+use std::alloc::AllocError;
 
 /// A record of an index, as a message of `scip.proto`.
 pub(crate) trait Encode {
@@ -25,10 +23,10 @@ pub(crate) trait Encode {
         ensures value { result ≡ saturated (fields_len (fields self.now)) }
         ensures fit { is_fit self.now };
 
-    /// Puts its spelling.
-    fn encode<W: Sink>(&self, out: &mut Buffer, sink: &mut W)
+    /// Appends its spelling.
+    fn encode(&self, out: &mut Vec<u8>) -> Result<(), AllocError>
         requires { fields_len (fields self.now) < 2 ^ 64 }
-        ensures { IsPut W.contents W.failures sink.old out.old sink.new out.new (bytes_of (fields self.now)) };
+        ensures { OnOk result (out.new.items ≡ out.old.items ++ bytes_of (fields self.now)) };
 }
 
 /// The length of a message's record.
@@ -40,20 +38,19 @@ pub(super) fn message_len<M: Encode>(number: u64, message: &M) -> u64
     record_len(number, message.encoded_len())
 }
 
-/// Puts a message's record.
-pub(super) fn encode_message<M: Encode, W: Sink>(
-    out: &mut Buffer,
-    sink: &mut W,
+/// Appends a message's record.
+pub(super) fn encode_message<M: Encode>(
+    out: &mut Vec<u8>,
     number: u64,
     message: &M,
-)
+) -> Result<(), AllocError>
     requires number { number ≤ max_field_number }
     requires short { fields_len (M.fields message.now) < 2 ^ 64 }
-    ensures { IsPut W.contents W.failures sink.old out.old sink.new out.new (bytes_of (bytes_field number (bytes_of (M.fields message.now)) ∷ [])) }
+    ensures { OnOk result (out.new.items ≡ out.old.items ++ bytes_of (bytes_field number (bytes_of (M.fields message.now)) ∷ [])) }
 {
-    encode_varint(out, sink, 8 * number + 2);
-    encode_varint(out, sink, message.encoded_len());
-    message.encode(out, sink);
+    encode_varint(out, 8 * number + 2)?;
+    encode_varint(out, message.encoded_len())?;
+    message.encode(out)
 }
 
 /// The length of the record of a message that may be absent.
@@ -68,20 +65,20 @@ pub(super) fn optional_message_len<M: Encode>(number: u64, message: &Option<M>) 
     }
 }
 
-/// Puts the record of a message that may be absent.
-pub(super) fn encode_optional_message<M: Encode, W: Sink>(
-    out: &mut Buffer,
-    sink: &mut W,
+/// Appends the record of a message that may be absent.
+pub(super) fn encode_optional_message<M: Encode>(
+    out: &mut Vec<u8>,
     number: u64,
     message: &Option<M>,
-)
+) -> Result<(), AllocError>
     requires number { number ≤ max_field_number }
     requires short { fields_len (optional_message_fields number M.fields message.now) < 2 ^ 64 }
-    ensures { IsPut W.contents W.failures sink.old out.old sink.new out.new (bytes_of (optional_message_fields number M.fields message.now)) }
+    ensures { OnOk result (out.new.items ≡ out.old.items ++ bytes_of (optional_message_fields number M.fields message.now)) }
 {
     if let Some(message) = message {
-        encode_message(out, sink, number, message);
+        encode_message(out, number, message)?;
     }
+    Ok(())
 }
 
 /// The length of the records of a repeated message.
@@ -106,27 +103,27 @@ fn slice_len<M: Encode>(number: u64, messages: &[M]) -> u64
     len
 }
 
-/// Puts the records of a repeated message.
-pub(super) fn encode_messages<M: Encode, W: Sink>(
-    out: &mut Buffer,
-    sink: &mut W,
+/// Appends the records of a repeated message.
+pub(super) fn encode_messages<M: Encode>(
+    out: &mut Vec<u8>,
     number: u64,
     messages: &Sequence<M>,
-)
+) -> Result<(), AllocError>
     requires number { number ≤ max_field_number }
     requires short { fields_len (repeated_message_fields number M.fields messages.now) < 2 ^ 64 }
-    ensures { IsPut W.contents W.failures sink.old out.old sink.new out.new (bytes_of (repeated_message_fields number M.fields messages.now)) }
+    ensures { OnOk result (out.new.items ≡ out.old.items ++ bytes_of (repeated_message_fields number M.fields messages.now)) }
 {
-    encode_slice(out, sink, number, messages.as_slice());
+    encode_slice(out, number, messages.as_slice())
 }
 
-/// Puts the records of messages.
-fn encode_slice<M: Encode, W: Sink>(out: &mut Buffer, sink: &mut W, number: u64, messages: &[M])
+/// Appends the records of messages.
+fn encode_slice<M: Encode>(out: &mut Vec<u8>, number: u64, messages: &[M]) -> Result<(), AllocError>
     requires number { number ≤ max_field_number }
     requires short { fields_len (repeated_message_fields number M.fields messages.now) < 2 ^ 64 }
-    ensures { IsPut W.contents W.failures sink.old out.old sink.new out.new (bytes_of (repeated_message_fields number M.fields messages.now)) }
+    ensures { OnOk result (out.new.items ≡ out.old.items ++ bytes_of (repeated_message_fields number M.fields messages.now)) }
 {
     'messages: for message in messages {
-        encode_message(out, sink, number, message);
+        encode_message(out, number, message)?;
     }
+    Ok(())
 }

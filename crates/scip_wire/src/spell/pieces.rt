@@ -1,14 +1,11 @@
 //! An index in pieces: the record of its metadata, one of each document, and those of its external entries.
 
-ghost use Rattle.std.specs.Prelude.{◌≡◌, ◌<◌, ◌≤◌, ◌^◌, List, ℕ, length, All, IfOk, IfSome, OnOk};
+ghost use Rattle.std.specs.Prelude.{◌≡◌, ◌≤◌, List, ℕ, length, All, IfOk, IfSome};
 ghost use Rattle.std.specs.List.{concat};
-ghost use Rattle.streams.specs.WholeWrites.{IsWritten};
-ghost use Rattle.scip_wire.specs.Buffered.{IsPut};
 ghost use Rattle.scip_wire.specs.Saturated.{saturated, fields_len};
-ghost use Rattle.scip_wire.specs.Spelling.{document_fields, document_record, joined_pieces, max_index_len};
+ghost use Rattle.scip_wire.specs.Spelling.{bytes_of, document_record, info_fields, joined_pieces, max_index_len, metadata_fields, optional_message_fields, repeated_message_fields};
 ghost use Rattle.scip_wire.specs.WellFormed.{IsFitDocument, IsFitInfo, IsFitMetadata};
 
-use super::buffer::Buffer;
 use super::message::{
     encode_message, encode_messages, encode_optional_message, message_len, messages_len,
     optional_message_len,
@@ -16,17 +13,6 @@ use super::message::{
 use scip_model::{Document, Metadata, SymbolInformation};
 use sequences::Sequence;
 use std::alloc::{AllocError, Global};
-use streams::{CutOff, Sink, Std};
-
-/// Writes a document's record.
-fn write_document<W: Sink>(document: &Document, sink: &mut W) -> Result<(), CutOff>
-    requires { fields_len (document_fields document.now) < 2 ^ 64 }
-    ensures { OnOk result (IsWritten W.contents W.failures sink.old sink.new (document_record document.now)) }
-{
-    let mut out = Buffer::new();
-    encode_message(&mut out, sink, 2, document);
-    out.finish(sink)
-}
 
 /// A document's record, as in the spelling of an index, with its tag and length.
 pub fn spell_document(alloc: Global, document: &Document) -> Result<Sequence<u8>, AllocError>
@@ -34,12 +20,9 @@ pub fn spell_document(alloc: Global, document: &Document) -> Result<Sequence<u8>
     ensures known { IsFitDocument document.now }
 {
     let len = message_len(2, document);
-    let bytes = Vec::with_capacity(alloc, len as usize)?;
-    let mut sink = Std::new(bytes);
-    match write_document(document, &mut sink) {
-        Ok(()) => Ok(Sequence::from_vec(sink.into_inner())),
-        Err(_) => Err(AllocError),
-    }
+    let mut bytes = Vec::with_capacity(alloc, len as usize)?;
+    encode_message(&mut bytes, 2, document)?;
+    Ok(Sequence::from_vec(bytes))
 }
 
 /// The length of records, up to `u64::MAX`.
@@ -69,27 +52,30 @@ pub(crate) fn pieces_len(
     front.saturating_add(middle).saturating_add(back)
 }
 
-/// Puts records that are spelled.
-fn encode_records<W: Sink>(out: &mut Buffer, sink: &mut W, records: &[Sequence<u8>])
-    ensures { IsPut W.contents W.failures sink.old out.old sink.new out.new (concat records.now) }
+/// The metadata's record; nothing if there is none.
+pub(crate) fn spell_metadata(
+    alloc: Global,
+    metadata: &Option<Metadata>,
+) -> Result<Vec<u8>, AllocError>
+    requires { fields_len (optional_message_fields 1 metadata_fields metadata.now) ≤ max_index_len }
+    ensures { IfOk result (λ bytes. bytes.items ≡ bytes_of (optional_message_fields 1 metadata_fields metadata.now)) }
 {
-    'records: for record in records {
-        out.put(sink, record.as_slice());
-    }
+    let len = optional_message_len(1, metadata);
+    let mut bytes = Vec::with_capacity(alloc, len as usize)?;
+    encode_optional_message(&mut bytes, 1, metadata)?;
+    Ok(bytes)
 }
 
-/// Puts an index in pieces.
-pub(crate) fn encode_pieces<W: Sink>(
-    out: &mut Buffer,
-    sink: &mut W,
-    metadata: &Option<Metadata>,
-    documents: &[Sequence<u8>],
+/// The records of the external entries.
+pub(crate) fn spell_externals(
+    alloc: Global,
     external_symbols: &Sequence<SymbolInformation>,
-)
-    requires { length (joined_pieces metadata.now documents.now external_symbols.now) ≤ max_index_len }
-    ensures { IsPut W.contents W.failures sink.old out.old sink.new out.new (joined_pieces metadata.now documents.now external_symbols.now) }
+) -> Result<Vec<u8>, AllocError>
+    requires { fields_len (repeated_message_fields 3 info_fields external_symbols.now) ≤ max_index_len }
+    ensures { IfOk result (λ bytes. bytes.items ≡ bytes_of (repeated_message_fields 3 info_fields external_symbols.now)) }
 {
-    encode_optional_message(out, sink, 1, metadata);
-    encode_records(out, sink, documents);
-    encode_messages(out, sink, 3, external_symbols);
+    let len = messages_len(3, external_symbols);
+    let mut bytes = Vec::with_capacity(alloc, len as usize)?;
+    encode_messages(&mut bytes, 3, external_symbols)?;
+    Ok(bytes)
 }

@@ -1,17 +1,15 @@
 //! The record of a range (`scip.proto`, `Occurrence.range`): its numbers, packed.
 
-ghost use Rattle.std.specs.Prelude.{◌≡◌, ◌++◌, ◌≤◌, [], ◌∷◌, flat_map, length, nat_eq};
+ghost use Rattle.std.specs.Prelude.{◌≡◌, ◌++◌, ◌≤◌, [], ◌∷◌, flat_map, length, OnOk};
 ghost use Rattle.scip_model.specs.Range.{IsRange};
 ghost use Rattle.scip_wire.specs.Fields.{max_field_number};
 ghost use Rattle.scip_wire.specs.Spelling.{bytes_of, bytes_field, varint, range_numbers};
 ghost use Rattle.scip_wire.specs.Saturated.{saturated, fields_len};
-ghost use Rattle.scip_wire.specs.Buffered.{IsPut};
 
-use super::buffer::Buffer;
 use super::fields::record_len;
 use super::varint::{encode_varint, varint_len};
 use scip_model::Range;
-use streams::Sink;
+use std::alloc::AllocError;
 
 /// The length of a range's record.
 pub(super) fn range_len(number: u64, range: &Range) -> u64
@@ -22,14 +20,14 @@ pub(super) fn range_len(number: u64, range: &Range) -> u64
     record_len(number, numbers_len(range))
 }
 
-/// Puts a range's record.
-pub(super) fn encode_range<W: Sink>(out: &mut Buffer, sink: &mut W, number: u64, range: &Range)
+/// Appends a range's record.
+pub(super) fn encode_range(out: &mut Vec<u8>, number: u64, range: &Range) -> Result<(), AllocError>
     requires { number ≤ max_field_number }
-    ensures { IsPut W.contents W.failures sink.old out.old sink.new out.new (bytes_of (bytes_field number (flat_map varint (range_numbers range.now)) ∷ [])) }
+    ensures { OnOk result (out.new.items ≡ out.old.items ++ bytes_of (bytes_field number (flat_map varint (range_numbers range.now)) ∷ [])) }
 {
-    encode_varint(out, sink, 8 * number + 2);
-    encode_varint(out, sink, numbers_len(range));
-    encode_numbers(out, sink, range);
+    encode_varint(out, 8 * number + 2)?;
+    encode_varint(out, numbers_len(range))?;
+    encode_numbers(out, range)
 }
 
 /// The length of a range's numbers: three if both ends are on one line, otherwise four.
@@ -41,48 +39,21 @@ fn numbers_len(range: &Range) -> u64
     let start = varint_len(u64::from(range.start_line()))
         + varint_len(u64::from(range.start_column()));
     let end_column = varint_len(u64::from(range.end_column()));
-    if is_on_one_line(range) {
+    if range.start_line() == range.end_line() {
         start + end_column
     } else {
         start + varint_len(u64::from(range.end_line())) + end_column
     }
 }
 
-/// Puts a range's numbers: three if both ends are on one line, otherwise four.
-fn encode_numbers<W: Sink>(out: &mut Buffer, sink: &mut W, range: &Range)
-    ensures { IsPut W.contents W.failures sink.old out.old sink.new out.new (flat_map varint (range_numbers range.now)) }
+/// Appends a range's numbers: three if both ends are on one line, otherwise four.
+fn encode_numbers(out: &mut Vec<u8>, range: &Range) -> Result<(), AllocError>
+    ensures { OnOk result (out.new.items ≡ out.old.items ++ flat_map varint (range_numbers range.now)) }
 {
-    if is_on_one_line(range) {
-        encode_three(out, sink, range);
-    } else {
-        encode_four(out, sink, range);
+    encode_varint(out, u64::from(range.start_line()))?;
+    encode_varint(out, u64::from(range.start_column()))?;
+    if range.start_line() != range.end_line() {
+        encode_varint(out, u64::from(range.end_line()))?;
     }
-}
-
-/// Puts the start and the column of the end.
-fn encode_three<W: Sink>(out: &mut Buffer, sink: &mut W, range: &Range)
-    ensures { IsPut W.contents W.failures sink.old out.old sink.new out.new
-        (varint range.now.start_line ++ (varint range.now.start_column ++ varint range.now.end_column)) }
-{
-    encode_varint(out, sink, u64::from(range.start_line()));
-    encode_varint(out, sink, u64::from(range.start_column()));
-    encode_varint(out, sink, u64::from(range.end_column()));
-}
-
-/// Puts the start and the end.
-fn encode_four<W: Sink>(out: &mut Buffer, sink: &mut W, range: &Range)
-    ensures { IsPut W.contents W.failures sink.old out.old sink.new out.new
-        (varint range.now.start_line ++ (varint range.now.start_column ++ (varint range.now.end_line ++ varint range.now.end_column))) }
-{
-    encode_varint(out, sink, u64::from(range.start_line()));
-    encode_varint(out, sink, u64::from(range.start_column()));
-    encode_varint(out, sink, u64::from(range.end_line()));
-    encode_varint(out, sink, u64::from(range.end_column()));
-}
-
-/// Whether both ends are on one line.
-fn is_on_one_line(range: &Range) -> bool
-    ensures { result ≡ nat_eq range.now.start_line range.now.end_line }
-{
-    range.start_line() == range.end_line()
+    encode_varint(out, u64::from(range.end_column()))
 }

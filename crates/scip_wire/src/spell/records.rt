@@ -1,13 +1,12 @@
 //! The records of an index as messages of `scip.proto`.
 
-use super::buffer::Buffer;
 use super::fields::{encode_int, encode_text, encode_texts, int_len, text_len, texts_len};
 use super::message::{
     Encode, encode_messages, encode_optional_message, messages_len, optional_message_len,
 };
 use super::range::{encode_range, range_len};
 use scip_model::{Document, Index, Metadata, Occurrence, SymbolInformation, ToolInfo};
-use streams::Sink;
+use std::alloc::AllocError;
 
 impl Encode for Index {
     ghost use Rattle.scip_wire.specs.Spelling.{index_fields};
@@ -26,10 +25,11 @@ impl Encode for Index {
             .saturating_add(external_symbols)
     }
 
-    fn encode<W: Sink>(&self, out: &mut Buffer, sink: &mut W) {
-        encode_optional_message(out, sink, 1, &self.metadata);
-        encode_messages(out, sink, 2, &self.documents);
-        encode_messages(out, sink, 3, &self.external_symbols);
+    fn encode(&self, out: &mut Vec<u8>) -> Result<(), AllocError> {
+        encode_optional_message(out, 1, &self.metadata)?;
+        encode_messages(out, 2, &self.documents)?;
+        encode_messages(out, 3, &self.external_symbols)?;
+        Ok(())
     }
 }
 
@@ -52,11 +52,12 @@ impl Encode for Metadata {
             .saturating_add(encoding)
     }
 
-    fn encode<W: Sink>(&self, out: &mut Buffer, sink: &mut W) {
-        encode_int(out, sink, 1, self.version);
-        encode_optional_message(out, sink, 2, &self.tool_info);
-        encode_text(out, sink, 3, &self.project_root);
-        encode_int(out, sink, 4, self.text_document_encoding);
+    fn encode(&self, out: &mut Vec<u8>) -> Result<(), AllocError> {
+        encode_int(out, 1, self.version)?;
+        encode_optional_message(out, 2, &self.tool_info)?;
+        encode_text(out, 3, &self.project_root)?;
+        encode_int(out, 4, self.text_document_encoding)?;
+        Ok(())
     }
 }
 
@@ -75,10 +76,11 @@ impl Encode for ToolInfo {
         name.saturating_add(version).saturating_add(arguments)
     }
 
-    fn encode<W: Sink>(&self, out: &mut Buffer, sink: &mut W) {
-        encode_text(out, sink, 1, &self.name);
-        encode_text(out, sink, 2, &self.version);
-        encode_texts(out, sink, 3, &self.arguments);
+    fn encode(&self, out: &mut Vec<u8>) -> Result<(), AllocError> {
+        encode_text(out, 1, &self.name)?;
+        encode_text(out, 2, &self.version)?;
+        encode_texts(out, 3, &self.arguments)?;
+        Ok(())
     }
 }
 
@@ -103,12 +105,13 @@ impl Encode for Document {
             .saturating_add(encoding)
     }
 
-    fn encode<W: Sink>(&self, out: &mut Buffer, sink: &mut W) {
-        encode_text(out, sink, 1, &self.relative_path);
-        encode_messages(out, sink, 2, &self.occurrences);
-        encode_messages(out, sink, 3, &self.symbols);
-        encode_text(out, sink, 4, &self.language);
-        encode_int(out, sink, 6, self.position_encoding);
+    fn encode(&self, out: &mut Vec<u8>) -> Result<(), AllocError> {
+        encode_text(out, 1, &self.relative_path)?;
+        encode_messages(out, 2, &self.occurrences)?;
+        encode_messages(out, 3, &self.symbols)?;
+        encode_text(out, 4, &self.language)?;
+        encode_int(out, 6, self.position_encoding)?;
+        Ok(())
     }
 }
 
@@ -129,10 +132,11 @@ impl Encode for SymbolInformation {
             .saturating_add(display_name)
     }
 
-    fn encode<W: Sink>(&self, out: &mut Buffer, sink: &mut W) {
-        encode_text(out, sink, 1, &self.symbol);
-        encode_texts(out, sink, 3, &self.documentation);
-        encode_text(out, sink, 6, &self.display_name);
+    fn encode(&self, out: &mut Vec<u8>) -> Result<(), AllocError> {
+        encode_text(out, 1, &self.symbol)?;
+        encode_texts(out, 3, &self.documentation)?;
+        encode_text(out, 6, &self.display_name)?;
+        Ok(())
     }
 }
 
@@ -151,9 +155,10 @@ impl Encode for Occurrence {
         range.saturating_add(symbol).saturating_add(roles)
     }
 
-    fn encode<W: Sink>(&self, out: &mut Buffer, sink: &mut W) {
-        encode_range(out, sink, 1, &self.range);
-        encode_text(out, sink, 2, &self.symbol);
-        encode_int(out, sink, 3, self.symbol_roles);
+    fn encode(&self, out: &mut Vec<u8>) -> Result<(), AllocError> {
+        encode_range(out, 1, &self.range)?;
+        encode_text(out, 2, &self.symbol)?;
+        encode_int(out, 3, self.symbol_roles)?;
+        Ok(())
     }
 }

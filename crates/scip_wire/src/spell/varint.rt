@@ -1,11 +1,9 @@
 //! Shortest varints (Protocol Buffers encoding, Base 128 Varints).
 
-ghost use Rattle.std.specs.Prelude.{◌≡◌, ◌≤◌, length};
+ghost use Rattle.std.specs.Prelude.{◌≡◌, ◌≤◌, ◌++◌, length, OnOk};
 ghost use Rattle.scip_wire.specs.Spelling.{varint};
-ghost use Rattle.scip_wire.specs.Buffered.{IsPut};
 
-use super::buffer::Buffer;
-use streams::Sink;
+use std::alloc::AllocError;
 
 /// How many bytes the varint has: 1 to 10.
 pub(super) fn varint_len(number: u64) -> u64
@@ -21,14 +19,15 @@ pub(super) fn varint_len(number: u64) -> u64
     len
 }
 
-/// Puts the varint.
-pub(super) fn encode_varint<W: Sink>(out: &mut Buffer, sink: &mut W, number: u64)
-    ensures { IsPut W.contents W.failures sink.old out.old sink.new out.new (varint number) }
+/// Appends the varint.
+pub(super) fn encode_varint(out: &mut Vec<u8>, number: u64) -> Result<(), AllocError>
+    ensures { OnOk result (out.new.items ≡ out.old.items ++ varint number) }
 {
     let mut rest = number;
     'groups: while rest >= 128 {
-        out.put(sink, &[(rest % 128) as u8 + 128]);
+        out.push((rest % 128) as u8 + 128)?;
         rest /= 128;
     }
-    out.put(sink, &[rest as u8]);
+    out.push(rest as u8)?;
+    Ok(())
 }

@@ -1,14 +1,8 @@
-use Rattle.std.proofs.Common.{drop}
+use Rattle.std.proofs.Common.{◌++◌, ◌≡◌, drop}
 use Rattle.scip_wire.specs.Spelling.{bytes_of, repeated_message_fields}
-use Rattle.scip_wire.specs.Buffered.{IsPut}
-use Rattle.scip_wire.specs.declared.spell.buffer.Buffer.{Buffer}
 use Rattle.scip_wire.proofs.spell.message.encode_slice.Given as goal
 
--- where the records that are left are put behind those that were, all are
 abbrev pub invariant-messages : goal.invariant-messages
 invariant-messages g l =
-    (sink : g.row.W.Denot) (out : Buffer)
-    → IsPut g.W.Sink.contents g.W.Sink.failures l.sink l.out sink out
-    (bytes_of (repeated_message_fields l.number g.M.Encode.fields (drop l.message-index l.messages)))
-    → IsPut g.W.Sink.contents g.W.Sink.failures l.initial.sink l.initial.out sink out
-    (bytes_of (repeated_message_fields l.number g.M.Encode.fields l.messages))
+    l.out.items ++ bytes_of (repeated_message_fields l.number g.M.Encode.fields (drop l.message-index l.messages))
+    ≡ l.initial.out.items ++ bytes_of (repeated_message_fields l.number g.M.Encode.fields l.messages)

@@ -1,8 +1,10 @@
 -- What a statement's first word chooses, and what a syntax statement's literals do.
-use Rattle.std.specs.Prelude.{ℕ, ◌&&◌, List, cond, bytes_eq, codes}
+use Rattle.std.specs.Prelude.{ℕ, Bool, ◌&&◌, ◌||◌, List, cond, bytes_eq, codes}
 use Rattle.proto_lex.specs.declared.token.TokenKind.TheVariants.{Semicolon, Less}
 use Rattle.proto_grammar.specs.Lexeme.{Lexeme}
 use Rattle.proto_grammar.specs.Terminal.{first_is, others, of_kind, is_word}
+use Rattle.proto_grammar.specs.Syntax.{is_proto2}
+use Rattle.proto_grammar.specs.declared.tree.Syntax.{Syntax}
 use Rattle.proto_parse.specs.declared.statement.FileStatement.{FileStatement}
 use Rattle.proto_parse.specs.declared.statement.FileStatement.TheVariants as file
 use Rattle.proto_parse.specs.declared.statement.MessageStatement.{MessageStatement}
@@ -23,15 +25,21 @@ file_statement_of a =
     (cond (first_is (is_word (codes "extend")) a) file.Extend
     file.Other)))))))
 
--- In a message: `map` only before a `<`. Anything else is a field or a group.
-abbrev pub message_statement_of : List Lexeme → MessageStatement
-message_statement_of a =
+-- Whether a map field is next: the word `map`. In proto3 a `<` has to follow, since a field may begin with the name of
+-- its type there.
+abbrev pub begins_map : Syntax → List Lexeme → Bool
+begins_map syntax a =
+    first_is (is_word (codes "map")) a && (is_proto2 syntax || first_is (of_kind Less) (others a))
+
+-- In a message. Anything else is a field or a group.
+abbrev pub message_statement_of : Syntax → List Lexeme → MessageStatement
+message_statement_of syntax a =
     cond (first_is (of_kind Semicolon) a) message.Empty
     (cond (first_is (is_word (codes "message")) a) message.Message
     (cond (first_is (is_word (codes "enum")) a) message.Enum
     (cond (first_is (is_word (codes "option")) a) message.Option
     (cond (first_is (is_word (codes "oneof")) a) message.Oneof
-    (cond (first_is (is_word (codes "map")) a && first_is (of_kind Less) (others a)) message.Map
+    (cond (begins_map syntax a) message.Map
     (cond (first_is (is_word (codes "reserved")) a) message.Reserved
     (cond (first_is (is_word (codes "extend")) a) message.Extend
     (cond (first_is (is_word (codes "extensions")) a) message.Extensions

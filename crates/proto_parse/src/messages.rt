@@ -22,8 +22,8 @@ use std::alloc::{AllocError, Global};
 pub const MAX_MESSAGE_DEPTH: usize = 64;
 
 /// What the next statement of a message is.
-fn message_statement(parser: &Parser<'_>) -> MessageStatement
-    ensures { result ≡ message_statement_of parser.now }
+fn message_statement(parser: &Parser<'_>, syntax: Syntax) -> MessageStatement
+    ensures { result ≡ message_statement_of syntax parser.now }
 {
     let Some(lexeme) = parser.peek() else {
         return MessageStatement::Member;
@@ -43,7 +43,7 @@ fn message_statement(parser: &Parser<'_>) -> MessageStatement
     if lexeme.is_word("oneof") {
         return MessageStatement::Oneof;
     }
-    if lexeme.is_word("map") && parser.is_before(TokenKind::Less) {
+    if lexeme.is_word("map") && (syntax.is_proto2() || parser.is_before(TokenKind::Less)) {
         return MessageStatement::Map;
     }
     if lexeme.is_word("reserved") {
@@ -291,7 +291,7 @@ fn message_item(
         (message_item_at syntax (inside_at syntax levels) parser.old) }
 {
     let custom = syntax.custom_options();
-    match message_statement(parser) {
+    match message_statement(parser, syntax) {
         MessageStatement::Empty => {
             parser.token(TokenKind::Semicolon)?;
             Ok(None)

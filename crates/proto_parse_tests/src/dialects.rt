@@ -75,7 +75,7 @@ fn syntax_statements_where_all_sources_are_accepted(rt: HostRuntime) {
 const IN_PROTO2: [&str; 39] = [
     "message A { ^int32 x = 1; }",
     "message A { ^a.B x = 1; }",
-    "message A { ^map m = 1; }",
+    "message A { map ^m = 1; }",
     "message A { ^group G = 1 {} }",
     "message A { ^group.G g = 1; }",
     "message A { optional group ^g = 1 {} }",

@@ -236,7 +236,7 @@ message_exact inner Inner reads a c x (message {b = b} {items = items} h i) =
 
 -- the item that is chosen
 by_choice : (syntax : Syntax) (inner : Read (List Item)) (a b : List Lexeme) (x : Option Item)
-    (statement : MessageStatement) → message_statement_of a ≡ statement
+    (statement : MessageStatement) → message_statement_of syntax a ≡ statement
     → message_item_by statement syntax inner a ≡ Some (x, b) → message_item_at syntax inner a ≡ Some (x, b)
 unfolding message_item_at
 by_choice syntax inner a b x statement is read =

@@ -308,7 +308,7 @@ message_found inner Inner finds tokens x e =
 
 item_by_found : (syntax : Syntax) (inner : Read (List Item)) (Inner : List Lexeme → List Item → List Lexeme → Type 0)
     → Finds inner Inner → (tokens : List Lexeme) (x : Option Item × List Lexeme) (statement : MessageStatement)
-    → message_statement_of tokens ≡ statement
+    → message_statement_of syntax tokens ≡ statement
     → message_item_by statement syntax inner tokens ≡ Some x → IsMessageItem syntax Inner tokens x.0 x.1
 unfolding ranges_at
 item_by_found syntax inner Inner finds tokens x choice.Empty is e =
@@ -358,7 +358,7 @@ message_item_found : (syntax : Syntax) (inner : Read (List Item))
     → Finds inner Inner → Finds (message_item_at syntax inner) (IsMessageItem syntax Inner)
 unfolding message_item_at
 message_item_found syntax inner Inner finds tokens x e =
-    item_by_found syntax inner Inner finds tokens x (message_statement_of tokens) refl e
+    item_by_found syntax inner Inner finds tokens x (message_statement_of syntax tokens) refl e
 
 pub item_found : (place : Within) (syntax : Syntax) (inner : Read (List Item))
     (Inner : List Lexeme → List Item → List Lexeme → Type 0)

@@ -176,32 +176,32 @@ pub data IsMessage (Inner : List Lexeme → List Item → List Lexeme → Type 0
 pub data IsMessageItem (syntax : Syntax) (Inner : List Lexeme → List Item → List Lexeme → Type 0) : List Lexeme
     → Option Item → List Lexeme → Type 0 where
   empty : {a b : List Lexeme} {semicolon : Span}
-      → message_statement_of a ≡ chosen.Empty → One (of_kind Semicolon) a semicolon b
+      → message_statement_of syntax a ≡ chosen.Empty → One (of_kind Semicolon) a semicolon b
       → IsMessageItem syntax Inner a None b
   message : {a b : List Lexeme} {message : BlockTree}
-      → message_statement_of a ≡ chosen.Message → IsMessage Inner a message b
+      → message_statement_of syntax a ≡ chosen.Message → IsMessage Inner a message b
       → IsMessageItem syntax Inner a (Some (Block message)) b
   enum : {a b : List Lexeme} {enum : Enum}
-      → message_statement_of a ≡ chosen.Enum → IsEnum (custom_of syntax) a enum b
+      → message_statement_of syntax a ≡ chosen.Enum → IsEnum (custom_of syntax) a enum b
       → IsMessageItem syntax Inner a (Some (Leaf (leaf.Enum enum))) b
-  option : {a b : List Lexeme} → message_statement_of a ≡ chosen.Option → IsOption (custom_of syntax) a b
+  option : {a b : List Lexeme} → message_statement_of syntax a ≡ chosen.Option → IsOption (custom_of syntax) a b
       → IsMessageItem syntax Inner a None b
   oneof : {a b : List Lexeme} {oneof : BlockTree}
-      → message_statement_of a ≡ chosen.Oneof → IsOneof syntax Inner a oneof b
+      → message_statement_of syntax a ≡ chosen.Oneof → IsOneof syntax Inner a oneof b
       → IsMessageItem syntax Inner a (Some (Block oneof)) b
   map_field : {a b : List Lexeme} {field : MapField}
-      → message_statement_of a ≡ chosen.Map → IsMapField (custom_of syntax) a field b
+      → message_statement_of syntax a ≡ chosen.Map → IsMapField (custom_of syntax) a field b
       → IsMessageItem syntax Inner a (Some (Leaf (leaf.MapField field))) b
-  reserved : {a b : List Lexeme} → message_statement_of a ≡ chosen.Reserved → IsReserved false a b
+  reserved : {a b : List Lexeme} → message_statement_of syntax a ≡ chosen.Reserved → IsReserved false a b
       → IsMessageItem syntax Inner a None b
   extend : {a b : List Lexeme} {extend : Option BlockTree}
-      → message_statement_of a ≡ chosen.Extend → IsExtendStatement Inner syntax a extend b
+      → message_statement_of syntax a ≡ chosen.Extend → IsExtendStatement Inner syntax a extend b
       → IsMessageItem syntax Inner a (option_map Block extend) b
   extensions : {a b : List Lexeme}
-      → message_statement_of a ≡ chosen.Extensions → is_proto2 syntax ≡ true → IsExtensions (custom_of syntax) a b
+      → message_statement_of syntax a ≡ chosen.Extensions → is_proto2 syntax ≡ true → IsExtensions (custom_of syntax) a b
       → IsMessageItem syntax Inner a None b
   member : {a b : List Lexeme} {item : Item}
-      → message_statement_of a ≡ chosen.Member → IsMember syntax Inner a item b
+      → message_statement_of syntax a ≡ chosen.Member → IsMember syntax Inner a item b
       → IsMessageItem syntax Inner a (Some item) b
 
 -- What may be between these braces.

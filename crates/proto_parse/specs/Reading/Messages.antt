@@ -162,7 +162,7 @@ message_item_by chosen.Extensions syntax inner tokens = ranges_at syntax tokens
 message_item_by chosen.Member syntax inner tokens = member_at syntax inner tokens >>= λ x. Some (Some x.0, x.1)
 
 unfoldable pub message_item_at : Syntax → Read (List Item) → Read (Option Item)
-message_item_at syntax inner tokens = message_item_by (message_statement_of tokens) syntax inner tokens
+message_item_at syntax inner tokens = message_item_by (message_statement_of syntax tokens) syntax inner tokens
 
 abbrev pub item_at : Within → Syntax → Read (List Item) → Read (Option Item)
 item_at within.Message syntax inner = message_item_at syntax inner

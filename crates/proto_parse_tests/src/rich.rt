@@ -20,14 +20,13 @@ extend g.H { ; repeated int32 i = 1 [(j) = {}]; .K l = 2; }
 message M { extend N {} option o = { < p ( }; int32 q = 1 [(r).s = -inf, t = {}]; oneof u { extend v = 2 [w = {}]; } }
 enum E { option (x) = {}; extend = 0 [(y) = 'z']; } service S { rpc F(A) returns (B) { option (c) = { {} {} }; } }";
 
-/// A source with every production of proto2 that proto3 doesn't have. It has no map field: if no `<` is behind the word
-/// `map`, the fault is at the word.
+/// A source with every production of proto2 that proto3 doesn't have.
 const RICH_PROTO2: &str = "syntax = 'pro' \"to2\"; import 'a'; package p; option (o).p = q;
 extend E { ; required F g = 1; } message M { required int32 a = 1 [default = -inf]; optional .G b = 2;
 repeated group H = 3 [(x) = 1, y = 'z'] { ; optional group I = 4 { extensions 5; }
 extend J.K { repeated group L = 6 { message N {} } optional int32 map = 7; } }
 oneof o { option c = d; group P = 8 { enum Q { R = 0; } } group.S e = 9; optional f = 10; ; }
-extensions 100, 200 to 300, 400 to max [i = j, (k) = 1]; reserved 12, 13 to max;
+map<int32, group> h = 11; extensions 100, 200 to 300, 400 to max [i = j, (k) = 1]; reserved 12, 13 to max;
 optional group.T group = 14; } extend .U { optional group V = 15 { required W l = 16; } } enum X { Y = -1; }
 service Z { rpc A(B) returns (C); }";
 

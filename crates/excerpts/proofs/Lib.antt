@@ -1,5 +1,6 @@
 mod CharacterLemmas
 mod JoinLemmas
+mod LiteralLemmas
 mod MarkLemmas
 mod ShownLemmas
 mod TameLemmas

@@ -1,5 +1,5 @@
 -- A place of a source, as editors show it: lines and columns count from 1, columns in characters.
-use Rattle.std.specs.Prelude.{ℕ, ◌+◌, ◌-◌, Bool, false, not, ◌&&◌, List, [], ◌++◌, ◌∷◌, length, take, drop, nat_eq}
+use Rattle.std.specs.Prelude.{ℕ, ◌+◌, ◌-◌, List, [], ◌++◌, ◌∷◌, length, take, drop, nat_eq}
 use Rattle.std.specs.Prelude.{slice_index, codes}
 use Rattle.std.specs.Prelude.{if◌then◌else◌}
 use Rattle.std.specs.Fmt.{decimal}
@@ -33,20 +33,16 @@ line_after text at = without_return (before_first is_line_end (drop at text))
 
 -- ---- tokens
 
--- a `\` in a string literal escapes the byte after it, if it isn't escaped itself (Protocol Buffers Version 3
--- Language Specification, String literals)
-abbrev pub escapes : (escaped : Bool) → ℕ → Bool
-escapes escaped byte = not escaped && nat_eq byte backslash
-
--- a byte closes a literal that this quote opened
-abbrev pub closes : (quote : ℕ) → (escaped : Bool) → ℕ → Bool
-closes quote escaped byte = not escaped && nat_eq byte quote
-
--- how many bytes a literal has after its opening quote: up to its closing one, or all if that is missing
-abbrev pub closing_len : (quote : ℕ) → (escaped : Bool) → List ℕ → ℕ
-closing_len quote escaped [] = 0
-closing_len quote escaped (byte ∷ bytes) =
-    if closes quote escaped byte then 1 else 1 + closing_len quote (escapes escaped byte) bytes
+-- How many bytes a string literal has after its opening quote: up to its closing one, or all if that is missing. A `\`
+-- and the byte after it belong together, so that no quote between them closes. (Protocol Buffers Version 3 Language
+-- Specification, String literals)
+abbrev pub closing_len : (quote : ℕ) → List ℕ → ℕ
+closing_len quote [] = 0
+closing_len quote (byte ∷ []) = 1
+closing_len quote (byte ∷ second ∷ others) =
+    if nat_eq byte quote then 1
+    else if nat_eq byte backslash then 2 + closing_len quote others
+    else 1 + closing_len quote (second ∷ others)
 
 abbrev pub first_len : List (List ℕ) → ℕ
 first_len [] = 0
@@ -56,7 +52,7 @@ first_len (character ∷ others) = length character
 abbrev pub sign_len : List ℕ → ℕ
 sign_len [] = 0
 sign_len (byte ∷ bytes) =
-    if is_quote byte then 1 + closing_len byte false bytes else first_len (characters (byte ∷ bytes))
+    if is_quote byte then 1 + closing_len byte bytes else first_len (characters (byte ∷ bytes))
 
 -- how many bytes the token at a place has: letters, digits and `_`, or a string literal, or else one character
 abbrev pub token_len : List ℕ → ℕ

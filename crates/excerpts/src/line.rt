@@ -6,16 +6,8 @@ ghost use Rattle.std.specs.String.{string_bytes};
 ghost use Rattle.proto_lex.specs.Bytes.{is_quote, is_word};
 ghost use Rattle.proto_lex.specs.Position.{is_line_end};
 ghost use Rattle.excerpts.specs.Characters.{characters};
-ghost use Rattle.excerpts.specs.Places.{
-  closes,
-  closing_len,
-  escapes,
-  first_len,
-  place_text,
-  sign_len,
-  token_len,
-  without_return,
-};
+ghost use Rattle.excerpts.specs.Places.{closing_len, first_len, place_text, sign_len, token_len, without_return};
+ghost use Rattle.excerpts.specs.Steps.{closes, escapes};
 
 use crate::characters::{count_characters, first_character};
 use crate::shown::push_text;
@@ -143,7 +135,7 @@ fn first_byte(bytes: &[u8]) -> Option<(u8, &[u8])>
 
 /// How many bytes a string literal has after its opening quote: up to its closing one, or all.
 fn closing_len(quote: u8, others: &[u8]) -> usize
-    ensures len { result ≡ closing_len quote false others.now }
+    ensures len { result ≡ closing_len quote others.now }
     ensures within { result ≤ length others.now }
 {
     let mut rest = others;

@@ -1,11 +1,12 @@
-use Rattle.std.proofs.Common.{◌≡◌, ◌+◌, false, length}
+use Rattle.std.proofs.Common.{◌≡◌, ◌+◌, length}
 use Rattle.excerpts.specs.Places.{closing_len}
+use Rattle.excerpts.specs.Steps.{closing_from}
 use Rattle.excerpts.proofs.line.closing_len.Given as goal
 
 -- those so far and those to come
 abbrev pub invariant-bytes : goal.invariant-bytes
 invariant-bytes l = record {
-  same : l.count + closing_len l.quote l.escaped l.rest ≡ closing_len l.quote false l.others;
+  same : l.count + closing_from l.quote l.escaped l.rest ≡ closing_len l.quote l.others;
   fits : l.count + length l.rest ≡ length l.others;
 }
 

@@ -202,7 +202,8 @@ whole_parts before marked behind after are a b c tame few =
 pub short_lines_are_whole : ShortLinesAreWhole
 short_lines_are_whole text at len a b c tame few =
     let after = line_after text at in
-    whole_parts (line_before text at) (take len after) (drop len after) after (take-append-drop len after) a b c tame few
+    whole_parts (line_before text at) (take len after) (drop len after) after (take-append-drop len after) a b c tame
+    few
 
 pub paths_are_whole : PathsAreWhole
 paths_are_whole path text at utf8 tame =

@@ -1,4 +1,4 @@
--- How the code goes: private forms of `marks`, character by character of the source, and of `closing_len`, byte by byte.
+-- How the code goes: private forms of `marks`, by characters of the source, and of `closing_len`, byte by byte.
 use Rattle.std.specs.Prelude.{List, [], ◌∷◌, ℕ, ◌+◌, Bool, not, ◌&&◌, ◌++◌, nat_eq, if◌then◌else◌}
 use Rattle.std.specs.List.{flat_map}
 use Rattle.proto_lex.specs.Ascii.{backslash}

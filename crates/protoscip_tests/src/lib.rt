@@ -14,4 +14,6 @@ mod laws;
 #[cfg(test)]
 mod lines;
 #[cfg(test)]
+mod names;
+#[cfg(test)]
 mod talks;

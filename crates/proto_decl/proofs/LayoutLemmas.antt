@@ -1,12 +1,11 @@
 -- How tokens in order stand on the lines of a text.
-use Rattle.std.proofs.Common.{◌≡◌, ℕ, ◌-◌, ◌<◌, ◌≤◌, Bool, List, length, get_or, map, leb, arith, inl, inr, subst}
+use Rattle.std.proofs.Common.{◌≡◌, ℕ, ◌-◌, ◌<◌, ◌≤◌, List, length, get_or, map, leb, arith, inl, inr, subst}
 use Rattle.std.proofs.Common.{IsTrue, ◌↔◌}
 use Rattle.std.specs.Prelude.{◌↔◌, ◌⊎◌, IsTrue}
 use Rattle.std.specs.List.{All}
 use Rattle.std.specs.List.Sorted.{IsPartitionPoint}
 use Rattle.proto_lex.specs.declared.span.Span.{Span}
 use Rattle.proto_lex.specs.declared.token.Token.{Token}
-use Rattle.proto_lex.specs.declared.token.Comment.{Comment}
 use Rattle.proto_lex.specs.Position.{line_of}
 use Rattle.proto_lex.specs.Lexed.{Lexed, AreInOrder, AreApart}
 use Rattle.proto_lex.specs.CommentTexts.{Touches, StandsAlone, NoneBetween}
@@ -27,7 +26,7 @@ abbrev pub TokensInOrder : List Token → Type 0
 TokensInOrder tokens = AreInOrder 0 (map (λ (t : Token). t.span) tokens)
 
 -- a later token ends no earlier, and begins no earlier
-ends_by : (tokens : List Token) (k i : ℕ) (d t : Token) → TokensInOrder tokens → k ≤ i → IsAt tokens i t
+pub ends_by : (tokens : List Token) (k i : ℕ) (d t : Token) → TokensInOrder tokens → k ≤ i → IsAt tokens i t
     → (get_or tokens k d).span.end ≤ t.span.end
 ends_by tokens k i d t ordered le at =
     let same = at_any tokens i t d at in
@@ -43,7 +42,7 @@ begins_from tokens i k t d ordered le h at =
 
 -- first on its line
 
-first_less : (lexed : Lexed) (first : Span) (n : ℕ) (last : Token) → TokensInOrder lexed.tokens
+pub first_less : (lexed : Lexed) (first : Span) (n : ℕ) (last : Token) → TokensInOrder lexed.tokens
     → HaveBegun lexed.tokens first.start n → IsAt lexed.tokens (n - 1) last
     → last_line lexed last.span < first_line lexed first → IsFirstOnLine lexed first
 first_less lexed first n last ordered p at less k d h before touches =
@@ -51,7 +50,7 @@ first_less lexed first n last ordered p at less k d h before touches =
     let ends = ends_by lexed.tokens k (n - 1) d last ordered (omega arith) at in
     omega (arith, lines_rise lexed.text _ _ ends, touches.1)
 
-less_first : (lexed : Lexed) (first : Span) (n : ℕ) (last : Token) → HaveBegun lexed.tokens first.start n → 0 < n
+pub less_first : (lexed : Lexed) (first : Span) (n : ℕ) (last : Token) → HaveBegun lexed.tokens first.start n → 0 < n
     → IsAt lexed.tokens (n - 1) last
     → IsFirstOnLine lexed first → last_line lexed last.span < first_line lexed first
 less_first lexed first n last p some at all =
@@ -64,12 +63,6 @@ less_first lexed first n last p some at all =
     λ le. here before (lines_rise lexed.text _ _ (omega arith), le) in
     omega (arith, not_behind)
 
-first_by_last : (lexed : Lexed) (first : Span) (n : ℕ) (last : Token) → TokensInOrder lexed.tokens
-    → HaveBegun lexed.tokens first.start n → 0 < n → IsAt lexed.tokens (n - 1) last
-    → (last_line lexed last.span < first_line lexed first) ↔ IsFirstOnLine lexed first
-first_by_last lexed first n last ordered p some at =
-    (first_less lexed first n last ordered p at, less_first lexed first n last p some at)
-
 -- none of those that end by an offset, and none of those that begin at it or behind it, touch its line
 abbrev pub IsClearBefore : (text : List ℕ) → List Token → (offset : ℕ) → Type 0
 IsClearBefore text tokens offset =
@@ -79,47 +72,10 @@ abbrev pub IsClearBehind : (text : List ℕ) → List Token → (offset : ℕ) �
 IsClearBehind text tokens offset =
     All (λ (t : Token). offset ≤ t.span.start → Touches text t.span (line_of text offset) → ⊥) tokens
 
-filled : (tokens : List Token) (i : ℕ) (t : Token) → TokensInOrder tokens → IsAt tokens i t → t.span.start < t.span.end
+pub filled : (tokens : List Token) (i : ℕ) (t : Token) → TokensInOrder tokens → IsAt tokens i t → t.span.start < t.span.end
 filled tokens i t ordered at =
     held (λ x. x.span.start < x.span.end) tokens i t at
     (behind_place (λ (x : Token). x.span) 0 i t tokens ordered at.within).1
-
-before_by_last : (text : List ℕ) (tokens : List Token) (offset n : ℕ) (last : Token) → TokensInOrder tokens
-    → HaveEnded tokens offset n → 0 < n → IsAt tokens (n - 1) last
-    → (line_of text last.span.end < line_of text offset) ↔ IsClearBefore text tokens offset
-before_by_last text tokens offset n last ordered p some at = (
-  λ less k d h le touches.
-      let late : n ≤ k → ⊥ = λ behind. omega (arith, p.1 k d behind h) in
-      omega (arith, lines_rise text _ _ (ends_by tokens k (n - 1) d last ordered (omega arith) at), touches.1),
-  λ all.
-      let ended : last.span.end ≤ offset =
-      held (λ t. t.span.end ≤ offset) tokens (n - 1) last at (p.0 (n - 1) last (omega arith) (omega arith)) in
-      let here = held (λ t. t.span.end ≤ offset → Touches text t.span (line_of text offset) → ⊥) tokens (n - 1) last at
-      (all (n - 1) last at.within) in
-      let off : line_of text offset ≤ line_of text last.span.end → ⊥ =
-      λ on. here ended (
-        lines_rise text last.span.start offset (omega (arith, filled tokens (n - 1) last ordered at)),
-        on,
-      ) in
-      omega (arith, off),
-)
-
-behind_by_next : (text : List ℕ) (tokens : List Token) (offset n : ℕ) (next : Token) → TokensInOrder tokens
-    → HaveBegun tokens offset n → IsAt tokens n next
-    → (line_of text offset < line_of text next.span.start) ↔ IsClearBehind text tokens offset
-behind_by_next text tokens offset n next ordered p at = (
-  λ less k d h le touches.
-      let early : k < n → ⊥ = λ before. omega (arith, p.0 k d (omega arith) before) in
-      omega (arith, lines_rise text _ _ (begins_from tokens n k next d ordered (omega arith) h at), touches.0),
-  λ all.
-      let begun : offset ≤ next.span.start =
-      held (λ t. offset ≤ t.span.start) tokens n next at (p.1 n next (omega arith) at.within) in
-      let here = held (λ t. offset ≤ t.span.start → Touches text t.span (line_of text offset) → ⊥) tokens n next at
-      (all n next at.within) in
-      let off : line_of text next.span.start ≤ line_of text offset → ⊥ =
-      λ on. here begun (on, lines_rise text offset next.span.end (omega (arith, filled tokens n next ordered at))) in
-      omega (arith, off),
-)
 
 -- none between two offsets
 
@@ -130,7 +86,7 @@ side tokens from upto n k next d ordered p at le h (inl before) = inl (p.0 k d (
 side tokens from upto n k next d ordered p at le h (inr behind) =
     inr (omega (arith, begins_from tokens n k next d ordered behind h at))
 
-before_or_not : (k n : ℕ) → (k < n) ⊎ (n ≤ k)
+pub before_or_not : (k n : ℕ) → (k < n) ⊎ (n ≤ k)
 before_or_not k n = grind arith
 
 behind_from : (from upto : ℕ) (t : Token) → from < t.span.end → (t.span.end ≤ from) ⊎ (upto ≤ t.span.start)
@@ -170,46 +126,10 @@ pub alone_by_both : (text : List ℕ) (tokens : List Token) (comment : Span) →
 alone_by_both text tokens comment apart before behind =
     λ k d h line. alone text comment (get_or tokens k d).span line (apart k d h) (before k d h) (behind k d h)
 
-pub before_by_alone : (text : List ℕ) (tokens : List Token) (comment : Span) → comment.start ≤ comment.end
-    → StandsAlone text tokens comment → IsClearBefore text tokens comment.start
-before_by_alone text tokens comment some all =
-    λ k d h le touches. all k d h (line_of text comment.start)
-    (omega arith, lines_rise text comment.start comment.end some) touches
-
-pub behind_by_alone : (text : List ℕ) (tokens : List Token) (comment : Span) → comment.start ≤ comment.end
-    → StandsAlone text tokens comment → IsClearBehind text tokens comment.end
-behind_by_alone text tokens comment some all =
-    λ k d h le touches. all k d h (line_of text comment.end)
-    (lines_rise text comment.start comment.end some, omega arith) touches
-
 -- what the tests of the code say: of what the searches found, in the text and tokens that the calls gave
 
 both : {P Q R : Type 0} → P ↔ Q → Q ↔ R → P ↔ R
 both p q = (λ x. q.0 (p.0 x), λ x. p.1 (q.1 x))
-
-module _ (text : List ℕ) (tokens tokens' : List Token) (same_tokens : tokens' ≡ tokens)
-    (ordered : TokensInOrder tokens) (n : ℕ) (later : Bool) (d : Token) where
-  pub first-test : (comments : List Comment) (first : Span) → HaveBegun tokens first.start n → n ≤ length tokens → 0 < n
-      → IsTrue later ↔ (line_of text (get_or tokens' (n - 1) d).span.end < line_of text first.start)
-      → IsTrue later ↔ IsFirstOnLine (record { text = text; tokens = tokens; comments = comments }) first
-  first-test comments first p le some test =
-      let lexed : Lexed = record { text = text; tokens = tokens; comments = comments } in
-      both (rw same_tokens at test) (first_by_last lexed first n (get_or tokens (n - 1) d) ordered p some
-      (at_index tokens (n - 1) d (omega arith)))
-
-  pub before-test : (offset : ℕ) → HaveEnded tokens offset n → n ≤ length tokens → 0 < n
-      → IsTrue later ↔ (line_of text (get_or tokens' (n - 1) d).span.end < line_of text offset)
-      → IsTrue later ↔ IsClearBefore text tokens offset
-  before-test offset p le some test =
-      both (rw same_tokens at test) (before_by_last text tokens offset n (get_or tokens (n - 1) d) ordered p some
-      (at_index tokens (n - 1) d (omega arith)))
-
-  pub behind-test : (offset : ℕ) → HaveBegun tokens offset n → n < length tokens
-      → IsTrue later ↔ (line_of text offset < line_of text (get_or tokens' n d).span.start)
-      → IsTrue later ↔ IsClearBehind text tokens offset
-  behind-test offset p h test =
-      both (rw same_tokens at test) (behind_by_next text tokens offset n (get_or tokens n d) ordered p
-      (at_index tokens n d h))
 
 pub between-test : (tokens tokens' : List Token) (from upto n : ℕ) (d : Token) → tokens' ≡ tokens → TokensInOrder tokens
     → HaveEnded tokens from n → n < length tokens

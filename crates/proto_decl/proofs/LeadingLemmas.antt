@@ -317,21 +317,24 @@ module _ (lexed : Lexed) (line : ℕ) (ordered : CommentsInOrder lexed.comments)
       rw same (subst (AreLongestLeading lexed line) all (found (λ e less near alone. absurd (omega arith))))
 
   -- or goes on with one that leads
-  pub front : (d : Comment) (r : Bool) → r ≡ true → 0 < from → (text : List ℕ) → text ≡ lexed.text → (b : ℕ)
-      → b ≡ line_of text (get_or comments (from - 1) d).span.start
+  pub front : (d : Comment) (r : Bool) → r ≡ true → 0 < from
       → IsTrue r ↔ ((next ≤ line_of lexed.text (get_or comments (from - 1) d).span.end + 1)
       × StandsAlone lexed.text lexed.tokens (get_or comments (from - 1) d).span)
-      → IsRun lexed line (from - 1) upto × IsNextLine lexed line (from - 1) upto b
-  front d r is some text same_text b begins says =
+      → IsRun lexed line (from - 1) upto
+      × IsNextLine lexed line (from - 1) upto (line_of lexed.text (get_or comments (from - 1) d).span.start)
+  front d r is some says =
       let says' = rw same at says in
-      let begins' = rw (same, same_text) at begins in
       let x : Comment = get_or lexed.comments (from - 1) d in
       let at = at_index lexed.comments (from - 1) d (omega arith) in
       let near = (says'.0 is).0 in
       let alone = (says'.0 is).1 in (
         run-front lexed line ordered from upto next x at some le within above n run near alone,
-        rw begins' (next-front lexed line ordered from upto next x at some le within above n run near alone),
+        rw same (next-front lexed line ordered from upto next x at some le within above n run near alone),
       )
+
+  -- the comment at the front ends above the line
+  pub ends_above : (d : Comment) → 0 < from → line_of lexed.text (get_or comments (from - 1) d).span.end < line
+  ends_above d some = rw same (above.0 (from - 1) d (omega arith) (omega arith))
 
 -- two lists of comments that may lead, of which none is longer, are one
 

@@ -4,7 +4,10 @@ pub mod OutlineLemmas
 -- Lines, and what stands on them
 pub mod LineLemmas
 pub mod LineEndLemmas
+pub mod NextStartLemmas
+pub mod NearLemmas
 pub mod LayoutLemmas
+pub mod FreeLemmas
 pub mod LeadingLemmas
 pub mod AboveLemmas
 pub mod TrailingLemmas

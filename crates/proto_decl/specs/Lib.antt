@@ -7,6 +7,7 @@ pub mod Imports
 -- what a file declares, and which comments document it
 pub mod Outlines
 pub mod Comments
+pub mod Layout
 pub mod Declares
 -- which types a file uses
 pub mod Uses

@@ -1,6 +1,6 @@
 //! Which comments document a declaration.
 
-ghost use Rattle.std.specs.Prelude.{◌≡◌, ◌+◌, ◌≤◌, ◌↔◌, ◌∷◌, ◌++◌, map, string_bytes, All, IsTrue, IfOk, OnOk, IfSome};
+ghost use Rattle.std.specs.Prelude.{ℕ, ◌≡◌, ◌+◌, ◌<◌, ◌≤◌, ◌↔◌, ◌∷◌, ◌++◌, map, string_bytes, All, IsTrue, IfOk, OnOk, IfSome};
 ghost use Rattle.std.specs.Prelude.{MatchOption};
 ghost use Rattle.std.specs.List.{join_with_byte};
 ghost use Rattle.proto_lex.specs.Ascii as ascii;
@@ -9,48 +9,57 @@ ghost use Rattle.proto_lex.specs.Lexed.{AreApart};
 ghost use Rattle.proto_lex.specs.CommentTexts.{StandsAlone, NoneBetween};
 ghost use Rattle.proto_lex.specs.declared.token.Comment.{Comment};
 ghost use Rattle.proto_decl.specs.Comments as spec;
+ghost use Rattle.proto_decl.specs.Layout.{AreBegun, IsFreeFrom};
 
 use crate::comment_text::text_of;
-use crate::layout::{
-    comments_above, comments_begun, is_first_on_line, is_none_between, stands_alone,
-};
-use crate::lines::is_on_later_line;
+use crate::layout::{Begun, comments_above, comments_begun, free_from, is_none_between};
+use crate::lines::{is_adjoining, is_on_later_line};
 use lent_texts::{KeptText, LentText};
 use proto_lex::{Comment, Span, Tokens};
 use sequences::OwnedText;
 use std::alloc::{AllocError, Global};
 
-/// Whether the comment at this span can lead what begins on a line: it stands alone, and ends on
-/// the line before, or further on.
-fn leads(lexed: &Tokens<'_, '_>, comment: Span, next_line: usize) -> bool
+/// Whether the comment at this span, which ends above a token, can lead what begins at `next`: it stands alone, and at
+/// most one line ends between. No token before that one is on the lines from `from` on.
+fn leads(lexed: &Tokens<'_, '_>, comment: Span, from: usize, next: usize) -> bool
     requires some { comment.start ≤ comment.end }
     requires apart { All (λ t. AreApart t.span comment) lexed.now.tokens }
-    ensures { IsTrue result
-        ↔ (next_line ≤ line_of lexed.now.text comment.end + 1) × StandsAlone lexed.now.text lexed.now.tokens comment }
+    requires next { from ≤ next }
+    ensures behind { IsTrue result → from ≤ comment.start }
+    ensures leads { (offset : ℕ) → IsFreeFrom lexed.now offset from
+        → line_of lexed.now.text comment.end < line_of lexed.now.text offset
+        → IsTrue result ↔ ((line_of lexed.now.text next ≤ line_of lexed.now.text comment.end + 1)
+        × StandsAlone lexed.now.text lexed.now.tokens comment) }
 {
-    if lexed.text().line(comment.end) < next_line.saturating_sub(1) {
+    if comment.start < from {
         return false;
     }
-    stands_alone(lexed, comment)
+    is_adjoining(lexed.text(), comment.end, next)
 }
 
-/// The longest list of comments that lead what begins on the line of an offset.
-fn leading_comments<'a>(lexed: &'a Tokens<'_, '_>, offset: usize) -> &'a [Comment]
+/// The longest list of comments that lead the token at an offset, above which the lines are free of tokens from `from`
+/// on.
+fn leading_comments<'a>(
+    lexed: &'a Tokens<'_, '_>,
+    begun: Begun,
+    from: usize,
+    offset: usize,
+) -> &'a [Comment]
+    requires begun { AreBegun lexed.now offset begun }
+    requires free { IsFreeFrom lexed.now offset from }
     ensures longest { spec.AreLongestLeading lexed.now (line_of lexed.now.text offset) result.now }
     ensures stand { All (spec.StandsIn lexed.now) result.now }
 {
-    let text = lexed.text();
-    let line = text.line(offset);
     let comments = lexed.comments();
-    let end = comments_above(lexed, offset);
+    let end = comments_above(lexed, begun, offset);
     let mut start = end;
-    let mut next_line = line;
+    let mut next = offset;
     while start > 0 {
         let comment = comments[start - 1].span;
-        if !leads(lexed, comment, next_line) {
+        if !leads(lexed, comment, from, next) {
             return &comments[start..end];
         }
-        next_line = text.line(comment.start);
+        next = comment.start;
         start -= 1;
     }
     &comments[..end]
@@ -65,6 +74,14 @@ fn push_line(joined: &mut String, text: &str) -> Result<(), AllocError>
     Ok(())
 }
 
+/// No fewer bytes than the joined texts of a comment and others have: those from its start to the end of the last.
+fn room_for(first: Comment, others: &[Comment]) -> usize {
+    match others.last() {
+        Some(last) => last.span.end.saturating_sub(first.span.start),
+        None => 0,
+    }
+}
+
 /// The texts of a comment and of others after it, a line each.
 fn joined_texts(
     alloc: Global,
@@ -76,7 +93,8 @@ fn joined_texts(
     requires others { All (spec.StandsIn lexed.now) others.now }
     ensures { IfOk result (λ text. text ≡ join_with_byte ascii.line_feed (map (spec.text_of lexed.now) (first ∷ others.now))) }
 {
-    let mut joined = String::from_str(alloc, text_of(lexed, first))?;
+    let mut joined = String::with_capacity(alloc, room_for(first, others))?;
+    joined.push_str(text_of(lexed, first))?;
     for comment in others {
         push_line(&mut joined, text_of(lexed, *comment))?;
     }
@@ -102,18 +120,24 @@ fn texts_of<'t>(
     }
 }
 
-/// The leading text of a declaration with this first token.
+/// The leading text of a declaration with this first token, before which so many tokens and comments begin.
 pub(crate) fn leading_text<'t>(
     alloc: Global,
     lexed: &Tokens<'_, 't>,
+    begun: Begun,
     first: Span,
 ) -> Result<KeptText<'t>, AllocError>
+    requires { AreBegun lexed.now first.start begun }
     ensures { IfOk result (λ text. spec.IsLeadingText lexed.now first text) }
 {
-    if !is_first_on_line(lexed, first) {
-        return Ok(KeptText::lent(""));
+    match free_from(lexed, begun, first) {
+        Some(from) => texts_of(
+            alloc,
+            lexed,
+            leading_comments(lexed, begun, from, first.start),
+        ),
+        None => Ok(KeptText::lent("")),
     }
-    texts_of(alloc, lexed, leading_comments(lexed, first.start))
 }
 
 /// Whether the comment at this span, which begins behind another span, does so on the line on which that one
@@ -129,14 +153,14 @@ fn follows(lexed: &Tokens<'_, '_>, comment: Span, closing: Span) -> bool
     is_none_between(lexed, closing.end, comment.start)
 }
 
-/// The comment that trails a declaration with this closing token.
-fn trailing_comment(lexed: &Tokens<'_, '_>, closing: Span) -> Option<Comment>
+/// The comment that trails a declaration with this closing token, looked for from the comment with the index `near` on.
+fn trailing_comment(lexed: &Tokens<'_, '_>, near: usize, closing: Span) -> Option<Comment>
     ensures found { MatchOption result ((comment : Comment) → spec.IsTrailing lexed.now closing comment → ⊥)
         (spec.IsTrailing lexed.now closing) }
     ensures stands { IfSome result (spec.StandsIn lexed.now) }
 {
     let comments = lexed.comments();
-    let begun = comments_begun(lexed, closing.end);
+    let begun = comments_begun(lexed, near, closing.end);
     if begun == comments.len() {
         return None;
     }
@@ -147,11 +171,11 @@ fn trailing_comment(lexed: &Tokens<'_, '_>, closing: Span) -> Option<Comment>
     Some(comment)
 }
 
-/// The trailing text of a declaration with this closing token.
-pub(crate) fn trailing_text<'t>(lexed: &Tokens<'_, 't>, closing: Span) -> LentText<'t>
+/// The trailing text of a declaration with this closing token, looked for from the comment with the index `near` on.
+pub(crate) fn trailing_text<'t>(lexed: &Tokens<'_, 't>, near: usize, closing: Span) -> LentText<'t>
     ensures { spec.IsTrailingText lexed.now closing result }
 {
-    match trailing_comment(lexed, closing) {
+    match trailing_comment(lexed, near, closing) {
         Some(comment) => LentText::new(text_of(lexed, comment)),
         None => LentText::new(""),
     }

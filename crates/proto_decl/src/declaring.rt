@@ -9,12 +9,14 @@ ghost use Rattle.proto_decl.specs.Spans.{OfItem, OfPackage};
 ghost use Rattle.proto_decl.specs.Imports.{IsLiteral};
 ghost use Rattle.proto_decl.specs.Outlines.{in_item};
 ghost use Rattle.proto_decl.specs.Declares.{IsDeclaration};
+ghost use Rattle.proto_decl.specs.Layout.{AreBegun};
 ghost use Rattle.proto_decl.specs.Facts.{AreFactsOf};
 
 use crate::comments::{leading_text, trailing_text};
 use crate::declaration::{Declaration, Outline};
 use crate::facts::FileFacts;
 use crate::imports::imports_of;
+use crate::layout::{Begun, begun_before};
 use crate::outlines::outlines_of;
 use crate::package::{package_scope, package_spans};
 use crate::path::SharedSteps;
@@ -44,16 +46,18 @@ fn spans_of_tree(lexed: &Tokens<'_, '_>, file: &File)
     spans_of_tokens();
 }
 
-/// A declaration with the comments that document it.
+/// A declaration with the comments that document it. So many tokens and comments begin before its first token.
 fn documented<'t>(
     alloc: Global,
     lexed: &Tokens<'_, 't>,
+    begun: Begun,
     outline: Outline<'t>,
 ) -> Result<Declaration<'t>, AllocError>
+    requires { AreBegun lexed.now outline.heading.first.start begun }
     ensures { IfOk result (IsDeclaration lexed.now outline.entry) }
 {
-    let leading = leading_text(alloc, lexed, outline.heading.first)?;
-    let trailing = trailing_text(lexed, outline.heading.closing);
+    let leading = leading_text(alloc, lexed, begun, outline.heading.first)?;
+    let trailing = trailing_text(lexed, begun.comments, outline.heading.closing);
     Ok(Declaration {
         kind: outline.kind,
         full_name: outline.full_name,
@@ -64,7 +68,8 @@ fn documented<'t>(
     })
 }
 
-/// Declarations with the comments that document them.
+/// Declarations with the comments that document them. They are in the order of their first tokens, so each one's comments
+/// are looked for from those of the one before on.
 fn all_documented<'t>(
     alloc: Global,
     lexed: &Tokens<'_, 't>,
@@ -73,8 +78,13 @@ fn all_documented<'t>(
     ensures { IfOk result (AllZip (IsDeclaration lexed.now) outlines.entry.items) }
 {
     let mut declarations = Vec::with_capacity(alloc, outlines.len())?;
+    let mut begun = Begun {
+        tokens: 0,
+        comments: 0,
+    };
     for outline in outlines {
-        declarations.push(documented(alloc, lexed, outline)?)?;
+        begun = begun_before(lexed, begun, outline.heading.first.start);
+        declarations.push(documented(alloc, lexed, begun, outline)?)?;
     }
     Ok(Sequence::from_vec(declarations))
 }

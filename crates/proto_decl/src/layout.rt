@@ -1,24 +1,75 @@
 //! How tokens and comments are on the lines of a text.
 
-ghost use Rattle.std.specs.Prelude.{◌≡◌, ◌<◌, ◌≤◌, ◌↔◌, length, All, IsTrue};
+ghost use Rattle.std.specs.Prelude.{◌≡◌, ◌<◌, ◌≤◌, ◌↔◌, length, map, IsTrue, IfSome, MatchOption};
+ghost use Rattle.std.specs.List.{AllWithin};
 ghost use Rattle.std.specs.List.Sorted.{IsPartitionPoint};
 ghost use Rattle.proto_lex.specs.Position.{line_of};
-ghost use Rattle.proto_lex.specs.Lexed.{AreApart};
-ghost use Rattle.proto_lex.specs.CommentTexts.{Touches, StandsAlone, NoneBetween};
+ghost use Rattle.proto_lex.specs.Lexed.{AreInOrder};
+ghost use Rattle.proto_lex.specs.CommentTexts.{NoneBetween};
 ghost use Rattle.proto_decl.specs.Comments.{IsFirstOnLine};
+ghost use Rattle.proto_decl.specs.Layout.{AreBegun, IsFreeFrom};
 
-use crate::lines::is_on_later_line;
-use proto_lex::{Span, Tokens};
+use crate::lines::{is_on_later_line, next_start};
+use proto_lex::{Comment, Span, Token, Tokens};
 
-/// How many tokens begin before an offset.
-fn tokens_begun(lexed: &Tokens<'_, '_>, offset: usize) -> usize
+/// How many tokens or comments are looked at one by one at most, before they are searched by halves.
+const FEW: usize = 16;
+
+/// How many tokens and how many comments begin before an offset.
+#[derive(Clone, Copy, Debug, PartialEq, Eq)]
+pub(crate) struct Begun {
+    pub tokens: usize,
+    pub comments: usize,
+}
+
+/// Whether so many tokens begin before an offset.
+fn are_tokens_begun(tokens: &[Token], count: usize, offset: usize) -> bool
+    requires { AreInOrder 0 (map (λ t. t.span) tokens.now) }
+    ensures { IsTrue result → (count ≤ length tokens.now) × AllWithin (λ t. t.span.start < offset) tokens.now 0 count }
+{
+    if count == 0 {
+        return true;
+    }
+    if count > tokens.len() {
+        return false;
+    }
+    tokens[count - 1].span.start < offset
+}
+
+/// How many tokens begin before an offset, if these are `near` or a few more.
+fn tokens_begun_near(tokens: &[Token], near: usize, offset: usize) -> Option<usize>
+    requires { AreInOrder 0 (map (λ t. t.span) tokens.now) }
+    ensures { IfSome result (λ count. (count ≤ length tokens.now)
+        × IsPartitionPoint (λ t. t.span.start < offset) (λ t. offset ≤ t.span.start) tokens.now count) }
+{
+    if !are_tokens_begun(tokens, near, offset) {
+        return None;
+    }
+    let limit = near.saturating_add(FEW);
+    let mut count = near;
+    while count < tokens.len() {
+        if offset <= tokens[count].span.start {
+            return Some(count);
+        }
+        if count == limit {
+            return None;
+        }
+        count += 1;
+    }
+    Some(count)
+}
+
+/// How many tokens begin before an offset. If these aren't `near` or a few more, they are searched by halves.
+fn tokens_begun(lexed: &Tokens<'_, '_>, near: usize, offset: usize) -> usize
     ensures within { result ≤ length lexed.now.tokens }
     ensures parted { IsPartitionPoint (λ t. t.span.start < offset)
         (λ t. offset ≤ t.span.start) lexed.now.tokens result }
 {
-    lexed
-        .tokens()
-        .partition_point(|token| token.span.start < offset)
+    let tokens = lexed.tokens();
+    match tokens_begun_near(tokens, near, offset) {
+        Some(count) => count,
+        None => tokens.partition_point(|token| token.span.start < offset),
+    }
 }
 
 /// How many tokens end before an offset, or there.
@@ -31,26 +82,77 @@ fn tokens_ended(lexed: &Tokens<'_, '_>, offset: usize) -> usize
         .partition_point(|token| token.span.end <= offset)
 }
 
-/// How many comments begin before an offset.
-pub(crate) fn comments_begun(lexed: &Tokens<'_, '_>, offset: usize) -> usize
+/// Whether so many comments begin before an offset.
+fn are_comments_begun(comments: &[Comment], count: usize, offset: usize) -> bool
+    requires { AreInOrder 0 (map (λ c. c.span) comments.now) }
+    ensures { IsTrue result
+        → (count ≤ length comments.now) × AllWithin (λ c. c.span.start < offset) comments.now 0 count }
+{
+    if count == 0 {
+        return true;
+    }
+    if count > comments.len() {
+        return false;
+    }
+    comments[count - 1].span.start < offset
+}
+
+/// How many comments begin before an offset, if these are `near` or a few more.
+fn comments_begun_near(comments: &[Comment], near: usize, offset: usize) -> Option<usize>
+    requires { AreInOrder 0 (map (λ c. c.span) comments.now) }
+    ensures { IfSome result (λ count. (count ≤ length comments.now)
+        × IsPartitionPoint (λ c. c.span.start < offset) (λ c. offset ≤ c.span.start) comments.now count) }
+{
+    if !are_comments_begun(comments, near, offset) {
+        return None;
+    }
+    let limit = near.saturating_add(FEW);
+    let mut count = near;
+    while count < comments.len() {
+        if offset <= comments[count].span.start {
+            return Some(count);
+        }
+        if count == limit {
+            return None;
+        }
+        count += 1;
+    }
+    Some(count)
+}
+
+/// How many comments begin before an offset. If these aren't `near` or a few more, they are searched by halves.
+pub(crate) fn comments_begun(lexed: &Tokens<'_, '_>, near: usize, offset: usize) -> usize
     ensures within { result ≤ length lexed.now.comments }
     ensures parted { IsPartitionPoint (λ c. c.span.start < offset)
         (λ c. offset ≤ c.span.start) lexed.now.comments result }
 {
-    lexed
-        .comments()
-        .partition_point(|comment| comment.span.start < offset)
+    let comments = lexed.comments();
+    match comments_begun_near(comments, near, offset) {
+        Some(count) => count,
+        None => comments.partition_point(|comment| comment.span.start < offset),
+    }
+}
+
+/// How many tokens and comments begin before an offset, looked for from `near` on.
+pub(crate) fn begun_before(lexed: &Tokens<'_, '_>, near: Begun, offset: usize) -> Begun
+    ensures { AreBegun lexed.now offset result }
+{
+    Begun {
+        tokens: tokens_begun(lexed, near.tokens, offset),
+        comments: comments_begun(lexed, near.comments, offset),
+    }
 }
 
 /// How many comments end on a line before that of an offset. Those that begin behind the offset don't, and of the
 /// others only the last ones can end on its line.
-pub(crate) fn comments_above(lexed: &Tokens<'_, '_>, offset: usize) -> usize
+pub(crate) fn comments_above(lexed: &Tokens<'_, '_>, begun: Begun, offset: usize) -> usize
+    requires { AreBegun lexed.now offset begun }
     ensures within { result ≤ length lexed.now.comments }
     ensures parted { IsPartitionPoint (λ c. line_of lexed.now.text c.span.end < line_of lexed.now.text offset)
         (λ c. line_of lexed.now.text offset ≤ line_of lexed.now.text c.span.end) lexed.now.comments result }
 {
     let comments = lexed.comments();
-    let mut above = comments_begun(lexed, offset);
+    let mut above = begun.comments;
     while above > 0 {
         let last = comments[above - 1].span;
         if is_on_later_line(lexed, last.end, offset) {
@@ -61,66 +163,18 @@ pub(crate) fn comments_above(lexed: &Tokens<'_, '_>, offset: usize) -> usize
     0
 }
 
-/// Whether the token at this span is the first on its line.
-pub(crate) fn is_first_on_line(lexed: &Tokens<'_, '_>, first: Span) -> bool
-    ensures { IsTrue result ↔ IsFirstOnLine lexed.now first }
+/// Where the lines above a token may have comments of its own: from the start of the line behind that of the token
+/// before it, or from the text's start. There are no such lines if the token isn't the first on its line.
+pub(crate) fn free_from(lexed: &Tokens<'_, '_>, begun: Begun, first: Span) -> Option<usize>
+    requires { AreBegun lexed.now first.start begun }
+    ensures { MatchOption result (IsFirstOnLine lexed.now first → ⊥)
+        (λ from. IsFirstOnLine lexed.now first × IsFreeFrom lexed.now first.start from) }
 {
-    let begun = tokens_begun(lexed, first.start);
-    if begun == 0 {
-        return true;
+    if begun.tokens == 0 {
+        return Some(0);
     }
-    let last = lexed.tokens()[begun - 1];
-    is_on_later_line(lexed, last.span.end, first.start)
-}
-
-/// Whether no token that ends by an offset touches its line.
-fn is_clear_before(lexed: &Tokens<'_, '_>, offset: usize) -> bool
-    ensures { IsTrue result ↔ All (λ t. t.span.end ≤ offset
-        → Touches lexed.now.text t.span (line_of lexed.now.text offset) → ⊥) lexed.now.tokens }
-{
-    let ended = tokens_ended(lexed, offset);
-    if ended == 0 {
-        return true;
-    }
-    let last = lexed.tokens()[ended - 1];
-    is_on_later_line(lexed, last.span.end, offset)
-}
-
-/// Whether no token that begins at an offset or behind it touches its line.
-fn is_clear_behind(lexed: &Tokens<'_, '_>, offset: usize) -> bool
-    ensures { IsTrue result ↔ All (λ t. offset ≤ t.span.start
-        → Touches lexed.now.text t.span (line_of lexed.now.text offset) → ⊥) lexed.now.tokens }
-{
-    let begun = tokens_begun(lexed, offset);
-    let tokens = lexed.tokens();
-    if begun == tokens.len() {
-        return true;
-    }
-    let next = tokens[begun];
-    is_on_later_line(lexed, offset, next.span.start)
-}
-
-/// Whether no token before the span touches its first line, and none behind it its last one.
-fn is_clear_around(lexed: &Tokens<'_, '_>, span: Span) -> bool
-    ensures { IsTrue result
-        ↔ All (λ t. t.span.end ≤ span.start → Touches lexed.now.text t.span (line_of lexed.now.text span.start)
-        → ⊥) lexed.now.tokens
-        × All (λ t. span.end ≤ t.span.start → Touches lexed.now.text t.span (line_of lexed.now.text span.end)
-        → ⊥) lexed.now.tokens }
-{
-    if !is_clear_before(lexed, span.start) {
-        return false;
-    }
-    is_clear_behind(lexed, span.end)
-}
-
-/// Whether no token touches a line that the comment at this span touches.
-pub(crate) fn stands_alone(lexed: &Tokens<'_, '_>, comment: Span) -> bool
-    requires some { comment.start ≤ comment.end }
-    requires apart { All (λ t. AreApart t.span comment) lexed.now.tokens }
-    ensures { IsTrue result ↔ StandsAlone lexed.now.text lexed.now.tokens comment }
-{
-    is_clear_around(lexed, comment)
+    let last = lexed.tokens()[begun.tokens - 1].span;
+    next_start(lexed.text(), last.end, first.start)
 }
 
 /// Whether no token stands between two offsets.

@@ -100,6 +100,40 @@ message B (B): message B; [ Five:
 ] []
 ";
 
+/// A comment that begins beside a token, an empty line below others, and more than 16 comments, or tokens, from the first
+/// token of a declaration to what comes next.
+const APART: &str = "syntax = \"proto3\"; /* beside
+the statement */
+// One.
+
+// Two.\r
+// Three.\r
+message A { // a
+}
+// Far.
+
+message B { /* b
+and on */
+} /* beside
+the brace */
+message /**/ /**/ /**/ /**/ /**/ /**/ /**/ /**/ /**/ /**/ /**/ /**/ /**/ /**/ /**/ /**/ /**/ C { // c
+  int32 x = 1 [a = 1, b = 2, c = 3, d = 4];
+  // y.
+  int32 y = 2;
+}
+";
+
+/// Only the two comments directly above `A` lead it, and none leads `B` or `C`.
+const APART_LISTED: &str = "package
+message A (A): message A; [Two.
+Three.] [a]
+message B (B): message B; [] [ b
+and on ]
+message C (C): message C; [] [c]
+field C.x (x): message C; field x; [] []
+field C.y (y): message C; field y; [y.] []
+";
+
 /// Groups in a message, in a group, in a oneof and in an extend; extends in a message and in the file; and an extend of
 /// the type that an extension declares.
 const PROTO2: &str = "syntax = \"proto2\"; package a;
@@ -281,6 +315,7 @@ fn facts_of_sources(rt: HostRuntime) {
         (EVERY_KIND, proto3, LISTED),
         (COMMENTED, proto3, COMMENTS_LISTED),
         (BESIDE, proto3, BESIDE_LISTED),
+        (APART, proto3, APART_LISTED),
         (PROTO2, Dialect::All, PROTO2_LISTED),
     ] {
         assert!(rt;

@@ -9,12 +9,13 @@ pub mod CodeUnitLemmas
 pub mod ByteLemmas
 pub mod PrefixLemmas
 pub mod ReadLemmas
--- numbers, strings and block comments: what is read is one (found), and what is one is read (exact)
+-- numbers, strings and comments: what is read is one (found), and what is one is read (exact)
 pub mod NumberLemmas
 pub mod LiteralLemmas
 pub mod LiteralFound
 pub mod LiteralExact
 pub mod CommentLemmas
+pub mod SearchLemmas
 -- what stands at a place: what is read stands there (found), and what stands there is read (exact)
 pub mod PieceFound
 pub mod PieceExact

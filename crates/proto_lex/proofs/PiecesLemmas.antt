@@ -3,6 +3,9 @@ use Rattle.std.proofs.Common.{◌≡◌, ℕ, zero, suc, ◌+◌, ◌-◌, ◌<�
 use Rattle.std.proofs.Common.{◌++◌, length, drop, refl, sym, ◌∙◌, ap, subst, arith, eqb-true, add-zero, ◌≤◌, Result}
 use Rattle.std.proofs.Common.{inr, append_assoc, length-append}
 use Rattle.std.proofs.lemmas.List.{drop_at, length-append, append-nil}
+use Rattle.std.specs.List.{prefix_len}
+use Rattle.proto_lex.specs.Bytes.{is_blank}
+use Rattle.proto_lex.proofs.PrefixLemmas.{one_more}
 use Rattle.proto_lex.specs.Lexes.{LexesFrom, at_end, blank, comment, token, Lexes, unmarked, marked, part}
 use Rattle.proto_lex.specs.Reading.{◌>>=◌, piece_at, Pieces, pieces, with_first, pieces_at, mark_len, pieces_of, Read}
 use Rattle.proto_lex.specs.Reading.{joined, with_last, GivesPieces}
@@ -50,6 +53,33 @@ pieces_step at (b ∷ others) p h e l =
     ∙ ap (λ r. r >>= λ later. Ok (with_first p.kind at p.len later))
     (pieces_skip (p.len - 1) (at + 1) others ∙ rw (n, drop_after p.len b others l) refl))
 
+-- a blank is listed nowhere, and so blanks may be passed
+
+blank_at : (at b : ℕ) (others : List ℕ) → is_blank b ≡ true
+    → piece_at at (b ∷ others) ≡ Ok (record { kind = piece.Blank; len = 1 })
+unfolding piece_at
+blank_at at b others e = rw e refl
+
+unlisted : (at : ℕ) (r : Read Pieces) → (r >>= λ later. Ok (with_first piece.Blank at 1 later)) ≡ r
+unlisted at (Ok later) = refl
+unlisted at (Err fault) = refl
+
+past_blanks : (at : ℕ) (bytes : List ℕ) → pieces_at 0 at bytes
+    ≡ pieces_at 0 (at + prefix_len is_blank bytes) (drop (prefix_len is_blank bytes) bytes)
+past_blanks at [] = rw add-zero refl
+past_blanks at (b ∷ others) =
+    let n : ℕ = prefix_len is_blank others in
+    let one : Piece = record { kind = piece.Blank; len = 1 } in
+    let place : at + (1 + n) ≡ at + 1 + n = omega arith in
+    elim (is_blank b)
+    as (λ t. is_blank b ≡ t → pieces_at 0 at (b ∷ others)
+    ≡ pieces_at 0 (at + cond t (1 + n) 0) (drop (cond t (1 + n) 0) (b ∷ others))) [
+      | true ↦ λ e. rw (place, one_more n)
+          (pieces_step at (b ∷ others) one (omega arith) (blank_at at b others e) (omega arith)
+          ∙ (unlisted at (pieces_at 0 (at + 1) others) ∙ past_blanks (at + 1) others))
+      | false ↦ λ e. rw add-zero refl
+    ] refl
+
 -- a fault at a place is the text's
 pub pieces_fault : (at : ℕ) (bytes : List ℕ) (fault : LexFault) → 0 < length bytes → piece_at at bytes ≡ Err fault
     → pieces_at 0 at bytes ≡ Err fault
@@ -89,6 +119,16 @@ pub goes_on : (front : Pieces) (at : ℕ) (bytes : List ℕ) (p : Piece) → 0 <
 goes_on front at bytes p h e =
     ap (joined front) (pieces_step at bytes p h e (piece_bounds at bytes p e).0)
     ∙ joined_next front p.kind at p.len (pieces_at 0 (at + p.len) (drop p.len bytes))
+
+-- and the blanks behind the piece are passed
+pub goes_on_past : (front : Pieces) (at : ℕ) (bytes : List ℕ) (p : Piece) → 0 < length bytes → piece_at at bytes ≡ Ok p
+    → (behind : List ℕ) → behind ≡ drop p.len bytes → (blanks : ℕ) → blanks ≡ prefix_len is_blank behind
+    → joined front (pieces_at 0 at bytes)
+    ≡ joined (with_last front p.kind (part at p.len)) (pieces_at 0 (at + p.len + blanks) (drop blanks behind))
+goes_on_past front at bytes p h e behind same blanks count =
+    rw (count, same)
+    (goes_on front at bytes p h e
+    ∙ ap (joined (with_last front p.kind (part at p.len))) (past_blanks (at + p.len) (drop p.len bytes)))
 
 pub stops : (front : Pieces) (at : ℕ) (bytes : List ℕ) (fault : LexFault) → 0 < length bytes
     → piece_at at bytes ≡ Err fault

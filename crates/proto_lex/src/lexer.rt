@@ -14,13 +14,19 @@ mod number;
 mod piece;
 
 use crate::fault::LexFault;
-use crate::lexer::bytes::tail;
+use crate::lexer::bytes::{blank_len, tail};
 use crate::lexer::piece::{PieceKind, piece_at};
 use crate::span::Span;
 use crate::text::Text;
 use crate::token::{Comment, Token};
 use crate::tokens::Tokens;
 use std::alloc::Global;
+
+/// There is room for a token for so many bytes, and for a comment, before there are more. Real sources have fewer tokens
+/// and comments.
+const BYTES_A_TOKEN: usize = 16;
+
+const BYTES_A_COMMENT: usize = 64;
 
 /// The tokens and comments of the first part of a text.
 #[derive(Drop)]
@@ -58,18 +64,19 @@ fn read_pieces(alloc: Global, bytes: &[u8]) -> Result<Pieces, LexFault>
     requires { length bytes.now ≤ max_text_length }
     ensures { GivesPieces (λ found. pieces found.tokens.items found.comments.items) result (pieces_of bytes.now) }
 {
-    let mut found = Pieces {
-        tokens: Vec::new(alloc),
-        comments: Vec::new(alloc),
-    };
+    let tokens = Vec::with_capacity(alloc, bytes.len() / BYTES_A_TOKEN)?;
+    let comments = Vec::with_capacity(alloc, bytes.len() / BYTES_A_COMMENT)?;
+    let mut found = Pieces { tokens, comments };
     let mut at = mark_len(bytes);
     let mut rest = tail(bytes, at);
     while !rest.is_empty() {
         let piece = piece_at(rest, at)?;
         let end = at + piece.len;
         push_piece(&mut found, piece.kind, Span { start: at, end })?;
-        rest = tail(rest, piece.len);
-        at = end;
+        let behind = tail(rest, piece.len);
+        let blanks = blank_len(behind);
+        rest = tail(behind, blanks);
+        at = end + blanks;
     }
     Ok(found)
 }

@@ -5,6 +5,7 @@ ghost use Rattle.proto_lex.specs.Position as spec;
 ghost use Rattle.proto_lex.specs.Text.{max_text_length};
 
 use crate::fault::LexFault;
+use memchr::memchr_iter;
 use std::alloc::Global;
 
 /// The unit in which a column is counted.
@@ -25,13 +26,6 @@ pub struct Position {
     pub column: u32,
 }
 
-/// Whether `byte` ends a line.
-fn is_line_end(byte: u8) -> bool
-    ensures { result ≡ spec.is_line_end byte }
-{
-    byte == b'\n'
-}
-
 /// The code units that `byte`, one of a text in UTF-8, counts for in `encoding`.
 fn code_units(encoding: Encoding, byte: u8) -> u32
     ensures units { result ≡ spec.code_units encoding byte }
@@ -48,19 +42,19 @@ fn code_units(encoding: Encoding, byte: u8) -> u32
     }
 }
 
+/// There is room for a line for so many bytes, before there are more.
+const BYTES_A_LINE: usize = 32;
+
 /// The offsets at which the lines of `text`, at most `MAX_TEXT_LENGTH` bytes, start.
 pub(crate) fn line_starts(alloc: Global, text: &[u8]) -> Result<Vec<u32>, LexFault>
     requires { length text.now ≤ max_text_length }
     ensures value { IfOk result (λ starts. starts.items ≡ spec.line_starts text.now) }
     ensures memory { IfErr result (λ fault. fault ≡ LexFault.Memory) }
 {
-    let mut starts = vec![in alloc; 0]?;
-    let mut offset = 0;
-    for &byte in text {
-        offset += 1;
-        if is_line_end(byte) {
-            starts.push(offset)?;
-        }
+    let mut starts = Vec::with_capacity(alloc, 1 + text.len() / BYTES_A_LINE)?;
+    starts.push(0)?;
+    for end in memchr_iter(b'\n', text) {
+        starts.push(end as u32 + 1)?;
     }
     Ok(starts)
 }

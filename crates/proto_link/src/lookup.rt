@@ -25,6 +25,11 @@ fn put_under(text: &mut String, scope: &str, name: &str) -> Result<(), AllocErro
     text.push_str(name)
 }
 
+// The bytes of the full name of a name in a scope, and no fewer than those of the same name in a scope around it.
+fn room_under(scope: &str, name: &str) -> usize {
+    scope.len().saturating_add(name.len()).saturating_add(1)
+}
+
 // Components joined by dots.
 fn joined(alloc: Global, components: &[Component]) -> Result<String, AllocError>
     ensures { IfOk result (λ text. string_bytes text ≡ dotted (map (λ component. component.name) components.now)) }
@@ -62,8 +67,8 @@ pub(crate) fn name_of(
     ensures { IfOk result (λ found. MatchOption found (IsUnresolved namespace.now file type_use.now) (λ name. Resolves namespace.now file type_use.now (string_bytes name))) }
 {
     let components = type_use.components.as_slice();
-    let words = joined(alloc, components)?;
     if type_use.has_leading_dot {
+        let words = joined(alloc, components)?;
         return Ok(if_type(namespace, file, words));
     }
     let scope = type_use.scope.as_str();
@@ -71,6 +76,7 @@ pub(crate) fn name_of(
         [] => Ok(None),
         [word] => single(alloc, namespace, file, scope, word.name.as_str()),
         [first, _, ..] => {
+            let words = joined(alloc, components)?;
             compound(
                 alloc,
                 namespace,
@@ -118,7 +124,7 @@ fn single(
     requires { file < length namespace.now }
     ensures { IfOk result (λ found. MatchOption found ((start : List ℕ) → Innermost namespace.now file is_type word.now (scopes_of scope.now) start → ⊥) (λ name. IsSingle namespace.now file word.now (scopes_of scope.now) (string_bytes name))) }
 {
-    let mut text = String::new(alloc);
+    let mut text = String::with_capacity(alloc, room_under(scope, word))?;
     match innermost(namespace, file, Role::AsType, scope, word, &mut text)? {
         Some(start) => {
             put_under(&mut text, start, word)?;
@@ -140,7 +146,7 @@ fn compound(
     requires { file < length namespace.now }
     ensures { IfOk result (λ found. MatchOption found ((name : List ℕ) → IsCompound namespace.now file first.now words.now (scopes_of scope.now) name → ⊥) (λ name. IsCompound namespace.now file first.now words.now (scopes_of scope.now) (string_bytes name))) }
 {
-    let mut text = String::new(alloc);
+    let mut text = String::with_capacity(alloc, room_under(scope, words))?;
     match innermost(namespace, file, Role::AsAggregate, scope, first, &mut text)? {
         Some(start) => {
             put_under(&mut text, start, words)?;

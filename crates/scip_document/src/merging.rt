@@ -49,9 +49,9 @@ pub(crate) fn merged(
     ensures { IfOk result (λ both. AreUntied occurrence_cmp first.items second.items
         → IsMerged occurrence_cmp first.items second.items both.items) }
 {
+    let mut both = Vec::with_capacity(alloc, first.len().saturating_add(second.len()))?;
     let mut first_left = VecDeque::from_vec(first);
     let mut second_left = VecDeque::from_vec(second);
-    let mut both = Vec::new(alloc);
     while let Some(next) = take_least(&mut first_left, &mut second_left) {
         both.push(next)?;
     }

@@ -180,7 +180,7 @@ pub(crate) fn declaration_occurrences(
         maker.now.choices.now maker.now.source facts.now)
         0 facts.now.declarations) }
 {
-    let mut list = Vec::new(maker.alloc);
+    let mut list = Vec::with_capacity(maker.alloc, texts.len())?;
     for (index, declaration) in facts.declarations().iter().enumerate() {
         add_declaration(&mut list, maker, texts[index].as_str(), index, declaration)?;
     }

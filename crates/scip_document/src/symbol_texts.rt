@@ -96,7 +96,7 @@ pub(crate) fn declaration_texts(
     ensures { IfOk result (λ texts. texts.items ≡ declaration_texts id.now facts.now) }
 {
     let front = print_package(alloc, id, facts.package_name())?;
-    let mut texts = Vec::new(alloc);
+    let mut texts = Vec::with_capacity(alloc, facts.declarations().len())?;
     for declaration in facts.declarations() {
         push_text_below(alloc, &mut texts, front.as_str(), declaration)?;
     }

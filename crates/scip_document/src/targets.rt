@@ -48,7 +48,7 @@ pub(crate) fn find_targets(
     ensures found { IfOk result (λ found. AllZip (IsFound linker.now source) facts.now.uses found.items) }
     ensures refused { IfErr result (λ fault. fault ≡ Memory) }
 {
-    let mut found = Vec::new(alloc);
+    let mut found = Vec::with_capacity(alloc, facts.uses().len())?;
     for type_use in facts.uses() {
         let target = target_of(alloc, linker, source, type_use)?;
         keep(&mut found, target)?;

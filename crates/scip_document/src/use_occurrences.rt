@@ -217,7 +217,7 @@ pub(crate) fn use_occurrences(
         maker.now.linker.now maker.now.choices.now found.now)
         0 uses.now) }
 {
-    let mut list = Vec::new(maker.alloc);
+    let mut list = Vec::with_capacity(maker.alloc, uses.len())?;
     for (index, type_use) in uses.iter().enumerate() {
         add_found(&mut list, maker, &found[index], type_use)?;
     }

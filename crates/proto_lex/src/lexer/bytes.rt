@@ -6,6 +6,8 @@ ghost use Rattle.proto_lex.specs.Bytes.{is_blank, is_letter, is_digit, is_octal_
 ghost use Rattle.proto_lex.specs.Bytes.{is_plus_or_minus, is_exponent_mark, is_hex_mark, is_quote, starts};
 ghost use Rattle.proto_lex.specs.Reading.{past, is_in_line};
 
+use memchr::memchr;
+
 /// Whether the byte is a space, or one of `\t`, `\n`, `\v`, `\f` and `\r`.
 pub(crate) fn is_blank(b: u8) -> bool
     ensures { result ≡ is_blank b }
@@ -115,6 +117,14 @@ pub(crate) fn tail(bytes: &[u8], at: usize) -> &[u8]
     bytes.split_at(at).1
 }
 
+/// How many blanks the bytes begin with.
+pub(crate) fn blank_len(bytes: &[u8]) -> usize
+    ensures value { result ≡ prefix_len is_blank bytes.now }
+    ensures within { result ≤ length bytes.now }
+{
+    bytes.iter().take_while(|b| is_blank(**b)).count()
+}
+
 /// How many letters, digits and `_` the bytes begin with.
 pub(crate) fn word_len(bytes: &[u8]) -> usize
     ensures value { result ≡ prefix_len is_word bytes.now }
@@ -128,7 +138,7 @@ pub(crate) fn line_len(bytes: &[u8]) -> usize
     ensures value { result ≡ prefix_len is_in_line bytes.now }
     ensures within { result ≤ length bytes.now }
 {
-    bytes.iter().take_while(|b| **b != b'\n').count()
+    memchr(b'\n', bytes).unwrap_or(bytes.len())
 }
 
 /// How many decimal digits the bytes begin with.

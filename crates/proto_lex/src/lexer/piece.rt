@@ -1,7 +1,6 @@
 //! What is at a place of a text: a blank, a comment or a token.
 
 ghost use Rattle.std.specs.Prelude.{◌≡◌, ℕ, ◌+◌, ◌<◌, ◌≤◌, length, IfOk, IfSome};
-ghost use Rattle.proto_lex.specs.Comments.{begins_close};
 ghost use Rattle.proto_lex.specs.Lexes.{sign_kind};
 ghost use Rattle.proto_lex.specs.Reading.{token, block_at, slash_at, piece_at};
 ghost use Rattle.proto_lex.specs.Text.{max_text_length};
@@ -11,6 +10,7 @@ use crate::lexer::bytes::{is_blank, is_letter, is_quote, line_len, word_len};
 use crate::lexer::literal::literal_at;
 use crate::lexer::number::{begins_number, number_at};
 use crate::token::{CommentKind, TokenKind};
+use memchr::memmem;
 
 /// What is at a place.
 #[derive(Clone, Copy, Debug, PartialEq, Eq)]
@@ -27,29 +27,16 @@ pub(crate) struct Piece {
     pub len: usize,
 }
 
-/// Whether the bytes begin with `*/`.
-fn begins_close(bytes: &[u8]) -> bool
-    ensures { result ≡ begins_close bytes.now }
-{
-    matches!(bytes, [b'*', b'/', ..])
-}
-
 /// How many bytes a block comment takes, if these come after its `/*`.
 fn block_len(others: &[u8]) -> Option<usize>
     requires { length others.now ≤ max_text_length }
     ensures value { result ≡ block_at 2 others.now }
     ensures within { IfSome result (λ len. len ≤ length others.now + 2) }
 {
-    let mut len = 2;
-    let mut rest = others;
-    while let [_, after @ ..] = rest {
-        if begins_close(rest) {
-            return Some(len + 2);
-        }
-        rest = after;
-        len += 1;
+    match memmem::find(others, b"*/") {
+        Some(inside) => Some(inside + 4),
+        None => None,
     }
-    None
 }
 
 /// The kind of the sign that is this one character.

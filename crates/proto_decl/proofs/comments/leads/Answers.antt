@@ -1,7 +1,13 @@
 use Rattle.std.proofs.Common.{arith}
+use Rattle.proto_decl.proofs.FreeLemmas.{not_leading, leading}
 use Rattle.proto_decl.proofs.comments.leads.Goals as goal
 
-pub returns : goal.returns
-returns c =
-    let line = rw c.text.ensures at c.line.ensures in
-    (λ alone. (omega (arith, line), c.stands_alone.ensures.0 alone), λ h. c.stands_alone.ensures.1 h.1)
+pub returns-then-comment-from-clause-leads : goal.returns-then-comment-from-clause-leads
+returns-then-comment-from-clause-leads c =
+    λ offset free above. not_leading c.args.lexed.now c.args.comment c.args.from c.args.next c.requires.some
+    c.requires.apart c.requires.next (omega arith) offset free
+
+pub returns-clause-leads : goal.returns-clause-leads
+returns-clause-leads c =
+    leading c.args.lexed.now c.args.comment c.args.from c.args.next c.requires.some c.requires.apart c.requires.next
+    (omega arith) c.text.result.now c.text.ensures c.is_adjoining.result c.is_adjoining.ensures

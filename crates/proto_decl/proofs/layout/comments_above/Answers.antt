@@ -4,9 +4,9 @@ use Rattle.proto_decl.proofs.layout.comments_above.Goals as goal
 
 pub loop-above-init : goal.loop-above-init
 loop-above-init c = record {
-  within = c.comments_begun-above.ensures.within;
+  within = c.requires.comments_within;
   behind = none_behind c.args.lexed.now c.args.offset c.comments-comments.ensures.in_order
-      c.comments_begun-above.result c.comments_begun-above.ensures.parted;
+      c.args.begun.comments c.requires.comments;
 }
 
 pub returns-then-is_on_later_line-clause-parted : goal.returns-then-is_on_later_line-clause-parted

@@ -5,17 +5,26 @@ use Rattle.proto_lex.specs.declared.token.Token.{Token}
 use Rattle.proto_decl.proofs.LineLemmas.{starts_rise, parted_less}
 use Rattle.proto_decl.proofs.layout.tokens_begun.Goals as goal
 
-pub returns-clause-parted : goal.returns-clause-parted
-returns-clause-parted c =
+pub returns-in-None-clause-parted : goal.returns-in-None-clause-parted
+returns-in-None-clause-parted c =
     let tokens = c.args.lexed.now.tokens in
     let bound = c.args.offset in
     let key = λ (t : Token). t.span.start in
     let parted = IsPartitionedBy-ltb key tokens bound
-    (λ i j d le h. starts_rise (λ (t : Token). t.span) 0 i j d tokens c.tokens.ensures.in_order le h) in
+    (λ i j d le h. starts_rise (λ (t : Token). t.span) 0 i j d tokens c.tokens-tokens.ensures.in_order le h) in
     let listed = subst (λ (xs : List Token). IsPartitionedBy (λ t. ltb (key t) bound) xs)
-    (sym c.tokens.ensures.value) parted in
+    (sym c.tokens-tokens.ensures.value) parted in
     let point = IsPartitionPoint-from_clause
-    (λ (t : Token). ltb (key t) bound) c.tokens.result.now c.partition_point.result
+    (λ (t : Token). ltb (key t) bound) c.tokens-tokens.result.now c.partition_point.result
     c.partition_point.ensures.partitioned listed (λ a r q k. search rules) in
-    parted_less key bound c.partition_point.result tokens (rw c.tokens.ensures.value at c.partition_point.ensures.bound)
-    (rw c.tokens.ensures.value at point)
+    parted_less key bound c.partition_point.result tokens (rw c.tokens-tokens.ensures.value at c.partition_point.ensures.bound)
+    (rw c.tokens-tokens.ensures.value at point)
+
+pub returns-in-None-clause-within : goal.returns-in-None-clause-within
+returns-in-None-clause-within c = rw c.tokens-tokens.ensures.value at c.partition_point.ensures.bound
+
+pub returns-in-Some-clause-within : goal.returns-in-Some-clause-within
+returns-in-Some-clause-within c = (rw c.tokens-tokens.ensures.value at c.in-Some.ensures).0
+
+pub returns-in-Some-clause-parted : goal.returns-in-Some-clause-parted
+returns-in-Some-clause-parted c = (rw c.tokens-tokens.ensures.value at c.in-Some.ensures).1

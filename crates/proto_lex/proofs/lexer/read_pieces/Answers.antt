@@ -1,20 +1,20 @@
-use Rattle.std.proofs.Common.{◌∙◌, sym, arith, length-drop}
+use Rattle.std.proofs.Common.{◌∙◌, sym, ap, length, arith, length-drop}
 use Rattle.std.proofs.lemmas.Bool.{eqb-true}
 use Rattle.std.proofs.lemmas.Result.{err_from_is_err_and}
-use Rattle.proto_lex.proofs.PiecesLemmas.{starts_with, mark_within, goes_on, stops, ends, piece_bounds, gives_fault}
+use Rattle.proto_lex.proofs.PiecesLemmas.{starts_with, mark_within, goes_on_past, stops, ends, piece_bounds, gives_fault}
 use Rattle.proto_lex.proofs.PiecesLemmas.{some_left}
 use Rattle.proto_lex.proofs.lexer.read_pieces.Goals as goal
 
 pub loop-rest-init : goal.loop-rest-init
 loop-rest-init c = record {
-  read = rw (c.new.ensures.items, c.new-2.ensures.items, c.tail-rest.ensures, c.mark_len-at.ensures)
+  read = rw (c.in_ok-tokens.ensures.items, c.in_ok-comments.ensures.items, c.tail-rest.ensures, c.mark_len-at.ensures)
       (starts_with c.args.bytes.now);
   counted = rw (c.tail-rest.ensures, c.mark_len-at.ensures) (mark_within c.args.bytes.now);
 }
 
 pub returns-in_err-piece : goal.returns-in_err-piece
 returns-in_err-piece c =
-    let p = err_from_is_err_and c.from_residual.result c.from_residual.ensures.1 in
+    let p = err_from_is_err_and c.from_residual-in_err-piece.result c.from_residual-in_err-piece.ensures.1 in
     let left = some_left _ (sym c.is_empty.ensures ∙ c.loop-rest-test.true) in
     gives_fault _ _ _ _ _ p.1 p.2
     (sym c.loop-rest.invariant.read ∙ stops _ _ _ _ left (sym c.piece_at.ensures ∙ c.in_err-piece.was))
@@ -23,14 +23,32 @@ pub overflow_add-end : goal.overflow_add-end
 overflow_add-end c =
     let b = piece_bounds _ _ _ (sym c.piece_at.ensures ∙ c.in_ok-piece.was) in omega (arith, b.1)
 
-pub tail-rest-requires-in-loop-rest : goal.tail-rest-requires-in-loop-rest
-tail-rest-requires-in-loop-rest c = (piece_bounds _ _ _ (sym c.piece_at.ensures ∙ c.in_ok-piece.was)).1
+pub tail-behind-requires : goal.tail-behind-requires
+tail-behind-requires c = (piece_bounds _ _ _ (sym c.piece_at.ensures ∙ c.in_ok-piece.was)).1
+
+pub overflow_add-at : goal.overflow_add-at
+overflow_add-at c =
+    let b = piece_bounds _ _ _ (sym c.piece_at.ensures ∙ c.in_ok-piece.was) in
+    omega (
+      arith,
+      b.1,
+      c.blank_len-blanks.ensures.within,
+      ap length c.tail-behind.ensures,
+      length-drop c.in_ok-piece.piece.len c.loop-rest.rest.now,
+    )
 
 pub loop-rest-smaller : goal.loop-rest-smaller
 loop-rest-smaller c =
     let b = piece_bounds _ _ _ (sym c.piece_at.ensures ∙ c.in_ok-piece.was) in
     rw c.tail-rest-in-loop-rest.ensures
-    (omega (arith, length-drop c.in_ok-piece.piece.len c.loop-rest.rest.now, b.0, b.1))
+    (omega (
+      arith,
+      length-drop c.blank_len-blanks.result c.tail-behind.result.now,
+      ap length c.tail-behind.ensures,
+      length-drop c.in_ok-piece.piece.len c.loop-rest.rest.now,
+      b.0,
+      b.1,
+    ))
 
 pub loop-rest-preserved : goal.loop-rest-preserved
 loop-rest-preserved c =
@@ -39,9 +57,19 @@ loop-rest-preserved c =
     let left = some_left _ (sym c.is_empty.ensures ∙ c.loop-rest-test.true) in
     record {
       read = rw (c.tail-rest-in-loop-rest.ensures, c.in_ok-push_piece.ensures.pushed)
-          (sym (goes_on _ _ _ _ left e) ∙ c.loop-rest.invariant.read);
+          (sym (goes_on_past _ _ _ _ left e c.tail-behind.result.now c.tail-behind.ensures c.blank_len-blanks.result
+          c.blank_len-blanks.ensures.value)
+          ∙ c.loop-rest.invariant.read);
       counted = rw c.tail-rest-in-loop-rest.ensures
-          (omega (arith, length-drop c.in_ok-piece.piece.len c.loop-rest.rest.now, b.0, b.1));
+          (omega (
+            arith,
+            length-drop c.blank_len-blanks.result c.tail-behind.result.now,
+            ap length c.tail-behind.ensures,
+            length-drop c.in_ok-piece.piece.len c.loop-rest.rest.now,
+            c.blank_len-blanks.ensures.within,
+            b.0,
+            b.1,
+          ));
     }
 
 pub returns : goal.returns

@@ -27,8 +27,8 @@ returns-in-len1 c =
     (λ found h. single_of_use files file type_use string_bytes components scope c.as_slice-components.ensures
     c.as_str-scope.ensures c.if-type_use.false c.word-item.result text found size c.word-item.is c.as_str.ensures h)
 
-pub returns : goal.returns
-returns c =
+pub returns-in_ok-words-in-len2-up : goal.returns-in_ok-words-in-len2-up
+returns-in_ok-words-in-len2-up c =
     let files = c.args.namespace.now in
     let file = c.args.file in
     let type_use = c.args.type_use.now in
@@ -41,4 +41,4 @@ returns c =
     (λ found h. compound_of_use files file type_use string_bytes components scope c.as_slice-components.ensures
     c.as_str-scope.ensures c.if-type_use.false c.first-item.result text words found c.in-len2-up.len_at_least
     c.first-item.is c.as_str-in-len2-up.ensures
-    (c.as_str-in-len2-up-2.ensures.value ∙ c.in_ok-words.ensures) h)
+    (c.as_str-in-len2-up-2.ensures.value ∙ c.in_ok-words-in-len2-up.ensures) h)

@@ -1,19 +1,15 @@
-use Rattle.std.proofs.Common.{◌∙◌, sym, arith}
-use Rattle.proto_lex.proofs.CommentLemmas.{block_step, block_close, block_end}
-use Rattle.proto_lex.proofs.ReadLemmas.{length-after}
+use Rattle.std.proofs.Common.{arith}
+use Rattle.proto_lex.proofs.SearchLemmas.{block_closed, block_unclosed}
 use Rattle.proto_lex.proofs.lexer.piece.block_len.Goals as goal
 
-pub returns-then-begins_close-clause-value : goal.returns-then-begins_close-clause-value
-returns-then-begins_close-clause-value c =
-    sym (block_close _ _ (sym c.begins_close.ensures ∙ c.if-begins_close.true)) ∙ c.loop-rest.invariant.read
+pub overflow_add-result : goal.overflow_add-result
+overflow_add-result c = omega (arith, c.in-Some.ensures.1.fits)
 
-pub loop-rest-preserved : goal.loop-rest-preserved
-loop-rest-preserved c = record {
-  read =
-      sym (block_step _ _ c.in-len1-up.len_at_least (sym c.begins_close.ensures ∙ c.if-begins_close.false))
-      ∙ c.loop-rest.invariant.read;
-  counted = omega (arith, length-after c.loop-rest.rest.now c.in-len1-up.len_at_least);
-}
+pub returns-in-Some-clause-value : goal.returns-in-Some-clause-value
+returns-in-Some-clause-value c = block_closed c.args.others.now c.in-Some.inside c.in-Some.ensures
 
-pub returns-clause-value : goal.returns-clause-value
-returns-clause-value c = sym (block_end _ c.loop-rest.rest.now (omega arith)) ∙ c.loop-rest.invariant.read
+pub returns-in-Some-clause-within : goal.returns-in-Some-clause-within
+returns-in-Some-clause-within c = omega (arith, c.in-Some.ensures.1.fits)
+
+pub returns-in-None-clause-value : goal.returns-in-None-clause-value
+returns-in-None-clause-value c = block_unclosed c.args.others.now c.in-None.ensures

@@ -1,0 +1,14 @@
+use Rattle.std.proofs.Common.{◌≤◌, ◌<◌, ◌-◌, length}
+use Rattle.std.specs.List.{AllWithin}
+use Rattle.proto_lex.specs.declared.token.Token.{Token}
+use Rattle.proto_decl.proofs.layout.tokens_begun_near.Given as goal
+
+-- so many begin before the offset
+abbrev pub invariant-loop-count : goal.invariant-loop-count
+invariant-loop-count l = record {
+  within : l.count ≤ length l.tokens;
+  begin : AllWithin (λ (x : Token). x.span.start < l.offset) l.tokens 0 l.count;
+}
+
+abbrev pub decreases-loop-count : goal.decreases-loop-count
+decreases-loop-count l = length l.tokens - l.count

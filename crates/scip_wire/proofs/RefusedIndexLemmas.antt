@@ -279,6 +279,13 @@ fault_of (Err e) bytes (inl memory) blames = inl memory
 fault_of (Err e) bytes (inr none) (inl memory) = inl memory
 fault_of (Err e) bytes (inr none) (inr is) = inr (subst (NoIndex bytes) (sym is) (index_refused bytes none))
 
+pub index_or_fault : (bytes : List ℕ)
+    → ((index : Index) × Decodes bytes index) ⊎ ((fault : WireFault) × NoIndex bytes fault)
+index_or_fault bytes =
+    on_option (index_at bytes)
+    (λ none. inr (index_fault bytes, index_refused bytes none))
+    (λ index some. inl (index, index_found bytes index some))
+
 pub one_fault : (bytes : List ℕ) (fault other : WireFault) → NoIndex bytes fault → NoIndex bytes other
     → fault ≡ other
 one_fault bytes fault other n m = (index_blamed n).1 ∙ sym (index_blamed m).1

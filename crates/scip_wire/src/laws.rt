@@ -1,6 +1,6 @@
 //! Laws of the encoding, each the contract of a function that does nothing.
 
-ghost use Rattle.std.specs.Prelude.{◌≡◌, ◌≤◌, ℕ, List, length, map};
+ghost use Rattle.std.specs.Prelude.{◌≡◌, ◌≤◌, ◌⊎◌, ℕ, List, length, map};
 ghost use Rattle.std.specs.List.{AllByRecursion};
 ghost use Rattle.scip_model.specs.declared.records.Index.{Index};
 ghost use Rattle.scip_wire.specs.Fields.{Field, HasFields, max_varint_len};
@@ -38,6 +38,11 @@ pub fn one_fault_of_bytes()
 /// Bytes that decode to an index are refused with no fault.
 pub fn no_fault_where_bytes_decode()
     ensures { (bytes : List ℕ) (fault : WireFault) (index : Index) → NoIndex bytes fault → ¬ (Decodes bytes index) }
+{}
+
+/// Bytes decode to an index, or are refused with a fault.
+pub fn bytes_decode_or_have_a_fault()
+    ensures { (bytes : List ℕ) → ((index : Index) × Decodes bytes index) ⊎ ((fault : WireFault) × NoIndex bytes fault) }
 {}
 
 /// The spelling of an index of at most `MAX_INDEX_LEN` bytes decodes to it.

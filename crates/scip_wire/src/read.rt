@@ -33,7 +33,8 @@ use std::alloc::Global;
 /// a length that the bytes only claim.
 ///
 /// Each `WireFault` but `Memory` is that of the first record, in order of bytes, at which no reading goes on. Bytes
-/// that decode to an index have none (`no_fault_where_bytes_decode`), and others at most one (`one_fault_of_bytes`).
+/// that decode to an index have none (`no_fault_where_bytes_decode`), and others have one (`one_fault_of_bytes`,
+/// `bytes_decode_or_have_a_fault`).
 pub fn read_index(alloc: Global, bytes: &[u8]) -> Result<Index, WireFault>
     ensures found { IfOk result (λ index. Decodes bytes.now index) }
     ensures only { (index : Index) → Decodes bytes.now index → MatchResult result (λ i. i ≡ index) (λ e. e ≡ WireFault.Memory) }

@@ -1,8 +1,9 @@
 -- What the program `query` answers of an index's bytes.
-use Rattle.std.proofs.Common.{◌≡◌, ℕ, List, Option, Some, Ok, Err, inl, inr}
+use Rattle.std.proofs.Common.{◌≡◌, ◌≢◌, ◌⊎◌, ℕ, List, Option, Some, Ok, Err, inl, inr}
 use Rattle.std.specs.Prelude.{Result}
 use Rattle.scip_model.specs.declared.records.Index.{Index}
 use Rattle.scip_wire.specs.Decodes.{Decodes}
+use Rattle.scip_wire.specs.Refused.{NoIndex}
 use Rattle.scip_wire.specs.declared.wire_fault.WireFault.{WireFault}
 use Rattle.scip_wire.specs.declared.wire_fault.WireFault.TheVariants as wire
 use Rattle.programs.specs.QueryFaults.{fault_of_wire}
@@ -19,26 +20,41 @@ abbrev pub outcome_of : Result (Unit {0}) AnswerFault → Result (Unit {0}) Quer
 outcome_of (Ok done) = Ok done
 outcome_of (Err fault) = Err (query.Answers fault)
 
+-- a fault that isn't want of memory is why there is no index
+named : (bytes : List ℕ) (fault : WireFault) → (fault ≡ wire.Memory) ⊎ NoIndex bytes fault → (fault ≢ wire.Memory)
+    → NoIndex bytes fault
+named bytes fault (inl same) other = absurd (other same)
+named bytes fault (inr no_index) other = no_index
+
 -- bytes that are refused, and not for want of memory, decode to no index
 pub refused_bytes : (gives : Option (List ℕ) → Type 0) (bytes : List ℕ) (fault : WireFault) → gives (Some bytes)
-    → ((index : Index) → Decodes bytes index → fault ≡ wire.Memory) → IsReadFrom gives (Err (fault_of_wire fault))
-refused_bytes gives bytes (wire.Truncated at) given only =
-    (bytes, given, λ index d. let same = only index d in cc, λ same. cc)
-refused_bytes gives bytes (wire.Varint at) given only =
-    (bytes, given, λ index d. let same = only index d in cc, λ same. cc)
-refused_bytes gives bytes (wire.FieldZero at) given only =
-    (bytes, given, λ index d. let same = only index d in cc, λ same. cc)
-refused_bytes gives bytes (wire.Group at) given only =
-    (bytes, given, λ index d. let same = only index d in cc, λ same. cc)
-refused_bytes gives bytes (wire.WireType at) given only =
-    (bytes, given, λ index d. let same = only index d in cc, λ same. cc)
-refused_bytes gives bytes (wire.Repeated at) given only =
-    (bytes, given, λ index d. let same = only index d in cc, λ same. cc)
-refused_bytes gives bytes (wire.Utf8 at) given only =
-    (bytes, given, λ index d. let same = only index d in cc, λ same. cc)
-refused_bytes gives bytes (wire.BadRange at) given only =
-    (bytes, given, λ index d. let same = only index d in cc, λ same. cc)
-refused_bytes gives bytes wire.Memory given only = tt
+    → ((index : Index) → Decodes bytes index → fault ≡ wire.Memory) → (fault ≡ wire.Memory) ⊎ NoIndex bytes fault
+    → IsReadFrom gives (Err (fault_of_wire fault))
+refused_bytes gives bytes (wire.Truncated at) given only why =
+    let other : wire.Truncated at ≢ wire.Memory = λ same. cc in
+    (bytes, given, λ index d. other (only index d), other, named bytes _ why other)
+refused_bytes gives bytes (wire.Varint at) given only why =
+    let other : wire.Varint at ≢ wire.Memory = λ same. cc in
+    (bytes, given, λ index d. other (only index d), other, named bytes _ why other)
+refused_bytes gives bytes (wire.FieldZero at) given only why =
+    let other : wire.FieldZero at ≢ wire.Memory = λ same. cc in
+    (bytes, given, λ index d. other (only index d), other, named bytes _ why other)
+refused_bytes gives bytes (wire.Group at) given only why =
+    let other : wire.Group at ≢ wire.Memory = λ same. cc in
+    (bytes, given, λ index d. other (only index d), other, named bytes _ why other)
+refused_bytes gives bytes (wire.WireType at) given only why =
+    let other : wire.WireType at ≢ wire.Memory = λ same. cc in
+    (bytes, given, λ index d. other (only index d), other, named bytes _ why other)
+refused_bytes gives bytes (wire.Repeated at) given only why =
+    let other : wire.Repeated at ≢ wire.Memory = λ same. cc in
+    (bytes, given, λ index d. other (only index d), other, named bytes _ why other)
+refused_bytes gives bytes (wire.Utf8 at) given only why =
+    let other : wire.Utf8 at ≢ wire.Memory = λ same. cc in
+    (bytes, given, λ index d. other (only index d), other, named bytes _ why other)
+refused_bytes gives bytes (wire.BadRange at) given only why =
+    let other : wire.BadRange at ≢ wire.Memory = λ same. cc in
+    (bytes, given, λ index d. other (only index d), other, named bytes _ why other)
+refused_bytes gives bytes wire.Memory given only why = tt
 
 module _ {R W : Type 0} (gives : Option (List ℕ) → Type 0) (commands : Reader R) (answers : Writer W) where
   -- there is no index

@@ -196,7 +196,7 @@ checked_exact r h =
       le-leb r.end_column max_range_number h.end_column,
     ) refl
 
-range_found : (ns : List ℕ) (r : RangeNumbers) → range_at ns ≡ Some r → (AreRangeNumbers ns r) × (IsRange r)
+pub range_found : (ns : List ℕ) (r : RangeNumbers) → range_at ns ≡ Some r → (AreRangeNumbers ns r) × (IsRange r)
 unfolding range_at
 range_found [] r e = absurd (cc)
 range_found (a ∷ []) r e = absurd (cc)
@@ -209,12 +209,12 @@ range_found (a ∷ (b ∷ (c ∷ (d ∷ [])))) r e =
     subst (λ x. (AreRangeNumbers (a ∷ (b ∷ (c ∷ (d ∷ [])))) x) × (IsRange x)) h.0 (over_lines, h.1)
 range_found (a ∷ (b ∷ (c ∷ (d ∷ (f ∷ fs))))) r e = absurd (cc)
 
-range_exact : {ns : List ℕ} {r : RangeNumbers} → AreRangeNumbers ns r → IsRange r → range_at ns ≡ Some r
+pub range_exact : {ns : List ℕ} {r : RangeNumbers} → AreRangeNumbers ns r → IsRange r → range_at ns ≡ Some r
 unfolding range_at
 range_exact on_one_line h = checked_exact _ h
 range_exact over_lines h = checked_exact _ h
 
-parts_found : (bytes : List ℕ) (o : OccurrenceParts) → parts_at bytes ≡ Some o
+pub parts_found : (bytes : List ℕ) (o : OccurrenceParts) → parts_at bytes ≡ Some o
     → HoldsOccurrence bytes o.numbers o.symbol o.symbol_roles
 unfolding parts_at occurrence_step
 parts_found bytes o e =
@@ -229,7 +229,7 @@ parts_found bytes o e =
       symbol_roles = number_found 3 f.0 o.symbol_roles b.1;
     }
 
-parts_exact : (bytes ns symbol : List ℕ) (roles : ℤ) → HoldsOccurrence bytes ns symbol roles
+pub parts_exact : (bytes ns symbol : List ℕ) (roles : ℤ) → HoldsOccurrence bytes ns symbol roles
     → parts_at bytes ≡ Some (record { numbers = ns; symbol = symbol; symbol_roles = roles })
 unfolding parts_at occurrence_step
 parts_exact bytes ns symbol roles d =

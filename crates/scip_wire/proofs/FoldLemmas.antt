@@ -150,12 +150,12 @@ module _ {S T A : Type 0} (parts : S → T) (whole : T → S) (step : T → A �
 -- ---- a turn of a loop over the items that a reader finds in bytes
 
 -- bytes that aren't empty
-there_are : (bytes : List ℕ) (empty : Bool) → empty ≡ (length bytes == 0) → empty ≡ false
+pub there_are : (bytes : List ℕ) (empty : Bool) → empty ≡ (length bytes == 0) → empty ≡ false
     → (byte : ℕ) × (rest : List ℕ) × (bytes ≡ byte ∷ rest)
 there_are [] empty e f = absurd (cc)
 there_are (byte ∷ rest) empty e f = (byte, rest, refl)
 
-there_are_none : (bytes : List ℕ) (empty : Bool) → empty ≡ (length bytes == 0) → empty ≡ true → bytes ≡ []
+pub there_are_none : (bytes : List ℕ) (empty : Bool) → empty ≡ (length bytes == 0) → empty ≡ true → bytes ≡ []
 there_are_none [] empty e t = refl
 there_are_none (byte ∷ rest) empty e t =
     absurd (let h : length (byte ∷ rest) ≡ 0 = eqb-true _ 0 (sym e ∙ t) in omega arith)

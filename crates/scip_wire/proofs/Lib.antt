@@ -11,6 +11,16 @@ pub mod FoldLemmas
 pub mod TextLemmas
 pub mod ColumnLemmas
 pub mod DecodesLemmas
+-- Which fault is named, and why there is nothing to read.
+pub mod BlamedFoldLemmas
+pub mod RefusedVarintLemmas
+pub mod RefusedFieldLemmas
+pub mod RefusedMessageLemmas
+pub mod RefusedColumnLemmas
+pub mod RefusedPackedLemmas
+pub mod RefusedLemmas
+pub mod RefusedIndexLemmas
+pub mod TenthByteLemmas
 -- From an index to its fields and their bytes.
 pub mod SpelledVarintLemmas
 pub mod SaturatedLemmas

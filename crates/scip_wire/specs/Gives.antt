@@ -1,7 +1,6 @@
 -- What a result says about what the bytes hold.
-use Rattle.std.specs.Prelude.{◌≡◌, ◌⊎◌, ℕ, Option, Some, None, Result, Ok, Err}
+use Rattle.std.specs.Prelude.{◌≡◌, ◌⊎◌, Option, Some, None, Result, Ok, Err, IfErr}
 use Rattle.scip_wire.specs.declared.wire_fault.WireFault.{WireFault}
-use Rattle.scip_wire.specs.declared.wire_fault.WireFault.TheVariants.{Truncated, Varint, FieldZero, Group, WireType}
 use Rattle.scip_wire.specs.declared.wire_fault.WireFault.TheVariants.{Memory}
 
 -- the fault is Memory, which says nothing about the bytes, or nothing is read
@@ -13,11 +12,10 @@ abbrev pub Gives : {X Y : Type 0} → (X → Y) → Result X WireFault → Optio
 Gives view (Ok x) read = read ≡ Some (view x)
 Gives view (Err fault) read = Fails fault read
 
--- the faults that a record at `start` has of itself: of its tag, its length or a varint
-abbrev pub IsOfRecord : (start : ℕ) → WireFault → Type 0
-IsOfRecord start (Truncated at) = at ≡ start
-IsOfRecord start (Varint at) = at ≡ start
-IsOfRecord start (FieldZero at) = at ≡ start
-IsOfRecord start (Group at) = at ≡ start
-IsOfRecord start (WireType at) = at ≡ start
-IsOfRecord start other = ⊥
+-- the fault that a function answers, unless memory ran out
+abbrev pub Blames : {X : Type 0} → Result X WireFault → (due : WireFault) → Type 0
+Blames result due = IfErr result (λ fault. (fault ≡ Memory) ⊎ (fault ≡ due))
+
+-- nothing is read, and the fault is the one that is due: of readers that take no memory
+abbrev pub Names : {Y : Type 0} → Option Y → (due fault : WireFault) → Type 0
+Names read due fault = (read ≡ None) × (fault ≡ due)

@@ -10,8 +10,9 @@ mod write;
 mod write_fault;
 
 pub use laws::{
-    bytes_decode_to_one_index, bytes_have_one_field_list, spelling_decodes_to_its_index,
-    spelling_is_of_pieces,
+    bytes_decode_or_have_a_fault, bytes_decode_to_one_index, bytes_have_one_field_list,
+    no_fault_where_bytes_decode, no_varint_is_cut_or_over, one_fault_of_bytes,
+    spelling_decodes_to_its_index, spelling_is_of_pieces,
 };
 pub use pieces::write_pieces;
 pub use read::read_index;

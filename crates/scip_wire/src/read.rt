@@ -1,10 +1,12 @@
 //! Reading an index from bytes.
 
-ghost use Rattle.std.specs.Prelude.{◌≡◌, IfOk, MatchResult};
+ghost use Rattle.std.specs.Prelude.{◌≡◌, ◌⊎◌, IfErr, IfOk, MatchResult};
 ghost use Rattle.scip_model.specs.declared.records.Index.{Index};
 ghost use Rattle.scip_wire.specs.Decodes.{Decodes};
-ghost use Rattle.scip_wire.specs.Gives.{Gives};
+ghost use Rattle.scip_wire.specs.Gives.{Blames, Gives};
 ghost use Rattle.scip_wire.specs.Reading.{index_at};
+ghost use Rattle.scip_wire.specs.Blamed.{index_fault};
+ghost use Rattle.scip_wire.specs.Refused.{NoIndex};
 
 mod document;
 mod field;
@@ -30,17 +32,21 @@ use std::alloc::Global;
 /// Symbols aren't checked against the grammar of symbols. The time is linear in the bytes, and no size is taken from
 /// a length that the bytes only claim.
 ///
-/// Each `WireFault` but `Memory` comes only if the bytes decode to no index.
+/// Each `WireFault` but `Memory` is that of the first record, in order of bytes, at which no reading goes on. Bytes
+/// that decode to an index have none (`no_fault_where_bytes_decode`), and others have one (`one_fault_of_bytes`,
+/// `bytes_decode_or_have_a_fault`).
 pub fn read_index(alloc: Global, bytes: &[u8]) -> Result<Index, WireFault>
     ensures found { IfOk result (λ index. Decodes bytes.now index) }
     ensures only { (index : Index) → Decodes bytes.now index → MatchResult result (λ i. i ≡ index) (λ e. e ≡ WireFault.Memory) }
+    ensures fault { IfErr result (λ e. (e ≡ WireFault.Memory) ⊎ NoIndex bytes.now e) }
 {
     read_whole(alloc, bytes)
 }
 
-#[tactic(auto, unfolding(crate::specs::Reading::index_at))]
+#[tactic(auto, unfolding(crate::specs::Reading::index_at, crate::specs::Blamed::index_fault))]
 fn read_whole(alloc: Global, bytes: &[u8]) -> Result<Index, WireFault>
-    ensures { Gives (λ i. i) result (index_at bytes.now) }
+    ensures reads { Gives (λ i. i) result (index_at bytes.now) }
+    ensures fault { Blames result (index_fault bytes.now) }
 {
     read_message(alloc, bytes, bytes.len())
 }

@@ -11,8 +11,7 @@ use std::fmt;
 ///
 /// An offset is that of the first byte of the innermost record that can't be read, counted in the
 /// whole input. A record's length is checked before its content is read. Within one tag the order
-/// is `Truncated`, `Varint`, `FieldZero`, `Group`, `WireType`. Which fault comes, and its offset, is
-/// shown by tests; the contract of `read_index` says only that no index decodes.
+/// is `Truncated`, `Varint`, `FieldZero`, `Group`, `WireType`.
 #[derive(Clone, Copy, Debug, Drop, PartialEq, Eq)]
 pub enum WireFault {
     /// A tag, a varint or a payload runs past the end of the input, or of the message or packed

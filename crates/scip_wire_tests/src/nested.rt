@@ -1,5 +1,6 @@
-//! Faults at each depth: varints of one to eleven bytes, and texts that aren't UTF-8. The offset of each is that of the
-//! innermost record; in front of it each message that holds it has a tag and a length, of one byte each.
+//! Faults at each depth: varints of one to eleven bytes, texts that aren't UTF-8, and records that can't be read. The
+//! offset of each is that of the innermost record; in front of it each message that holds it has a tag and a length, of
+//! one byte each.
 
 use crate::calls::see;
 use crate::refusals::is_refused;
@@ -25,6 +26,24 @@ const TAGS: [u8; 10] = *b"\x08\x18\x20\x30\x78\x0A\x12\x1A\x32\x7A";
 
 /// Bytes of a varint that all say that more follow.
 const ELEVEN: [u8; 11] = [0x80; 11];
+
+/// Records whose payload runs past their end: of a length, of eight bytes and of four.
+const CUT: [&[u8]; 5] = [
+    b"\x0A\x01",
+    b"\x12\x02a",
+    b"\x7A\x03ab",
+    b"\x79\x00\x00\x00\x00\x00\x00\x00",
+    b"\x7D\x00\x00\x00",
+];
+
+/// Tags of 2 ^ 32 or more, of field 0, of groups, and of types that there are not.
+const LARGE: [&[u8]; 2] = [b"\x80\x80\x80\x80\x10", b"\x8A\x80\x80\x80\x10\x00"];
+
+const ZERO: [&[u8]; 4] = [b"\x00\x00", b"\x02\x00", b"\x03", b"\x07"];
+
+const GROUPS: [&[u8]; 4] = [b"\x0B", b"\x0C", b"\x13\x14", b"\x7C"];
+
+const NO_TYPES: [&[u8]; 4] = [b"\x0E", b"\x0F", b"\x16\x00", b"\x7F"];
 
 /// A record, in two parts, in messages with these tags.
 fn nested(alloc: Global, tags: &[u8], front: &[u8], tail: &[u8]) -> Result<Vec<u8>, AllocError> {
@@ -55,6 +74,29 @@ fn see_record(
     Ok(())
 }
 
+/// Sees that each of these records is refused with this fault.
+fn see_each(
+    rt: &impl Abort,
+    alloc: Global,
+    tags: &[u8],
+    records: &[&[u8]],
+    due: WireFault,
+) -> Result<(), AllocError> {
+    for record in records {
+        see_record(rt, alloc, tags, *record, b"", due)?;
+    }
+    Ok(())
+}
+
+/// Sees the faults of records that can't be read.
+fn see_records(rt: &impl Abort, alloc: Global, tags: &[u8], at: usize) -> Result<(), AllocError> {
+    see_each(rt, alloc, tags, &CUT, WireFault::Truncated(at))?;
+    see_each(rt, alloc, tags, &LARGE, WireFault::Varint(at))?;
+    see_each(rt, alloc, tags, &ZERO, WireFault::FieldZero(at))?;
+    see_each(rt, alloc, tags, &GROUPS, WireFault::Group(at))?;
+    see_each(rt, alloc, tags, &NO_TYPES, WireFault::WireType(at))
+}
+
 /// Sees the fault of a varint that is cut off, or whose tenth byte is over 1.
 fn see_varints(
     rt: &impl Abort,
@@ -75,7 +117,7 @@ fn see_varints(
     Ok(())
 }
 
-/// Sees the faults of each varint and of each text in a message.
+/// Sees the faults of each varint, of each text and of other records in a message.
 fn see_message(
     rt: &impl Abort,
     alloc: Global,
@@ -89,6 +131,7 @@ fn see_message(
     for text in texts {
         see_record(rt, alloc, tags, &[*text, 1], b"\xFF", WireFault::Utf8(at))?;
     }
+    see_records(rt, alloc, tags, at)?;
     // The varint of a tag.
     see_varints(rt, alloc, tags, b"", at)
 }

@@ -1,6 +1,7 @@
 //! Documents.
 
 ghost use Rattle.scip_wire.specs.Reading.{no_document, document_step};
+ghost use Rattle.scip_wire.specs.Blamed.{document_step_fault};
 
 use crate::read::field::{Field, Payload};
 use crate::read::message::{Decode, add_message};
@@ -16,6 +17,8 @@ impl Decode for Document {
 
     ghost step = { document_step };
 
+    ghost step_fault = { document_step_fault };
+
     fn empty(alloc: Global) -> Document {
         Document {
             relative_path: OwnedText::new(alloc),
@@ -26,7 +29,7 @@ impl Decode for Document {
         }
     }
 
-    #[tactic(auto, unfolding(crate::specs::Reading::document_step, crate::specs::Reading::info_at, crate::specs::Reading::parted, crate::specs::Reading::both, crate::specs::Reading::column, crate::specs::Reading::more_after))]
+    #[tactic(auto, unfolding(crate::specs::Blamed::document_step_fault, crate::specs::Blamed::info_fault, crate::specs::Reading::document_step, crate::specs::Reading::info_at, crate::specs::Reading::parted, crate::specs::Reading::both, crate::specs::Reading::column, crate::specs::Reading::more_after))]
     fn merge_field(
         &mut self,
         alloc: Global,

@@ -1,8 +1,9 @@
 //! Records: a field's number and what it holds.
 
-ghost use Rattle.std.specs.Prelude.{◌≡◌, IfErr};
-ghost use Rattle.scip_wire.specs.Gives.{Gives, IsOfRecord};
+ghost use Rattle.std.specs.Prelude.{IfErr};
+ghost use Rattle.scip_wire.specs.Gives.{Gives, Names};
 ghost use Rattle.scip_wire.specs.Reading.{piece_at, payload_at, field_at};
+ghost use Rattle.scip_wire.specs.Blamed.{payload_fault, field_fault};
 ghost use Rattle.scip_wire.specs.Views.{payload_view, field_view};
 
 use crate::read::varint::{MAX_VARINT_LEN, varint_of};
@@ -28,7 +29,7 @@ pub struct Field<'a> {
 #[tactic(auto, unfolding(crate::specs::Reading::piece_at))]
 fn piece_of(bytes: &[u8], size: u64, start: usize) -> Result<(&[u8], &[u8]), WireFault>
     ensures reads { Gives (λ x. (x.0.now, x.1.now)) result (piece_at size bytes.now) }
-    ensures fault { IfErr result (IsOfRecord start) }
+    ensures fault { IfErr result (Names (piece_at size bytes.now) (WireFault.Truncated start)) }
 {
     if size > bytes.len() as u64 {
         return Err(WireFault::Truncated(start));
@@ -37,10 +38,10 @@ fn piece_of(bytes: &[u8], size: u64, start: usize) -> Result<(&[u8], &[u8]), Wir
 }
 
 /// The payload of a wire type that the bytes begin with, in a record at `start` in the input, and the bytes after it.
-#[tactic(auto, unfolding(crate::specs::Reading::payload_at))]
+#[tactic(auto, unfolding(crate::specs::Reading::payload_at, crate::specs::Blamed::payload_fault))]
 fn payload_of(bytes: &[u8], wire_type: u64, start: usize) -> Result<(Payload<'_>, &[u8]), WireFault>
     ensures reads { Gives (λ x. (payload_view x.0, x.1.now)) result (payload_at wire_type bytes.now) }
-    ensures fault { IfErr result (IsOfRecord start) }
+    ensures fault { IfErr result (Names (payload_at wire_type bytes.now) (payload_fault start wire_type bytes.now)) }
 {
     match wire_type {
         0 => {
@@ -67,10 +68,10 @@ fn payload_of(bytes: &[u8], wire_type: u64, start: usize) -> Result<(Payload<'_>
 
 /// The record that the bytes begin with, which is at `start` in the input, and the bytes after it (Protocol Buffers
 /// encoding, Message Structure).
-#[tactic(auto, unfolding(crate::specs::Reading::field_at))]
+#[tactic(auto, unfolding(crate::specs::Reading::field_at, crate::specs::Blamed::field_fault))]
 pub fn read_field(bytes: &[u8], start: usize) -> Result<(Field<'_>, &[u8]), WireFault>
     ensures reads { Gives (λ x. (field_view x.0, x.1.now)) result (field_at bytes.now) }
-    ensures fault { IfErr result (IsOfRecord start) }
+    ensures fault { IfErr result (Names (field_at bytes.now) (field_fault start bytes.now)) }
 {
     let (tag, rest) = varint_of(bytes, MAX_VARINT_LEN, start)?;
     if tag >= 1 << 32 {

@@ -1,6 +1,7 @@
 //! Indexes.
 
 ghost use Rattle.scip_wire.specs.Reading.{no_index, index_step};
+ghost use Rattle.scip_wire.specs.Blamed.{index_step_fault};
 
 use crate::read::field::{Field, Payload};
 use crate::read::message::{Decode, add_message, take_only};
@@ -14,6 +15,8 @@ impl Decode for Index {
 
     ghost step = { index_step };
 
+    ghost step_fault = { index_step_fault };
+
     fn empty(alloc: Global) -> Index {
         Index {
             metadata: None,
@@ -22,7 +25,7 @@ impl Decode for Index {
         }
     }
 
-    #[tactic(auto, unfolding(crate::specs::Reading::index_step, crate::specs::Reading::metadata_at, crate::specs::Reading::document_at, crate::specs::Reading::info_at, crate::specs::Reading::parted, crate::specs::Reading::both, crate::specs::Reading::column, crate::specs::Reading::more_after))]
+    #[tactic(auto, unfolding(crate::specs::Blamed::index_step_fault, crate::specs::Blamed::metadata_fault, crate::specs::Blamed::document_fault, crate::specs::Blamed::info_fault, crate::specs::Reading::index_step, crate::specs::Reading::metadata_at, crate::specs::Reading::document_at, crate::specs::Reading::info_at, crate::specs::Reading::parted, crate::specs::Reading::both, crate::specs::Reading::column, crate::specs::Reading::more_after))]
     fn merge_field(
         &mut self,
         alloc: Global,

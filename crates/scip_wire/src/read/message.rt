@@ -1,8 +1,10 @@
 //! Reading a message, record by record.
 
 ghost use Rattle.std.specs.Prelude.{◌≡◌, ◌≤◌, length};
-ghost use Rattle.scip_wire.specs.Gives.{Gives};
+ghost use Rattle.scip_wire.specs.Gives.{Blames, Gives};
 ghost use Rattle.scip_wire.specs.Reading.{fold_at, field_at, only_after, more_after};
+ghost use Rattle.scip_wire.specs.Blamed.{message_fault, only_fault};
+ghost use Rattle.scip_wire.specs.Fields.{Delimited};
 
 use crate::read::field::{Field, read_field};
 use crate::read::text::add;
@@ -12,14 +14,18 @@ use std::alloc::Global;
 
 /// A message that is made of its records: one without fields, into which they are merged in turn.
 pub trait Decode: Drop + Sized {
-    ghost use Rattle.std.specs.Prelude.{◌≡◌, ◌≤◌, Option};
+    ghost use Rattle.std.specs.Prelude.{◌≡◌, ◌≤◌, ℕ, Option};
     ghost use Rattle.scip_wire.specs.Fields.{Field};
-    ghost use Rattle.scip_wire.specs.Gives.{Gives};
+    ghost use Rattle.scip_wire.specs.Gives.{Blames, Gives};
+    ghost use Rattle.scip_wire.specs.declared.wire_fault.WireFault.{WireFault};
     ghost use Rattle.scip_wire.specs.Views.{payload_len, field_view};
 
     ghost none: { Self };
 
     ghost step: { Self → Field → Option Self };
+
+    // The fault of a record that can't be merged, from its start up to its end.
+    ghost step_fault: { Self → (start end : ℕ) → Field → WireFault };
 
     /// The message without fields. Takes no memory.
     fn empty(alloc: Global) -> Self
@@ -36,13 +42,15 @@ pub trait Decode: Drop + Sized {
         end: usize,
     ) -> Result<(), WireFault>
         requires { payload_len field.payload ≤ end }
-        ensures { Gives (λ _. self.new) result (step self.old (field_view field.entry)) };
+        ensures reads { Gives (λ _. self.new) result (step self.old (field_view field.entry)) }
+        ensures fault { Blames result (step_fault self.old start end (field_view field.entry)) };
 }
 
 /// The message that the bytes hold, which end at `end` in the input.
 pub fn read_message<M: Decode>(alloc: Global, bytes: &[u8], end: usize) -> Result<M, WireFault>
     requires { length bytes.now ≤ end }
-    ensures { Gives (λ m. m) result (fold_at field_at M.step bytes.now M.none) }
+    ensures reads { Gives (λ m. m) result (fold_at field_at M.step bytes.now M.none) }
+    ensures fault { Blames result (message_fault M.step M.step_fault end bytes.now M.none) }
 {
     let mut message = M::empty(alloc);
     let mut rest = bytes;
@@ -59,7 +67,7 @@ pub fn read_message<M: Decode>(alloc: Global, bytes: &[u8], end: usize) -> Resul
 /// record is at `start`.
 ///
 /// `Repeated` if there is an earlier one, whatever the bytes hold.
-#[tactic(auto, using(crate::proofs::ColumnLemmas::only_taken, crate::proofs::ColumnLemmas::only_first))]
+#[tactic(auto, using(crate::proofs::ColumnLemmas::only_taken, crate::proofs::ColumnLemmas::only_first, crate::proofs::BlamedFoldLemmas::only_again, crate::proofs::BlamedFoldLemmas::only_inside))]
 pub fn take_only<M: Decode>(
     alloc: Global,
     place: &mut Option<M>,
@@ -68,7 +76,9 @@ pub fn take_only<M: Decode>(
     end: usize,
 ) -> Result<(), WireFault>
     requires { length bytes.now ≤ end }
-    ensures { Gives (λ _. place.new) result (only_after (λ b. fold_at field_at M.step b M.none) place.old bytes.now) }
+    ensures reads { Gives (λ _. place.new) result (only_after (λ b. fold_at field_at M.step b M.none) place.old bytes.now) }
+    ensures fault { Blames result
+        (only_fault (λ end bytes. message_fault M.step M.step_fault end bytes M.none) start end place.old (Delimited bytes.now)) }
 {
     if place.is_some() {
         return Err(WireFault::Repeated(start));
@@ -87,7 +97,8 @@ pub fn add_message<M: Decode>(
     end: usize,
 ) -> Result<(), WireFault>
     requires { length bytes.now ≤ end }
-    ensures { Gives (λ _. messages.new) result (more_after (λ b. fold_at field_at M.step b M.none) messages.old bytes.now) }
+    ensures reads { Gives (λ _. messages.new) result (more_after (λ b. fold_at field_at M.step b M.none) messages.old bytes.now) }
+    ensures fault { Blames result (message_fault M.step M.step_fault end bytes.now M.none) }
 {
     Ok(add(messages, read_message(alloc, bytes, end)?)?)
 }

@@ -1,6 +1,7 @@
 //! Metadata.
 
 ghost use Rattle.scip_wire.specs.Reading.{no_metadata, metadata_step};
+ghost use Rattle.scip_wire.specs.Blamed.{metadata_step_fault};
 
 use crate::read::field::{Field, Payload};
 use crate::read::message::{Decode, take_only};
@@ -15,6 +16,8 @@ impl Decode for Metadata {
 
     ghost step = { metadata_step };
 
+    ghost step_fault = { metadata_step_fault };
+
     fn empty(alloc: Global) -> Metadata {
         Metadata {
             version: 0,
@@ -24,7 +27,7 @@ impl Decode for Metadata {
         }
     }
 
-    #[tactic(auto, unfolding(crate::specs::Reading::metadata_step, crate::specs::Reading::tool_info_at, crate::specs::Reading::parted, crate::specs::Reading::both, crate::specs::Reading::column))]
+    #[tactic(auto, unfolding(crate::specs::Blamed::metadata_step_fault, crate::specs::Blamed::tool_info_fault, crate::specs::Reading::metadata_step, crate::specs::Reading::tool_info_at, crate::specs::Reading::parted, crate::specs::Reading::both, crate::specs::Reading::column))]
     fn merge_field(
         &mut self,
         alloc: Global,

@@ -1,8 +1,9 @@
 //! Occurrences.
 
 ghost use Rattle.std.specs.Prelude.{◌≡◌, ◌≤◌, length};
-ghost use Rattle.scip_wire.specs.Gives.{Gives};
+ghost use Rattle.scip_wire.specs.Gives.{Blames, Gives};
 ghost use Rattle.scip_wire.specs.Reading.{occurrence_after};
+ghost use Rattle.scip_wire.specs.Blamed.{occurrence_fault};
 
 use crate::read::field::{Field, Payload};
 use crate::read::message::{Decode, read_message};
@@ -23,10 +24,13 @@ pub struct OccurrenceParts {
 
 impl Decode for OccurrenceParts {
     ghost use Rattle.scip_wire.specs.Reading.{no_parts, occurrence_step};
+    ghost use Rattle.scip_wire.specs.Blamed.{occurrence_step_fault};
 
     ghost none = { no_parts };
 
     ghost step = { occurrence_step };
+
+    ghost step_fault = { occurrence_step_fault };
 
     fn empty(alloc: Global) -> OccurrenceParts {
         OccurrenceParts {
@@ -36,7 +40,7 @@ impl Decode for OccurrenceParts {
         }
     }
 
-    #[tactic(auto, unfolding(crate::specs::Reading::occurrence_step, crate::specs::Reading::parted, crate::specs::Reading::both, crate::specs::Reading::column), using(crate::proofs::DecodesLemmas::fold_of_packed))]
+    #[tactic(auto, unfolding(crate::specs::Blamed::occurrence_step_fault, crate::specs::Reading::occurrence_step, crate::specs::Reading::parted, crate::specs::Reading::both, crate::specs::Reading::column), using(crate::proofs::DecodesLemmas::fold_of_packed))]
     fn merge_field(
         &mut self,
         alloc: Global,
@@ -59,7 +63,7 @@ impl Decode for OccurrenceParts {
 
 /// Adds the occurrence that the bytes hold, which end at `end` in the input; its record is at
 /// `start`. One without range numbers isn't added. After an error the occurrences are of no use.
-#[tactic(auto, unfolding(crate::specs::Reading::occurrence_at, crate::specs::Reading::occurrence_of, crate::specs::Reading::parts_at))]
+#[tactic(auto, unfolding(crate::specs::Blamed::occurrence_fault, crate::specs::Blamed::parts_fault, crate::specs::Reading::occurrence_at, crate::specs::Reading::occurrence_of, crate::specs::Reading::parts_at))]
 pub fn add_occurrence(
     alloc: Global,
     occurrences: &mut Sequence<Occurrence>,
@@ -68,7 +72,8 @@ pub fn add_occurrence(
     end: usize,
 ) -> Result<(), WireFault>
     requires { length bytes.now ≤ end }
-    ensures { Gives (λ _. occurrences.new) result (occurrence_after occurrences.old bytes.now) }
+    ensures reads { Gives (λ _. occurrences.new) result (occurrence_after occurrences.old bytes.now) }
+    ensures fault { Blames result (occurrence_fault start end bytes.now) }
 {
     let parts: OccurrenceParts = read_message(alloc, bytes, end)?;
     let OccurrenceParts {

@@ -1,9 +1,10 @@
 //! Ranges.
 
 ghost use Rattle.std.specs.Prelude.{◌≡◌};
-ghost use Rattle.scip_wire.specs.Gives.{Gives};
+ghost use Rattle.scip_wire.specs.Gives.{Blames, Gives};
 ghost use Rattle.scip_wire.specs.Fields.{max_varint_len};
 ghost use Rattle.scip_wire.specs.Reading.{fold_at, varint_at, packed_step, range_at};
+ghost use Rattle.scip_wire.specs.Blamed.{packed_fault};
 
 use crate::read::text::{add, low_bits};
 use crate::read::varint::{MAX_VARINT_LEN, varint_of};
@@ -14,7 +15,8 @@ use sequences::Sequence;
 /// Adds the numbers of a packed field, whose record is at `start` in the input (Protocol Buffers
 /// encoding, Packed Repeated Fields). After an error the numbers are of no use.
 pub fn add_packed(numbers: &mut Sequence<u32>, bytes: &[u8], start: usize) -> Result<(), WireFault>
-    ensures { Gives (λ _. numbers.new) result (fold_at (varint_at max_varint_len) packed_step bytes.now numbers.old) }
+    ensures reads { Gives (λ _. numbers.new) result (fold_at (varint_at max_varint_len) packed_step bytes.now numbers.old) }
+    ensures fault { Blames result (packed_fault start bytes.now numbers.old) }
 {
     let mut rest = bytes;
     'varints: while !rest.is_empty() {

@@ -1,6 +1,7 @@
 //! Symbol information.
 
 ghost use Rattle.scip_wire.specs.Reading.{no_info, info_step};
+ghost use Rattle.scip_wire.specs.Blamed.{text_fault};
 
 use crate::read::field::{Field, Payload};
 use crate::read::message::Decode;
@@ -14,6 +15,8 @@ impl Decode for SymbolInformation {
     ghost none = { no_info };
 
     ghost step = { info_step };
+
+    ghost step_fault = { text_fault };
 
     fn empty(alloc: Global) -> SymbolInformation {
         SymbolInformation {

@@ -1,7 +1,7 @@
 //! Texts and numbers of fields.
 
 ghost use Rattle.std.specs.Prelude.{◌≡◌, ◌++◌, [], ◌∷◌, OnOk};
-ghost use Rattle.scip_wire.specs.Gives.{Gives};
+ghost use Rattle.scip_wire.specs.Gives.{Blames, Gives};
 ghost use Rattle.scip_wire.specs.Decodes.{low_32_bits};
 ghost use Rattle.scip_wire.specs.Reading.{text_at, text_after, number_at};
 
@@ -13,7 +13,8 @@ use std::str;
 /// The text of a field, whose record is at `start` in the input.
 #[tactic(auto, unfolding(crate::specs::Reading::text_at), using(crate::proofs::TextLemmas::text_of_utf8, crate::proofs::TextLemmas::none_of_others))]
 pub fn text_of(alloc: Global, bytes: &[u8], start: usize) -> Result<OwnedText, WireFault>
-    ensures { Gives (λ t. t) result (text_at bytes.now) }
+    ensures reads { Gives (λ t. t) result (text_at bytes.now) }
+    ensures fault { Blames result (WireFault.Utf8 start) }
 {
     match str::from_utf8(bytes) {
         Ok(text) => Ok(OwnedText::from_string(String::from_str(alloc, text)?)),
@@ -29,7 +30,8 @@ pub fn take_text(
     bytes: &[u8],
     start: usize,
 ) -> Result<(), WireFault>
-    ensures { Gives (λ _. text.new) result (text_at bytes.now) }
+    ensures reads { Gives (λ _. text.new) result (text_at bytes.now) }
+    ensures fault { Blames result (WireFault.Utf8 start) }
 {
     *text = text_of(alloc, bytes, start)?;
     Ok(())
@@ -52,7 +54,8 @@ pub fn add_text(
     bytes: &[u8],
     start: usize,
 ) -> Result<(), WireFault>
-    ensures { Gives (λ _. texts.new) result (text_after texts.old bytes.now) }
+    ensures reads { Gives (λ _. texts.new) result (text_after texts.old bytes.now) }
+    ensures fault { Blames result (WireFault.Utf8 start) }
 {
     Ok(add(texts, text_of(alloc, bytes, start)?)?)
 }

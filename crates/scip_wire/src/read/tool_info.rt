@@ -1,6 +1,7 @@
 //! Tool information.
 
 ghost use Rattle.scip_wire.specs.Reading.{no_tool_info, tool_info_step};
+ghost use Rattle.scip_wire.specs.Blamed.{text_fault};
 
 use crate::read::field::{Field, Payload};
 use crate::read::message::Decode;
@@ -14,6 +15,8 @@ impl Decode for ToolInfo {
     ghost none = { no_tool_info };
 
     ghost step = { tool_info_step };
+
+    ghost step_fault = { text_fault };
 
     fn empty(alloc: Global) -> ToolInfo {
         ToolInfo {

@@ -1,8 +1,9 @@
 //! Varints.
 
 ghost use Rattle.std.specs.Prelude.{◌<◌, IfErr};
-ghost use Rattle.scip_wire.specs.Gives.{Gives, IsOfRecord};
+ghost use Rattle.scip_wire.specs.Gives.{Gives, Names};
 ghost use Rattle.scip_wire.specs.Reading.{varint_at};
+ghost use Rattle.scip_wire.specs.Blamed.{varint_fault};
 
 use crate::wire_fault::WireFault;
 
@@ -11,11 +12,11 @@ pub const MAX_VARINT_LEN: usize = 10;
 
 /// The varint of at most `limit` bytes that the bytes begin with, in a record at `start` in the input, and the bytes
 /// after it (Protocol Buffers encoding, Base 128 Varints). It may be longer than its value needs.
-#[tactic(auto, unfolding(crate::specs::Reading::varint_at))]
+#[tactic(auto, unfolding(crate::specs::Reading::varint_at, crate::specs::Blamed::varint_fault))]
 pub fn varint_of(bytes: &[u8], limit: usize, start: usize) -> Result<(u64, &[u8]), WireFault>
     requires { 0 < limit }
     ensures reads { Gives (λ x. (x.0, x.1.now)) result (varint_at limit bytes.now) }
-    ensures fault { IfErr result (IsOfRecord start) }
+    ensures fault { IfErr result (Names (varint_at limit bytes.now) (varint_fault start limit bytes.now)) }
 {
     let [byte, rest @ ..] = bytes else {
         return Err(WireFault::Truncated(start));

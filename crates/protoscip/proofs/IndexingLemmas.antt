@@ -67,7 +67,6 @@ module _ (decodes : SpellingDecodes) (one : OneDecoding) (index : Index) (known 
     not_written writing.TooLarge large leaves = (large.0 refl, leaves)
     not_written (writing.Write count) large leaves =
         (spelled_unless (stopped (writing.Write count) ≡ stopped writing.TooLarge) large (λ same. cc), leaves)
-    not_written writing.Memory large leaves = leaves
 
 -- ---- the parts of an index, of whose documents the records are kept
 
@@ -125,7 +124,7 @@ module _ (W : Type 0) (contents : W → Option (List ℕ)) (failures : W → ℕ
     pub unwritten : (e : Fault) → WritesIndex contents failures built.index before after (Err e)
         → Indexes contents failures allows settings tree workers before after (Err e)
     unwritten fault.Spawn wrote = absurd wrote
-    unwritten fault.Memory wrote = (tt, wrote)
+    unwritten fault.Memory wrote = absurd wrote
     unwritten (fault.Lex number e) wrote = absurd wrote
     unwritten (fault.Syntax number e) wrote = absurd wrote
     unwritten (fault.Duplicate first second) wrote = absurd wrote
@@ -156,7 +155,7 @@ pub no_files : (W : Type 0) (contents : W → Option (List ℕ)) (failures : W �
     (before after : W) (index : Index) (e : Fault)
     → WritesIndex contents failures index before after (Err e) → HasFilesOf tree e
 no_files W contents failures tree before after index fault.Spawn wrote = tt
-no_files W contents failures tree before after index fault.Memory wrote = tt
+no_files W contents failures tree before after index fault.Memory wrote = absurd wrote
 no_files W contents failures tree before after index (fault.Lex number e) wrote = absurd wrote
 no_files W contents failures tree before after index (fault.Syntax number e) wrote = absurd wrote
 no_files W contents failures tree before after index (fault.Duplicate first second) wrote = absurd wrote

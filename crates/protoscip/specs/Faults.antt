@@ -34,7 +34,6 @@ fault_of_spelling spelling.Memory = Memory
 abbrev pub fault_of_writing : WriteFault → Fault
 fault_of_writing writing.TooLarge = TooLarge
 fault_of_writing (writing.Write count) = Write count
-fault_of_writing writing.Memory = Memory
 
 -- a failed write of answers isn't one of an index
 abbrev pub fault_of_answering : AnswerFault → Fault

@@ -14,7 +14,7 @@ pub record IsRecordOf (document : Document) (bytes : List ℕ) : Type 0 where
   pub record_is : bytes ≡ document_record document
   pub fit : IsFitDocument document
 
--- its bytes are written, all or the first `count`; or it has too many, or memory ran out, and the writer is as it was
+-- its bytes are written, all or the first `count`; or it has too many, and the writer is as it was
 abbrev pub WritesIndex : {W : Type 0} → (contents : W → Option (List ℕ)) → (failures : W → ℕ) → Index → W → W
     → Result (Unit {0}) Fault → Type 0
 WritesIndex contents failures index before after (Ok done) =
@@ -23,7 +23,6 @@ WritesIndex contents failures index before after (Err (Write count)) =
     IsSpelled index (spelling_of index) × IsCutOff contents failures before after (spelling_of index) count
 WritesIndex contents failures index before after (Err TooLarge) =
     (max_index_len < length (spelling_of index)) × (after ≡ before)
-WritesIndex contents failures index before after (Err Memory) = after ≡ before
 WritesIndex contents failures index before after (Err other) = ⊥
 
 -- what is read back of an index's bytes is the index

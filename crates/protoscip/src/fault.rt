@@ -105,7 +105,6 @@ impl From<WriteFault> for Fault {
         match fault {
             WriteFault::TooLarge => Fault::TooLarge,
             WriteFault::Write(count) => Fault::Write(count as u64),
-            WriteFault::Memory => Fault::Memory,
         }
     }
 }

@@ -31,11 +31,7 @@ use streams::Sink;
 /// Writes the bytes of an index, of whose documents the records are given.
 ///
 /// `TooLarge`: it has more than `MAX_INDEX_LEN`. `Write(count)`: a write failed after `count` of them.
-fn write_spelled<W: Sink>(
-    alloc: Global,
-    parts: &Parts<Sequence<u8>>,
-    out: &mut W,
-) -> Result<(), Fault>
+fn write_spelled<W: Sink>(parts: &Parts<Sequence<u8>>, out: &mut W) -> Result<(), Fault>
     ensures { (index : Index) → ArePartsOf IsRecordOf index parts.now → WritesIndex W.contents W.failures index out.old
         out.new result }
 {
@@ -43,7 +39,6 @@ fn write_spelled<W: Sink>(
     spelling_decodes_to_its_index();
     bytes_decode_to_one_index();
     write_pieces(
-        alloc,
         &parts.metadata,
         parts.documents.as_slice(),
         &parts.external_symbols,
@@ -88,7 +83,7 @@ pub fn index_and_keep<'a, R: Threads + Wait, C: Chooses + Sync, G: Gate, W: Sink
     headline_of_tree(chooser, tree, settings);
     let built = build_in_form(run, tree, chooser, settings, &AsBytes)?;
     let text = text_of_lacks(run.alloc, tree, built.told.as_slice(), explain)?;
-    write_spelled(run.alloc, &built.parts, out)?;
+    write_spelled(&built.parts, out)?;
     Ok(KeptIndex { built, text })
 }
 

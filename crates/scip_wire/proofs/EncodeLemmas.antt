@@ -1,17 +1,10 @@
--- `Encode`: a message is its fields, one after another.
-use Rattle.std.proofs.Common.{◌≡◌, ℕ, ◌+◌, ◌-◌, ◌^◌, min, List, ◌++◌, length, sym, ap, ◌∙◌, arith, subst, ℤ}
-use Rattle.std.proofs.Common.{append_assoc, length-append}
+-- `Encode`: a message is as long as its fields, one after another.
+use Rattle.std.proofs.Common.{◌≡◌, ℕ, ◌+◌, ◌-◌, ◌^◌, min, List, ◌++◌, length, ap, arith, subst, ℤ}
+use Rattle.std.proofs.Common.{length-append}
 use Rattle.std.proofs.lemmas.Grind.{flat_map-append}
 use Rattle.scip_wire.specs.Fields.{Field}
 use Rattle.scip_wire.specs.Spelling.{bytes_of, field_bytes, int_fields}
 use Rattle.scip_wire.specs.Saturated.{saturated, fields_len}
-
--- one part after another
-pub joined : (fs gs : List Field) (a b c : List ℕ) → b ≡ a ++ bytes_of fs → c ≡ b ++ bytes_of gs
-    → c ≡ a ++ bytes_of (fs ++ gs)
-joined fs gs a b c p q =
-    q ∙ ap (λ l. l ++ bytes_of gs) p ∙ append_assoc a (bytes_of fs) (bytes_of gs)
-    ∙ ap (λ l. a ++ l) (sym (flat_map-append field_bytes fs gs))
 
 -- one part's length and another's
 pub added : (fs gs : List Field) (m n r : ℕ) → m ≡ saturated (fields_len fs) → n ≡ saturated (fields_len gs)
@@ -24,7 +17,3 @@ added fs gs m n r p q e =
 pub int_len-same : (k n : ℕ) (y z : ℤ) → y ≡ z → n ≡ saturated (fields_len (int_fields k y))
     → n ≡ saturated (fields_len (int_fields k z))
 int_len-same k n y z e p = subst (λ x. n ≡ saturated (fields_len (int_fields k x))) e p
-
-pub encode_int-same : (k : ℕ) (a b : List ℕ) (y z : ℤ) → y ≡ z → b ≡ a ++ bytes_of (int_fields k y)
-    → b ≡ a ++ bytes_of (int_fields k z)
-encode_int-same k a b y z e p = subst (λ x. b ≡ a ++ bytes_of (int_fields k x)) e p

@@ -24,6 +24,8 @@ pub mod TenthByteLemmas
 -- From an index to its fields and their bytes.
 pub mod SpelledVarintLemmas
 pub mod SaturatedLemmas
+pub mod OutputLemmas
+pub mod BufferLemmas
 pub mod EncodeLemmas
 pub mod PieceLemmas
 -- And back: spelled fields are the fields of their bytes, and a spelled index is what its bytes decode to.

@@ -1,6 +1,6 @@
 -- Steps of a shortest varint.
-use Rattle.std.proofs.Common.{◌≡◌, ℕ, zero, suc, ◌+◌, ◌/◌, ◌%◌, ◌^◌, ◌<◌, ◌≤◌, true, false, cond, List, [], ◌∷◌, ◌++◌}
-use Rattle.std.proofs.Common.{length, refl, sym, ap, ◌∙◌, arith, nat_lt, inl, inr, pow-suc, append_assoc}
+use Rattle.std.proofs.Common.{◌≡◌, ℕ, zero, suc, ◌+◌, ◌/◌, ◌%◌, ◌^◌, ◌<◌, ◌≤◌, true, false, cond, [], ◌∷◌}
+use Rattle.std.proofs.Common.{length, refl, sym, ap, ◌∙◌, arith, nat_lt, inl, inr, pow-suc}
 use Rattle.std.proofs.lemmas.Bool.{cases_lt}
 use Rattle.std.proofs.lemmas.Bool.Decides.{nat_tests}
 use Rattle.scip_wire.specs.Spelling.{varint, varint_of_groups}
@@ -55,9 +55,3 @@ groups_le (suc further) n =
 
 pub length-varint-le : (n : ℕ) → length (varint n) ≤ 10
 length-varint-le n = groups_le 9 n
-
--- a byte goes from the front of what is to come to the end of what stands
-pub pushed : (out items whole target : List ℕ) (b : ℕ) (tail : List ℕ) → items ≡ out ++ b ∷ [] → whole ≡ b ∷ tail
-    → out ++ whole ≡ target → items ++ tail ≡ target
-pushed out items whole target b tail e w t =
-    ap (λ l. l ++ tail) e ∙ append_assoc out (b ∷ []) tail ∙ ap (λ l. out ++ l) (sym w) ∙ t

@@ -14,6 +14,8 @@ pub mod Blamed
 pub mod Gives
 -- What the writer computes and answers.
 pub mod Saturated
+pub mod Outputs
+pub mod Buffered
 pub mod Writing
 -- what is said about a fault
 pub mod WireFaults

@@ -1,12 +1,15 @@
 //! The spelling of an index.
 
+mod buffer;
 mod fields;
 mod message;
+mod output;
 mod pieces;
 mod range;
 mod records;
 mod varint;
 
+pub(crate) use buffer::Buffer;
 pub(crate) use message::Encode;
 pub use pieces::spell_document;
-pub(crate) use pieces::{pieces_len, spell_externals, spell_metadata};
+pub(crate) use pieces::{encode_pieces, pieces_len};

@@ -1,19 +1,16 @@
 //! Writing an index.
 
-ghost use Rattle.std.specs.Prelude.{◌≡◌, ◌<◌, ◌≤◌, ◌↔◌, length, map, IfOk, IfErr, OnOk, OkIff, Err};
-ghost use Rattle.streams.specs.WholeWrites.{IsWritten};
-ghost use Rattle.scip_wire.specs.Spelling.{document_record, spelling_of, max_index_len};
+ghost use Rattle.std.specs.Prelude.{◌≡◌, ◌<◌, ◌≤◌, ◌↔◌, length, IfOk, IfErr, OnOk, OkIff, Err};
+ghost use Rattle.streams.specs.WholeWrites.{IsWritten, IsCutOff};
+ghost use Rattle.scip_wire.specs.Spelling.{spelling_of, max_index_len};
 ghost use Rattle.scip_wire.specs.WellFormed.{IsWellFormed};
 ghost use Rattle.scip_wire.specs.Writing.{Leaves};
 
-use crate::laws::spelling_is_of_pieces;
-use crate::pieces::write_pieces;
-use crate::spell::{Encode, spell_document};
+use crate::spell::{Buffer, Encode};
 use crate::write_fault::{SpellFault, TooLarge, WriteFault};
 use scip_model::Index;
-use sequences::Sequence;
 use std::alloc::Global;
-use streams::Sink;
+use streams::{CutOff, Sink};
 
 /// The most bytes that an index may have: the Protocol Buffers libraries' own limit.
 pub const MAX_INDEX_LEN: u32 = 2147483647;
@@ -38,39 +35,29 @@ pub fn spell_index(alloc: Global, index: &Index) -> Result<Vec<u8>, SpellFault>
 {
     let len = encoded_len(index)?;
     let mut bytes = Vec::with_capacity(alloc, len as usize)?;
-    index.encode(&mut bytes)?;
+    index.encode(&mut bytes, &mut ());
     Ok(bytes)
 }
 
-/// The record of each document of an index, in order.
-fn spell_documents(alloc: Global, index: &Index) -> Result<Vec<Sequence<u8>>, SpellFault>
-    ensures records { IfOk result (λ records. records.items ≡ map document_record index.now.documents) }
-    ensures too_large { (result ≡ Err SpellFault.TooLarge) ↔ (max_index_len < length (spelling_of index.now)) }
-    ensures known { IsWellFormed index.now }
+/// Writes the spelling of an index that isn't too long.
+fn write_spelling<W: Sink>(index: &Index, sink: &mut W) -> Result<(), CutOff>
+    requires { length (spelling_of index.now) ≤ max_index_len }
+    ensures ok { OnOk result (IsWritten W.contents W.failures sink.old sink.new (spelling_of index.now)) }
+    ensures err { IfErr result (λ e. IsCutOff W.contents W.failures sink.old sink.new (spelling_of index.now) e.written) }
 {
-    encoded_len(index)?;
-    let documents = index.documents.as_slice();
-    let mut records = Vec::with_capacity(alloc, documents.len())?;
-    'documents: for document in documents {
-        records.push(spell_document(alloc, document)?)?;
-    }
-    Ok(records)
+    let mut out = Buffer::new();
+    index.encode(&mut out, sink);
+    out.finish(sink)
 }
 
-/// Writes the spelling of an index.
-pub fn write_index<W: Sink>(alloc: Global, index: &Index, sink: &mut W) -> Result<(), WriteFault>
+/// Writes the spelling of an index, as it comes: some 8 KiB of it on the stack at a time. Takes no memory.
+pub fn write_index<W: Sink>(index: &Index, sink: &mut W) -> Result<(), WriteFault>
     ensures ok { OnOk result (IsWritten W.contents W.failures sink.old sink.new (spelling_of index.now)) }
     ensures too_large { (result ≡ Err WriteFault.TooLarge) ↔ (max_index_len < length (spelling_of index.now)) }
     ensures refused { IfErr result (Leaves W.contents W.failures sink.old sink.new (spelling_of index.now)) }
     ensures known { IsWellFormed index.now }
 {
-    spelling_is_of_pieces();
-    let documents = spell_documents(alloc, index)?;
-    write_pieces(
-        alloc,
-        &index.metadata,
-        &documents,
-        &index.external_symbols,
-        sink,
-    )
+    encoded_len(index)?;
+    write_spelling(index, sink)?;
+    Ok(())
 }

@@ -1,6 +1,7 @@
 //! Why an index isn't written.
 
 use std::alloc::{AllocError, AllocFailed};
+use streams::CutOff;
 use thiserror::Error;
 
 /// The spelling of an index is longer than `MAX_INDEX_LEN` bytes.
@@ -28,9 +29,6 @@ pub enum WriteFault {
     /// A write failed after this many bytes of the spelling, counted from the first.
     #[error("Write({0})")]
     Write(usize),
-    /// Memory ran out. Nothing was written.
-    #[error("Memory")]
-    Memory,
 }
 
 impl From<AllocError> for SpellFault {
@@ -66,16 +64,24 @@ impl From<TooLarge> for SpellFault {
     }
 }
 
-impl From<SpellFault> for WriteFault {
-    ghost use Rattle.scip_wire.specs.Writing.{write_fault_of};
+impl From<TooLarge> for WriteFault {
     ghost use Rattle.std.specs.Prelude.{◌≡◌};
+    ghost use Rattle.scip_wire.specs.declared.write_fault.WriteFault.TheVariants.{TooLarge};
 
-    ghost from_gives = { λ fault e. e ≡ write_fault_of fault };
+    ghost from_gives = { λ _ e. e ≡ TooLarge };
 
-    fn from(fault: SpellFault) -> WriteFault {
-        match fault {
-            SpellFault::TooLarge => WriteFault::TooLarge,
-            SpellFault::Memory => WriteFault::Memory,
-        }
+    fn from(_refused: TooLarge) -> WriteFault {
+        WriteFault::TooLarge
+    }
+}
+
+impl From<CutOff> for WriteFault {
+    ghost use Rattle.std.specs.Prelude.{◌≡◌};
+    ghost use Rattle.scip_wire.specs.declared.write_fault.WriteFault.TheVariants.{Write};
+
+    ghost from_gives = { λ cut_off e. e ≡ Write cut_off.written };
+
+    fn from(cut_off: CutOff) -> WriteFault {
+        WriteFault::Write(cut_off.written)
     }
 }

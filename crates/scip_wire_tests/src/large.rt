@@ -1,4 +1,4 @@
-//! An index with a text of 100,000 bytes, which no call may refuse for its size, and whose writing
+//! An index with a text of 100,000 bytes, which no call may refuse for its size, and whose spelling
 //! asks for no more memory than it needs.
 
 use crate::calls::{decoded, is_spelled, see};
@@ -24,16 +24,16 @@ fn bytes_of_index(alloc: Global) -> Result<Vec<u8>, AllocError> {
     Ok(bytes)
 }
 
-/// Sees that a writer gets an index at once, and that it is spelled in place.
+/// Sees that a writer gets the heads and then the text at once, and that the index is spelled in place.
 fn see_index(rt: &impl Abort, alloc: Global, index: &Index, bytes: &mut [u8]) {
     see(rt, is_spelled(alloc, index, bytes), "spelled");
     let size = bytes.len();
-    let found = written(alloc, index, bytes);
+    let found = written(index, bytes);
     see(rt, found.answer == Ok(()) && found.count == size, "written");
-    see(rt, found.calls == 1, "one write");
+    see(rt, found.calls == 2, "two writes");
 }
 
-/// Sees that bytes are read, and what is read is written at once as they.
+/// Sees that bytes are read, and what is read is written as they.
 fn see_large(rt: &impl Abort, alloc: Global, bytes: &mut [u8]) {
     match decoded(alloc, bytes) {
         Ok(index) => see_index(rt, alloc, &index, bytes),

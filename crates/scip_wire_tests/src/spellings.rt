@@ -36,7 +36,7 @@ static OTHERS: [(&[u8], &[u8]); 3] = [
 
 /// Sees that an index is as long as these bytes, and spelled and written as them.
 fn is_written(rt: &impl Abort, alloc: Global, index: &Index, want: &[u8]) -> bool {
-    see_written(rt, alloc, index, want);
+    see_written(rt, index, want);
     is_long(index, want.len()) && is_spelled(alloc, index, want)
 }
 

@@ -3,7 +3,6 @@
 use crate::calls::see;
 use scip_model::Index;
 use scip_wire::{WriteFault, write_index};
-use std::alloc::Global;
 use std::io;
 use std::io::Write;
 use std::process::Abort;
@@ -35,10 +34,11 @@ pub struct Outcome {
     pub calls: u32,
 }
 
-fn written_once(alloc: Global, index: &Index, room: &mut [u8]) -> Outcome {
+/// What becomes of an index with this room.
+pub fn written(index: &Index, room: &mut [u8]) -> Outcome {
     let size = room.len();
     let mut sink = Std::new(Counting { room, calls: 0 });
-    let answer = write_index(alloc, index, &mut sink);
+    let answer = write_index(index, &mut sink);
     let writer = sink.into_inner();
     Outcome {
         answer,
@@ -47,20 +47,11 @@ fn written_once(alloc: Global, index: &Index, room: &mut [u8]) -> Outcome {
     }
 }
 
-/// What becomes of an index with this room. After `Memory` it is written again, and that counts.
-pub fn written(alloc: Global, index: &Index, room: &mut [u8]) -> Outcome {
-    let first = written_once(alloc, index, room);
-    if first.answer != Err(WriteFault::Memory) {
-        return first;
-    }
-    written_once(alloc, index, room)
-}
-
 /// Sees that a writer with room for these bytes alone, which are 200 at most, gets them.
-pub fn see_written(rt: &impl Abort, alloc: Global, index: &Index, bytes: &[u8]) {
+pub fn see_written(rt: &impl Abort, index: &Index, bytes: &[u8]) {
     let mut room = [0u8; 200];
     let (room, _) = room.split_at_mut(bytes.len().min(200));
-    let found = written(alloc, index, room);
+    let found = written(index, room);
     see(rt, found.count == bytes.len() && *room == *bytes, "bytes");
     see(rt, found.answer == Ok(()), "answer");
 }

@@ -1,13 +1,14 @@
 //! The records of fields: of bytes, of texts and of numbers.
 
-ghost use Rattle.std.specs.Prelude.{◌≡◌, ◌++◌, ◌≤◌, ◌+◌, ◌*◌, List, ℕ, [], ◌∷◌, length, All, OnOk, IsUtf8};
+ghost use Rattle.std.specs.Prelude.{◌≡◌, ◌≤◌, ◌+◌, ◌*◌, List, ℕ, [], ◌∷◌, length, All, IsUtf8};
 ghost use Rattle.scip_wire.specs.Fields.{max_field_number};
 ghost use Rattle.scip_wire.specs.Spelling.{bytes_of, bytes_field, text_fields, int_fields, repeated_text_fields, in_64_bits};
 ghost use Rattle.scip_wire.specs.Saturated.{saturated, fields_len};
+ghost use Rattle.scip_wire.specs.Outputs.{IsPut};
 
+use super::output::Output;
 use super::varint::{encode_varint, varint_len};
 use sequences::{OwnedText, Sequence};
-use std::alloc::AllocError;
 
 /// The length of a record with so many bytes, with its tag and length.
 pub(super) fn record_len(number: u64, len: u64) -> u64
@@ -27,15 +28,14 @@ fn element_len(number: u64, text: &str) -> u64
     record_len(number, text.len() as u64)
 }
 
-/// Appends a record of these bytes.
-pub(super) fn encode_record(out: &mut Vec<u8>, number: u64, bytes: &[u8]) -> Result<(), AllocError>
+/// Puts a record of these bytes.
+pub(super) fn encode_record<W, O: Output<W>>(out: &mut O, sink: &mut W, number: u64, bytes: &[u8])
     requires { number ≤ max_field_number }
-    ensures { OnOk result (out.new.items ≡ out.old.items ++ bytes_of (bytes_field number bytes.now ∷ [])) }
+    ensures { IsPut O.holds sink.old out.old sink.new out.new (bytes_of (bytes_field number bytes.now ∷ [])) }
 {
-    encode_varint(out, 8 * number + 2)?;
-    encode_varint(out, bytes.len() as u64)?;
-    out.extend_from_slice(bytes)?;
-    Ok(())
+    encode_varint(out, sink, 8 * number + 2);
+    encode_varint(out, sink, bytes.len() as u64);
+    out.put(sink, bytes);
 }
 
 /// The length of a text's record, which an empty text doesn't have.
@@ -49,20 +49,15 @@ pub(super) fn text_len(number: u64, text: &OwnedText) -> u64
     if text.is_empty() { 0 } else { len }
 }
 
-/// Appends a text's record, which an empty text doesn't have.
-pub(super) fn encode_text(
-    out: &mut Vec<u8>,
-    number: u64,
-    text: &OwnedText,
-) -> Result<(), AllocError>
+/// Puts a text's record, which an empty text doesn't have.
+pub(super) fn encode_text<W, O: Output<W>>(out: &mut O, sink: &mut W, number: u64, text: &OwnedText)
     requires { number ≤ max_field_number }
-    ensures { OnOk result (out.new.items ≡ out.old.items ++ bytes_of (text_fields number text.now)) }
+    ensures { IsPut O.holds sink.old out.old sink.new out.new (bytes_of (text_fields number text.now)) }
 {
     let bytes = text.as_str().as_bytes();
     if !bytes.is_empty() {
-        encode_record(out, number, bytes)?;
+        encode_record(out, sink, number, bytes);
     }
-    Ok(())
 }
 
 /// The length of the records of a repeated text.
@@ -87,27 +82,27 @@ fn slice_len(number: u64, texts: &[OwnedText]) -> u64
     len
 }
 
-/// Appends the records of a repeated text.
-pub(super) fn encode_texts(
-    out: &mut Vec<u8>,
+/// Puts the records of a repeated text.
+pub(super) fn encode_texts<W, O: Output<W>>(
+    out: &mut O,
+    sink: &mut W,
     number: u64,
     texts: &Sequence<OwnedText>,
-) -> Result<(), AllocError>
+)
     requires { number ≤ max_field_number }
-    ensures { OnOk result (out.new.items ≡ out.old.items ++ bytes_of (repeated_text_fields number texts.now)) }
+    ensures { IsPut O.holds sink.old out.old sink.new out.new (bytes_of (repeated_text_fields number texts.now)) }
 {
-    encode_slice(out, number, texts.as_slice())
+    encode_slice(out, sink, number, texts.as_slice());
 }
 
-/// Appends the records of texts.
-fn encode_slice(out: &mut Vec<u8>, number: u64, texts: &[OwnedText]) -> Result<(), AllocError>
+/// Puts the records of texts.
+fn encode_slice<W, O: Output<W>>(out: &mut O, sink: &mut W, number: u64, texts: &[OwnedText])
     requires { number ≤ max_field_number }
-    ensures { OnOk result (out.new.items ≡ out.old.items ++ bytes_of (repeated_text_fields number texts.now)) }
+    ensures { IsPut O.holds sink.old out.old sink.new out.new (bytes_of (repeated_text_fields number texts.now)) }
 {
     'texts: for text in texts {
-        encode_record(out, number, text.as_str().as_bytes())?;
+        encode_record(out, sink, number, text.as_str().as_bytes());
     }
-    Ok(())
 }
 
 /// An int32 or an enum in 64 bits, as its varint has it.
@@ -129,14 +124,14 @@ pub(super) fn int_len(number: u64, value: i32) -> u64
     }
 }
 
-/// Appends a number's record, which 0 doesn't have.
-pub(super) fn encode_int(out: &mut Vec<u8>, number: u64, value: i32) -> Result<(), AllocError>
+/// Puts a number's record, which 0 doesn't have.
+pub(super) fn encode_int<W, O: Output<W>>(out: &mut O, sink: &mut W, number: u64, value: i32)
     requires { number ≤ max_field_number }
-    ensures { OnOk result (out.new.items ≡ out.old.items ++ bytes_of (int_fields number value)) }
+    ensures { IsPut O.holds sink.old out.old sink.new out.new (bytes_of (int_fields number value)) }
 {
-    if value != 0 {
-        encode_varint(out, 8 * number)?;
-        encode_varint(out, in_64_bits(value))?;
+    let bits = in_64_bits(value);
+    if bits != 0 {
+        encode_varint(out, sink, 8 * number);
+        encode_varint(out, sink, bits);
     }
-    Ok(())
 }

@@ -1,14 +1,15 @@
 //! Messages inside messages.
 
-ghost use Rattle.std.specs.Prelude.{◌≡◌, ◌++◌, ◌^◌, ◌<◌, ◌≤◌, List, [], ◌∷◌, All, IfSome, OnOk};
+ghost use Rattle.std.specs.Prelude.{◌≡◌, ◌^◌, ◌<◌, ◌≤◌, List, [], ◌∷◌, All, IfSome};
 ghost use Rattle.scip_wire.specs.Fields.{Field, max_field_number};
 ghost use Rattle.scip_wire.specs.Spelling.{bytes_of, bytes_field, optional_message_fields, repeated_message_fields};
 ghost use Rattle.scip_wire.specs.Saturated.{saturated, fields_len};
+ghost use Rattle.scip_wire.specs.Outputs.{IsPut};
 
 use super::fields::record_len;
+use super::output::Output;
 use super::varint::encode_varint;
 use sequences::Sequence;
-use std::alloc::AllocError;
 
 /// A record of an index, as a message of `scip.proto`.
 pub(crate) trait Encode {
@@ -23,10 +24,10 @@ pub(crate) trait Encode {
         ensures value { result ≡ saturated (fields_len (fields self.now)) }
         ensures fit { is_fit self.now };
 
-    /// Appends its spelling.
-    fn encode(&self, out: &mut Vec<u8>) -> Result<(), AllocError>
+    /// Puts its spelling.
+    fn encode<W, O: Output<W>>(&self, out: &mut O, sink: &mut W)
         requires { fields_len (fields self.now) < 2 ^ 64 }
-        ensures { OnOk result (out.new.items ≡ out.old.items ++ bytes_of (fields self.now)) };
+        ensures { IsPut O.holds sink.old out.old sink.new out.new (bytes_of (fields self.now)) };
 }
 
 /// The length of a message's record.
@@ -38,19 +39,20 @@ pub(super) fn message_len<M: Encode>(number: u64, message: &M) -> u64
     record_len(number, message.encoded_len())
 }
 
-/// Appends a message's record.
-pub(super) fn encode_message<M: Encode>(
-    out: &mut Vec<u8>,
+/// Puts a message's record.
+pub(super) fn encode_message<M: Encode, W, O: Output<W>>(
+    out: &mut O,
+    sink: &mut W,
     number: u64,
     message: &M,
-) -> Result<(), AllocError>
+)
     requires number { number ≤ max_field_number }
     requires short { fields_len (M.fields message.now) < 2 ^ 64 }
-    ensures { OnOk result (out.new.items ≡ out.old.items ++ bytes_of (bytes_field number (bytes_of (M.fields message.now)) ∷ [])) }
+    ensures { IsPut O.holds sink.old out.old sink.new out.new (bytes_of (bytes_field number (bytes_of (M.fields message.now)) ∷ [])) }
 {
-    encode_varint(out, 8 * number + 2)?;
-    encode_varint(out, message.encoded_len())?;
-    message.encode(out)
+    encode_varint(out, sink, 8 * number + 2);
+    encode_varint(out, sink, message.encoded_len());
+    message.encode(out, sink);
 }
 
 /// The length of the record of a message that may be absent.
@@ -65,20 +67,20 @@ pub(super) fn optional_message_len<M: Encode>(number: u64, message: &Option<M>) 
     }
 }
 
-/// Appends the record of a message that may be absent.
-pub(super) fn encode_optional_message<M: Encode>(
-    out: &mut Vec<u8>,
+/// Puts the record of a message that may be absent.
+pub(super) fn encode_optional_message<M: Encode, W, O: Output<W>>(
+    out: &mut O,
+    sink: &mut W,
     number: u64,
     message: &Option<M>,
-) -> Result<(), AllocError>
+)
     requires number { number ≤ max_field_number }
     requires short { fields_len (optional_message_fields number M.fields message.now) < 2 ^ 64 }
-    ensures { OnOk result (out.new.items ≡ out.old.items ++ bytes_of (optional_message_fields number M.fields message.now)) }
+    ensures { IsPut O.holds sink.old out.old sink.new out.new (bytes_of (optional_message_fields number M.fields message.now)) }
 {
     if let Some(message) = message {
-        encode_message(out, number, message)?;
+        encode_message(out, sink, number, message);
     }
-    Ok(())
 }
 
 /// The length of the records of a repeated message.
@@ -103,27 +105,27 @@ fn slice_len<M: Encode>(number: u64, messages: &[M]) -> u64
     len
 }
 
-/// Appends the records of a repeated message.
-pub(super) fn encode_messages<M: Encode>(
-    out: &mut Vec<u8>,
+/// Puts the records of a repeated message.
+pub(super) fn encode_messages<M: Encode, W, O: Output<W>>(
+    out: &mut O,
+    sink: &mut W,
     number: u64,
     messages: &Sequence<M>,
-) -> Result<(), AllocError>
+)
     requires number { number ≤ max_field_number }
     requires short { fields_len (repeated_message_fields number M.fields messages.now) < 2 ^ 64 }
-    ensures { OnOk result (out.new.items ≡ out.old.items ++ bytes_of (repeated_message_fields number M.fields messages.now)) }
+    ensures { IsPut O.holds sink.old out.old sink.new out.new (bytes_of (repeated_message_fields number M.fields messages.now)) }
 {
-    encode_slice(out, number, messages.as_slice())
+    encode_slice(out, sink, number, messages.as_slice());
 }
 
-/// Appends the records of messages.
-fn encode_slice<M: Encode>(out: &mut Vec<u8>, number: u64, messages: &[M]) -> Result<(), AllocError>
+/// Puts the records of messages.
+fn encode_slice<M: Encode, W, O: Output<W>>(out: &mut O, sink: &mut W, number: u64, messages: &[M])
     requires number { number ≤ max_field_number }
     requires short { fields_len (repeated_message_fields number M.fields messages.now) < 2 ^ 64 }
-    ensures { OnOk result (out.new.items ≡ out.old.items ++ bytes_of (repeated_message_fields number M.fields messages.now)) }
+    ensures { IsPut O.holds sink.old out.old sink.new out.new (bytes_of (repeated_message_fields number M.fields messages.now)) }
 {
     'messages: for message in messages {
-        encode_message(out, number, message)?;
+        encode_message(out, sink, number, message);
     }
-    Ok(())
 }

@@ -1,15 +1,17 @@
 //! An index in pieces: the record of its metadata, one of each document, and those of its external entries.
 
-ghost use Rattle.std.specs.Prelude.{◌≡◌, ◌≤◌, List, ℕ, length, All, IfOk, IfSome};
+ghost use Rattle.std.specs.Prelude.{◌≡◌, ◌≤◌, length, All, IfOk, IfSome};
 ghost use Rattle.std.specs.List.{concat};
-ghost use Rattle.scip_wire.specs.Saturated.{saturated, fields_len};
-ghost use Rattle.scip_wire.specs.Spelling.{bytes_of, document_record, info_fields, joined_pieces, max_index_len, metadata_fields, optional_message_fields, repeated_message_fields};
+ghost use Rattle.scip_wire.specs.Outputs.{IsPut};
+ghost use Rattle.scip_wire.specs.Saturated.{saturated};
+ghost use Rattle.scip_wire.specs.Spelling.{document_record, joined_pieces, max_index_len};
 ghost use Rattle.scip_wire.specs.WellFormed.{IsFitDocument, IsFitInfo, IsFitMetadata};
 
 use super::message::{
     encode_message, encode_messages, encode_optional_message, message_len, messages_len,
     optional_message_len,
 };
+use super::output::Output;
 use scip_model::{Document, Metadata, SymbolInformation};
 use sequences::Sequence;
 use std::alloc::{AllocError, Global};
@@ -21,7 +23,7 @@ pub fn spell_document(alloc: Global, document: &Document) -> Result<Sequence<u8>
 {
     let len = message_len(2, document);
     let mut bytes = Vec::with_capacity(alloc, len as usize)?;
-    encode_message(&mut bytes, 2, document)?;
+    encode_message(&mut bytes, &mut (), 2, document);
     Ok(Sequence::from_vec(bytes))
 }
 
@@ -52,30 +54,27 @@ pub(crate) fn pieces_len(
     front.saturating_add(middle).saturating_add(back)
 }
 
-/// The metadata's record; nothing if there is none.
-pub(crate) fn spell_metadata(
-    alloc: Global,
-    metadata: &Option<Metadata>,
-) -> Result<Vec<u8>, AllocError>
-    requires { fields_len (optional_message_fields 1 metadata_fields metadata.now) ≤ max_index_len }
-    ensures { IfOk result (λ bytes. bytes.items ≡ bytes_of (optional_message_fields 1 metadata_fields metadata.now)) }
+/// Puts records that are spelled.
+fn encode_records<W, O: Output<W>>(out: &mut O, sink: &mut W, records: &[Sequence<u8>])
+    ensures { IsPut O.holds sink.old out.old sink.new out.new (concat records.now) }
 {
-    let len = optional_message_len(1, metadata);
-    let mut bytes = Vec::with_capacity(alloc, len as usize)?;
-    encode_optional_message(&mut bytes, 1, metadata)?;
-    Ok(bytes)
+    'records: for record in records {
+        out.put(sink, record.as_slice());
+    }
 }
 
-/// The records of the external entries.
-pub(crate) fn spell_externals(
-    alloc: Global,
+/// Puts an index in pieces.
+pub(crate) fn encode_pieces<W, O: Output<W>>(
+    out: &mut O,
+    sink: &mut W,
+    metadata: &Option<Metadata>,
+    documents: &[Sequence<u8>],
     external_symbols: &Sequence<SymbolInformation>,
-) -> Result<Vec<u8>, AllocError>
-    requires { fields_len (repeated_message_fields 3 info_fields external_symbols.now) ≤ max_index_len }
-    ensures { IfOk result (λ bytes. bytes.items ≡ bytes_of (repeated_message_fields 3 info_fields external_symbols.now)) }
+)
+    requires { length (joined_pieces metadata.now documents.now external_symbols.now) ≤ max_index_len }
+    ensures { IsPut O.holds sink.old out.old sink.new out.new (joined_pieces metadata.now documents.now external_symbols.now) }
 {
-    let len = messages_len(3, external_symbols);
-    let mut bytes = Vec::with_capacity(alloc, len as usize)?;
-    encode_messages(&mut bytes, 3, external_symbols)?;
-    Ok(bytes)
+    encode_optional_message(out, sink, 1, metadata);
+    encode_records(out, sink, documents);
+    encode_messages(out, sink, 3, external_symbols);
 }

@@ -1,15 +1,16 @@
 //! The record of a range (`scip.proto`, `Occurrence.range`): its numbers, packed.
 
-ghost use Rattle.std.specs.Prelude.{◌≡◌, ◌++◌, ◌≤◌, [], ◌∷◌, flat_map, length, OnOk};
+ghost use Rattle.std.specs.Prelude.{◌≡◌, ◌≤◌, [], ◌∷◌, cond, flat_map, length, nat_eq};
 ghost use Rattle.scip_model.specs.Range.{IsRange};
 ghost use Rattle.scip_wire.specs.Fields.{max_field_number};
 ghost use Rattle.scip_wire.specs.Spelling.{bytes_of, bytes_field, varint, range_numbers};
 ghost use Rattle.scip_wire.specs.Saturated.{saturated, fields_len};
+ghost use Rattle.scip_wire.specs.Outputs.{IsPut};
 
 use super::fields::record_len;
+use super::output::Output;
 use super::varint::{encode_varint, varint_len};
 use scip_model::Range;
-use std::alloc::AllocError;
 
 /// The length of a range's record.
 pub(super) fn range_len(number: u64, range: &Range) -> u64
@@ -20,14 +21,14 @@ pub(super) fn range_len(number: u64, range: &Range) -> u64
     record_len(number, numbers_len(range))
 }
 
-/// Appends a range's record.
-pub(super) fn encode_range(out: &mut Vec<u8>, number: u64, range: &Range) -> Result<(), AllocError>
+/// Puts a range's record.
+pub(super) fn encode_range<W, O: Output<W>>(out: &mut O, sink: &mut W, number: u64, range: &Range)
     requires { number ≤ max_field_number }
-    ensures { OnOk result (out.new.items ≡ out.old.items ++ bytes_of (bytes_field number (flat_map varint (range_numbers range.now)) ∷ [])) }
+    ensures { IsPut O.holds sink.old out.old sink.new out.new (bytes_of (bytes_field number (flat_map varint (range_numbers range.now)) ∷ [])) }
 {
-    encode_varint(out, 8 * number + 2)?;
-    encode_varint(out, numbers_len(range))?;
-    encode_numbers(out, range)
+    encode_varint(out, sink, 8 * number + 2);
+    encode_varint(out, sink, numbers_len(range));
+    encode_numbers(out, sink, range);
 }
 
 /// The length of a range's numbers: three if both ends are on one line, otherwise four.
@@ -39,21 +40,36 @@ fn numbers_len(range: &Range) -> u64
     let start = varint_len(u64::from(range.start_line()))
         + varint_len(u64::from(range.start_column()));
     let end_column = varint_len(u64::from(range.end_column()));
-    if range.start_line() == range.end_line() {
+    if is_on_one_line(range) {
         start + end_column
     } else {
         start + varint_len(u64::from(range.end_line())) + end_column
     }
 }
 
-/// Appends a range's numbers: three if both ends are on one line, otherwise four.
-fn encode_numbers(out: &mut Vec<u8>, range: &Range) -> Result<(), AllocError>
-    ensures { OnOk result (out.new.items ≡ out.old.items ++ flat_map varint (range_numbers range.now)) }
+/// Puts a range's numbers: three if both ends are on one line, otherwise four.
+fn encode_numbers<W, O: Output<W>>(out: &mut O, sink: &mut W, range: &Range)
+    ensures { IsPut O.holds sink.old out.old sink.new out.new (flat_map varint (range_numbers range.now)) }
 {
-    encode_varint(out, u64::from(range.start_line()))?;
-    encode_varint(out, u64::from(range.start_column()))?;
-    if range.start_line() != range.end_line() {
-        encode_varint(out, u64::from(range.end_line()))?;
+    encode_varint(out, sink, u64::from(range.start_line()));
+    encode_varint(out, sink, u64::from(range.start_column()));
+    encode_end_line(out, sink, range);
+    encode_varint(out, sink, u64::from(range.end_column()));
+}
+
+/// Puts the line of the end, unless it is that of the start.
+fn encode_end_line<W, O: Output<W>>(out: &mut O, sink: &mut W, range: &Range)
+    ensures { IsPut O.holds sink.old out.old sink.new out.new
+        (cond (nat_eq range.now.start_line range.now.end_line) [] (varint range.now.end_line)) }
+{
+    if !is_on_one_line(range) {
+        encode_varint(out, sink, u64::from(range.end_line()));
     }
-    encode_varint(out, u64::from(range.end_column()))
+}
+
+/// Whether both ends are on one line.
+fn is_on_one_line(range: &Range) -> bool
+    ensures { result ≡ nat_eq range.now.start_line range.now.end_line }
+{
+    range.start_line() == range.end_line()
 }

@@ -4,9 +4,9 @@ use super::fields::{encode_int, encode_text, encode_texts, int_len, text_len, te
 use super::message::{
     Encode, encode_messages, encode_optional_message, messages_len, optional_message_len,
 };
+use super::output::Output;
 use super::range::{encode_range, range_len};
 use scip_model::{Document, Index, Metadata, Occurrence, SymbolInformation, ToolInfo};
-use std::alloc::AllocError;
 
 impl Encode for Index {
     ghost use Rattle.scip_wire.specs.Spelling.{index_fields};
@@ -25,11 +25,10 @@ impl Encode for Index {
             .saturating_add(external_symbols)
     }
 
-    fn encode(&self, out: &mut Vec<u8>) -> Result<(), AllocError> {
-        encode_optional_message(out, 1, &self.metadata)?;
-        encode_messages(out, 2, &self.documents)?;
-        encode_messages(out, 3, &self.external_symbols)?;
-        Ok(())
+    fn encode<W, O: Output<W>>(&self, out: &mut O, sink: &mut W) {
+        encode_optional_message(out, sink, 1, &self.metadata);
+        encode_messages(out, sink, 2, &self.documents);
+        encode_messages(out, sink, 3, &self.external_symbols);
     }
 }
 
@@ -52,12 +51,11 @@ impl Encode for Metadata {
             .saturating_add(encoding)
     }
 
-    fn encode(&self, out: &mut Vec<u8>) -> Result<(), AllocError> {
-        encode_int(out, 1, self.version)?;
-        encode_optional_message(out, 2, &self.tool_info)?;
-        encode_text(out, 3, &self.project_root)?;
-        encode_int(out, 4, self.text_document_encoding)?;
-        Ok(())
+    fn encode<W, O: Output<W>>(&self, out: &mut O, sink: &mut W) {
+        encode_int(out, sink, 1, self.version);
+        encode_optional_message(out, sink, 2, &self.tool_info);
+        encode_text(out, sink, 3, &self.project_root);
+        encode_int(out, sink, 4, self.text_document_encoding);
     }
 }
 
@@ -76,11 +74,10 @@ impl Encode for ToolInfo {
         name.saturating_add(version).saturating_add(arguments)
     }
 
-    fn encode(&self, out: &mut Vec<u8>) -> Result<(), AllocError> {
-        encode_text(out, 1, &self.name)?;
-        encode_text(out, 2, &self.version)?;
-        encode_texts(out, 3, &self.arguments)?;
-        Ok(())
+    fn encode<W, O: Output<W>>(&self, out: &mut O, sink: &mut W) {
+        encode_text(out, sink, 1, &self.name);
+        encode_text(out, sink, 2, &self.version);
+        encode_texts(out, sink, 3, &self.arguments);
     }
 }
 
@@ -105,13 +102,12 @@ impl Encode for Document {
             .saturating_add(encoding)
     }
 
-    fn encode(&self, out: &mut Vec<u8>) -> Result<(), AllocError> {
-        encode_text(out, 1, &self.relative_path)?;
-        encode_messages(out, 2, &self.occurrences)?;
-        encode_messages(out, 3, &self.symbols)?;
-        encode_text(out, 4, &self.language)?;
-        encode_int(out, 6, self.position_encoding)?;
-        Ok(())
+    fn encode<W, O: Output<W>>(&self, out: &mut O, sink: &mut W) {
+        encode_text(out, sink, 1, &self.relative_path);
+        encode_messages(out, sink, 2, &self.occurrences);
+        encode_messages(out, sink, 3, &self.symbols);
+        encode_text(out, sink, 4, &self.language);
+        encode_int(out, sink, 6, self.position_encoding);
     }
 }
 
@@ -132,11 +128,10 @@ impl Encode for SymbolInformation {
             .saturating_add(display_name)
     }
 
-    fn encode(&self, out: &mut Vec<u8>) -> Result<(), AllocError> {
-        encode_text(out, 1, &self.symbol)?;
-        encode_texts(out, 3, &self.documentation)?;
-        encode_text(out, 6, &self.display_name)?;
-        Ok(())
+    fn encode<W, O: Output<W>>(&self, out: &mut O, sink: &mut W) {
+        encode_text(out, sink, 1, &self.symbol);
+        encode_texts(out, sink, 3, &self.documentation);
+        encode_text(out, sink, 6, &self.display_name);
     }
 }
 
@@ -155,10 +150,9 @@ impl Encode for Occurrence {
         range.saturating_add(symbol).saturating_add(roles)
     }
 
-    fn encode(&self, out: &mut Vec<u8>) -> Result<(), AllocError> {
-        encode_range(out, 1, &self.range)?;
-        encode_text(out, 2, &self.symbol)?;
-        encode_int(out, 3, self.symbol_roles)?;
-        Ok(())
+    fn encode<W, O: Output<W>>(&self, out: &mut O, sink: &mut W) {
+        encode_range(out, sink, 1, &self.range);
+        encode_text(out, sink, 2, &self.symbol);
+        encode_int(out, sink, 3, self.symbol_roles);
     }
 }

@@ -1,9 +1,10 @@
 //! Shortest varints (Protocol Buffers encoding, Base 128 Varints).
 
-ghost use Rattle.std.specs.Prelude.{◌≡◌, ◌≤◌, ◌++◌, length, OnOk};
+ghost use Rattle.std.specs.Prelude.{◌≡◌, ◌≤◌, length};
 ghost use Rattle.scip_wire.specs.Spelling.{varint};
+ghost use Rattle.scip_wire.specs.Outputs.{IsPut};
 
-use std::alloc::AllocError;
+use super::output::Output;
 
 /// How many bytes the varint has: 1 to 10.
 pub(super) fn varint_len(number: u64) -> u64
@@ -19,15 +20,14 @@ pub(super) fn varint_len(number: u64) -> u64
     len
 }
 
-/// Appends the varint.
-pub(super) fn encode_varint(out: &mut Vec<u8>, number: u64) -> Result<(), AllocError>
-    ensures { OnOk result (out.new.items ≡ out.old.items ++ varint number) }
+/// Puts the varint.
+pub(super) fn encode_varint<W, O: Output<W>>(out: &mut O, sink: &mut W, number: u64)
+    ensures { IsPut O.holds sink.old out.old sink.new out.new (varint number) }
 {
     let mut rest = number;
     'groups: while rest >= 128 {
-        out.push((rest % 128) as u8 + 128)?;
+        out.put_byte(sink, (rest % 128) as u8 + 128);
         rest /= 128;
     }
-    out.push(rest as u8)?;
-    Ok(())
+    out.put_byte(sink, rest as u8);
 }

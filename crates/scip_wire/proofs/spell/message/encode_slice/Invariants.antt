@@ -1,8 +1,13 @@
-use Rattle.std.proofs.Common.{◌++◌, ◌≡◌, drop}
+use Rattle.std.proofs.Common.{drop}
 use Rattle.scip_wire.specs.Spelling.{bytes_of, repeated_message_fields}
+use Rattle.scip_wire.specs.Outputs.{IsPut}
 use Rattle.scip_wire.proofs.spell.message.encode_slice.Given as goal
 
+-- where the records that are left are put behind those that were, all are
 abbrev pub invariant-messages : goal.invariant-messages
 invariant-messages g l =
-    l.out.items ++ bytes_of (repeated_message_fields l.number g.M.Encode.fields (drop l.message-index l.messages))
-    ≡ l.initial.out.items ++ bytes_of (repeated_message_fields l.number g.M.Encode.fields l.messages)
+    (sink : g.row.W.Denot) (out : g.row.O.Denot)
+    → IsPut g.O.Output.holds l.sink l.out sink out
+    (bytes_of (repeated_message_fields l.number g.M.Encode.fields (drop l.message-index l.messages)))
+    → IsPut g.O.Output.holds l.initial.sink l.initial.out sink out
+    (bytes_of (repeated_message_fields l.number g.M.Encode.fields l.messages))

@@ -1,16 +1,13 @@
-use Rattle.std.proofs.Common.{arith, append-nil, sym, ◌∙◌, ◌%◌, ◌/◌, ◌+◌, []}
-use Rattle.scip_wire.specs.Spelling.{varint}
-use Rattle.scip_wire.proofs.SpelledVarintLemmas.{varint_last, varint_more, pushed}
+use Rattle.std.proofs.Common.{arith, sym}
+use Rattle.scip_wire.proofs.SpelledVarintLemmas.{varint_last, varint_more}
+use Rattle.scip_wire.proofs.OutputLemmas.{alike, both}
 use Rattle.scip_wire.proofs.spell.varint.encode_varint.Goals as goal
 
 pub groups-preserved : goal.groups-preserved
-groups-preserved c =
-    let n = c.groups.rest in
-    pushed _ _ _ _ (n % 128 + 128) (varint (n / 128)) c.in_ok-push.ensures.items
-    (varint_more n (omega arith) (omega arith)) c.groups.invariant
+groups-preserved g c =
+    λ sink out left. c.groups.invariant sink out
+    (alike (sym (varint_more c.groups.rest (omega arith) (omega arith))) (both c.put_byte.ensures left))
 
 pub returns : goal.returns
-returns c =
-    let n = c.groups.rest in
-    sym (append-nil _) ∙ pushed _ _ _ _ n [] c.in_ok-push-2.ensures.items
-    (varint_last n (omega arith)) c.groups.invariant
+returns g c =
+    c.groups.invariant _ _ (alike (sym (varint_last c.groups.rest (omega arith))) c.put_byte-2.ensures)

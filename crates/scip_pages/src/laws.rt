@@ -1,6 +1,6 @@
 //! Laws of the crate, each the contract of a function that does nothing.
 
-ghost use Rattle.scip_pages.specs.EscapeLaws.{ShowsTheText, ShowsTheRest, HasNoMarks, HasOnlyReferences};
+ghost use Rattle.scip_pages.specs.EscapeLaws.{ShowsTheText, PicturesNulAlone, ShowsTheRest, HasNoMarks, HasOnlyReferences};
 ghost use Rattle.scip_pages.specs.ColumnLaws.{AtOneOffset, IsAtItsOffset, CountsUtf8, CountsUtf16, CountsUtf32};
 ghost use Rattle.scip_pages.specs.RunLaws.{NoneCovers, NoneIsNarrower};
 ghost use Rattle.scip_pages.specs.PathLaws.{StaysBelow, HasItsOwnPlace};
@@ -8,9 +8,11 @@ ghost use Rattle.scip_pages.specs.UrlLaws.{IsDecoded, LeadsToThePage};
 ghost use Rattle.scip_pages.specs.SnapshotLaws.{HasTheSource};
 ghost use Rattle.scip_pages.specs.CodeLaws.{CodeShowsTheLines, CodeShowsTheSource, PiecesHaveTheText};
 
-/// What an escaped text shows is the text, and what comes after it shows as it would by itself.
+/// What an escaped text shows is the text, with a picture for each NUL, and what comes after it shows as it would by
+/// itself.
 pub fn escapes_show_the_text()
     ensures text { ShowsTheText }
+    ensures nul { PicturesNulAlone }
     ensures rest { ShowsTheRest }
 {}
 
@@ -34,8 +36,8 @@ pub fn units_are_those_of_their_encoding()
     ensures utf32 { CountsUtf32 }
 {}
 
-/// What a page's code shows is the source, byte for byte, whatever its occurrences mark and its
-/// links hold.
+/// What a page's code shows is the source, byte for byte, but for the pictures of NULs, whatever its occurrences mark
+/// and its links hold.
 pub fn code_shows_the_source()
     ensures lines { CodeShowsTheLines }
     ensures source { CodeShowsTheSource }

@@ -1,12 +1,11 @@
 -- The URLs that stand in a page.
-use Rattle.std.proofs.Common.{◌≡◌, ◌∙◌, sym, refl, ap, subst, ℕ, ◌+◌, ◌<◌, true, false, List, [], ◌++◌, map, length, arith}
-use Rattle.std.specs.Prelude.{codes, Option, None, Some, IsSome}
-use Rattle.std.specs.List.{AllByRecursion, filter, range_with_len, slice_get}
+use Rattle.std.proofs.Common.{◌≡◌, ◌∙◌, sym, ap, subst, ℕ, ◌+◌, ◌<◌, true, false, List, [], ◌++◌, length, arith}
+use Rattle.std.specs.Prelude.{codes, Option, Some}
+use Rattle.std.specs.List.{AllByRecursion, slice_get}
 use Rattle.std.specs.Option.{is_some, option_and_then, option_map_or}
 use Rattle.std.specs.Fmt.{decimal}
 use Rattle.scip_model.specs.declared.records.Index.{Index}
 use Rattle.scip_model.specs.declared.records.Document.{Document}
-use Rattle.scip_model.specs.declared.records.Occurrence.{Occurrence}
 use Rattle.scip_query.specs.Tables.{numbers, occurrence_listed, places_in, symbol_listed}
 use Rattle.scip_query.specs.declared.place.Place.{Place}
 use Rattle.scip_pages.specs.declared.columns.ColumnUnit.{ColumnUnit}
@@ -16,9 +15,8 @@ use Rattle.scip_pages.specs.Snapshot.{lines_of}
 use Rattle.scip_pages.specs.Urls.{folder_of}
 use Rattle.source_page.specs.Site.{Sources, has_page, line_listed}
 use Rattle.source_page.specs.Targets.{is_first, link_at, place_url}
-use Rattle.source_page.specs.CodeText.{code_text}
 use Rattle.source_page.specs.Crumbs.{folders_on}
-use Rattle.source_page.specs.Uses.{all_defined, defined_text}
+use Rattle.source_page.specs.Uses.{defined_text}
 use Rattle.source_page.specs.Page.{firsts_of, links_of, main_text, page_of, start_text}
 use Rattle.source_page.specs.Ids.{AllFit, IsShown, IsUrl, Leads, to_first, to_folder, to_place, to_style, unit_in}
 use Rattle.source_page.specs.Laws.{EachUrlLeads}

@@ -1,12 +1,10 @@
 -- What a reader makes of the parts of a page, whose URLs are of a kind.
-use Rattle.std.proofs.Common.{◌≡◌, ◌∙◌, sym, refl, ap, subst, ℕ, zero, suc, ◌+◌, ◌-◌, ◌==◌, Bool, true, false, not, cond, List, []}
+use Rattle.std.proofs.Common.{◌≡◌, ◌∙◌, sym, refl, ap, subst, ℕ, suc, ◌+◌, ◌-◌, ◌==◌, Bool, true, false, not, cond, List, []}
 use Rattle.std.proofs.Common.{◌∷◌, ◌++◌, take, drop, length, arith, inl, inr}
 use Rattle.std.specs.Prelude.{codes, Option, None, Some}
-use Rattle.std.specs.List.{AllByRecursion, flat_map, range_with_len, slice_get}
-use Rattle.std.specs.Option.{option_and_then}
+use Rattle.std.specs.List.{flat_map, range_with_len, slice_get}
 use Rattle.std.specs.Fmt.{decimal}
 use Rattle.scip_model.specs.declared.records.Index.{Index}
-use Rattle.scip_model.specs.declared.records.Document.{Document}
 use Rattle.scip_model.specs.declared.records.Occurrence.{Occurrence}
 use Rattle.scip_query.specs.BySymbol.{references_in}
 use Rattle.scip_query.specs.Tables.{occurrence_listed, path_listed, symbol_listed}
@@ -14,7 +12,7 @@ use Rattle.scip_query.specs.declared.place.Place.{Place}
 use Rattle.scip_pages.specs.declared.columns.ColumnUnit.{ColumnUnit}
 use Rattle.scip_pages.specs.declared.code.Link.{Link}
 use Rattle.scip_pages.specs.declared.runs.Run.{Run}
-use Rattle.scip_pages.specs.Code.{attribute, line_code, line_mark, link_of, linked, mark, piece_code, pieces_of, target_code}
+use Rattle.scip_pages.specs.Code.{attribute, line_mark, link_of, linked, mark, piece_code, pieces_of, target_code}
 use Rattle.scip_pages.specs.Escapes.{escape, pictured}
 use Rattle.scip_pages.specs.Paths.{components}
 use Rattle.scip_pages.specs.Runs.{marks_of, runs_of}
@@ -22,7 +20,7 @@ use Rattle.scip_pages.specs.Urls.{folder_of}
 use Rattle.source_page.specs.Marks.{link}
 use Rattle.source_page.specs.Site.{Sources, has_page, line_listed, page_path, same_place}
 use Rattle.source_page.specs.Targets.{place_url, uses_id}
-use Rattle.source_page.specs.CodeText.{beginning, code_text, lead, line_at, line_by, line_text, pieces_with, spans_of}
+use Rattle.source_page.specs.CodeText.{beginning, code_text, lead, line_at, line_by, line_text, spans_of}
 use Rattle.source_page.specs.Crumbs.{crumbs_text, file_url, folder_text, folder_url, folders_on, head_text, last_text}
 use Rattle.source_page.specs.Crumbs.{names_text, style_text}
 use Rattle.source_page.specs.Uses.{all_defined, defined_head, defined_text, is_use, label_at, name_of, places_text}

@@ -20,12 +20,14 @@ pub struct OutFile<'a, S: Files> {
     held: [Option<S::File>; 3],
     file: Option<S::File>,
     failures: u64,
+    refusals: u64,
 }
 
 impl<'a, S: Files> OutFile<'a, S> {
     /// The file with a path, which isn't made yet.
     pub fn new(system: &'a S, path: &'a str) -> OutFile<'a, S>
         ensures failures { result.failures ≡ 0 }
+        ensures refusals { result.refusals ≡ 0 }
         ensures unmade { result.file ≡ None }
     {
         OutFile {
@@ -34,6 +36,7 @@ impl<'a, S: Files> OutFile<'a, S> {
             held: [None, None, None],
             file: None,
             failures: 0,
+            refusals: 0,
         }
     }
 
@@ -95,16 +98,25 @@ fn make_folders<S: Files>(system: &S, path: &str) -> Result<Option<()>, AllocErr
     }
 }
 
+// Makes a file, and the folders on the way to it. False if the system refuses that.
+fn make_whole<S: Files>(system: &S, path: &str, bytes: &[u8]) -> Result<bool, AllocError> {
+    if make_folders(system, path)?.is_none() {
+        return Ok(false);
+    }
+    let written = given(fs::write(system, path, bytes))?;
+    Ok(written.is_some())
+}
+
 impl<'a, S: Files> MakeFiles for OutFile<'a, S> {
     ghost use Rattle.std.specs.Prelude.{None};
 
-    ghost made = { λ _. None };
+    ghost made = { λ s. record { files = None; refusals = s.refusals } };
 
     fn make_file(&mut self, path: &str, bytes: &[u8]) -> Result<bool, AllocError> {
-        if make_folders(self.system, path)?.is_none() {
-            return Ok(false);
+        if make_whole(self.system, path, bytes)? {
+            return Ok(true);
         }
-        let written = given(fs::write(self.system, path, bytes))?;
-        Ok(written.is_some())
+        self.refusals = self.refusals.saturating_add(1);
+        Ok(false)
     }
 }

@@ -3,7 +3,7 @@
 ghost use Rattle.scip_pages.specs.EscapeLaws.{ShowsTheText, PicturesNulAlone, ShowsTheRest, HasNoMarks, HasOnlyReferences};
 ghost use Rattle.scip_pages.specs.ColumnLaws.{AtOneOffset, IsAtItsOffset, CountsUtf8, CountsUtf16, CountsUtf32};
 ghost use Rattle.scip_pages.specs.RunLaws.{NoneCovers, NoneIsNarrower};
-ghost use Rattle.scip_pages.specs.PathLaws.{StaysBelow, HasItsOwnPlace};
+ghost use Rattle.scip_pages.specs.PathLaws.{StaysBelow, HasItsOwnPlace, NamesHaveNoFault};
 ghost use Rattle.scip_pages.specs.UrlLaws.{IsDecoded, LeadsToThePage};
 ghost use Rattle.scip_pages.specs.SnapshotLaws.{HasTheSource};
 ghost use Rattle.scip_pages.specs.CodeLaws.{CodeShowsTheLines, CodeShowsTheSource, PiecesHaveTheText};
@@ -44,10 +44,12 @@ pub fn code_shows_the_source()
     ensures pieces { PiecesHaveTheText }
 {}
 
-/// A path of a page leads to a place below the folder of the pages, and no other such path does.
+/// A path of a page leads to a place below the folder of the pages, and no other such path does. Each path of names is
+/// one.
 pub fn paths_stay_below()
     ensures below { StaysBelow }
     ensures own { HasItsOwnPlace }
+    ensures names { NamesHaveNoFault }
 {}
 
 /// What marks a byte covers it, and nothing narrower does; if nothing marks it, nothing covers it.

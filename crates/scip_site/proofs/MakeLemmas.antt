@@ -1,7 +1,7 @@
 -- Files that are made one after another.
 use Rattle.std.proofs.Common.{◌≡◌, ◌∙◌, sym, refl, ap, subst, ℕ, zero, suc, ◌+◌, ◌<◌, ◌≤◌, ◌-◌, List, [], ◌∷◌, ◌++◌, map}
 use Rattle.std.proofs.Common.{append-nil, append_assoc, arith, Ok, Err, inl, inr}
-use Rattle.std.specs.Prelude.{Result, Option, None, Some, length}
+use Rattle.std.specs.Prelude.{Result, Option, length}
 use Rattle.std.specs.List.{flat_map, range_with_len}
 use Rattle.std.proofs.lemmas.Grind.{flat_map-append}
 use Rattle.std.proofs.lemmas.List.{map-append}

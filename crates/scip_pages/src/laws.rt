@@ -5,7 +5,7 @@ ghost use Rattle.scip_pages.specs.ColumnLaws.{AtOneOffset, IsAtItsOffset, Counts
 ghost use Rattle.scip_pages.specs.RunLaws.{NoneCovers, NoneIsNarrower};
 ghost use Rattle.scip_pages.specs.PathLaws.{StaysBelow, HasItsOwnPlace, NamesHaveNoFault};
 ghost use Rattle.scip_pages.specs.UrlLaws.{IsDecoded, LeadsToThePage};
-ghost use Rattle.scip_pages.specs.SnapshotLaws.{HasTheSource};
+ghost use Rattle.scip_pages.specs.SnapshotLaws.{HasTheSource, FlatIsOneLine};
 ghost use Rattle.scip_pages.specs.CodeLaws.{CodeShowsTheLines, CodeShowsTheSource, PiecesHaveTheText};
 
 /// What an escaped text shows is the text, with a picture for each NUL, and what comes after it shows as it would by
@@ -59,9 +59,10 @@ pub fn the_narrowest_marks()
 {}
 
 /// A snapshot has its source: taking away the lines that begin with the sign of a comment, and the
-/// two blanks before each other line, gives the source, byte for byte.
+/// two blanks before each other line, gives the source, byte for byte. A symbol or a path ends no line.
 pub fn snapshots_have_their_source()
-    ensures { HasTheSource }
+    ensures source { HasTheSource }
+    ensures line { FlatIsOneLine }
 {}
 
 /// What a URL's path is read as is the path, and from the folder of a page it leads to the other page.

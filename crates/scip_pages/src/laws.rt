@@ -6,7 +6,7 @@ ghost use Rattle.scip_pages.specs.RunLaws.{NoneCovers, NoneIsNarrower};
 ghost use Rattle.scip_pages.specs.PathLaws.{StaysBelow, HasItsOwnPlace, NamesHaveNoFault};
 ghost use Rattle.scip_pages.specs.UrlLaws.{IsDecoded, LeadsToThePage};
 ghost use Rattle.scip_pages.specs.SnapshotLaws.{HasTheSource, FlatIsOneLine};
-ghost use Rattle.scip_pages.specs.CodeLaws.{CodeShowsTheLines, CodeShowsTheSource, PiecesHaveTheText};
+ghost use Rattle.scip_pages.specs.CodeLaws.{CodeShowsTheLines, CodeShowsTheSource, PiecesHaveTheText, PiecesHaveTheLinks};
 
 /// What an escaped text shows is the text, with a picture for each NUL, and what comes after it shows as it would by
 /// itself.
@@ -37,11 +37,12 @@ pub fn units_are_those_of_their_encoding()
 {}
 
 /// What a page's code shows is the source, byte for byte, but for the pictures of NULs, whatever its occurrences mark
-/// and its links hold.
+/// and its links hold; and each byte has the link of what marks it.
 pub fn code_shows_the_source()
     ensures lines { CodeShowsTheLines }
     ensures source { CodeShowsTheSource }
     ensures pieces { PiecesHaveTheText }
+    ensures links { PiecesHaveTheLinks }
 {}
 
 /// A path of a page leads to a place below the folder of the pages, and no other such path does. Each path of names is

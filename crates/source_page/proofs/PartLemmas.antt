@@ -62,13 +62,18 @@ labelled_reads target label =
     (quoted_reads (tag_a (codes "href") (pictured target)) (codes "title") label)))
     (record { ends = refl; are = refl })
 
-bare_reads : (label : List ℕ)
-    → Reads Data (mark (codes "a" ++ [] ++ attribute (codes "title") label)) Data
-    (tag_a (codes "title") (pictured label) ∷ [])
-bare_reads label =
-    chain (codes "<a title=\"" ++ (escape label ++ codes "\"")) (codes ">")
-    (chain (codes "<a title=\"") (escape label ++ codes "\"") (record { ends = refl; are = refl })
-    (quoted_reads (bare (codes "a")) (codes "title") label))
+abbrev tag_of_keys : List ℕ → Tag
+tag_of_keys label = tag_with (tag_a (codes "tabindex") (codes "0")) (codes "title") (pictured label)
+
+keys_read : (label : List ℕ)
+    → Reads Data (mark (codes "a" ++ target_code None ++ attribute (codes "title") label)) Data (tag_of_keys label ∷ [])
+keys_read label =
+    let one : List ℕ = codes "<a tabindex=\"0\"" in
+    let two : List ℕ = codes " title=\"" ++ (escape label ++ codes "\"") in
+    chain (one ++ two) (codes ">")
+    (chain one two (record { ends = refl; are = refl })
+    (chain (codes " title=\"") (escape label ++ codes "\"") (record { ends = refl; are = refl })
+    (quoted_reads (tag_a (codes "tabindex") (codes "0")) (codes "title") label)))
     (record { ends = refl; are = refl })
 
 -- what is defined: its id, and the link to its line
@@ -127,10 +132,10 @@ module _ (P : List ℕ → Type 0) where
           → Fine P (mark (codes "a" ++ target_code target ++ attribute (codes "title") l.label) ++ escape text
           ++ mark (codes "/a"))
       by None e =
-          let start : List ℕ = mark (codes "a" ++ [] ++ attribute (codes "title") l.label) in
-          no_urls P (start ++ escape text ++ mark (codes "/a")) (tag_a (codes "title") (pictured l.label) ∷ (end_a ∷ []))
+          let start : List ℕ = mark (codes "a" ++ target_code None ++ attribute (codes "title") l.label) in
+          no_urls P (start ++ escape text ++ mark (codes "/a")) (tag_of_keys l.label ∷ (end_a ∷ []))
           (chain (start ++ escape text) (mark (codes "/a"))
-          (chain start (escape text) (bare_reads l.label) (escaped_reads text)) (record { ends = refl; are = refl }))
+          (chain start (escape text) (keys_read l.label) (escaped_reads text)) (record { ends = refl; are = refl }))
           refl
       by (Some url) e =
           let start : List ℕ = mark (codes "a" ++ attribute (codes "href") url ++ attribute (codes "title") l.label) in

@@ -57,10 +57,13 @@ page_known path (Some page) = (inl (path, refl), tt)
 shared_known : (script first : List ℕ) → AllByRecursion IsKnown (shared script first)
 shared_known script first = (
   inr record { none = refl; other = λ behind e. let same : 97 ≡ 114 = e in omega (arith, same) },
-  inr record { none = refl; other = λ behind e. let same : 101 ≡ 114 = e in omega (arith, same) },
-  inr record { none = refl; other = λ behind e. let same : 121 ≡ 114 = e in omega (arith, same) },
-  inr record { none = refl; other = λ behind e. let same : 110 ≡ 114 = e in omega (arith, same) },
-  tt,
+  (
+    inr record { none = refl; other = λ behind e. let same : 101 ≡ 114 = e in omega (arith, same) },
+    (
+      inr record { none = refl; other = λ behind e. let same : 121 ≡ 114 = e in omega (arith, same) },
+      (inr record { none = refl; other = λ behind e. let same : 110 ≡ 114 = e in omega (arith, same) }, tt),
+    ),
+  ),
 )
 
 all_known : (index : Index) (sources : Sources) (order : List ℕ) → AllByRecursion IsKnown (site_files index sources order)

@@ -113,9 +113,22 @@ marks_of_both [] more = omega arith
 marks_of_both (b ∷ path) more =
     let here = mark_stays (b ∷ path) more in
     let behind = marks_of_both path more in
-    let one = length-append (mark_at (b ∷ path)) (folder_marks path) in
-    let both = length-append (mark_at (b ∷ (path ++ more))) (folder_marks (path ++ more)) in
+    let one : length (folder_marks (b ∷ path)) ≡ length (mark_at (b ∷ path)) + length (folder_marks path) =
+    length-append (mark_at (b ∷ path)) (folder_marks path) in
+    let both : length (folder_marks ((b ∷ path) ++ more))
+    ≡ length (mark_at ((b ∷ path) ++ more)) + length (folder_marks (path ++ more)) =
+    length-append (mark_at ((b ∷ path) ++ more)) (folder_marks (path ++ more)) in
     omega (arith, here, behind, one, both)
+
+first_mark : (behind : List ℕ)
+    → folder_marks (codes ".html/" ++ behind) ≡ 126 ∷ folder_marks (codes "html/" ++ behind)
+first_mark behind = refl
+
+size_of_folder : (behind : List ℕ)
+    → length (folder_marks (codes ".html/" ++ behind)) ≡ length (folder_marks (codes "html/" ++ behind)) + 1
+size_of_folder behind =
+    let more : length (126 ∷ folder_marks (codes "html/" ++ behind)) ≡ length (folder_marks (codes "html/" ++ behind)) + 1 =
+    omega arith in ap length (first_mark behind) ∙ more
 
 -- ---- no page is where another has a folder
 
@@ -136,5 +149,5 @@ no_folder_of_pages path other behind same =
     (all_marks other) (all_marks path) marked in
     let as_many : length (folder_marks (path ++ folder)) ≡ length (folder_marks path) =
     ap (λ (l : List ℕ). length (folder_marks l)) (sym parts.1) ∙ ap length (marks_of_page other ∙ parts.0) in
-    let one_more : 1 ≤ length (folder_marks folder) = omega arith in
+    let one_more : 1 ≤ length (folder_marks folder) = omega (arith, size_of_folder behind) in
     omega (arith, as_many, one_more, marks_of_both path folder)

@@ -8,7 +8,7 @@ use Rattle.protoscip.specs.declared.statuses.TheConstants.{MEMORY_STATUS, STREAM
 
 -- what explains it, if that is asked for; nothing for lack of memory
 abbrev pub explanation_of : ShowFault → List ℕ
-explanation_of Write = codes "\nstandard output took a first part alone, or a file couldn't be made"
+explanation_of Write = codes "\nonly a first part could be written"
 explanation_of Memory = []
 
 abbrev pub name_of : ShowFault → List ℕ

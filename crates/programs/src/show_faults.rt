@@ -22,7 +22,7 @@ fn explanation_of(fault: ShowFault) -> &'static str
     ensures { result.now ≡ explanation_of fault }
 {
     match fault {
-        ShowFault::Write => "\nstandard output took a first part alone, or a file couldn't be made",
+        ShowFault::Write => "\nonly a first part could be written",
         ShowFault::Memory => "",
     }
 }

@@ -218,6 +218,8 @@ protoscip: 1 sources indexed, 1 skipped, 1 imports and 0 uses without a target\n
 #[derive(Drop)]
 struct Written<'a> {
     room: Std<&'a mut [u8]>,
+    /// How many files were refused.
+    refusals: u64,
 }
 
 impl<'a> Sink for Written<'a> {
@@ -238,22 +240,31 @@ fn kept<'a>(path: &str, bytes: &'a [u8]) -> &'a [u8] {
     if path.ends_with(".txt") { bytes } else { b"" }
 }
 
+/// Writes what is kept of a file behind its path. Whether there was room for it.
+fn keep(room: &mut Std<&mut [u8]>, path: &str, bytes: &[u8]) -> bool {
+    let mut is_kept = true;
+    for part in [
+        b"[".as_slice(),
+        path.as_bytes(),
+        b"]".as_slice(),
+        kept(path, bytes),
+    ] {
+        is_kept = is_kept && write_all(room, part).is_ok();
+    }
+    is_kept
+}
+
 impl<'a> MakeFiles for Written<'a> {
     ghost use Rattle.std.specs.Prelude.{None};
 
-    ghost made = { λ _. None };
+    ghost made = { λ w. record { files = None; refusals = w.refusals } };
 
     fn make_file(&mut self, path: &str, bytes: &[u8]) -> Result<bool, AllocError> {
-        let mut is_made = true;
-        for part in [
-            b"[".as_slice(),
-            path.as_bytes(),
-            b"]".as_slice(),
-            kept(path, bytes),
-        ] {
-            is_made = is_made && write_all(&mut self.room, part).is_ok();
+        if keep(&mut self.room, path, bytes) {
+            return Ok(true);
         }
-        Ok(is_made)
+        self.refusals = self.refusals.saturating_add(1);
+        Ok(false)
     }
 }
 
@@ -270,6 +281,7 @@ fn ended<R: Threads + Wait + Clock + Eprint + Sync>(
     let mut out = Std::new(printed);
     let mut file = Written {
         room: Std::new(written),
+        refusals: 0,
     };
     let mut told = [0u8; ROOM];
     let mut messages = Std::new(told.as_mut_slice());

@@ -1,14 +1,16 @@
 -- Where paths of pages lead.
-use Rattle.std.proofs.Common.{◌≡◌, ◌∙◌, sym, refl, ap, ℕ, Bool, true, false, ◌||◌, cond, List, [], ◌∷◌, ◌++◌, nat_eq}
-use Rattle.std.proofs.Common.{append_assoc, append-nil}
+use Rattle.std.proofs.Common.{◌≡◌, ◌≢◌, ◌∙◌, sym, refl, ap, ℕ, ◌==◌, Bool, true, false, ◌||◌, cond, List, [], ◌∷◌, ◌++◌}
+use Rattle.std.proofs.Common.{nat_eq, append_assoc, append-nil}
 use Rattle.std.specs.Prelude.{codes, None, Some}
-use Rattle.std.specs.List.{list_any, starts_with, join_with_byte}
+use Rattle.std.specs.List.{list_any, onto_first, starts_with, join_with_byte, AllByRecursion}
 use Rattle.std.specs.Str.{bytes_eq}
+use Rattle.std.proofs.lemmas.Bool.{eqb-false, ne_eqb}
 use Rattle.std.proofs.lemmas.List.{append_cancel_left}
 use Rattle.std.proofs.lemmas.List.Splits.{join_with_byte-slice_split}
+use Rattle.std.proofs.lemmas.Slice.Eq.{bytes_eq-Decides}
 use Rattle.scip_pages.specs.declared.paths.PathFault.TheVariants.{Absolute, Empty, Dot, Parent}
 use Rattle.scip_pages.specs.Paths.{components, has_name, entered, entered_all}
-use Rattle.scip_pages.specs.PathLaws.{StaysBelow, HasItsOwnPlace}
+use Rattle.scip_pages.specs.PathLaws.{StaysBelow, HasItsOwnPlace, IsName, NamesHaveNoFault}
 
 abbrev none_is : List ℕ → List (List ℕ) → Type 0
 none_is name names = list_any (λ (other : List ℕ). bytes_eq other name) names ≡ false
@@ -56,3 +58,42 @@ has_its_own_place folder path other e f same =
     append_cancel_left folder (components path) (components other)
     (sym (stays_below folder path e) ∙ same ∙ stays_below folder other f) in
     sym (join_with_byte-slice_split 47 path) ∙ ap (join_with_byte 47) names ∙ join_with_byte-slice_split 47 other
+
+-- ---- paths of names
+
+not_absolute : (path : List ℕ) → AllByRecursion IsName (components path) → starts_with nat_eq path (codes "/") ≡ false
+not_absolute [] names = refl
+not_absolute (b ∷ path) names = by (b == 47) refl names
+  where
+    by : (c : Bool) → (b == 47) ≡ c
+        → AllByRecursion IsName (cond c ([] ∷ components path) (onto_first b (components path)))
+        → starts_with nat_eq (b ∷ path) (codes "/") ≡ false
+    by true e names = absurd (names.0.0 refl)
+    by false e names = rw (ne_eqb 47 b (λ same. eqb-false b 47 e (sym same))) refl
+
+none_named : (name : List ℕ) (names : List (List ℕ)) → AllByRecursion (λ (other : List ℕ). other ≢ name) names
+    → none_is name names
+none_named name [] all = refl
+none_named name (other ∷ names) all = by (bytes_eq other name) refl (none_named name names all.1)
+  where
+    by : (b : Bool) → bytes_eq other name ≡ b → none_is name names
+        → (b || list_any (λ (o : List ℕ). bytes_eq o name) names) ≡ false
+    by true e others = absurd (all.0 ((bytes_eq-Decides other name).0 e))
+    by false e others = others
+
+weaker : (P Q : List ℕ → Type 0) → ((name : List ℕ) → P name → Q name) → (names : List (List ℕ))
+    → AllByRecursion P names → AllByRecursion Q names
+weaker P Q so [] all = tt
+weaker P Q so (name ∷ names) all = (so name all.0, weaker P Q so names all.1)
+
+no_fault_by : (a b c d : Bool) → a ≡ false → b ≡ false → c ≡ false → d ≡ false
+    → cond a (Some Absolute) (cond b (Some Empty) (cond c (Some Dot) (cond d (Some Parent) None))) ≡ None
+no_fault_by a b c d e f g h = rw (e, f, g, h) refl
+
+pub names_have_no_fault : NamesHaveNoFault
+names_have_no_fault path all =
+    let is_none : (name : List ℕ) → ((other : List ℕ) → IsName other → other ≢ name) → has_name name path ≡ false =
+    λ name so. none_named name (components path) (weaker IsName (λ other. other ≢ name) so (components path) all) in
+    no_fault_by (starts_with nat_eq path (codes "/")) (has_name (codes "") path) (has_name (codes ".") path)
+    (has_name (codes "..") path) (not_absolute path all)
+    (is_none (codes "") (λ other is. is.0)) (is_none (codes ".") (λ other is. is.1)) (is_none (codes "..") (λ other is. is.2))

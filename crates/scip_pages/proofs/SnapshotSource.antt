@@ -18,7 +18,7 @@ use Rattle.scip_pages.specs.Snapshot.{lines_of, misfit, below_byte, below, befor
 use Rattle.scip_pages.specs.Snapshot.{flat_byte, comment, caret_line, note_line, note_head, note, mark, mark_in}
 use Rattle.scip_pages.specs.Snapshot.{source_line, line_text, text_of, beginning, text_or_misfit, in_unit, in_document}
 use Rattle.scip_pages.specs.Snapshot.{snapshot_of}
-use Rattle.scip_pages.specs.SnapshotLaws.{ended_lines, is_source_line, source_in, HasTheSource}
+use Rattle.scip_pages.specs.SnapshotLaws.{ended_lines, is_source_line, source_in, HasTheSource, FlatIsOneLine}
 
 -- a text on one line
 abbrev is_inner : ℕ → Bool
@@ -40,6 +40,16 @@ split_next (byte ∷ line) rest inner = by (byte == 10) refl inner (split_next l
         ≡ (byte ∷ line) ∷ lines_of rest
     by true is inner next = absurd cc
     by false is inner next = ap (onto_first byte) (next inner)
+
+one_line : (text : List ℕ) → IsInner text → lines_of text ≡ text ∷ []
+one_line [] inner = refl
+one_line (byte ∷ text) inner = by (byte == 10) refl inner (one_line text)
+  where
+    by : (b : Bool) → (byte == 10) ≡ b → (not b && list_all is_inner text) ≡ true
+        → (IsInner text → lines_of text ≡ text ∷ [])
+        → cond b ([] ∷ lines_of text) (onto_first byte (lines_of text)) ≡ (byte ∷ text) ∷ []
+    by true is inner alone = absurd cc
+    by false is inner alone = ap (onto_first byte) (alone inner)
 
 record HasFirst (lines : List (List ℕ)) : Type 0 where
   line : List ℕ
@@ -232,3 +242,6 @@ of_document (Some d) documentation source text e =
 pub has_the_source : HasTheSource
 has_the_source index number source text e =
     of_document (slice_get index.documents number) (documentation_in index number) source text e
+
+pub flat_is_one_line : FlatIsOneLine
+flat_is_one_line text = one_line (map flat_byte text) (inner_flat text)

@@ -33,9 +33,9 @@ mark inside = codes "<" ++ inside ++ codes ">"
 abbrev pub attribute : List ℕ → List ℕ → List ℕ
 attribute name value = codes " " ++ name ++ codes "=\"" ++ escape value ++ codes "\""
 
--- where a link leads, if it leads anywhere
+-- where a link leads; one that leads nowhere is reached by keys too (6.6.3 "The tabindex attribute")
 abbrev pub target_code : Option (List ℕ) → List ℕ
-target_code None = []
+target_code None = attribute (codes "tabindex") (codes "0")
 target_code (Some target) = attribute (codes "href") target
 
 -- A link's text is between its marks; its label is shown where a pointer hovers.

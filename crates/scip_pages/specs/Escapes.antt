@@ -1,6 +1,6 @@
 -- How a text is written into a page.
 -- (HTML Standard, 13.1.4 "Character references"; the names: 13.5 "Named character references")
-use Rattle.std.specs.Prelude.{ℕ, ◌==◌, List, [], ◌∷◌, codes, Option, None, Some}
+use Rattle.std.specs.Prelude.{ℕ, ◌==◌, cond, List, [], ◌∷◌, codes, Option, None, Some}
 use Rattle.std.specs.List.{find, flat_map}
 
 -- A character reference: what comes after its `&`, and the byte that it stands for.
@@ -25,9 +25,21 @@ abbrev pub referred : ℕ → Option Reference → List ℕ
 referred byte None = byte ∷ []
 referred byte (Some reference) = 38 ∷ reference.name
 
--- A byte is written as its reference, if it has one, and as it is if it has none.
+-- A page can't show a NUL: a reader of HTML drops it, and makes U+FFFD of a reference to it (13.2.6.4.7 "The 'in body'
+-- insertion mode", 13.2.5.80 "Numeric character reference end state"). Its picture stands for it, U+2400, in UTF-8.
+abbrev pub picture : List ℕ
+picture = 226 ∷ (144 ∷ (128 ∷ []))
+
+abbrev pub pictured_byte : ℕ → List ℕ
+pictured_byte byte = cond (byte == 0) picture (byte ∷ [])
+
+-- A text with the picture of each NUL.
+abbrev pub pictured : List ℕ → List ℕ
+pictured text = flat_map pictured_byte text
+
+-- Another byte is written as its reference, if it has one, and as it is if it has none.
 abbrev pub escape_byte : ℕ → List ℕ
-escape_byte byte = referred byte (find (λ (r : Reference). byte == r.byte) references)
+escape_byte byte = cond (byte == 0) picture (referred byte (find (λ (r : Reference). byte == r.byte) references))
 
 -- A text is written byte by byte.
 abbrev pub escape : List ℕ → List ℕ

@@ -1,6 +1,6 @@
 -- What a page's code shows: its text, without its marks, and with its references undone.
 -- (HTML Standard, 13.2.5 "Tokenization", of pages whose marks have no `>` but the one that ends them)
-use Rattle.std.specs.Prelude.{ℕ, ◌+◌, ◌-◌, ◌==◌, not, cond, List, [], ◌∷◌, ◌++◌, length, Option, None, Some, nat_eq}
+use Rattle.std.specs.Prelude.{ℕ, ◌+◌, ◌-◌, ◌==◌, not, ◌||◌, cond, List, [], ◌∷◌, ◌++◌, length, Option, None, Some, nat_eq}
 use Rattle.std.specs.List.{find, prefix_len, starts_with}
 use Rattle.scip_pages.specs.Escapes.{Reference, references}
 
@@ -21,10 +21,10 @@ abbrev pub name_len : Option Reference → ℕ
 name_len None = 0
 name_len (Some r) = length r.name
 
--- What a byte shows, with what comes after it: a `<`, nothing; a `&`, what its reference stands for; another byte,
--- itself.
+-- What a byte shows, with what comes after it: a `<` or a NUL, nothing; a `&`, what its reference stands for; another
+-- byte, itself. (13.2.6.4.7 "The 'in body' insertion mode")
 abbrev pub shown_at : ℕ → List ℕ → List ℕ
-shown_at byte behind = cond (byte == 60) []
+shown_at byte behind = cond ((byte == 60) || (byte == 0)) []
     (cond (byte == 38) (byte_referred (reference_behind behind) ∷ []) (byte ∷ []))
 
 -- How many of the bytes after it belong to the same mark or reference.

@@ -5,6 +5,7 @@ use Rattle.std.specs.Prelude.{◌++◌, length, map, filter, take, drop, codes, 
 use Rattle.std.specs.List.{flat_map, slice_get, slice_split, position, enumerate_from}
 use Rattle.std.specs.Option.{option_and_then, unwrap_or}
 use Rattle.std.specs.Int.{w32, int_bit_and}
+use Rattle.std.specs.Io.BufRead.{strip_last}
 use Rattle.std.specs.Ordering.{int_eq}
 use Rattle.scip_model.specs.Range.{RangeNumbers}
 use Rattle.scip_model.specs.declared.records.Index.{Index}
@@ -53,10 +54,11 @@ below_byte sign byte = cond (byte == 9) (9 ∷ []) (cond (is_first_byte byte) (s
 abbrev pub below : ℕ → List ℕ → List ℕ
 below sign bytes = flat_map (below_byte sign) bytes
 
--- the end of a line's bytes that a range covers, if it begins on that line
+-- The end of a line's bytes that a range covers, if it begins on that line. The `\r` of a line end `\r\n` isn't shown.
 abbrev pub end_in : ColumnUnit → List ℕ → RangeNumbers → ℕ
 end_in unit line range =
-    cond (range.start_line == range.end_line) (unwrap_or (offset_of unit line range.end_column) 0) (length line)
+    cond (range.start_line == range.end_line) (unwrap_or (offset_of unit line range.end_column) 0)
+    (length (strip_last 13 line))
 
 -- what is before it
 abbrev pub before_in : ColumnUnit → List ℕ → RangeNumbers → List ℕ

@@ -1,8 +1,8 @@
 -- Laws of snapshots: taking the lines away that aren't the source's gives the source.
-use Rattle.std.specs.Prelude.{ℕ, ◌≡◌, ◌-◌, Bool, not, List, length, take, drop, map, filter, nat_eq, codes, Ok}
+use Rattle.std.specs.Prelude.{ℕ, ◌≡◌, ◌-◌, Bool, not, List, [], ◌∷◌, length, take, drop, map, filter, nat_eq, codes, Ok}
 use Rattle.std.specs.List.{join_with_byte, starts_with}
 use Rattle.scip_model.specs.declared.records.Index.{Index}
-use Rattle.scip_pages.specs.Snapshot.{lines_of, snapshot_of}
+use Rattle.scip_pages.specs.Snapshot.{flat_byte, lines_of, snapshot_of}
 
 -- the lines of a text each of which ends with a line feed
 abbrev pub ended_lines : List ℕ → List (List ℕ)
@@ -19,3 +19,7 @@ source_in text = join_with_byte 10 (map (drop 2) (filter is_source_line (ended_l
 abbrev pub HasTheSource : Type 0
 HasTheSource = (index : Index) (number : ℕ) (source text : List ℕ) → snapshot_of index number source ≡ Ok text
     → source_in text ≡ source
+
+-- A text with blanks for its line feeds is one line.
+abbrev pub FlatIsOneLine : Type 0
+FlatIsOneLine = (text : List ℕ) → lines_of (map flat_byte text) ≡ map flat_byte text ∷ []

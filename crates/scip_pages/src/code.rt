@@ -29,13 +29,13 @@ pub fn push_attribute(page: &mut Vec<u8>, name: &[u8], value: &[u8]) -> Result<(
     page.extend_from_slice(b"\"")
 }
 
-/// Appends where a link leads.
+/// Appends where a link leads. One that leads nowhere is reached by keys too.
 fn push_target(page: &mut Vec<u8>, target: &Option<Sequence<u8>>) -> Result<(), AllocError>
     ensures { OnOk result (page.new.items ≡ page.old.items ++ spec.target_code target.now) }
 {
     match target {
         Some(target) => push_attribute(page, b"href", target.as_slice()),
-        None => Ok(()),
+        None => push_attribute(page, b"tabindex", b"0"),
     }
 }
 

@@ -7,7 +7,7 @@ ghost use Rattle.scip_pages.specs.Plainly.{is_plain};
 
 use std::alloc::{AllocError, Global};
 
-/// Appends a byte of a text.
+/// Appends a byte of a text. A page can't hold a NUL; its picture stands for it, U+2400.
 fn push_byte(page: &mut Vec<u8>, byte: u8) -> Result<(), AllocError>
     ensures { OnOk result (page.new.items ≡ page.old.items ++ escape_byte byte) }
 {
@@ -18,6 +18,7 @@ fn push_byte(page: &mut Vec<u8>, byte: u8) -> Result<(), AllocError>
         b'"' => page.extend_from_slice(b"&quot;"),
         b'\'' => page.extend_from_slice(b"&#39;"),
         b'\r' => page.extend_from_slice(b"&#13;"),
+        0 => page.extend_from_slice(b"\xE2\x90\x80"),
         _ => page.extend_from_slice(&[byte]),
     }
 }
@@ -26,7 +27,7 @@ fn push_byte(page: &mut Vec<u8>, byte: u8) -> Result<(), AllocError>
 fn is_plain(byte: u8) -> bool
     ensures { result ≡ is_plain byte }
 {
-    !matches!(byte, b'&' | b'<' | b'>' | b'"' | b'\'' | b'\r')
+    !matches!(byte, b'&' | b'<' | b'>' | b'"' | b'\'' | b'\r' | 0)
 }
 
 /// How many of the first bytes of a text a page has as they are.
@@ -48,7 +49,7 @@ fn push_plain<'a>(page: &mut Vec<u8>, text: &'a [u8]) -> Result<&'a [u8], AllocE
 }
 
 /// Appends a text to a page, so that all of it is text and nothing of it becomes a mark, also in
-/// the value of an attribute between quotes (HTML Standard, 13.1.4 "Character references").
+/// the value of an attribute between quotes (HTML Standard, 13.1.4 "Character references"). For a NUL stands its picture.
 pub fn push_escaped(page: &mut Vec<u8>, text: &[u8]) -> Result<(), AllocError>
     ensures { OnOk result (page.new.items ≡ page.old.items ++ escape text.now) }
 {

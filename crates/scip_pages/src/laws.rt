@@ -1,16 +1,18 @@
 //! Laws of the crate, each the contract of a function that does nothing.
 
-ghost use Rattle.scip_pages.specs.EscapeLaws.{ShowsTheText, ShowsTheRest, HasNoMarks, HasOnlyReferences};
+ghost use Rattle.scip_pages.specs.EscapeLaws.{ShowsTheText, PicturesNulAlone, ShowsTheRest, HasNoMarks, HasOnlyReferences};
 ghost use Rattle.scip_pages.specs.ColumnLaws.{AtOneOffset, IsAtItsOffset, CountsUtf8, CountsUtf16, CountsUtf32};
 ghost use Rattle.scip_pages.specs.RunLaws.{NoneCovers, NoneIsNarrower};
-ghost use Rattle.scip_pages.specs.PathLaws.{StaysBelow, HasItsOwnPlace};
+ghost use Rattle.scip_pages.specs.PathLaws.{StaysBelow, HasItsOwnPlace, NamesHaveNoFault};
 ghost use Rattle.scip_pages.specs.UrlLaws.{IsDecoded, LeadsToThePage};
-ghost use Rattle.scip_pages.specs.SnapshotLaws.{HasTheSource};
-ghost use Rattle.scip_pages.specs.CodeLaws.{CodeShowsTheLines, CodeShowsTheSource, PiecesHaveTheText};
+ghost use Rattle.scip_pages.specs.SnapshotLaws.{HasTheSource, FlatIsOneLine};
+ghost use Rattle.scip_pages.specs.CodeLaws.{CodeShowsTheLines, CodeShowsTheSource, PiecesHaveTheText, PiecesHaveTheLinks};
 
-/// What an escaped text shows is the text, and what comes after it shows as it would by itself.
+/// What an escaped text shows is the text, with a picture for each NUL, and what comes after it shows as it would by
+/// itself.
 pub fn escapes_show_the_text()
     ensures text { ShowsTheText }
+    ensures nul { PicturesNulAlone }
     ensures rest { ShowsTheRest }
 {}
 
@@ -34,18 +36,21 @@ pub fn units_are_those_of_their_encoding()
     ensures utf32 { CountsUtf32 }
 {}
 
-/// What a page's code shows is the source, byte for byte, whatever its occurrences mark and its
-/// links hold.
+/// What a page's code shows is the source, byte for byte, but for the pictures of NULs, whatever its occurrences mark
+/// and its links hold; and each byte has the link of what marks it.
 pub fn code_shows_the_source()
     ensures lines { CodeShowsTheLines }
     ensures source { CodeShowsTheSource }
     ensures pieces { PiecesHaveTheText }
+    ensures links { PiecesHaveTheLinks }
 {}
 
-/// A path of a page leads to a place below the folder of the pages, and no other such path does.
+/// A path of a page leads to a place below the folder of the pages, and no other such path does. Each path of names is
+/// one.
 pub fn paths_stay_below()
     ensures below { StaysBelow }
     ensures own { HasItsOwnPlace }
+    ensures names { NamesHaveNoFault }
 {}
 
 /// What marks a byte covers it, and nothing narrower does; if nothing marks it, nothing covers it.
@@ -55,9 +60,10 @@ pub fn the_narrowest_marks()
 {}
 
 /// A snapshot has its source: taking away the lines that begin with the sign of a comment, and the
-/// two blanks before each other line, gives the source, byte for byte.
+/// two blanks before each other line, gives the source, byte for byte. A symbol or a path ends no line.
 pub fn snapshots_have_their_source()
-    ensures { HasTheSource }
+    ensures source { HasTheSource }
+    ensures line { FlatIsOneLine }
 {}
 
 /// What a URL's path is read as is the path, and from the folder of a page it leads to the other page.

@@ -25,5 +25,5 @@ pub use lines::{lines_of, misfit};
 pub use paths::{PathFault, path_fault};
 pub use runs::{Run, Span, line_runs, span_on};
 pub use snapshot_fault::SnapshotFault;
-pub use snapshots::{is_definition, parts_of, snapshot};
+pub use snapshots::{is_definition, parts_of, push_flat, snapshot};
 pub use urls::{push_encoded, push_ups, push_url};

@@ -3,6 +3,7 @@
 ghost use Rattle.std.specs.Prelude.{◌≡◌, ◌++◌, ℕ, List, map, Some, OnOk, IfOk, option_copied};
 ghost use Rattle.std.specs.Borrow.{Bor};
 ghost use Rattle.std.specs.List.{flat_map, slice_get};
+ghost use Rattle.std.specs.Io.BufRead.{strip_last};
 ghost use Rattle.scip_model.specs.declared.records.Occurrence.{Occurrence};
 ghost use Rattle.scip_query.specs.References.{is_definition};
 ghost use Rattle.scip_query.specs.BySymbol.{documentation_in};
@@ -49,7 +50,7 @@ fn push_below(text: &mut Vec<u8>, sign: u8, bytes: &[u8]) -> Result<(), AllocErr
 }
 
 /// Appends a text, with blanks for its line feeds.
-fn push_flat(text: &mut Vec<u8>, bytes: &[u8]) -> Result<(), AllocError>
+pub fn push_flat(text: &mut Vec<u8>, bytes: &[u8]) -> Result<(), AllocError>
     ensures { OnOk result (text.new.items ≡ text.old.items ++ map spec.flat_byte bytes.now) }
 {
     for byte in bytes {
@@ -159,8 +160,19 @@ fn push_notes(
     Ok(())
 }
 
-/// What of a line is before a range that begins on it, and what is in the range; of a range over
-/// several lines up to the end of this one.
+/// A line without the `\r` of a line end `\r\n`.
+fn without_return(line: &[u8]) -> &[u8]
+    ensures { result.now ≡ strip_last 13 line.now }
+{
+    if 0 < line.len() && line[line.len() - 1] == b'\r' {
+        cut(line, line.len() - 1).0
+    } else {
+        line
+    }
+}
+
+/// What of a line is before a range that begins on it, and what is in the range; of a range over several lines up to
+/// the end of this one, without the `\r` of a line end `\r\n`.
 pub fn parts_of(unit: ColumnUnit, line: &[u8], range: Range) -> (&[u8], &[u8])
     ensures before { result.0.now ≡ spec.before_in unit line.now range }
     ensures inside { result.1.now ≡ spec.inside_in unit line.now range }
@@ -169,7 +181,7 @@ pub fn parts_of(unit: ColumnUnit, line: &[u8], range: Range) -> (&[u8], &[u8])
     let end = if range.start_line() == range.end_line() {
         offset_of(unit, line, range.end_column()).unwrap_or(0)
     } else {
-        line.len()
+        without_return(line).len()
     };
     cut(cut(line, end).0, start)
 }

@@ -55,18 +55,16 @@ fn defining(
 }
 
 /// The texts of an entry, or none.
-fn texts_of<'a>(
-    alloc: Global,
-    entry: Option<&'a SymbolInformation>,
-) -> Result<Vec<&'a str>, AllocError>
-    ensures { IfOk result (λ texts. map (λ (text : Bor (List ℕ)). text.now) texts.items ≡ texts_of (option_copied entry.entry)) }
+fn texts_of(entry: Option<&SymbolInformation>) -> &[OwnedText]
+    ensures { result.now ≡ texts_of (option_copied entry.entry) }
 {
     match entry {
-        Some(entry) => texts_in(alloc, entry.documentation.as_slice()),
-        None => Ok(Vec::new(alloc)),
+        Some(entry) => entry.documentation.as_slice(),
+        None => &[],
     }
 }
 
+/// These texts, each as it is.
 fn texts_in(alloc: Global, documentation: &[OwnedText]) -> Result<Vec<&str>, AllocError>
     ensures { IfOk result (λ texts. map (λ (text : Bor (List ℕ)). text.now) texts.items ≡ documentation.now) }
 {
@@ -156,7 +154,7 @@ impl Queries {
         ensures { Gives (λ texts. map (λ (text : Bor (List ℕ)). text.now) texts.items) result (documentation_at self.now path.now (record { line = line; column = column })) }
     {
         match self.subject_at(path, Position { line, column }) {
-            Ok(subject) => Ok(texts_of(alloc, self.entry_of(&subject))?),
+            Ok(subject) => Ok(texts_in(alloc, texts_of(self.entry_of(&subject)))?),
             Err(miss) => Err(fault_of(miss)),
         }
     }
@@ -215,8 +213,18 @@ impl Queries {
         }
     }
 
-    /// The documentation of a symbol, asked for in the document with this number: the texts of its first entry; none
+    /// The texts of a symbol's documentation, asked for in the document with this number: those of its first entry; none
     /// if it has no entry, or the index has no such document.
+    pub fn documentation_texts(&self, document: usize, symbol: &str) -> &[OwnedText]
+        ensures { result.now ≡ documentation_in self.now document symbol.now }
+    {
+        match self.subject_in(document, symbol) {
+            Some(subject) => texts_of(self.entry_of(&subject)),
+            None => &[],
+        }
+    }
+
+    /// The same, in a list of its own.
     pub fn documentation_in(
         &self,
         alloc: Global,
@@ -225,9 +233,6 @@ impl Queries {
     ) -> Result<Vec<&str>, AllocError>
         ensures { IfOk result (λ texts. map (λ (text : Bor (List ℕ)). text.now) texts.items ≡ documentation_in self.now document symbol.now) }
     {
-        match self.subject_in(document, symbol) {
-            Some(subject) => texts_of(alloc, self.entry_of(&subject)),
-            None => Ok(Vec::new(alloc)),
-        }
+        texts_in(alloc, self.documentation_texts(document, symbol))
     }
 }

@@ -1,30 +1,28 @@
 -- The URLs that stand in pages lead to files that are made.
 use Rattle.std.proofs.Common.{◌≡◌, ◌∙◌, sym, refl, ap, subst, ℕ, ◌+◌, ◌<◌, Bool, true, false, cond, List, [], ◌∷◌, ◌++◌, length}
-use Rattle.std.proofs.Common.{arith, ◌⊎◌, inl, inr}
+use Rattle.std.proofs.Common.{arith, inl, inr}
 use Rattle.std.specs.Prelude.{codes, Option, None, Some}
 use Rattle.std.specs.List.{AllByRecursion, Contains, flat_map, slice_get}
 use Rattle.std.specs.Option.{is_some, option_map_or, unwrap_or}
-use Rattle.std.specs.List.Sorted.{IsPermutation}
 use Rattle.std.specs.Fmt.{decimal}
 use Rattle.std.proofs.lemmas.List.Sorted.{Contains-permutation, IsPermutation-sym}
 use Rattle.scip_model.specs.declared.records.Index.{Index}
 use Rattle.scip_model.specs.declared.records.Document.{Document}
 use Rattle.scip_query.specs.Tables.{IsByPath, numbers, path_listed, path_or_none, places_in}
-use Rattle.scip_query.specs.declared.place.Place.{Place}
 use Rattle.scip_pages.specs.Snapshot.{lines_of}
-use Rattle.scip_pages.specs.Urls.{encoded, folder_of, ups}
+use Rattle.scip_pages.specs.Urls.{encoded, folder_of}
 use Rattle.source_files.specs.Made.{MadeFile}
 use Rattle.source_page.specs.Crumbs.{folders_on}
-use Rattle.source_page.specs.Ids.{AllFit, HasId, IsPage, IsUrl, Leads, across, to_first, to_folder, to_place, to_style}
+use Rattle.source_page.specs.Ids.{AllFit, IsPage, IsUrl, Leads, across, to_first, to_folder, to_place, to_style}
 use Rattle.source_page.specs.Ids.{unit_in, within}
 use Rattle.source_page.specs.Page.{firsts_of, page_of}
 use Rattle.source_page.specs.Site.{Sources, has_page, line_listed, page_path}
 use Rattle.source_page.specs.Tags.{urls_of}
 use Rattle.source_page.specs.Targets.{is_first}
-use Rattle.source_page.proofs.ElementLemmas.{In, contained, from_append, from_contained, from_filter, from_flat_map, from_range}
+use Rattle.source_page.proofs.ElementLemmas.{In, contained, from_contained, from_filter, from_flat_map, from_range}
 use Rattle.source_page.proofs.ElementLemmas.{get_inside, get_some, in_range}
 use Rattle.source_page.proofs.IdLemmas.{HasLine, sourced, there}
-use Rattle.source_page.proofs.PageUrlLemmas.{IsIts, each_url_leads, its}
+use Rattle.source_page.proofs.PageUrlLemmas.{each_url_leads, its}
 use Rattle.source_page.proofs.TagLemmas.{fine_page}
 use Rattle.scip_site.specs.Making as making
 use Rattle.scip_site.specs.Making.{file, page_at, page_file, page_file_at, page_or_none, pages, paths_in, script_text}

@@ -128,12 +128,12 @@ good_sources_fit index sources good number d source stands has = (good number d 
 abbrev StaysIn : MadeFile → Type 0
 StaysIn made = path_fault made.path ≡ None
 
-all_append : {X : Type 0} (P : X → Type 0) (xs ys : List X) → AllByRecursion P xs → AllByRecursion P ys
+pub all_append : {X : Type 0} (P : X → Type 0) (xs ys : List X) → AllByRecursion P xs → AllByRecursion P ys
     → AllByRecursion P (xs ++ ys)
 all_append P [] ys a b = b
 all_append P (x ∷ xs) ys a b = (a.0, all_append P xs ys a.1 b)
 
-each_of : {X : Type 0} (P : X → Type 0) (f : ℕ → List X) (ns : List ℕ) → ((n : ℕ) → AllByRecursion P (f n))
+pub each_of : {X : Type 0} (P : X → Type 0) (f : ℕ → List X) (ns : List ℕ) → ((n : ℕ) → AllByRecursion P (f n))
     → AllByRecursion P (flat_map f ns)
 each_of P f [] all = tt
 each_of P f (n ∷ ns) all = all_append P (f n) (flat_map f ns) (all n) (each_of P f ns all)

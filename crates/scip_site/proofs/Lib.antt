@@ -1,3 +1,4 @@
+mod MarkLemmas
 mod PagePathLemmas
 mod RepeatLemmas
 mod TreeLemmas
@@ -7,5 +8,6 @@ mod ReadLemmas
 mod MakeLemmas
 mod ScriptLemmas
 mod GoodLemmas
+mod ApartLemmas
 mod FolderLemmas
 mod FileUrlLemmas

@@ -1,35 +1,44 @@
 -- Files that are made one after another.
 use Rattle.std.proofs.Common.{◌≡◌, ◌∙◌, sym, refl, ap, subst, ℕ, zero, suc, ◌+◌, ◌<◌, ◌≤◌, ◌-◌, List, [], ◌∷◌, ◌++◌, map}
 use Rattle.std.proofs.Common.{append-nil, append_assoc, arith, Ok, Err, inl, inr}
-use Rattle.std.specs.Prelude.{Result, Option, None, Some, length}
+use Rattle.std.specs.Prelude.{Result, Option, length}
 use Rattle.std.specs.List.{flat_map, range_with_len}
 use Rattle.std.proofs.lemmas.Grind.{flat_map-append}
 use Rattle.std.proofs.lemmas.List.{map-append}
-use Rattle.source_files.specs.Made.{MadeFile, MakesAll}
+use Rattle.source_files.specs.Made.{Made, MadeFile}
 use Rattle.scip_model.specs.declared.records.Index.{Index}
 use Rattle.scip_query.specs.Tables.{numbers, IsByPath}
 use Rattle.scip_snapshot.specs.declared.show_fault.ShowFault.{ShowFault}
 use Rattle.scip_snapshot.specs.declared.show_fault.ShowFault.TheVariants.{Write, Memory}
 use Rattle.scip_snapshot.specs.Showing.{maker, writer, silent}
-use Rattle.scip_snapshot.proofs.ShowLemmas.{makes_none, makes_false}
+use Rattle.scip_snapshot.proofs.ShowLemmas.{makes_both, makes_none, stops_behind_both}
 use Rattle.source_page.specs.Site.{Sources}
 use Rattle.scip_site.specs.Tree.{first_page}
 use Rattle.scip_site.specs.Reading.{ReadsInto, AllAreKept, none}
-use Rattle.scip_site.specs.Making.{AllOf, PartOf, MakesFiles, Makes, file, in_folder, pages, shared, script_text}
+use Rattle.scip_site.specs.Making.{AllOf, AllThenNone, PartOf, MakesFiles, Makes, file, in_folder, pages, shared, script_text}
 use Rattle.scip_site.specs.Making.{paths_in, site_files}
 use Rattle.source_page.proofs.CodeLemmas.{range_more}
 
 -- ---- some files, and others behind them
 
-makes_both : (first now after : Option (List MadeFile)) (files more : List MadeFile) → MakesAll first now files
-    → MakesAll now after more → MakesAll first after (files ++ more)
-makes_both None now after files more before behind = tt
-makes_both (Some made) None after files more before behind = absurd before
-makes_both (Some made) (Some all) None files more before behind = absurd behind
-makes_both (Some made) (Some all) (Some every) files more before behind =
-    behind ∙ ap (λ l. l ++ more) before ∙ append_assoc made files more
+part_behind : (holds more_holds : List MadeFile → Type 0) (files more others : List MadeFile)
+    → ((part : List MadeFile) → holds part → more_holds (files ++ part))
+    → PartOf holds more others → PartOf more_holds (files ++ more) others
+part_behind holds more_holds files more others grows behind = record {
+  part = files ++ behind.part;
+  is_part = ap (λ l. files ++ l) behind.is_part ∙ sym (append_assoc files behind.part others);
+  all = grows behind.part behind.all;
+}
 
-module _ {O : Type 0} (made : O → Option (List MadeFile)) where
+part_before : (holds : List MadeFile → Type 0) (files more others : List MadeFile)
+    → PartOf holds files others → PartOf holds (files ++ more) (others ++ more)
+part_before holds files more others before = record {
+  part = before.part;
+  is_part = ap (λ l. l ++ more) before.is_part ∙ append_assoc before.part others more;
+  all = before.all;
+}
+
+module _ {O : Type 0} (made : O → Made) where
   -- none is made where memory runs out
   pub none_made : (files : List MadeFile) (now : O) → MakesFiles (maker made now now) files (Err Memory)
   none_made files now = record {
@@ -38,46 +47,36 @@ module _ {O : Type 0} (made : O → Option (List MadeFile)) where
   }
 
   module _ (first now after : O) (files more : List MadeFile) where
-    part_behind : (others : List MadeFile) → AllOf (maker made first now) files
-        → PartOf (maker made now after) more others → PartOf (maker made first after) (files ++ more) others
-    part_behind others before behind = record {
-      part = files ++ behind.part;
-      is_part = ap (λ l. files ++ l) behind.is_part ∙ sym (append_assoc files behind.part others);
-      all = makes_both (made first) (made now) (made after) files behind.part before behind.all;
-    }
-
     -- the first are made, and what becomes of the others
     pub both : AllOf (maker made first now) files → (done : Result (Unit {0}) ShowFault)
         → MakesFiles (maker made now after) more done → MakesFiles (maker made first after) (files ++ more) done
     both before (Ok done) behind = makes_both (made first) (made now) (made after) files more before behind
     both before (Err Write) behind = record {
-      failed = behind.failed;
+      refused = behind.refused;
       others = behind.others;
-      made = part_behind (behind.failed ∷ behind.others) before behind.made;
+      made = part_behind (AllThenNone (maker made now after)) (AllThenNone (maker made first after)) files more
+          (behind.refused ∷ behind.others)
+          (λ part holds. stops_behind_both (made first) (made now) (made after) files part before holds) behind.made;
     }
     both before (Err Memory) behind = record {
       others = behind.others;
-      made = part_behind behind.others before behind.made;
+      made = part_behind (AllOf (maker made now after)) (AllOf (maker made first after)) files more behind.others
+          (λ part holds. makes_both (made first) (made now) (made after) files part before holds) behind.made;
     }
 
   module _ (first after : O) (files more : List MadeFile) where
-    part_before : (others : List MadeFile) → PartOf (maker made first after) files others
-        → PartOf (maker made first after) (files ++ more) (others ++ more)
-    part_before others before = record {
-      part = before.part;
-      is_part = ap (λ l. l ++ more) before.is_part ∙ append_assoc before.part others more;
-      all = before.all;
-    }
-
     -- or already the first aren't all made
     pub stops : (fault : ShowFault) → MakesFiles (maker made first after) files (Err fault)
         → MakesFiles (maker made first after) (files ++ more) (Err fault)
     stops Write before = record {
-      failed = before.failed;
+      refused = before.refused;
       others = before.others ++ more;
-      made = part_before (before.failed ∷ before.others) before.made;
+      made = part_before (AllThenNone (maker made first after)) files more (before.refused ∷ before.others) before.made;
     }
-    stops Memory before = record { others = before.others ++ more; made = part_before before.others before.made }
+    stops Memory before = record {
+      others = before.others ++ more;
+      made = part_before (AllOf (maker made first after)) files more before.others before.made;
+    }
 
   -- memory runs out behind the first
   pub stops_behind : (first now : O) (files more : List MadeFile) → AllOf (maker made first now) files
@@ -88,7 +87,7 @@ module _ {O : Type 0} (made : O → Option (List MadeFile)) where
 abbrev pub one : (folder path bytes : List ℕ) → List MadeFile
 one folder path bytes = map (in_folder folder) (file path bytes ∷ [])
 
-pub same_text : {O : Type 0} (made : O → Option (List MadeFile)) (now after : O) (folder path bytes text : List ℕ)
+pub same_text : {O : Type 0} (made : O → Made) (now after : O) (folder path bytes text : List ℕ)
     (done : Result (Unit {0}) ShowFault) → bytes ≡ text
     → MakesFiles (maker made now after) (one folder path bytes) done
     → MakesFiles (maker made now after) (one folder path text) done
@@ -155,7 +154,7 @@ module _ (f : ℕ → List MadeFile) (g : MadeFile → MadeFile) where
       ∙ ap (λ (l : List MadeFile). l ++ map g (flat_map f (behind_next n count)))
       (map-append g (flat_map f (numbers n)) (f n))
 
-  module _ {O : Type 0} (made : O → Option (List MadeFile)) (first now after : O) (n : ℕ)
+  module _ {O : Type 0} (made : O → Made) (first now after : O) (n : ℕ)
       (before : AllOf (maker made first now) (map g (flat_map f (numbers n)))) where
     -- the file of one more is made
     pub more_made : (done : Result (Unit {0}) ShowFault) → MakesFiles (maker made now after) (map g (f n)) done
@@ -198,7 +197,7 @@ all_are folder index sources order =
     map-append (in_folder folder) (pages index sources (numbers (length index.documents)))
     (shared (script_text index sources) (due_first index sources order))
 
-module _ {O : Type 0} (made : O → Option (List MadeFile)) (folder : List ℕ) (index : Index) (sources : Sources)
+module _ {O : Type 0} (made : O → Made) (folder : List ℕ) (index : Index) (sources : Sources)
     (order : List ℕ) (first : O) where
   abbrev Behind : O → Result (Unit {0}) ShowFault → Type 0
   Behind after done = MakesFiles (maker made first after) (all_in folder index sources order) done
@@ -237,7 +236,7 @@ module _ {O : Type 0} (made : O → Option (List MadeFile)) (folder : List ℕ) 
 
 -- ---- the whole
 
-module _ {O M : Type 0} (made : O → Option (List MadeFile)) (heard : M → Option (List ℕ)) (unheard : M → ℕ)
+module _ {O M : Type 0} (made : O → Made) (heard : M → Option (List ℕ)) (unheard : M → ℕ)
     (gives : List ℕ → Option (List ℕ) → Type 0) (root folder : List ℕ) (index : Index) (start : O) where
   -- memory runs out while sources are read
   pub nothing_made : (here after : M) (fault : ShowFault)

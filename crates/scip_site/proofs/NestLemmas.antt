@@ -10,15 +10,16 @@ use Rattle.scip_pages.specs.Code.{attribute}
 use Rattle.scip_pages.specs.Escapes.{escape}
 use Rattle.scip_pages.specs.Paths.{components}
 use Rattle.scip_pages.specs.Urls.{encoded, folder_of}
-use Rattle.source_page.specs.Crumbs.{file_url, folder_id, folders_on, head_text}
+use Rattle.source_page.specs.Crumbs.{folder_id, folders_on, head_text}
 use Rattle.source_page.specs.Marks.{link}
 use Rattle.source_page.specs.Site.{page_path}
-use Rattle.source_page.specs.Tags.{Tag, State, Data, AttributeName, bare, tag_with, tags_of}
+use Rattle.source_page.specs.Tags.{Tag, Data, AttributeName, bare, tag_with, tags_of}
+use Rattle.source_page.proofs.CleanLemmas.{clean_encoded, clean_folder_id}
 use Rattle.source_page.proofs.ElementLemmas.{In}
-use Rattle.source_page.proofs.TagLemmas.{Fine, Reads, both, chain, end_a, escaped_reads, fine_const, fine_each, fine_link}
-use Rattle.source_page.proofs.TagLemmas.{link_reads, no_urls, quoted_reads, tag_a}
+use Rattle.source_page.proofs.TagLemmas.{Fine, Reads, both, chain, end_a, escaped_reads, fine_const, fine_each}
+use Rattle.source_page.proofs.TagLemmas.{link_reads, no_urls, quoted_clean, tag_a}
 use Rattle.source_page.proofs.PartLemmas.{fine_head}
-use Rattle.scip_site.specs.Tree.{but_last, closes, common, first_page, is_open, last_of, leaf_with, open_or_none, open_text}
+use Rattle.scip_site.specs.Tree.{closes, common, first_page, last_of, leaf_with, open_or_none, open_text}
 use Rattle.scip_site.specs.Tree.{opens, search_text, step, tree}
 use Rattle.scip_site.specs.Nesting.{Leaf, all_open, leaf_of, leaves_behind, leaves_in, open_behind, open_on}
 use Rattle.scip_site.specs.Laws.{TreeShowsFolders}
@@ -46,7 +47,7 @@ open_reads above name = by (length above == 0)
     begun : Reads Data start (AttributeName (details id) []) (bare (codes "li") ∷ [])
     begun =
         chain (codes "<li><details id=\"") (escape id ++ codes "\"") (record { ends = refl; are = refl })
-        (quoted_reads (bare (codes "details")) (codes "id") id)
+        (quoted_clean (bare (codes "details")) (codes "id") id (clean_folder_id (above ++ name)))
 
     named : (mark : List ℕ)
         → Reads Data (start ++ mark ++ codes "><summary>") Data
@@ -79,7 +80,7 @@ leaf_reads path names =
     let url : List ℕ = encoded (page_path path) in
     let one : List ℕ = link url (last_of names) in
     chain (codes "<li>" ++ one) (codes "</li>\n")
-    (chain (codes "<li>") one (record { ends = refl; are = refl }) (link_reads url (last_of names)))
+    (chain (codes "<li>") one (record { ends = refl; are = refl }) (link_reads url (last_of names) (clean_encoded (page_path path))))
     (record { ends = refl; are = refl })
 
 -- ---- its URLs

@@ -1,15 +1,16 @@
 -- Paths of pages.
 use Rattle.std.proofs.Common.{◌≡◌, ◌∙◌, sym, refl, ap, ℕ, ◌+◌, ◌<◌, ◌==◌, Bool, true, false, ◌||◌, cond, List, [], ◌∷◌, ◌++◌}
 use Rattle.std.proofs.Common.{nat_eq, length, arith}
-use Rattle.std.specs.Prelude.{codes, None, Some}
+use Rattle.std.specs.Prelude.{codes, Option, None, Some}
 use Rattle.std.specs.List.{list_any, onto_first, starts_with}
 use Rattle.std.specs.Str.{bytes_eq}
-use Rattle.std.proofs.lemmas.List.{append_cancel_left, append_cancel_right, length-append}
+use Rattle.std.proofs.lemmas.List.{length-append}
 use Rattle.std.proofs.lemmas.Slice.Eq.{bytes_eq-Decides}
+use Rattle.scip_pages.specs.declared.paths.PathFault.{PathFault}
 use Rattle.scip_pages.specs.declared.paths.PathFault.TheVariants.{Absolute, Empty, Dot, Parent}
 use Rattle.scip_pages.specs.Paths.{components, has_name, path_fault}
-use Rattle.source_page.specs.Site.{page_path}
 use Rattle.scip_site.specs.Laws.{HasAGoodPath, HasItsOwnPath}
+use Rattle.scip_site.proofs.MarkLemmas.{page_components, same_page}
 
 -- The last component of a path is the longer one of a longer path.
 record IsLonger (path : List ℕ) : Type 0 where
@@ -94,10 +95,17 @@ none_by false false true d e f g none x y z = absurd cc
 none_by false false false true e f g none x y z = absurd cc
 none_by false false false false e f g none x y z = rw (x refl, y refl, z refl) refl
 
+-- the fault of a path that isn't absolute, by its components
+abbrev fault_by : List (List ℕ) → Option PathFault
+fault_by names =
+    cond (is_among (codes "") names) (Some Empty)
+    (cond (is_among (codes ".") names) (Some Dot) (cond (is_among (codes "..") names) (Some Parent) None))
+
 pub has_a_good_path : HasAGoodPath
 has_a_good_path path none =
     let names : List (List ℕ) = components (path ++ codes ".html") in
-    none_by (starts_with nat_eq path (codes "/")) (has_name (codes "") path) (has_name (codes ".") path)
+    ap fault_by (page_components path)
+    ∙ none_by (starts_with nat_eq path (codes "/")) (has_name (codes "") path) (has_name (codes ".") path)
     (has_name (codes "..") path) (is_among (codes "") names) (is_among (codes ".") names) (is_among (codes "..") names)
     none
     (none_there (codes "") path (omega arith))
@@ -105,6 +113,4 @@ has_a_good_path path none =
     (none_there (codes "..") path (omega arith))
 
 pub has_its_own_path : HasItsOwnPath
-has_its_own_path path other same =
-    append_cancel_left (codes "src/") path other
-    (append_cancel_right (codes "src/" ++ path) (codes "src/" ++ other) (codes ".html") same)
+has_its_own_path path other same = same_page path other same

@@ -1,5 +1,5 @@
 -- Laws of a folder of pages.
-use Rattle.std.specs.Prelude.{ℕ, ◌≡◌, ◌≢◌, ◌<◌, Bool, false, List, Option, None, Some}
+use Rattle.std.specs.Prelude.{ℕ, ◌≡◌, ◌≢◌, ◌<◌, Bool, false, List, ◌++◌, codes, Option, None, Some}
 use Rattle.std.specs.List.{AllByRecursion, flat_map, slice_get}
 use Rattle.scip_model.specs.declared.records.Index.{Index}
 use Rattle.scip_model.specs.declared.records.Document.{Document}
@@ -41,6 +41,16 @@ abbrev pub FilesStayBelow : Type 0
 FilesStayBelow =
     (index : Index) (sources : Sources) (order : List ℕ) → AllAreGood index.documents sources
     → AllByRecursion (λ (made : MadeFile). path_fault made.path ≡ None) (site_files index sources order)
+
+-- none is where another has a folder,
+abbrev pub IsNoFolder : MadeFile → MadeFile → Type 0
+IsNoFolder made other = (behind : List ℕ) → other.path ≢ made.path ++ (codes "/" ++ behind)
+
+abbrev pub FilesAreNoFolders : Type 0
+FilesAreNoFolders =
+    (index : Index) (sources : Sources) (order : List ℕ)
+    → AllByRecursion (λ (made : MadeFile). AllByRecursion (IsNoFolder made) (site_files index sources order))
+    (site_files index sources order)
 
 -- and no page is made twice.
 abbrev pub PagesAreMadeOnce : Type 0

@@ -6,7 +6,7 @@ use Rattle.std.specs.Option.{unwrap_or}
 use Rattle.scip_model.specs.declared.records.Index.{Index}
 use Rattle.scip_model.specs.declared.records.Document.{Document}
 use Rattle.scip_query.specs.Tables.{numbers, path_listed, IsByPath}
-use Rattle.source_files.specs.Made.{MadeFile, MakesAll}
+use Rattle.source_files.specs.Made.{MadeFile, MakesAll, StopsBehind}
 use Rattle.scip_pages.specs.Snapshot.{lines_of}
 use Rattle.scip_snapshot.specs.declared.show_fault.ShowFault.{ShowFault}
 use Rattle.scip_snapshot.specs.declared.show_fault.ShowFault.TheVariants.{Write, Memory}
@@ -107,23 +107,27 @@ in_folder folder made = record { path = path_in folder made.path; bytes = made.b
 abbrev pub AllOf : {O : Type 0} → Maker O → List MadeFile → Type 0
 AllOf maker files = MakesAll (maker.made maker.before) (maker.made maker.after) files
 
--- a first part of some files, behind which there are others
-pub record PartOf {O : Type 0} (maker : Maker O) (files others : List MadeFile) : Type 0 where
+-- or they are, and then one is refused
+abbrev pub AllThenNone : {O : Type 0} → Maker O → List MadeFile → Type 0
+AllThenNone maker files = StopsBehind (maker.made maker.before) (maker.made maker.after) files
+
+-- This holds of a first part of some files, behind which there are others.
+pub record PartOf (Holds : List MadeFile → Type 0) (files others : List MadeFile) : Type 0 where
   pub part : List MadeFile
   pub is_part : files ≡ part ++ others
-  pub all : AllOf maker part
+  pub all : Holds part
 
--- all but the next file and those behind it, or a first part
+-- A first part is made, and the next file is refused; or a first part is made.
 pub record AllBut {O : Type 0} (maker : Maker O) (files : List MadeFile) : Type 0 where
-  pub failed : MadeFile
+  pub refused : MadeFile
   pub others : List MadeFile
-  pub made : PartOf maker files (failed ∷ others)
+  pub made : PartOf (AllThenNone maker) files (refused ∷ others)
 
 pub record SomeOf {O : Type 0} (maker : Maker O) (files : List MadeFile) : Type 0 where
   pub others : List MadeFile
-  pub made : PartOf maker files others
+  pub made : PartOf (AllOf maker) files others
 
--- Ok: all are made; Write: those before the first that can't be made; Memory: a first part.
+-- Ok: all are made; Write: those before the first that is refused; Memory: a first part.
 abbrev pub MakesFiles : {O : Type 0} → Maker O → List MadeFile → Result (Unit {0}) ShowFault → Type 0
 MakesFiles maker files (Ok done) = AllOf maker files
 MakesFiles maker files (Err Write) = AllBut maker files

@@ -6,7 +6,6 @@ use Rattle.std.specs.List.{flat_map, slice_get}
 use Rattle.std.specs.Str.{is_utf8}
 use Rattle.scip_model.specs.declared.records.Document.{Document}
 use Rattle.scip_model.specs.declared.records.Occurrence.{Occurrence}
-use Rattle.source_files.specs.Roots.{path_below}
 use Rattle.scip_pages.specs.declared.columns.ColumnUnit.{ColumnUnit}
 use Rattle.scip_pages.specs.declared.paths.PathFault.{PathFault}
 use Rattle.scip_pages.specs.Columns.{unit_of}
@@ -15,6 +14,7 @@ use Rattle.scip_pages.specs.Snapshot.{lines_of, misfit}
 use Rattle.scip_snapshot.specs.declared.show_fault.ShowFault.{ShowFault}
 use Rattle.scip_snapshot.specs.declared.show_fault.ShowFault.TheVariants.{Write, Memory}
 use Rattle.scip_snapshot.specs.LeftOuts.{line_with}
+use Rattle.scip_snapshot.specs.Snapshots.{path_in}
 use Rattle.scip_snapshot.specs.Showing.{Writer, AreTold, IsUntouched}
 use Rattle.scip_site.specs.declared.no_page.NoPage.{NoPage}
 use Rattle.scip_site.specs.declared.no_page.NoPage.TheVariants.{BadPath, Repeated, Unreadable, NotText, NoUnit, Misfit}
@@ -48,7 +48,7 @@ abbrev pub IsRead : (gives : List ℕ → Option (List ℕ) → Type 0) → (roo
 IsRead gives root d (Some fault) repeated outcome = outcome ≡ Err BadPath
 IsRead gives root d None true outcome = outcome ≡ Err Repeated
 IsRead gives root d None false outcome =
-    (source : Option (List ℕ)) × gives (path_below root d.relative_path) source × (outcome ≡ of_source d source)
+    (source : Option (List ℕ)) × gives (path_in root d.relative_path) source × (outcome ≡ of_source d source)
 
 abbrev pub fault_of : Document → Option PathFault
 fault_of d = path_fault d.relative_path

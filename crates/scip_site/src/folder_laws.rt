@@ -1,6 +1,6 @@
 //! Laws of a folder of pages, each the contract of a function that does nothing.
 
-ghost use Rattle.scip_site.specs.FolderLaws.{ReadsAreGood, GoodSourcesFit, FilesStayBelow, PagesAreMadeOnce, QuotesShowTheText, QuotesEndNothing};
+ghost use Rattle.scip_site.specs.FolderLaws.{ReadsAreGood, GoodSourcesFit, FilesStayBelow, FilesAreNoFolders, PagesAreMadeOnce, QuotesShowTheText, QuotesEndNothing};
 ghost use Rattle.scip_site.specs.UrlLaws.{PageUrlsLead, FirstUrlsLead, ListedUrlsLead};
 
 use source_files::ReadFiles;
@@ -11,10 +11,11 @@ pub fn documents_with_pages_are_good<F: ReadFiles>(files: &F)
 {}
 
 /// Ranges of documents that have pages are ranges of their sources, so that links lead to places; all files are below
-/// the folder of all pages; no page is made twice.
+/// the folder of all pages; none is where another has a folder; no page is made twice.
 pub fn folders_have_their_pages()
     ensures fit { GoodSourcesFit }
     ensures below { FilesStayBelow }
+    ensures apart { FilesAreNoFolders }
     ensures once { PagesAreMadeOnce }
 {}
 

@@ -270,7 +270,8 @@ fn make_all<O: MakeFiles>(
 /// don't fit it, is told and has no page.
 ///
 /// In the folder is `index.html`, with the tree of folders and a search, what all pages share, and below `src` a page
-/// for each document.
+/// for each document. Behind `src` is a `~` for each folder on the document's path whose name ends in `.html`, so that
+/// no page is where another has a folder.
 ///
 /// - `Write`: a file can't be made; those before it are. The first page is the last.
 /// - `Memory`: memory ran out, after a first part of the files.

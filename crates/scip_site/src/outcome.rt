@@ -1,15 +1,15 @@
 //! The source of a document, or why the document has no page.
 
 ghost use Rattle.std.specs.Prelude.{◌≡◌, ℕ, List, Option, Some, IfOk};
-ghost use Rattle.source_files.specs.Roots.{path_below};
 ghost use Rattle.scip_pages.specs.Columns.{unit_of};
 ghost use Rattle.scip_pages.specs.Snapshot.{lines_of, misfit};
+ghost use Rattle.scip_snapshot.specs.Snapshots.{path_in};
 ghost use Rattle.scip_site.specs.Reading as spec;
 
 use crate::no_page::NoPage;
 use scip_model::Document;
 use scip_pages::{ColumnUnit, lines_of, misfit, path_fault, unit_of};
-use scip_snapshot::path_below;
+use scip_snapshot::path_in;
 use sequences::OwnedText;
 use source_files::ReadFiles;
 use std::alloc::{AllocError, Global};
@@ -73,9 +73,9 @@ fn below_root<F: ReadFiles>(
     root: &str,
     document: &Document,
 ) -> Result<Result<OwnedText, NoPage>, AllocError>
-    ensures { IfOk result (λ outcome. (source : Option (List ℕ)) × F.gives files.now (path_below root.now document.now.relative_path) source × (outcome ≡ spec.of_source document.now source)) }
+    ensures { IfOk result (λ outcome. (source : Option (List ℕ)) × F.gives files.now (path_in root.now document.now.relative_path) source × (outcome ≡ spec.of_source document.now source)) }
 {
-    let file = path_below(alloc, root, document.relative_path.as_str())?;
+    let file = path_in(alloc, root, document.relative_path.as_str())?;
     match files.read_file(alloc, file.as_str())? {
         Some(bytes) => with_bytes(alloc, document, bytes.as_slice()),
         None => Ok(Err(NoPage::Unreadable)),

@@ -24,6 +24,7 @@ pre a[title] { color: inherit; text-decoration: none; border-radius: 3px; }
 pre a[title][href] { color: var(--link); }
 pre a[title]:hover { background: var(--mark); }
 pre a[title][href]:hover { text-decoration: underline; }
+pre a[title]:focus-visible::after { content: attr(title); position: fixed; inset: auto 0 0; z-index: 2; max-height: 40vh; overflow: hidden; padding: .6rem 1rem; color: var(--ink); background: var(--panel); border-top: 1px solid var(--line); font: 14px/1.5 system-ui, sans-serif; white-space: pre-wrap; overflow-wrap: anywhere; }
 aside { position: sticky; top: 2.8rem; max-height: calc(100vh - 2.8rem); overflow-y: auto; padding: .75rem 1rem 3rem; border-left: 1px solid var(--line); background: var(--panel); font-size: 14px; }
 aside h2 { margin: 0 0 .5rem; font-size: 14px; color: var(--soft); font-weight: 600; }
 dl { margin: 0; }

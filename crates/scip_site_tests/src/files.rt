@@ -48,6 +48,8 @@ impl ReadFiles for Files {
 #[derive(Drop)]
 pub(crate) struct Made<'a> {
     pub room: Std<&'a mut [u8]>,
+    /// How many files were refused.
+    pub refusals: u64,
 }
 
 /// What is kept of a file.
@@ -59,21 +61,30 @@ fn kept<'a>(path: &str, bytes: &'a [u8]) -> &'a [u8] {
     }
 }
 
+/// Writes what is kept of a file behind its path. Whether there was room for it.
+fn keep(room: &mut Std<&mut [u8]>, path: &str, bytes: &[u8]) -> bool {
+    let mut is_kept = true;
+    for part in [
+        b"[".as_slice(),
+        path.as_bytes(),
+        b"]".as_slice(),
+        kept(path, bytes),
+    ] {
+        is_kept = is_kept && write_all(room, part).is_ok();
+    }
+    is_kept
+}
+
 impl<'a> MakeFiles for Made<'a> {
     ghost use Rattle.std.specs.Prelude.{None};
 
-    ghost made = { λ _. None };
+    ghost made = { λ m. record { files = None; refusals = m.refusals } };
 
     fn make_file(&mut self, path: &str, bytes: &[u8]) -> Result<bool, AllocError> {
-        let mut is_made = true;
-        for part in [
-            b"[".as_slice(),
-            path.as_bytes(),
-            b"]".as_slice(),
-            kept(path, bytes),
-        ] {
-            is_made = is_made && write_all(&mut self.room, part).is_ok();
+        if keep(&mut self.room, path, bytes) {
+            return Ok(true);
         }
-        Ok(is_made)
+        self.refusals = self.refusals.saturating_add(1);
+        Ok(false)
     }
 }

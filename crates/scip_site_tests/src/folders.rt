@@ -144,6 +144,7 @@ fn pages(alloc: Global, queries: &Queries, room: &mut [u8]) -> (Result<(), ShowF
     };
     let mut made = Made {
         room: Std::new(room),
+        refusals: 0,
     };
     let answer = make_pages(alloc, &Files, &folders, queries, &mut made, &mut messages);
     let count = ROOM - messages.into_inner().len().min(ROOM);

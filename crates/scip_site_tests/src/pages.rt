@@ -22,7 +22,7 @@ const INDEX: &[u8] = b"\x12/\x0A\x03d/a\
 0\x01";
 
 /// The lines of `d/a`.
-const LINES: [&str; 2] = ["S T;", "<&\t"];
+const LINES: [&str; 2] = ["S T;", "<&\t\0"];
 
 /// The page of `d/a`.
 const DUE: &str = "<!DOCTYPE html>
@@ -38,7 +38,7 @@ const DUE: &str = "<!DOCTYPE html>
 <main>
 <pre><a id=\"L1\"></a><a href=\"#U0\" title=\"S#
 One &lt;b&gt;.\">S</a> <a href=\"../../src/d/b.html#L1\" title=\"T#\">T</a>;
-<a id=\"L2\"></a>&lt;&amp;\t</pre>
+<a id=\"L2\"></a>&lt;&amp;\t␀</pre>
 <aside><h2>Definitions and their uses</h2>
 <dl>
 <dt id=\"U0\"><a href=\"#L1\"><b>S</b> <span>S#
@@ -76,7 +76,7 @@ fn page_by(
 /// The page of the first document.
 fn taken(alloc: Global, queries: &Queries) -> Result<Vec<u8>, AllocError> {
     let sources = [
-        Some(OwnedText::copy_of(alloc, "S T;\n<&\t")?),
+        Some(OwnedText::copy_of(alloc, "S T;\n<&\t\0")?),
         Some(OwnedText::copy_of(alloc, "T S")?),
     ];
     page_by(alloc, queries, &sources)

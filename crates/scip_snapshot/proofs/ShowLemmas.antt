@@ -7,7 +7,8 @@ use Rattle.std.proofs.lemmas.Grind.{flat_map-append}
 use Rattle.std.proofs.lemmas.List.{take_all, take_more, length-take-le}
 use Rattle.streams.specs.WholeWrites.{IsWritten, IsCutOff}
 use Rattle.streams.proofs.WholeWriteLemmas.{IsWritten-nil, IsWritten-trans, IsCutOff-after}
-use Rattle.source_files.specs.Made.{MadeFile, Makes, MakesAll}
+use Rattle.streams.specs.Streams.{one_more}
+use Rattle.source_files.specs.Made.{Adds, Made, MadeFile, Makes, MakesAll, StopsBehind}
 use Rattle.scip_model.specs.declared.records.Index.{Index}
 use Rattle.scip_model.specs.declared.records.Document.{Document}
 use Rattle.scip_snapshot.specs.declared.show_fault.ShowFault.{ShowFault}
@@ -74,25 +75,41 @@ module _ {W : Type 0} (contents : W → Option (List ℕ)) (failures : W → ℕ
         (IsCutOff-after contents failures first now after (printed shown) (printed (item ∷ [])) one.0 before one.1),
   )
 
-makes_both : (first now after : Option (List MadeFile)) (files more : List MadeFile) → MakesAll first now files
-    → MakesAll now after more → MakesAll first after (files ++ more)
-makes_both None now after files more before behind = tt
-makes_both (Some made) None after files more before behind = absurd before
-makes_both (Some made) (Some all) None files more before behind = absurd behind
-makes_both (Some made) (Some all) (Some every) files more before behind =
+adds_both : (first now after : Option (List MadeFile)) (files more : List MadeFile) → Adds first now files
+    → Adds now after more → Adds first after (files ++ more)
+adds_both None now after files more before behind = tt
+adds_both (Some made) None after files more before behind = absurd before
+adds_both (Some made) (Some all) None files more before behind = absurd behind
+adds_both (Some made) (Some all) (Some every) files more before behind =
     behind ∙ ap (λ l. l ++ more) before ∙ append_assoc made files more
 
-pub makes_none : (first : Option (List MadeFile)) → MakesAll first first []
-makes_none None = tt
-makes_none (Some made) = sym (append-nil made)
+adds_none : (first : Option (List MadeFile)) → Adds first first []
+adds_none None = tt
+adds_none (Some made) = sym (append-nil made)
 
--- none is made
-pub makes_false : (E : Type 0) (first now : Option (List MadeFile)) (path bytes : List ℕ) (is_made : Bool)
-    → is_made ≡ false → Makes {E = E} first now path bytes (Ok is_made) → MakesAll first now []
+module _ (first now after : Made) (files more : List MadeFile) (before : MakesAll first now files) where
+  pub makes_both : MakesAll now after more → MakesAll first after (files ++ more)
+  makes_both behind = record {
+    added = adds_both first.files now.files after.files files more before.added behind.added;
+    unrefused = behind.unrefused ∙ before.unrefused;
+  }
+
+  pub stops_behind_both : StopsBehind now after more → StopsBehind first after (files ++ more)
+  stops_behind_both behind = record {
+    added = adds_both first.files now.files after.files files more before.added behind.added;
+    refused = behind.refused ∙ ap one_more before.unrefused;
+  }
+
+pub makes_none : (first : Made) → MakesAll first first []
+makes_none first = record { added = adds_none first.files; unrefused = refl }
+
+-- one is refused
+pub makes_false : (E : Type 0) (first now : Made) (path bytes : List ℕ) (is_made : Bool)
+    → is_made ≡ false → Makes {E = E} first now path bytes (Ok is_made) → StopsBehind first now []
 makes_false E first now path bytes true same makes = absurd cc
 makes_false E first now path bytes false same makes = makes
 
-module _ {O : Type 0} (made : O → Option (List MadeFile)) (folder : List ℕ) (first now after : O) (shown : List Shown) where
+module _ {O : Type 0} (made : O → Made) (folder : List ℕ) (first now after : O) (shown : List Shown) where
   filed_behind : (item : Shown) → filed folder (shown ++ item ∷ []) ≡ filed folder shown ++ filed folder (item ∷ [])
   filed_behind item = flat_map-append (λ (s : Shown). filed_by folder s.path s.outcome) shown (item ∷ [])
 
@@ -109,8 +126,9 @@ module _ {O : Type 0} (made : O → Option (List MadeFile)) (folder : List ℕ) 
       (makes_both (made first) (made now) (made after) (filed folder shown) [] before one)
 
 -- the last of one document
-last_of_one : (others : List Shown) (item last : Shown) → item ∷ [] ≡ others ++ last ∷ [] → others ≡ []
-last_of_one [] item last same = refl
+last_of_one : (others : List Shown) (item last : Shown) → item ∷ [] ≡ others ++ last ∷ []
+    → (others ≡ []) × (item ≡ last)
+last_of_one [] item last same = (refl, cc)
 last_of_one (other ∷ others) item last same =
     let short : 1 ≡ suc (length (others ++ last ∷ [])) = ap length same in
     let long : length (others ++ last ∷ []) ≡ suc (length others) = length_one others last in
@@ -120,17 +138,20 @@ last_of_one (other ∷ others) item last same =
     length_one [] last = refl
     length_one (other ∷ others) last = ap suc (length_one others last)
 
-pub filed_but_one : {O : Type 0} (made : O → Option (List MadeFile)) (folder : List ℕ) (first now after : O)
+pub filed_but_one : {O : Type 0} (made : O → Made) (folder : List ℕ) (first now after : O)
     (shown : List Shown) (item : Shown)
     → AreFiled (maker made first now) folder shown → AreFiledButOne (maker made now after) folder (item ∷ [])
     → AreFiledButOne (maker made first after) folder (shown ++ item ∷ [])
-filed_but_one made folder first now after shown item before one = (
-  shown,
-  item,
-  refl,
-  filed_still made folder first now after shown before
-      (subst (AreFiled (maker made now after) folder) (last_of_one one.0 item one.1 one.2) one.3),
-)
+filed_but_one made folder first now after shown item before one =
+    let alone = last_of_one one.others item (record { path = one.path; outcome = Ok one.text }) one.shown_are in record {
+      others = shown;
+      path = one.path;
+      text = one.text;
+      shown_are = ap (λ (s : Shown). shown ++ s ∷ []) alone.1;
+      stops = subst (StopsBehind (made first) (made after)) (append-nil (filed folder shown))
+          (stops_behind_both (made first) (made now) (made after) (filed folder shown) [] before
+          (subst (λ (others : List Shown). StopsBehind (made now) (made after) (filed folder others)) alone.0 one.stops));
+    }
 
 -- ---- the next of the documents of an index
 

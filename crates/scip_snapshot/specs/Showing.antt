@@ -3,7 +3,7 @@
 use Rattle.std.specs.Prelude.{◌≡◌, ◌<◌, ◌-◌, ◌^◌, ℕ, List, [], ◌∷◌, ◌++◌, take, Option, Result, Ok, Err, codes}
 use Rattle.std.specs.Io.KnownBytes.{Appends}
 use Rattle.streams.specs.WholeWrites.{IsWritten, IsCutOff}
-use Rattle.source_files.specs.Made.{MadeFile, MakesAll}
+use Rattle.source_files.specs.Made.{Made, MakesAll, StopsBehind}
 use Rattle.scip_model.specs.declared.records.Index.{Index}
 use Rattle.scip_model.specs.declared.records.Document.{Document}
 use Rattle.scip_snapshot.specs.declared.show_fault.ShowFault.{ShowFault}
@@ -57,22 +57,27 @@ abbrev pub AreCutOff : {W : Type 0} → Writer W → List Shown → Type 0
 AreCutOff out shown =
     (count : ℕ) × IsCutOff out.contents out.failures out.before out.after (printed shown) count
 
--- what makes files, before and after a call, and the files that it has made
+-- what makes files, before and after a call, and what its trait says about it: the files that it has made, and how
+-- many it was refused
 pub record Maker (O : Type 0) : Type 0 where
-  pub made : O → Option (List MadeFile)
+  pub made : O → Made
   pub before : O
   pub after : O
 
-abbrev pub maker : {O : Type 0} → (O → Option (List MadeFile)) → O → O → Maker O
+abbrev pub maker : {O : Type 0} → (O → Made) → O → O → Maker O
 maker made before after = record { made = made; before = before; after = after }
 
--- each goes to a file below a folder; or the last of them doesn't
+-- each that isn't left out goes to a file below a folder
 abbrev pub AreFiled : {O : Type 0} → Maker O → (folder : List ℕ) → List Shown → Type 0
 AreFiled files folder shown = MakesAll (files.made files.before) (files.made files.after) (filed folder shown)
 
-abbrev pub AreFiledButOne : {O : Type 0} → Maker O → (folder : List ℕ) → List Shown → Type 0
-AreFiledButOne files folder shown =
-    (others : List Shown) × (last : Shown) × (shown ≡ others ++ last ∷ []) × AreFiled files folder others
+-- or the file of the last, which isn't left out, is refused
+pub record AreFiledButOne {O : Type 0} (files : Maker O) (folder : List ℕ) (shown : List Shown) : Type 0 where
+  pub others : List Shown
+  pub path : List ℕ
+  pub text : List ℕ
+  pub shown_are : shown ≡ others ++ record { path = path; outcome = Ok text } ∷ []
+  pub stops : StopsBehind (files.made files.before) (files.made files.after) (filed folder others)
 
 -- where the snapshot of a document goes, whole or but for a part; or memory ran out, and all is `untouched`
 abbrev pub Goes : (whole cut : List Shown → Type 0) → (untouched : Type 0) → (path text : List ℕ)

@@ -1,7 +1,7 @@
 -- What becomes of the documents of an index whose sources are below a root: which snapshots are printed, and which
 -- documents are left out.
 -- `gives` is what reading a file may give.
-use Rattle.std.specs.Prelude.{◌≡◌, ℕ, ◌+◌, cond, List, [], ◌∷◌, ◌++◌, Vec, Option, Some, None, Result, Ok, Err, codes}
+use Rattle.std.specs.Prelude.{◌≡◌, ℕ, ◌+◌, cond, List, [], ◌∷◌, ◌++◌, map, Vec, Option, Some, None, Result, Ok, Err, codes}
 use Rattle.std.specs.List.{flat_map}
 use Rattle.std.specs.Str.{is_utf8}
 use Rattle.scip_model.specs.declared.records.Index.{Index}
@@ -9,7 +9,7 @@ use Rattle.scip_model.specs.declared.records.Document.{Document}
 use Rattle.source_files.specs.Roots.{path_below}
 use Rattle.source_files.specs.Made.{MadeFile}
 use Rattle.scip_pages.specs.Paths.{path_fault}
-use Rattle.scip_pages.specs.Snapshot.{snapshot_of}
+use Rattle.scip_pages.specs.Snapshot.{flat_byte, snapshot_of}
 use Rattle.scip_pages.specs.declared.paths.PathFault.{PathFault}
 use Rattle.scip_pages.specs.declared.snapshot_fault.SnapshotFault.{SnapshotFault}
 use Rattle.scip_snapshot.specs.declared.left_out.LeftOut.{LeftOut}
@@ -36,28 +36,28 @@ of_source index number None = Err Unreadable
 of_source index number (Some bytes) =
     cond (is_utf8 bytes) (of_snapshot (snapshot_of index number bytes)) (Err NotText)
 
+-- a path below a folder; an empty name is that of the folder where the program runs
+abbrev pub path_in : (folder path : List ℕ) → List ℕ
+path_in [] path = path
+path_in (byte ∷ folder) path = path_below (byte ∷ folder) path
+
 -- Its source is the file with its path below the root. If the path has a fault, nothing is read.
 abbrev pub IsRead : (gives : List ℕ → Option (List ℕ) → Type 0) → (root : List ℕ) → Index → ℕ → (path : List ℕ)
     → Option PathFault → Outcome → Type 0
 IsRead gives root index number path (Some fault) outcome = outcome ≡ Err BadPath
 IsRead gives root index number path None outcome =
-    (source : Option (List ℕ)) × gives (path_below root path) source × (outcome ≡ of_source index number source)
+    (source : Option (List ℕ)) × gives (path_in root path) source × (outcome ≡ of_source index number source)
 
 abbrev pub IsOutcome : (gives : List ℕ → Option (List ℕ) → Type 0) → (root : List ℕ) → Index → ℕ → (path : List ℕ)
     → Outcome → Type 0
 IsOutcome gives root index number path outcome = IsRead gives root index number path (path_fault path) outcome
 
--- a snapshot is printed below the document's path
+-- a snapshot is printed below the document's path, which is on one line
 abbrev pub printed_by : (path : List ℕ) → Outcome → List ℕ
-printed_by path (Ok text) = path ++ codes "\n" ++ text
+printed_by path (Ok text) = map flat_byte path ++ codes "\n" ++ text
 printed_by path (Err left) = []
 
--- or it goes to a file below a folder, by the document's path; an empty name is that of the folder where the program
--- runs
-abbrev pub path_in : (folder path : List ℕ) → List ℕ
-path_in [] path = path
-path_in (byte ∷ folder) path = path_below (byte ∷ folder) path
-
+-- or it goes to a file below a folder, by the document's path
 abbrev pub filed_by : (folder path : List ℕ) → Outcome → List MadeFile
 filed_by folder path (Ok text) = record { path = path_in folder path; bytes = text } ∷ []
 filed_by folder path (Err left) = []

@@ -1,34 +1,22 @@
 //! Snapshots that go to files of their own.
 
-ghost use Rattle.std.specs.Prelude.{◌≡◌, [], IfOk, string_bytes};
-ghost use Rattle.scip_snapshot.specs.Snapshots.{path_in};
+ghost use Rattle.std.specs.Prelude.{[]};
 ghost use Rattle.scip_snapshot.specs.Showing.{AreFiled, AreFiledButOne, Goes, ShowsOne, Shows, maker, writer};
 
 use crate::left_out::tell;
-use crate::outcome::{Asked, outcome_of, path_below};
+use crate::outcome::{Asked, outcome_of, path_in};
 use crate::show_fault::ShowFault;
 use scip_query::Queries;
 use source_files::{MakeFiles, ReadFiles};
-use std::alloc::{AllocError, Global};
+use std::alloc::Global;
 use streams::Sink;
 
-/// The folder below which sources are, and that below which their snapshots go.
+/// The folder below which sources are, and that below which their snapshots go. An empty name is that of the folder
+/// where the program runs.
 #[derive(Clone, Copy)]
 pub struct Folders<'a> {
     pub root: &'a str,
-    /// An empty name is that of the folder where the program runs.
     pub to: &'a str,
-}
-
-/// A path below a folder, for the system; an empty name is that of the folder where the program runs.
-pub fn path_in(alloc: Global, folder: &str, path: &str) -> Result<String, AllocError>
-    ensures { IfOk result (λ file. string_bytes file ≡ path_in folder.now path.now) }
-{
-    if folder.is_empty() {
-        Ok(String::from_str(alloc, path)?)
-    } else {
-        path_below(alloc, folder, path)
-    }
 }
 
 /// Makes the file with the snapshot of a document.

@@ -8,8 +8,8 @@ mod outcome;
 mod printing;
 mod show_fault;
 
-pub use filing::{Folders, file_all, path_in};
+pub use filing::{Folders, file_all};
 pub use left_out::{LeftOut, line_with, say};
-pub use outcome::path_below;
+pub use outcome::path_in;
 pub use printing::print_all;
 pub use show_fault::ShowFault;

@@ -3,7 +3,7 @@
 ghost use Rattle.std.specs.Prelude.{◌≡◌, ℕ, List, Option, Some, IfOk, string_bytes};
 ghost use Rattle.source_files.specs.Roots.{path_below};
 ghost use Rattle.scip_pages.specs.Snapshot.{snapshot_of};
-ghost use Rattle.scip_snapshot.specs.Snapshots.{IsOutcome, of_snapshot, of_source, outcome_view};
+ghost use Rattle.scip_snapshot.specs.Snapshots.{IsOutcome, of_snapshot, of_source, outcome_view, path_in};
 
 use crate::left_out::LeftOut;
 use scip_pages::{SnapshotFault, path_fault, snapshot};
@@ -21,13 +21,24 @@ pub(crate) struct Asked<'a> {
 }
 
 /// A path below a root, for the system.
-pub fn path_below(alloc: Global, root: &str, path: &str) -> Result<String, AllocError>
+fn path_below(alloc: Global, root: &str, path: &str) -> Result<String, AllocError>
     ensures { IfOk result (λ below. string_bytes below ≡ path_below root.now path.now) }
 {
     let mut below = String::from_str(alloc, root)?;
     below.push('/')?;
     below.push_str(path)?;
     Ok(below)
+}
+
+/// A path below a folder, for the system; an empty name is that of the folder where the program runs.
+pub fn path_in(alloc: Global, folder: &str, path: &str) -> Result<String, AllocError>
+    ensures { IfOk result (λ file. string_bytes file ≡ path_in folder.now path.now) }
+{
+    if folder.is_empty() {
+        Ok(String::from_str(alloc, path)?)
+    } else {
+        path_below(alloc, folder, path)
+    }
 }
 
 /// The snapshot of the document whose source this is.
@@ -65,9 +76,9 @@ fn outcome_below<F: ReadFiles>(
     files: &F,
     asked: &Asked<'_>,
 ) -> Result<Result<Vec<u8>, LeftOut>, AllocError>
-    ensures { IfOk result (λ outcome. (source : Option (List ℕ)) × F.gives files.now (path_below asked.now.root.now asked.now.path.now) source × (outcome_view outcome ≡ of_source asked.now.queries.now asked.now.number source)) }
+    ensures { IfOk result (λ outcome. (source : Option (List ℕ)) × F.gives files.now (path_in asked.now.root.now asked.now.path.now) source × (outcome_view outcome ≡ of_source asked.now.queries.now asked.now.number source)) }
 {
-    let file = path_below(alloc, asked.root, asked.path)?;
+    let file = path_in(alloc, asked.root, asked.path)?;
     match files.read_file(alloc, file.as_str())? {
         Some(bytes) => outcome_with(alloc, asked, bytes.as_slice()),
         None => Ok(Err(LeftOut::Unreadable)),

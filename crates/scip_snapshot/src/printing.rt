@@ -1,22 +1,24 @@
 //! Snapshots that are printed.
 
-ghost use Rattle.std.specs.Prelude.{◌≡◌, ◌++◌, codes, IfOk};
+ghost use Rattle.std.specs.Prelude.{◌≡◌, ◌++◌, codes, map, IfOk};
+ghost use Rattle.scip_pages.specs.Snapshot.{flat_byte};
 ghost use Rattle.scip_snapshot.specs.Showing.{ArePrinted, AreCutOff, Goes, ShowsOne, Shows, writer};
 
 use crate::left_out::tell;
 use crate::outcome::{Asked, outcome_of};
 use crate::show_fault::ShowFault;
+use scip_pages::push_flat;
 use scip_query::Queries;
 use source_files::ReadFiles;
 use std::alloc::{AllocError, Global};
 use streams::{Sink, write_all};
 
-/// A path, a line end and a text.
+/// A path on a line of its own, with blanks for its line feeds, and a text.
 fn below_its_path(alloc: Global, path: &str, text: &[u8]) -> Result<Vec<u8>, AllocError>
-    ensures { IfOk result (λ all. all.items ≡ path.now ++ codes "\n" ++ text.now) }
+    ensures { IfOk result (λ all. all.items ≡ map flat_byte path.now ++ codes "\n" ++ text.now) }
 {
     let mut all = Vec::new(alloc);
-    all.extend_from_slice(path.as_bytes())?;
+    push_flat(&mut all, path.as_bytes())?;
     all.extend_from_slice(b"\n")?;
     all.extend_from_slice(text)?;
     Ok(all)

@@ -6,7 +6,7 @@ use crate::make_files::MakeFiles;
 use crate::system_files::given;
 use std::alloc::AllocError;
 use std::fs::File;
-use std::io::Write;
+use std::io::{ErrorKind, Write};
 use std::rt::Files;
 use std::{fs, io};
 use streams::{Failed, Sink};
@@ -20,12 +20,14 @@ pub struct OutFile<'a, S: Files> {
     held: [Option<S::File>; 3],
     file: Option<S::File>,
     failures: u64,
+    refusals: u64,
 }
 
 impl<'a, S: Files> OutFile<'a, S> {
     /// The file with a path, which isn't made yet.
     pub fn new(system: &'a S, path: &'a str) -> OutFile<'a, S>
         ensures failures { result.failures ≡ 0 }
+        ensures refusals { result.refusals ≡ 0 }
         ensures unmade { result.file ≡ None }
     {
         OutFile {
@@ -34,6 +36,7 @@ impl<'a, S: Files> OutFile<'a, S> {
             held: [None, None, None],
             file: None,
             failures: 0,
+            refusals: 0,
         }
     }
 
@@ -87,24 +90,63 @@ impl<'a, S: Files> Sink for OutFile<'a, S> {
     }
 }
 
-// Makes the folders on the way to a file. None if the system refuses that.
-fn make_folders<S: Files>(system: &S, path: &str) -> Result<Option<()>, AllocError> {
+// Whether a folder is there after an attempt to make it.
+fn is_there(made: io::Result<()>) -> Result<bool, AllocError> {
+    match made {
+        Err(error) if error.kind() == ErrorKind::AlreadyExists => Ok(true),
+        answer => Ok(given(answer)?.is_some()),
+    }
+}
+
+// Makes a folder, and those on the way to it that aren't there, at most `room`. Begins with the folder itself, since
+// most of the way is there mostly. False if the system refuses that.
+fn make_folder<S: Files>(system: &S, folder: &str, room: usize) -> Result<bool, AllocError> {
+    if folder.is_empty() || is_there(fs::create_dir(system, folder))? {
+        return Ok(true);
+    }
+    match folder.rsplit_once('/') {
+        Some((above, _)) if room > 0 => {
+            Ok(make_folder(system, above, room - 1)? && is_there(fs::create_dir(system, folder))?)
+        }
+        _ => Ok(false),
+    }
+}
+
+// Makes the folders on the way to a file. False if the system refuses that.
+fn make_folders<S: Files>(system: &S, path: &str) -> Result<bool, AllocError> {
     match path.rsplit_once('/') {
-        Some((folder, _)) => given(fs::create_dir_all(system, folder)),
-        None => Ok(Some(())),
+        Some((folder, _)) => make_folder(system, folder, folder.len()),
+        None => Ok(true),
+    }
+}
+
+// Makes the folders on the way to a file, and the file.
+fn make_with_folders<S: Files>(system: &S, path: &str, bytes: &[u8]) -> Result<bool, AllocError> {
+    if make_folders(system, path)? {
+        Ok(given(fs::write(system, path, bytes))?.is_some())
+    } else {
+        Ok(false)
+    }
+}
+
+// Makes a file, and the folders on the way to it if one isn't there. False if the system refuses that.
+fn make_whole<S: Files>(system: &S, path: &str, bytes: &[u8]) -> Result<bool, AllocError> {
+    match fs::write(system, path, bytes) {
+        Err(error) if error.kind() == ErrorKind::NotFound => make_with_folders(system, path, bytes),
+        answer => Ok(given(answer)?.is_some()),
     }
 }
 
 impl<'a, S: Files> MakeFiles for OutFile<'a, S> {
     ghost use Rattle.std.specs.Prelude.{None};
 
-    ghost made = { λ _. None };
+    ghost made = { λ s. record { files = None; refusals = s.refusals } };
 
     fn make_file(&mut self, path: &str, bytes: &[u8]) -> Result<bool, AllocError> {
-        if make_folders(self.system, path)?.is_none() {
-            return Ok(false);
+        if make_whole(self.system, path, bytes)? {
+            return Ok(true);
         }
-        let written = given(fs::write(self.system, path, bytes))?;
-        Ok(written.is_some())
+        self.refusals = self.refusals.saturating_add(1);
+        Ok(false)
     }
 }

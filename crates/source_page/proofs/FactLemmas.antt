@@ -1,18 +1,20 @@
 -- Facts that serve for a symbol.
 use Rattle.std.proofs.Common.{◌≡◌, ◌∙◌, sym, refl, ap, ℕ, zero, suc, ◌<◌, ◌==◌, Bool, true, false, not, ◌&&◌, ◌||◌, cond}
-use Rattle.std.proofs.Common.{List, [], ◌∷◌, map, length, arith}
+use Rattle.std.proofs.Common.{List, [], ◌∷◌, ◌++◌, map, length, arith}
 use Rattle.std.specs.Prelude.{Option, Some, nat_lt}
-use Rattle.std.specs.List.{find, slice_get, filter}
+use Rattle.std.specs.List.{find, flat_map, slice_get, filter}
 use Rattle.std.specs.Option.{option_map, unwrap_or}
 use Rattle.std.specs.Str.{bytes_eq}
 use Rattle.std.proofs.lemmas.Bool.Decides.{nat_tests}
 use Rattle.std.proofs.lemmas.Slice.Eq.{bytes_eq-Decides}
 use Rattle.scip_model.specs.declared.records.Index.{Index}
 use Rattle.scip_model.specs.declared.records.Document.{Document}
+use Rattle.scip_model.specs.declared.records.SymbolInformation.{SymbolInformation}
 use Rattle.scip_query.specs.Sites.{Site, sites_of}
 use Rattle.scip_query.specs.OccurrenceAt.{Subject}
 use Rattle.scip_query.specs.References.{is_local, references_of}
-use Rattle.scip_query.specs.BySymbol.{references_in}
+use Rattle.scip_query.specs.Documentation.{documentation_of, texts_of}
+use Rattle.scip_query.specs.BySymbol.{references_in, documentation_in}
 use Rattle.scip_query.specs.declared.place.Place.{Place}
 use Rattle.source_page.specs.declared.facts.Fact.{Fact}
 use Rattle.source_page.specs.Site.{Sources}
@@ -54,36 +56,58 @@ in_all index symbol number document global listed =
     (filter (λ (site : Site). bytes_eq site.occurrence.symbol symbol && (not b || (site.place.document == number)))
     (sites_of index))) global
 
--- so its occurrences are the same in all documents
-alike : (index : Index) (symbol : List ℕ) (a b : ℕ)
-    → is_asked_alike (length index.documents) symbol a b ≡ true
-    → references_in index a symbol ≡ references_in index b symbol
-alike index symbol a b e = by (a == b) (is_local symbol) refl refl e
+-- the texts of its documentation
+abbrev pub described : Index → List ℕ → List (List ℕ)
+described index symbol =
+    texts_of (find (λ (entry : SymbolInformation). bytes_eq entry.symbol symbol)
+    (flat_map (λ (d : Document). d.symbols) index.documents ++ index.external_symbols))
+
+texts_in_all : (index : Index) (symbol : List ℕ) (number : ℕ) (document : Document) → is_local symbol ≡ false
+    → slice_get index.documents number ≡ Some document → documentation_in index number symbol ≡ described index symbol
+texts_in_all index symbol number document global listed =
+    ap (λ (o : Option Document). unwrap_or (option_map (documentation_of index) (option_map (asked_in number symbol) o)) [])
+    listed
+    ∙ ap (λ (b : Bool). texts_of (find (λ (entry : SymbolInformation). bytes_eq entry.symbol symbol)
+    (cond b document.symbols (flat_map (λ (d : Document). d.symbols) index.documents ++ index.external_symbols)))) global
+
+-- so what is asked of it is the same in all documents
+alike : {Y : Type 0} (index : Index) (symbol : List ℕ) (asked : ℕ → Y) (answer : Y)
+    → ((number : ℕ) (document : Document) → is_local symbol ≡ false
+    → slice_get index.documents number ≡ Some document → asked number ≡ answer)
+    → (a b : ℕ) → is_asked_alike (length index.documents) symbol a b ≡ true → asked a ≡ asked b
+alike {Y = Y} index symbol asked answer anywhere a b e = by (a == b) (is_local symbol) refl refl e
   where
     by : (same local : Bool) → (a == b) ≡ same → is_local symbol ≡ local
         → cond same true (cond local false (nat_lt a (length index.documents) && nat_lt b (length index.documents))) ≡ true
-        → references_in index a symbol ≡ references_in index b symbol
-    by true local s l e = ap (λ (n : ℕ). references_in index n symbol) (same_number a b s)
+        → asked a ≡ asked b
+    by true local s l e = ap asked (same_number a b s)
     by false true s l e = absurd cc
     by false false s l e =
         let two = both_true (nat_lt a (length index.documents)) (nat_lt b (length index.documents)) e in
         let here = listed_there index.documents a (below_count a (length index.documents) two.0) in
         let there = listed_there index.documents b (below_count b (length index.documents) two.1) in
-        in_all index symbol a here.0 l here.1 ∙ sym (in_all index symbol b there.0 l there.1)
+        anywhere a here.0 l here.1 ∙ sym (anywhere b there.0 l there.1)
 
 -- ---- facts
 
--- a fact that serves tells where the symbol is
+-- a fact that serves tells where the symbol is, and its documentation
 pub served_tells : (index : Index) (sources : Sources) (fact : Fact) (document : ℕ) (symbol : List ℕ)
     → IsFact index sources fact → serves fact (length index.documents) document symbol ≡ true
     → Tells index sources document symbol fact
 served_tells index sources fact document symbol fine e =
     let two = both_true (bytes_eq fact.symbol.now symbol)
     (is_asked_alike (length index.documents) symbol fact.document document) e in
+    let is : fact.symbol.now ≡ symbol = (bytes_eq-Decides fact.symbol.now symbol).0 two.0 in
     let places : references_in index fact.document fact.symbol.now ≡ references_in index document symbol =
-    ap (λ (s : List ℕ). references_in index fact.document s) ((bytes_eq-Decides fact.symbol.now symbol).0 two.0)
-    ∙ alike index symbol fact.document document two.1 in
+    ap (λ (s : List ℕ). references_in index fact.document s) is
+    ∙ alike index symbol (λ (n : ℕ). references_in index n symbol) (everywhere index symbol) (in_all index symbol)
+    fact.document document two.1 in
+    let texts : documentation_in index fact.document fact.symbol.now ≡ documentation_in index document symbol =
+    ap (λ (s : List ℕ). documentation_in index fact.document s) is
+    ∙ alike index symbol (λ (n : ℕ). documentation_in index n symbol) (described index symbol)
+    (texts_in_all index symbol) fact.document document two.1 in
     record {
       places_are = fine.places_are ∙ places;
       definition_is = fine.definition_is ∙ ap (find (is_shown_definition index sources)) places;
+      documentation_is = fine.documentation_is ∙ texts;
     }

@@ -1,6 +1,6 @@
 -- Pages have the places to which their links lead.
-use Rattle.std.proofs.Common.{◌≡◌, ◌∙◌, sym, refl, ap, subst, ℕ, zero, suc, ◌+◌, ◌-◌, ◌<◌, Bool, true, false, not, cond}
-use Rattle.std.proofs.Common.{List, [], ◌∷◌, ◌++◌, length, arith, append_assoc, append-nil, ◌⊎◌, inl, inr}
+use Rattle.std.proofs.Common.{◌≡◌, ◌∙◌, sym, refl, ap, subst, ℕ, ◌+◌, ◌-◌, ◌<◌, Bool, true, false, not, cond}
+use Rattle.std.proofs.Common.{List, [], ◌∷◌, ◌++◌, length, arith}
 use Rattle.std.specs.Prelude.{⊤, Option, None, Some, IsSome, codes}
 use Rattle.std.specs.List.{flat_map, slice_get, range_with_len}
 use Rattle.std.specs.Option.{is_some, option_map, option_map_or, unwrap_or}
@@ -10,17 +10,17 @@ use Rattle.scip_model.specs.Range.{RangeNumbers}
 use Rattle.scip_model.specs.declared.records.Index.{Index}
 use Rattle.scip_model.specs.declared.records.Document.{Document}
 use Rattle.scip_model.specs.declared.records.Occurrence.{Occurrence}
-use Rattle.scip_query.specs.Tables.{occurrence_listed, symbol_listed, path_listed, places_in}
-use Rattle.scip_query.specs.Tables.{definition_or_not, defines_listed}
+use Rattle.scip_query.specs.Tables.{occurrence_listed, symbol_listed, places_in}
+use Rattle.scip_query.specs.Tables.{definition_or_not}
 use Rattle.scip_query.specs.declared.place.Place.{Place}
 use Rattle.scip_pages.specs.declared.columns.ColumnUnit.{ColumnUnit}
 use Rattle.scip_pages.specs.declared.code.Link.{Link}
-use Rattle.scip_pages.specs.Code.{Piece, attribute, mark, line_mark, line_code, piece_code}
+use Rattle.scip_pages.specs.Code.{line_mark, piece_code}
 use Rattle.scip_pages.specs.Columns.{offset_of}
 use Rattle.scip_pages.specs.Escapes.{escape}
 use Rattle.scip_pages.specs.Snapshot.{lines_of, misfit, fits, is_ordered, offset_at}
-use Rattle.source_page.specs.Site.{Sources, has_page, line_or_first, line_listed, same_place}
-use Rattle.source_page.specs.Targets.{definition_of, link_at, target_of, place_url, uses_id, uses_url, is_at, is_first}
+use Rattle.source_page.specs.Site.{Sources, line_or_first, line_listed, same_place}
+use Rattle.source_page.specs.Targets.{definition_of, target_of, place_url, uses_id, uses_url, is_at, is_first}
 use Rattle.source_page.specs.CodeText.{beginning, pieces_with, line_at, lead, line_text, line_by, code_text}
 use Rattle.source_page.specs.Uses.{places_text, name_of, label_at, defined_head, defined_text, uses_text, all_defined}
 use Rattle.source_page.specs.Page.{links_of, firsts_of, start_text, main_text, page_of}

@@ -1,7 +1,7 @@
 -- The code of a page shows the source, and uses lead to definitions.
-use Rattle.std.proofs.Common.{◌≡◌, ◌∙◌, sym, refl, ap, ℕ, zero, suc, ◌+◌, ◌-◌, ◌<◌, ◌≤◌, ◌==◌, Bool, true, false, cond}
+use Rattle.std.proofs.Common.{◌≡◌, ◌∙◌, sym, refl, ap, ℕ, zero, suc, ◌+◌, ◌-◌, ◌<◌, ◌≤◌, Bool, true, false, cond}
 use Rattle.std.proofs.Common.{List, [], ◌∷◌, ◌++◌, map, append-nil, length, arith, inl, inr}
-use Rattle.std.specs.Prelude.{Option, None, Some}
+use Rattle.std.specs.Prelude.{None, Some}
 use Rattle.std.specs.List.{flat_map, find, range_with_len, join_with_byte}
 use Rattle.std.specs.Option.{unwrap_or}
 use Rattle.std.proofs.lemmas.Bool.{ne_eqb}
@@ -21,7 +21,7 @@ use Rattle.scip_pages.specs.Snapshot.{lines_of}
 use Rattle.scip_pages.proofs.CodeLemmas.{code_shows_the_source, pieces_have_the_text}
 use Rattle.source_page.specs.Site.{has_page}
 use Rattle.source_page.specs.Targets.{is_shown_definition}
-use Rattle.source_page.specs.CodeText.{beginning, spans_of, pieces_with, line_at, lead, code_text}
+use Rattle.source_page.specs.CodeText.{beginning, spans_of, pieces_with, line_at, lead}
 use Rattle.source_page.specs.Laws.{HasTheSource, LeadsToAPage, LeadsIfDefined}
 use Rattle.source_page.proofs.ElementLemmas.{In, from_contained}
 use Rattle.source_page.proofs.FactLemmas.{both_true}

@@ -4,6 +4,7 @@ mod FactLemmas
 pub mod ElementLemmas
 mod ReferenceLemmas
 mod LawLemmas
+pub mod CleanLemmas
 pub mod TagLemmas
 pub mod PartLemmas
 pub mod IdLemmas

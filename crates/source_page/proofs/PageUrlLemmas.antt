@@ -1,27 +1,27 @@
 -- The URLs that stand in a page.
-use Rattle.std.proofs.Common.{◌≡◌, ◌∙◌, sym, refl, ap, subst, ℕ, ◌+◌, ◌<◌, true, false, List, [], ◌++◌, map, length, arith}
-use Rattle.std.specs.Prelude.{codes, Option, None, Some, IsSome}
-use Rattle.std.specs.List.{AllByRecursion, filter, range_with_len, slice_get}
+use Rattle.std.proofs.Common.{◌≡◌, ◌∙◌, sym, ap, subst, ℕ, ◌+◌, ◌<◌, true, false, List, [], ◌++◌, length, arith}
+use Rattle.std.specs.Prelude.{codes, Option, Some}
+use Rattle.std.specs.List.{AllByRecursion, slice_get}
 use Rattle.std.specs.Option.{is_some, option_and_then, option_map_or}
 use Rattle.std.specs.Fmt.{decimal}
 use Rattle.scip_model.specs.declared.records.Index.{Index}
 use Rattle.scip_model.specs.declared.records.Document.{Document}
-use Rattle.scip_model.specs.declared.records.Occurrence.{Occurrence}
 use Rattle.scip_query.specs.Tables.{numbers, occurrence_listed, places_in, symbol_listed}
 use Rattle.scip_query.specs.declared.place.Place.{Place}
 use Rattle.scip_pages.specs.declared.columns.ColumnUnit.{ColumnUnit}
 use Rattle.scip_pages.specs.declared.code.Link.{Link}
+use Rattle.scip_pages.specs.Escapes.{pictured}
 use Rattle.scip_pages.specs.Snapshot.{lines_of}
 use Rattle.scip_pages.specs.Urls.{folder_of}
 use Rattle.source_page.specs.Site.{Sources, has_page, line_listed}
 use Rattle.source_page.specs.Targets.{is_first, link_at, place_url}
-use Rattle.source_page.specs.CodeText.{code_text}
 use Rattle.source_page.specs.Crumbs.{folders_on}
-use Rattle.source_page.specs.Uses.{all_defined, defined_text}
+use Rattle.source_page.specs.Uses.{defined_text}
 use Rattle.source_page.specs.Page.{firsts_of, links_of, main_text, page_of, start_text}
 use Rattle.source_page.specs.Ids.{AllFit, IsShown, IsUrl, Leads, to_first, to_folder, to_place, to_style, unit_in}
 use Rattle.source_page.specs.Laws.{EachUrlLeads}
 use Rattle.source_page.specs.Tags.{urls_of}
+use Rattle.source_page.proofs.CleanLemmas.{IsClean, clean_target}
 use Rattle.source_page.proofs.ElementLemmas.{In, contained, from_filter, from_map, from_range, get_some}
 use Rattle.source_page.proofs.IdLemmas.{definitions_lead, links_lead, uses_lead}
 use Rattle.source_page.proofs.PartLemmas.{fine_all_defined, fine_code, fine_defined, fine_main, fine_start}
@@ -70,13 +70,15 @@ module _ (index : Index) (sources : Sources) (fit : AllFit index sources) (numbe
         };
       }
 
-  link_leads : (l : Link) (url : List ℕ) → In l links → l.target ≡ Some url → P url
+  link_leads : (l : Link) (url : List ℕ) → In l links → l.target ≡ Some url → P (pictured url)
   link_leads l url is e =
       let from = from_map (link_at index sources) l (places_in number d) is in
       let one = its from.0 from.1 in
       let leads = links_lead index sources fit from.0 url one.shown
       (sym (ap (λ (x : Link). x.target) from.2) ∙ e) in
-      to_place (subst (λ (n : ℕ). Leads index sources n url) one.of leads.leads)
+      let clean : pictured url ≡ url =
+      subst IsClean (sym leads.url_is) (clean_target index from.0 leads.definition) in
+      subst P (sym clean) (to_place (subst (λ (n : ℕ). Leads index sources n url) one.of leads.leads))
 
   definition_fine : (place : Place) → In place firsts → Fine P (defined_text index sources unit lines links place)
   definition_fine place is =

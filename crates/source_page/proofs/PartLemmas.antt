@@ -1,12 +1,10 @@
 -- What a reader makes of the parts of a page, whose URLs are of a kind.
-use Rattle.std.proofs.Common.{◌≡◌, ◌∙◌, sym, refl, ap, subst, ℕ, zero, suc, ◌+◌, ◌-◌, ◌==◌, Bool, true, false, not, cond, List, []}
+use Rattle.std.proofs.Common.{◌≡◌, ◌∙◌, sym, refl, ap, subst, ℕ, suc, ◌+◌, ◌-◌, ◌==◌, Bool, true, false, not, cond, List, []}
 use Rattle.std.proofs.Common.{◌∷◌, ◌++◌, take, drop, length, arith, inl, inr}
 use Rattle.std.specs.Prelude.{codes, Option, None, Some}
-use Rattle.std.specs.List.{AllByRecursion, flat_map, range_with_len, slice_get}
-use Rattle.std.specs.Option.{option_and_then}
+use Rattle.std.specs.List.{flat_map, range_with_len, slice_get}
 use Rattle.std.specs.Fmt.{decimal}
 use Rattle.scip_model.specs.declared.records.Index.{Index}
-use Rattle.scip_model.specs.declared.records.Document.{Document}
 use Rattle.scip_model.specs.declared.records.Occurrence.{Occurrence}
 use Rattle.scip_query.specs.BySymbol.{references_in}
 use Rattle.scip_query.specs.Tables.{occurrence_listed, path_listed, symbol_listed}
@@ -14,25 +12,27 @@ use Rattle.scip_query.specs.declared.place.Place.{Place}
 use Rattle.scip_pages.specs.declared.columns.ColumnUnit.{ColumnUnit}
 use Rattle.scip_pages.specs.declared.code.Link.{Link}
 use Rattle.scip_pages.specs.declared.runs.Run.{Run}
-use Rattle.scip_pages.specs.Code.{attribute, line_code, line_mark, link_of, linked, mark, piece_code, pieces_of, target_code}
-use Rattle.scip_pages.specs.Escapes.{escape}
+use Rattle.scip_pages.specs.Code.{attribute, line_mark, link_of, linked, mark, piece_code, pieces_of, target_code}
+use Rattle.scip_pages.specs.Escapes.{escape, pictured}
 use Rattle.scip_pages.specs.Paths.{components}
 use Rattle.scip_pages.specs.Runs.{marks_of, runs_of}
 use Rattle.scip_pages.specs.Urls.{folder_of}
 use Rattle.source_page.specs.Marks.{link}
 use Rattle.source_page.specs.Site.{Sources, has_page, line_listed, page_path, same_place}
 use Rattle.source_page.specs.Targets.{place_url, uses_id}
-use Rattle.source_page.specs.CodeText.{beginning, code_text, lead, line_at, line_by, line_text, pieces_with, spans_of}
+use Rattle.source_page.specs.CodeText.{beginning, code_text, lead, line_at, line_by, line_text, spans_of}
 use Rattle.source_page.specs.Crumbs.{crumbs_text, file_url, folder_text, folder_url, folders_on, head_text, last_text}
 use Rattle.source_page.specs.Crumbs.{names_text, style_text}
 use Rattle.source_page.specs.Uses.{all_defined, defined_head, defined_text, is_use, label_at, name_of, places_text}
 use Rattle.source_page.specs.Uses.{use_link, use_name, use_or_none, use_text, uses_text}
 use Rattle.source_page.specs.Page.{main_text, start_text}
 use Rattle.source_page.specs.Tags.{Tag, Data, bare, tag_with}
+use Rattle.source_page.proofs.CleanLemmas.{IsClean, clean_file_url, clean_folder_url, clean_line_id, clean_line_place}
+use Rattle.source_page.proofs.CleanLemmas.{clean_place_url, clean_uses_id}
 use Rattle.source_page.proofs.ElementLemmas.{In, in_at}
 use Rattle.source_page.proofs.FactLemmas.{both_true}
 use Rattle.source_page.proofs.TagLemmas.{Fine, Reads, both, chain, end_a, escaped_reads, fine_const, fine_each}
-use Rattle.source_page.proofs.TagLemmas.{fine_escape, fine_link, no_urls, quoted_reads, tag_a}
+use Rattle.source_page.proofs.TagLemmas.{fine_escape, fine_link, no_urls, quoted_clean, quoted_reads, tag_a}
 
 -- ---- marks with an id or a label
 
@@ -44,13 +44,13 @@ line_mark_reads number =
     let begun : Reads Data start Data (tag_a (codes "id") id ∷ []) =
     chain (codes "<a id=\"" ++ (escape id ++ codes "\"")) (codes ">")
     (chain (codes "<a id=\"") (escape id ++ codes "\"") (record { ends = refl; are = refl })
-    (quoted_reads (bare (codes "a")) (codes "id") id))
+    (quoted_clean (bare (codes "a")) (codes "id") id (clean_line_id number)))
     (record { ends = refl; are = refl }) in
     chain start (mark (codes "/a")) begun (record { ends = refl; are = refl })
 
 labelled_reads : (target label : List ℕ)
     → Reads Data (mark (codes "a" ++ attribute (codes "href") target ++ attribute (codes "title") label)) Data
-    (tag_with (tag_a (codes "href") target) (codes "title") label ∷ [])
+    (tag_with (tag_a (codes "href") (pictured target)) (codes "title") (pictured label) ∷ [])
 labelled_reads target label =
     let one : List ℕ = codes "<a href=\"" ++ (escape target ++ codes "\"") in
     let two : List ℕ = codes " title=\"" ++ (escape label ++ codes "\"") in
@@ -59,15 +59,21 @@ labelled_reads target label =
     (chain (codes "<a href=\"") (escape target ++ codes "\"") (record { ends = refl; are = refl })
     (quoted_reads (bare (codes "a")) (codes "href") target))
     (chain (codes " title=\"") (escape label ++ codes "\"") (record { ends = refl; are = refl })
-    (quoted_reads (tag_a (codes "href") target) (codes "title") label)))
+    (quoted_reads (tag_a (codes "href") (pictured target)) (codes "title") label)))
     (record { ends = refl; are = refl })
 
-bare_reads : (label : List ℕ)
-    → Reads Data (mark (codes "a" ++ [] ++ attribute (codes "title") label)) Data (tag_a (codes "title") label ∷ [])
-bare_reads label =
-    chain (codes "<a title=\"" ++ (escape label ++ codes "\"")) (codes ">")
-    (chain (codes "<a title=\"") (escape label ++ codes "\"") (record { ends = refl; are = refl })
-    (quoted_reads (bare (codes "a")) (codes "title") label))
+abbrev tag_of_keys : List ℕ → Tag
+tag_of_keys label = tag_with (tag_a (codes "tabindex") (codes "0")) (codes "title") (pictured label)
+
+keys_read : (label : List ℕ)
+    → Reads Data (mark (codes "a" ++ target_code None ++ attribute (codes "title") label)) Data (tag_of_keys label ∷ [])
+keys_read label =
+    let one : List ℕ = codes "<a tabindex=\"0\"" in
+    let two : List ℕ = codes " title=\"" ++ (escape label ++ codes "\"") in
+    chain (one ++ two) (codes ">")
+    (chain one two (record { ends = refl; are = refl })
+    (chain (codes " title=\"") (escape label ++ codes "\"") (record { ends = refl; are = refl })
+    (quoted_reads (tag_a (codes "tabindex") (codes "0")) (codes "title") label)))
     (record { ends = refl; are = refl })
 
 -- what is defined: its id, and the link to its line
@@ -83,10 +89,10 @@ places_reads occurrence line =
     (chain (one ++ codes "><a") two
     (chain one (codes "><a")
     (chain (codes "<dt id=\"") (escape (uses_id occurrence) ++ codes "\"") (record { ends = refl; are = refl })
-    (quoted_reads (bare (codes "dt")) (codes "id") (uses_id occurrence)))
+    (quoted_clean (bare (codes "dt")) (codes "id") (uses_id occurrence) (clean_uses_id occurrence)))
     (record { ends = refl; are = refl }))
     (chain (codes " href=\"") (escape url ++ codes "\"") (record { ends = refl; are = refl })
-    (quoted_reads (bare (codes "a")) (codes "href") url)))
+    (quoted_clean (bare (codes "a")) (codes "href") url (clean_line_place line))))
     (record { ends = refl; are = refl })
 
 -- ---- names
@@ -118,7 +124,7 @@ module _ (P : List ℕ → Type 0) where
       by false = fine_const P (codes "\n") refl refl
 
   fine_linked : (l : Option Link) (text : List ℕ)
-      → ((one : Link) (url : List ℕ) → l ≡ Some one → one.target ≡ Some url → P url) → Fine P (linked l text)
+      → ((one : Link) (url : List ℕ) → l ≡ Some one → one.target ≡ Some url → P (pictured url)) → Fine P (linked l text)
   fine_linked None text leads = fine_escape P text
   fine_linked (Some l) text leads = by l.target refl
     where
@@ -126,22 +132,22 @@ module _ (P : List ℕ → Type 0) where
           → Fine P (mark (codes "a" ++ target_code target ++ attribute (codes "title") l.label) ++ escape text
           ++ mark (codes "/a"))
       by None e =
-          let start : List ℕ = mark (codes "a" ++ [] ++ attribute (codes "title") l.label) in
-          no_urls P (start ++ escape text ++ mark (codes "/a")) (tag_a (codes "title") l.label ∷ (end_a ∷ []))
+          let start : List ℕ = mark (codes "a" ++ target_code None ++ attribute (codes "title") l.label) in
+          no_urls P (start ++ escape text ++ mark (codes "/a")) (tag_of_keys l.label ∷ (end_a ∷ []))
           (chain (start ++ escape text) (mark (codes "/a"))
-          (chain start (escape text) (bare_reads l.label) (escaped_reads text)) (record { ends = refl; are = refl }))
+          (chain start (escape text) (keys_read l.label) (escaped_reads text)) (record { ends = refl; are = refl }))
           refl
       by (Some url) e =
           let start : List ℕ = mark (codes "a" ++ attribute (codes "href") url ++ attribute (codes "title") l.label) in
           record {
-            tags = tag_with (tag_a (codes "href") url) (codes "title") l.label ∷ (end_a ∷ []);
+            tags = tag_with (tag_a (codes "href") (pictured url)) (codes "title") (pictured l.label) ∷ (end_a ∷ []);
             reads = chain (start ++ escape text) (mark (codes "/a"))
                 (chain start (escape text) (labelled_reads url l.label) (escaped_reads text))
                 (record { ends = refl; are = refl });
             urls = (leads l url refl e, tt);
           }
 
-  module _ (links : List Link) (leads : (l : Link) (url : List ℕ) → In l links → l.target ≡ Some url → P url) where
+  module _ (links : List Link) (leads : (l : Link) (url : List ℕ) → In l links → l.target ≡ Some url → P (pictured url)) where
     fine_of : (occurrence : Option ℕ) (text : List ℕ) → Fine P (linked (link_of links occurrence) text)
     fine_of None text = fine_escape P text
     fine_of (Some k) text =
@@ -174,10 +180,10 @@ module _ (P : List ℕ → Type 0) where
 
   -- ---- definitions and uses
 
-  fine_use : (url name : List ℕ) → P url → Fine P (use_link url name)
-  fine_use url name p =
+  fine_use : (url name : List ℕ) → IsClean url → P url → Fine P (use_link url name)
+  fine_use url name clean p =
       both P (codes "<dd>" ++ link url name) (codes "</dd>\n")
-      (both P (codes "<dd>") (link url name) (fine_const P (codes "<dd>") refl refl) (fine_link P url name p))
+      (both P (codes "<dd>") (link url name) (fine_const P (codes "<dd>") refl refl) (fine_link P url name clean p))
       (fine_const P (codes "</dd>\n") refl refl)
 
   module _ (index : Index) (sources : Sources) where
@@ -194,7 +200,7 @@ module _ (P : List ℕ → Type 0) where
           by true e =
               fine_use (place_url index definition.document place)
               (use_name (path_listed index.documents place.document) (line_listed index.documents place))
-              (leads place is
+              (clean_place_url index definition.document place) (leads place is
               (both_true (has_page sources place.document) (not (same_place definition place)) e).0)
           by false e = fine_const P [] refl refl
 
@@ -285,7 +291,7 @@ module _ (P : List ℕ → Type 0) where
       let folder : List ℕ = above ++ name in
       both P (folder_text from folder name) (names_text from (folder ++ codes "/") (other ∷ others))
       (both P (link (folder_url from folder) name) (codes "/<wbr>")
-      (fine_link P (folder_url from folder) name (leads folder (inl refl))) (fine_const P (codes "/<wbr>") refl refl))
+      (fine_link P (folder_url from folder) name (clean_folder_url from folder) (leads folder (inl refl))) (fine_const P (codes "/<wbr>") refl refl))
       (fine_names from (folder ++ codes "/") (other ∷ others) (λ f is. leads f (inr is)))
 
   pub fine_crumbs : (from path : List ℕ) → P (file_url from (codes "index.html"))
@@ -298,7 +304,8 @@ module _ (P : List ℕ → Type 0) where
       (both P (codes "<header><nav>" ++ home ++ codes " <span>") names
       (both P (codes "<header><nav>" ++ home) (codes " <span>")
       (both P (codes "<header><nav>") home (fine_const P (codes "<header><nav>") refl refl)
-      (fine_link P (file_url from (codes "index.html")) (codes "All sources") first))
+      (fine_link P (file_url from (codes "index.html")) (codes "All sources")
+      (clean_file_url from (codes "index.html") refl) first))
       (fine_const P (codes " <span>") refl refl))
       (fine_names from [] (components path)
       (λ folder is. leads folder
@@ -313,7 +320,7 @@ module _ (P : List ℕ → Type 0) where
         tags = tag_with tag (codes "href") url ∷ [];
         reads = chain (codes "<link rel=\"stylesheet\" href=\"" ++ (escape url ++ codes "\"")) (codes ">\n")
             (chain (codes "<link rel=\"stylesheet\" href=\"") (escape url ++ codes "\"")
-            (record { ends = refl; are = refl }) (quoted_reads tag (codes "href") url))
+            (record { ends = refl; are = refl }) (quoted_clean tag (codes "href") url (clean_file_url from (codes "pages.css") refl)))
             (record { ends = refl; are = refl });
         urls = (p, tt);
       }

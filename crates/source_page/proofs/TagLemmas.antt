@@ -1,18 +1,19 @@
 -- What a reader makes of the parts of a page.
-use Rattle.std.proofs.Common.{◌≡◌, ◌∙◌, sym, refl, ap, subst, ℕ, ◌==◌, Bool, true, false, cond, List, [], ◌∷◌, ◌++◌}
+use Rattle.std.proofs.Common.{◌≡◌, ◌∙◌, sym, refl, ap, subst, ℕ, ◌==◌, Bool, false, cond, List, [], ◌∷◌, ◌++◌}
 use Rattle.std.proofs.Common.{append_assoc, append-nil, inl, inr}
-use Rattle.std.specs.Prelude.{codes, Option, None, Some}
+use Rattle.std.specs.Prelude.{codes}
 use Rattle.std.specs.List.{AllByRecursion, Contains, flat_map}
 use Rattle.std.proofs.lemmas.Bool.{ne_eqb}
 use Rattle.std.proofs.lemmas.Grind.{flat_map-append}
 use Rattle.std.proofs.lemmas.List.Elements.{Contains-append_left, Contains-append_right}
 use Rattle.scip_pages.specs.Code.{attribute, mark}
-use Rattle.scip_pages.specs.Escapes.{escape}
+use Rattle.scip_pages.specs.Escapes.{escape, pictured}
 use Rattle.scip_pages.specs.Plain.{plain}
 use Rattle.scip_pages.proofs.EscapeLemmas.{IsNoMark, has_no_marks, shows_the_text}
 use Rattle.source_page.specs.Marks.{link}
 use Rattle.source_page.specs.Tags.{Tag, State, Data, TagName, AttributeName, Value, bare, tag_with, next, ended, tags_behind}
 use Rattle.source_page.specs.Tags.{tags_of, is_id, is_url, values_of, ids_of, urls_of}
+use Rattle.source_page.proofs.CleanLemmas.{IsClean}
 use Rattle.source_page.proofs.ElementLemmas.{In}
 
 -- ---- where a reader is behind a text, and the tags in it
@@ -77,12 +78,18 @@ value_reads tag name value (b ∷ text) all =
       are = ap (λ (c : Bool). tags_behind (after c) (text ++ codes "\"")) other ∙ others.are;
     }
 
--- a value ends with its quote, and is the text
+-- a value ends with its quote, and is what is shown of the text
 pub quoted_reads : (tag : Tag) (name text : List ℕ)
-    → Reads (Value tag name []) (escape text ++ codes "\"") (AttributeName (tag_with tag name text) []) []
+    → Reads (Value tag name []) (escape text ++ codes "\"") (AttributeName (tag_with tag name (pictured text)) []) []
 quoted_reads tag name text =
     subst (λ (v : List ℕ). Reads (Value tag name []) (escape text ++ codes "\"") (AttributeName (tag_with tag name v) []) [])
     (shows_the_text text) (value_reads tag name [] (escape text) (has_no_marks text))
+
+pub quoted_clean : (tag : Tag) (name text : List ℕ) → IsClean text
+    → Reads (Value tag name []) (escape text ++ codes "\"") (AttributeName (tag_with tag name text) []) []
+quoted_clean tag name text clean =
+    subst (λ (v : List ℕ). Reads (Value tag name []) (escape text ++ codes "\"") (AttributeName (tag_with tag name v) []) [])
+    clean (quoted_reads tag name text)
 
 -- ---- marks
 
@@ -93,13 +100,14 @@ abbrev pub end_a : Tag
 end_a = bare (codes "/a")
 
 -- a link
-pub link_reads : (url text : List ℕ) → Reads Data (link url text) Data (tag_a (codes "href") url ∷ (end_a ∷ []))
-link_reads url text =
+pub link_reads : (url text : List ℕ) → IsClean url
+    → Reads Data (link url text) Data (tag_a (codes "href") url ∷ (end_a ∷ []))
+link_reads url text clean =
     let start : List ℕ = mark (codes "a" ++ attribute (codes "href") url) in
     let begun : Reads Data start Data (tag_a (codes "href") url ∷ []) =
     chain (codes "<a href=\"" ++ (escape url ++ codes "\"")) (codes ">")
     (chain (codes "<a href=\"") (escape url ++ codes "\"") (record { ends = refl; are = refl })
-    (quoted_reads (bare (codes "a")) (codes "href") url))
+    (quoted_clean (bare (codes "a")) (codes "href") url clean))
     (record { ends = refl; are = refl }) in
     chain (start ++ escape text) (mark (codes "/a")) (chain start (escape text) begun (escaped_reads text))
     (record { ends = refl; are = refl })
@@ -143,10 +151,10 @@ module _ (P : List ℕ → Type 0) where
   fine_each f (x ∷ xs) all =
       both (f x) (flat_map f xs) (all x (inl refl)) (fine_each f xs (λ y is. all y (inr is)))
 
-  pub fine_link : (url text : List ℕ) → P url → Fine (link url text)
-  fine_link url text p = record {
+  pub fine_link : (url text : List ℕ) → IsClean url → P url → Fine (link url text)
+  fine_link url text clean p = record {
     tags = tag_a (codes "href") url ∷ (end_a ∷ []);
-    reads = link_reads url text;
+    reads = link_reads url text clean;
     urls = (p, tt);
   }
 

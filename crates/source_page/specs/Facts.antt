@@ -4,15 +4,16 @@ use Rattle.std.specs.List.{All}
 use Rattle.std.specs.Str.{bytes_eq}
 use Rattle.scip_model.specs.declared.records.Index.{Index}
 use Rattle.scip_query.specs.References.{is_local}
-use Rattle.scip_query.specs.BySymbol.{references_in}
+use Rattle.scip_query.specs.BySymbol.{references_in, documentation_in}
 use Rattle.source_page.specs.declared.facts.Fact.{Fact}
 use Rattle.source_page.specs.Site.{Sources}
 use Rattle.source_page.specs.Targets.{definition_of}
 
--- a fact tells where a symbol is that is asked for in a document
+-- a fact tells where a symbol is that is asked for in a document, and its documentation
 pub record Tells (index : Index) (sources : Sources) (document : ℕ) (symbol : List ℕ) (fact : Fact) : Type 0 where
   pub places_are : fact.places.now ≡ references_in index document symbol
   pub definition_is : fact.definition ≡ definition_of index sources document symbol
+  pub documentation_is : fact.documentation.now ≡ documentation_in index document symbol
 
 -- a fact is right
 abbrev pub IsFact : Index → Sources → Fact → Type 0

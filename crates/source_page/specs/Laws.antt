@@ -11,6 +11,7 @@ use Rattle.scip_query.specs.Tables.{defines_listed, symbol_listed}
 use Rattle.scip_query.specs.declared.place.Place.{Place}
 use Rattle.scip_pages.specs.declared.columns.ColumnUnit.{ColumnUnit}
 use Rattle.scip_pages.specs.declared.code.Link.{Link}
+use Rattle.scip_pages.specs.Escapes.{pictured}
 use Rattle.scip_pages.specs.Plain.{plain}
 use Rattle.scip_pages.specs.Snapshot.{lines_of}
 use Rattle.source_page.specs.Site.{Sources, has_page, line_listed}
@@ -20,11 +21,12 @@ use Rattle.source_page.specs.Ids.{unit_in, AllFit, IsShown, IsUrl, Leads}
 use Rattle.source_page.specs.Page.{page_of}
 use Rattle.source_page.specs.Tags.{urls_of}
 
--- The code of a page, without its marks and with its references undone, is the source, whatever the index holds.
+-- The code of a page, without its marks and with its references undone, is the source, whatever the index holds. For
+-- a NUL in the source stands its picture.
 abbrev pub HasTheSource : Type 0
 HasTheSource =
     (unit : ColumnUnit) (occurrences : List Occurrence) (links : List Link) (source : List ℕ)
-    → plain (code_text unit occurrences links (lines_of source)) ≡ source
+    → plain (code_text unit occurrences links (lines_of source)) ≡ pictured source
 
 -- A use leads to a definition of its symbol, in a document that has a page; of a local symbol, in the use's own.
 abbrev pub LeadsToAPage : Type 0

@@ -1,10 +1,9 @@
 //! What is known of symbols, found once for each.
 
-ghost use Rattle.std.specs.Prelude.{◌≡◌, ◌++◌, ℕ, List, [], IfOk, IfSome, OnOk, map};
-ghost use Rattle.std.specs.Borrow.{Bor};
+ghost use Rattle.std.specs.Prelude.{◌≡◌, ◌++◌, [], IfOk, IfSome, OnOk};
 ghost use Rattle.std.specs.List.{flat_map};
 ghost use Rattle.scip_query.specs.References.{is_local};
-ghost use Rattle.scip_query.specs.BySymbol.{references_in, documentation_in};
+ghost use Rattle.scip_query.specs.BySymbol.{references_in};
 ghost use Rattle.source_page.specs.Targets as spec;
 ghost use Rattle.source_page.specs.Facts.{AreRight, IsFact, Tells};
 ghost use Rattle.source_page.specs.Facts as served;
@@ -12,7 +11,7 @@ ghost use Rattle.source_page.specs.Facts as served;
 use crate::definitions::definition_among;
 use crate::site::Site;
 use scip_query::{Place, Queries};
-use sequences::Sequence;
+use sequences::{OwnedText, Sequence};
 use std::alloc::{AllocError, Global};
 
 /// Besides the symbol, the room for a label: most fit.
@@ -27,7 +26,7 @@ pub struct Known {
     pub label: Sequence<u8>,
 }
 
-/// Where the occurrences are of a symbol that is asked for in a document.
+/// Where the occurrences are of a symbol that is asked for in a document, and its documentation.
 #[derive(Clone, Copy)]
 pub struct Fact<'a> {
     /// The document's number.
@@ -37,6 +36,8 @@ pub struct Fact<'a> {
     pub places: &'a [Place],
     /// The first of them where it is defined and that has a page.
     pub definition: Option<Place>,
+    /// The texts of its documentation.
+    pub documentation: &'a [OwnedText],
 }
 
 /// Where an index's symbols are, as far as that is known, and for each occurrence where the fact of its symbol may be.
@@ -115,6 +116,7 @@ fn new_fact<'a>(site: &Site<'a>, document: usize, symbol: &'a str) -> Fact<'a>
         symbol,
         places,
         definition: definition_among(site, places),
+        documentation: site.queries.documentation_texts(document, symbol),
     }
 }
 
@@ -165,8 +167,8 @@ fn hint_all(hints: &mut Vec<Vec<usize>>, places: &[Place], number: usize) {
 }
 
 /// A symbol, and its documentation below.
-fn label_of(alloc: Global, symbol: &str, documentation: &[&str]) -> Result<Vec<u8>, AllocError>
-    ensures { IfOk result (λ label. label.items ≡ spec.label_of symbol.now (map (λ (text : Bor (List ℕ)). text.now) documentation.now)) }
+fn label_of(alloc: Global, symbol: &str, documentation: &[OwnedText]) -> Result<Vec<u8>, AllocError>
+    ensures { IfOk result (λ label. label.items ≡ spec.label_of symbol.now documentation.now) }
 {
     let mut label = Vec::with_capacity(alloc, symbol.len().saturating_add(LABEL_ROOM))?;
     label.extend_from_slice(symbol.as_bytes())?;
@@ -175,11 +177,11 @@ fn label_of(alloc: Global, symbol: &str, documentation: &[&str]) -> Result<Vec<u
 }
 
 /// Appends texts, each on a line of its own.
-fn push_documentation(label: &mut Vec<u8>, documentation: &[&str]) -> Result<(), AllocError>
-    ensures { OnOk result (label.new.items ≡ label.old.items ++ flat_map spec.below (map (λ (text : Bor (List ℕ)). text.now) documentation.now)) }
+fn push_documentation(label: &mut Vec<u8>, documentation: &[OwnedText]) -> Result<(), AllocError>
+    ensures { OnOk result (label.new.items ≡ label.old.items ++ flat_map spec.below documentation.now) }
 {
     for text in documentation {
-        push_below(label, *text)?;
+        push_below(label, text.as_str())?;
     }
     Ok(())
 }
@@ -192,18 +194,22 @@ fn push_below(label: &mut Vec<u8>, text: &str) -> Result<(), AllocError>
     label.extend_from_slice(text.as_bytes())
 }
 
-/// A symbol that is asked for in the document with a number, and its documentation below.
-fn label_in(
+/// What is known of a symbol that is asked for in the document with a number, of which there is a fact.
+fn known_by(
     alloc: Global,
     site: &Site<'_>,
+    fact: &Fact<'_>,
     document: usize,
     symbol: &str,
-) -> Result<Sequence<u8>, AllocError>
-    ensures { IfOk result (λ label. label ≡ spec.label_of symbol.now (documentation_in site.now.queries.now document symbol.now)) }
+) -> Result<Known, AllocError>
+    requires { Tells site.now.queries.now site.now.sources.now document symbol.now fact.now }
+    ensures { IfOk result (λ known. known ≡ spec.known_of site.now.queries.now site.now.sources.now document symbol.now) }
 {
-    let documentation = site.queries.documentation_in(alloc, document, symbol)?;
-    let label = label_of(alloc, symbol, &documentation)?;
-    Ok(Sequence::from_vec(label))
+    let label = label_of(alloc, symbol, fact.documentation)?;
+    Ok(Known {
+        definition: fact.definition,
+        label: Sequence::from_vec(label),
+    })
 }
 
 /// Numbers, all 0, as many as a document has occurrences.
@@ -232,32 +238,32 @@ impl<'a> Facts<'a> {
         site: &Site<'a>,
         document: usize,
         symbol: &'a str,
-    ) -> Result<Option<Place>, AllocError>
+    ) -> Result<Fact<'a>, AllocError>
         requires { AreRight site.now.queries.now site.now.sources.now self.old.facts.items }
         ensures right { AreRight site.now.queries.now site.now.sources.now self.new.facts.items }
-        ensures found { IfOk result (λ definition. definition ≡ spec.definition_of site.now.queries.now site.now.sources.now document symbol.now) }
+        ensures tells { IfOk result (λ fact. Tells site.now.queries.now site.now.sources.now document symbol.now fact) }
     {
         let fact = new_fact(site, document, symbol);
         let number = self.facts.len();
         push_fact(site, &mut self.facts, fact)?;
         hint_all(&mut self.hints, fact.places, number);
-        Ok(fact.definition)
+        Ok(fact)
     }
 
-    /// The first definition that has a page, of the symbol at a place.
-    fn definition_for(
+    /// The fact of the symbol at a place.
+    fn fact_at(
         &mut self,
         site: &Site<'a>,
         place: Place,
         symbol: &'a str,
-    ) -> Result<Option<Place>, AllocError>
+    ) -> Result<Fact<'a>, AllocError>
         requires { AreRight site.now.queries.now site.now.sources.now self.old.facts.items }
         ensures right { AreRight site.now.queries.now site.now.sources.now self.new.facts.items }
-        ensures found { IfOk result (λ definition. definition ≡ spec.definition_of site.now.queries.now site.now.sources.now place.document symbol.now) }
+        ensures tells { IfOk result (λ fact. Tells site.now.queries.now site.now.sources.now place.document symbol.now fact) }
     {
         let hinted = hint_at(&self.hints, place);
         match fact_for(site, &self.facts, hinted, place.document, symbol) {
-            Some(fact) => Ok(fact.definition),
+            Some(fact) => Ok(fact),
             None => self.found(site, place.document, symbol),
         }
     }
@@ -274,9 +280,8 @@ impl<'a> Facts<'a> {
         ensures right { AreRight site.now.queries.now site.now.sources.now self.new.facts.items }
         ensures found { IfOk result (λ known. known ≡ spec.known_of site.now.queries.now site.now.sources.now place.document symbol.now) }
     {
-        let definition = self.definition_for(site, place, symbol)?;
-        let label = label_in(alloc, site, place.document, symbol)?;
-        Ok(Known { definition, label })
+        let fact = self.fact_at(site, place, symbol)?;
+        known_by(alloc, site, &fact, place.document, symbol)
     }
 
     /// The places of all occurrences of the symbol at a place.

@@ -2,7 +2,8 @@
 
 ghost use Rattle.source_page.specs.Laws.{HasTheSource, LeadsToAPage, LeadsIfDefined, LinksLead, UsesLead, DefinitionsLead, EachUrlLeads};
 
-/// The code of a page, without its marks and with its references undone, is the source, byte for byte.
+/// The code of a page, without its marks and with its references undone, is the source, byte for byte, but that the
+/// picture of a NUL stands for a NUL.
 pub fn pages_have_their_source()
     ensures { HasTheSource }
 {}

@@ -7,6 +7,7 @@ ghost use Rattle.source_page.specs.Targets as spec;
 ghost use Rattle.source_page.specs.Crumbs.{file_url, folder_id, folder_url};
 
 use crate::places::{line_listed, path_listed};
+use crate::site::folder_marks;
 use scip_pages::{push_encoded, push_ups};
 use scip_query::{Place, Queries};
 use std::alloc::{AllocError, Global};
@@ -36,10 +37,13 @@ fn push_page_ups(url: &mut Vec<u8>, path: &str) -> Result<(), AllocError>
 }
 
 /// Appends the path of the page of a document with a path, as a URL has it.
-fn push_page_path(url: &mut Vec<u8>, path: &str) -> Result<(), AllocError>
+fn push_page_path(alloc: Global, url: &mut Vec<u8>, path: &str) -> Result<(), AllocError>
     ensures { OnOk result (url.new.items ≡ url.old.items ++ encoded (spec_site.page_path path.now)) }
 {
-    url.extend_from_slice(b"src/")?;
+    let marks = folder_marks(alloc, path)?;
+    url.extend_from_slice(b"src")?;
+    url.extend_from_slice(marks.as_bytes())?;
+    url.extend_from_slice(b"/")?;
     push_encoded(url, path.as_bytes())?;
     url.extend_from_slice(b".html")?;
     Ok(())
@@ -65,7 +69,7 @@ pub(crate) fn push_place_url(
 {
     let documents = queries.documents();
     push_page_ups(url, path_listed(documents, from))?;
-    push_page_path(url, path_listed(documents, place.document))?;
+    push_page_path(alloc, url, path_listed(documents, place.document))?;
     push_line_place(alloc, url, line_listed(documents, place))?;
     Ok(())
 }

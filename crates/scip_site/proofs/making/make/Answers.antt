@@ -8,7 +8,7 @@ use Rattle.scip_site.proofs.making.make.Goals as goal
 pub returns : goal.returns
 returns g c =
     let made = g.O.MakeFiles.made in record {
-      failed = _;
+      refused = _;
       others = [];
       made = record {
         part = [];

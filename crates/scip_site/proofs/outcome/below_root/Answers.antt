@@ -1,6 +1,6 @@
 use Rattle.std.proofs.Common.{◌∙◌, subst, ap, refl, List, ℕ, Some, None}
 use Rattle.std.proofs.lemmas.Result.{IfOk-weaker}
-use Rattle.source_files.specs.Roots.{path_below}
+use Rattle.scip_snapshot.specs.Snapshots.{path_in}
 use Rattle.source_files.proofs.KeptLemmas.{read_some, read_none}
 use Rattle.scip_site.specs.Reading.{of_source}
 use Rattle.scip_site.proofs.outcome.below_root.Goals as goal
@@ -15,7 +15,7 @@ returns-in-Some g c =
       Some c.in-Some.bytes.items,
       subst (λ p. gives p (Some c.in-Some.bytes.items))
           (c.as_str-2.ensures.value ∙ c.in_ok-file.ensures
-          ∙ ap (path_below c.args.root.now) c.as_str.ensures) given,
+          ∙ ap (path_in c.args.root.now) c.as_str.ensures) given,
       e ∙ ap (λ (b : List ℕ). of_source c.args.document.now (Some b)) c.as_slice.ensures.value,
     ))
     c.with_bytes.ensures
@@ -27,6 +27,6 @@ returns g c =
     c.in_ok-bytes.ensures in (
       None,
       subst (λ p. gives p None)
-          (c.as_str-2.ensures.value ∙ c.in_ok-file.ensures ∙ ap (path_below c.args.root.now) c.as_str.ensures) given,
+          (c.as_str-2.ensures.value ∙ c.in_ok-file.ensures ∙ ap (path_in c.args.root.now) c.as_str.ensures) given,
       refl,
     )

@@ -5,10 +5,11 @@ use Rattle.scip_snapshot.proofs.filing.file_text.Goals as goal
 
 pub returns : goal.returns
 returns g c =
-    let made = g.O.MakeFiles.made in (
-      [],
-      _,
-      refl,
-      makes_false AllocError (made c.args.made.now) (made c.make_file.new.self) _ _ _ c.if-branch.false
-          c.in_ok-make_file.ensures,
-    )
+    let made = g.O.MakeFiles.made in record {
+      others = [];
+      path = c.args.path.now;
+      text = c.args.text.now;
+      shown_are = refl;
+      stops = makes_false AllocError (made c.args.made.now) (made c.make_file.new.self) _ _ _ c.if-branch.false
+          c.in_ok-make_file.ensures;
+    }

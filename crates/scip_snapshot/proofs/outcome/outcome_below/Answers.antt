@@ -1,6 +1,5 @@
 use Rattle.std.proofs.Common.{◌∙◌, subst, sym, ap, refl, List, ℕ, Some, None, Option}
 use Rattle.std.proofs.lemmas.Result.{IfOk-weaker}
-use Rattle.source_files.specs.Roots.{path_below}
 use Rattle.source_files.proofs.KeptLemmas.{read_some, read_none}
 use Rattle.scip_snapshot.specs.Snapshots.{of_source}
 use Rattle.scip_snapshot.proofs.outcome.outcome_below.Goals as goal

@@ -114,7 +114,7 @@ fn hints(place: &Place<'_>) -> Result<Vec<&'static str>, AllocError>
     ensures { IfOk result (λ found. AreHints (CouldStand place.now.dialect place.now.front.now)
         (map (λ s. s.now) found.items)) }
 {
-    let mut found = Vec::new(place.alloc);
+    let mut found: Vec<&'static str> = Vec::new(place.alloc);
     add(place, signs(), &mut found)?;
     add_of_kind(place, number(), numbers(), &mut found)?;
     add_of_kind(place, literal(), literals(), &mut found)?;

@@ -1,19 +1,34 @@
 -- How a dump ends.
-use Rattle.std.proofs.Common.{ℕ, List, [], Bool, Option, Ok, Err, subst}
+use Rattle.std.proofs.Common.{ℕ, List, [], Option, Some, None, Ok, Err, subst}
+use Rattle.proto_parse.specs.tree.Dialect.{Dialect}
 use Rattle.source_tree.specs.Files.{TreeFile}
+use Rattle.source_tree.specs.Reading.{kept_bytes}
 use Rattle.protoscip.specs.Dump.{IsTreeOfFault, IsTreeOfSource, dump_tree}
-use Rattle.protoscip.specs.Explanations.{told}
+use Rattle.protoscip.specs.Explanations.{IsFaultText}
 use Rattle.protoscip.specs.Statuses.{status_of}
 use Rattle.protoscip.specs.declared.fault.Fault.{Fault}
 use Rattle.protoscip.specs.declared.fault.Fault.TheVariants.{Spawn, Memory, Lex, Syntax, Duplicate, MissingImport}
 use Rattle.protoscip.specs.declared.fault.Fault.TheVariants.{Unresolved, TooLarge, Write, Read, Answer}
 use Rattle.programs.specs.Dumping.{EndsDump}
-use Rattle.programs.specs.Messages.{IsSilent, Tells}
+use Rattle.programs.specs.Messages.{IsSilent, TellsOne}
+use Rattle.programs.proofs.MessageLemmas.{tells_other}
 
-module _ {R M : Type 0} (remaining : R → Option (List ℕ)) (said : M → Option (List ℕ)) (unsaid : M → ℕ) (explain : Bool)
+-- what is told of these faults is of no tree
+read_of_any : (explain : Option Dialect) (tree other : List TreeFile) (text : List ℕ)
+    → IsFaultText explain tree Read text → IsFaultText explain other Read text
+read_of_any None tree other text is = is
+read_of_any (Some dialect) tree other text is = is
+
+memory_of_any : (explain : Option Dialect) (tree other : List TreeFile) (text : List ℕ)
+    → IsFaultText explain tree Memory text → IsFaultText explain other Memory text
+memory_of_any None tree other text is = is
+memory_of_any (Some dialect) tree other text is = is
+
+module _ {R M : Type 0} (remaining : R → Option (List ℕ)) (said : M → Option (List ℕ)) (unsaid : M → ℕ)
+    (explain : Option Dialect)
     (reader : R) (before after : M) (status : ℕ) where
   abbrev tells : List TreeFile → Fault → Type 0
-  tells tree fault = Tells said unsaid (told explain tree fault) (status_of fault) before after status
+  tells tree fault = TellsOne said unsaid (IsFaultText explain tree fault) (status_of fault) before after status
 
   abbrev ends : Fault → Type 0
   ends fault = EndsDump remaining said unsaid explain reader (Err fault) before after status
@@ -33,11 +48,20 @@ module _ {R M : Type 0} (remaining : R → Option (List ℕ)) (said : M → Opti
         told = λ bytes known. subst (λ (kept : List ℕ). tells (dump_tree kept) fault) (is.told bytes known) moved;
       }
 
+  of_any : (fault : Fault) (tree : List TreeFile)
+      → ((other : List TreeFile) (text : List ℕ) → IsFaultText explain tree fault text
+      → IsFaultText explain other fault text)
+      → tells tree fault → ends fault
+  of_any fault tree holds said_so =
+      let moved = λ (other : List TreeFile). tells_other said unsaid before after status (status_of fault)
+      (IsFaultText explain tree fault) (IsFaultText explain other fault) (holds other) said_so in
+      record { some = ([], moved (dump_tree [])); told = λ bytes known. moved (dump_tree (kept_bytes bytes)) }
+
   -- or names no place
   pub of_fault : (fault : Fault) (tree : List TreeFile) → IsTreeOfFault remaining reader tree fault → tells tree fault
       → ends fault
-  of_fault Read tree is said_so = record { some = ([], said_so); told = λ bytes known. said_so }
-  of_fault Memory tree is said_so = record { some = ([], said_so); told = λ bytes known. said_so }
+  of_fault Read tree is said_so = of_any Read tree (read_of_any explain tree) said_so
+  of_fault Memory tree is said_so = of_any Memory tree (memory_of_any explain tree) said_so
   of_fault Spawn tree is said_so = of_source Spawn tree is said_so
   of_fault (Lex number e) tree is said_so = of_source (Lex number e) tree is said_so
   of_fault (Syntax number e) tree is said_so = of_source (Syntax number e) tree is said_so

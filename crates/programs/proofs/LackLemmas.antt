@@ -1,15 +1,16 @@
 -- What is said of an index, by what it lacks.
-use Rattle.std.proofs.Common.{◌≡◌, ℕ, Bool, true, false, List, [], ◌∷◌, Option, Some, None, length, ◌==◌, suc, arith, subst}
+use Rattle.std.proofs.Common.{◌≡◌, ℕ, true, false, List, [], ◌∷◌, Option, Some, None, length, ◌==◌, suc, arith, subst}
 use Rattle.std.proofs.lemmas.Bool.{eqb-true}
+use Rattle.proto_parse.specs.tree.Dialect.{Dialect}
 use Rattle.source_tree.specs.Files.{TreeFile}
 use Rattle.source_tree.specs.Trees.{IsSourceCount}
 use Rattle.scip_build.specs.declared.fault.BuildFault.{BuildFault}
-use Rattle.protoscip.specs.ToldLines.{IsTextOfLacks, told_text}
+use Rattle.protoscip.specs.ToldLines.{IsTextOfLacks, IsToldText}
 use Rattle.programs.specs.Messages.{IsSilent, SaysIfAny, SaysOfSuccess}
 use Rattle.programs.specs.TreeRuns.{Lacks}
 
-module _ {M : Type 0} (says : List ℕ → M → M → (status : ℕ) → Type 0) (explain : Bool) (tree : List TreeFile)
-    (before after : M) (status : ℕ) where
+module _ {M : Type 0} (says : (List ℕ → Type 0) → M → M → (status : ℕ) → Type 0) (explain : Option Dialect)
+    (tree : List TreeFile) (before after : M) (status : ℕ) where
   -- it lacks nothing
   pub lacks_nothing : (told : List BuildFault) → (length told == 0) ≡ true → IsSilent before after status
       → Lacks says explain tree told before after status
@@ -20,13 +21,13 @@ module _ {M : Type 0} (says : List ℕ → M → M → (status : ℕ) → Type 0
   -- it lacks something
   pub lacks_some : (told : List BuildFault) → (length told == 0) ≡ false
       → ((sources : ℕ) × IsSourceCount tree sources
-      × says (told_text explain tree sources told) before after status)
+      × says (IsToldText explain tree sources told) before after status)
       → Lacks says explain tree told before after status
   lacks_some [] some tells = absurd cc
   lacks_some (first ∷ others) some tells = tells
 
 -- the text that was made of it is said
-pub text_is_said : {M : Type 0} (contents : M → Option (List ℕ)) (failures : M → ℕ) (explain : Bool)
+pub text_is_said : {M : Type 0} (contents : M → Option (List ℕ)) (failures : M → ℕ) (explain : Option Dialect)
     (tree : List TreeFile) (before after : M) (status : ℕ) (told : List BuildFault) (text : Option (List ℕ))
     → IsTextOfLacks explain tree told text → SaysIfAny contents failures text before after status
     → Lacks (SaysOfSuccess contents failures) explain tree told before after status
@@ -35,5 +36,9 @@ text_is_said contents failures explain tree before after status [] text is said 
 text_is_said contents failures explain tree before after status (first ∷ others) text is said = (
   is.0,
   is.1,
-  subst (λ (t : Option (List ℕ)). SaysIfAny contents failures t before after status) is.2 said,
+  (
+    is.2.0,
+    is.2.1,
+    subst (λ (t : Option (List ℕ)). SaysIfAny contents failures t before after status) is.2.2 said,
+  ),
 )

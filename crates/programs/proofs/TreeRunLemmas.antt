@@ -1,7 +1,8 @@
 -- A run over a tree that hands out more than what is recorded.
-use Rattle.std.proofs.Common.{ℕ, Bool, List, Option, Result, Ok, Err}
+use Rattle.std.proofs.Common.{ℕ, List, Option, Result, Ok, Err}
 use Rattle.std.specs.Prelude.{MatchResult}
 use Rattle.std.specs.Result.{result_map_both}
+use Rattle.proto_parse.specs.tree.Dialect.{Dialect}
 use Rattle.source_tree.specs.Files.{TreeFile}
 use Rattle.scip_build.specs.declared.fault.BuildFault.{BuildFault}
 use Rattle.protoscip.specs.declared.fault.Fault.{Fault}
@@ -19,8 +20,8 @@ holds_of_part f P (Err e) holds = holds
 
 -- a run ends alike, if what is told is of the part
 pub ends_alike : {M A B : Type 0} (f : A → B) (told_of : B → List BuildFault) (said : M → Option (List ℕ))
-    (unsaid : M → ℕ) (says : List ℕ → M → M → (status : ℕ) → Type 0) (explain : Bool) (tree : List TreeFile)
-    (done : Result A Fault) (before after : M) (status : ℕ)
+    (unsaid : M → ℕ) (says : (List ℕ → Type 0) → M → M → (status : ℕ) → Type 0) (explain : Option Dialect)
+    (tree : List TreeFile) (done : Result A Fault) (before after : M) (status : ℕ)
     → Ends said unsaid says explain tree (λ a. told_of (f a)) done before after status
     → Ends said unsaid says explain tree told_of (part_of f done) before after status
 ends_alike f told_of said unsaid says explain tree (Ok a) before after status ends = ends

@@ -1,7 +1,8 @@
 -- How the program `dump` ends.
 -- `remaining` is the reader's, and `reader` it before the call; `said` and `unsaid` are the contents and failures of
 -- the stream of messages, which is `before` and `after` around the call.
-use Rattle.std.specs.Prelude.{◌≡◌, Bool, ℕ, List, [], Option, Some, Result}
+use Rattle.std.specs.Prelude.{◌≡◌, ℕ, List, [], Option, Some, Result}
+use Rattle.proto_parse.specs.tree.Dialect.{Dialect}
 use Rattle.source_tree.specs.Reading.{kept_bytes}
 use Rattle.protoscip.specs.Dump.{dump_tree}
 use Rattle.protoscip.specs.declared.fault.Fault.{Fault}
@@ -11,7 +12,7 @@ use Rattle.programs.specs.TreeRuns.{Ends}
 -- as a run over the tree of what is kept of the source: of the bytes that the reader tells that it has left; if it
 -- tells none, of some bytes
 pub record EndsDump {R M : Type 0} (remaining : R → Option (List ℕ)) (said : M → Option (List ℕ)) (unsaid : M → ℕ)
-    (explain : Bool) (reader : R) (done : Result (Unit {0}) Fault) (before after : M) (status : ℕ) : Type 0 where
+    (explain : Option Dialect) (reader : R) (done : Result (Unit {0}) Fault) (before after : M) (status : ℕ) : Type 0 where
   pub some : (kept : List ℕ)
       × Ends said unsaid (SaysOfSuccess said unsaid) explain (dump_tree kept) (λ _. []) done before after status
   pub told : (bytes : List ℕ) → remaining reader ≡ Some bytes

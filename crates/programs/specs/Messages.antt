@@ -31,22 +31,30 @@ Tells contents failures line due before after status =
     Says contents failures line due before after status
     ⊎ Says contents failures memory_line memory_status before after status
 
+-- if a line isn't fixed: one of which `Due` holds is said, with its status; or the line and the status of Memory
+abbrev pub TellsOne : {M : Type 0} → (contents : M → Option (List ℕ)) → (failures : M → ℕ) → (Due : List ℕ → Type 0)
+    → (due : ℕ) → M → M → (status : ℕ) → Type 0
+TellsOne contents failures Due due before after status =
+    ((line : List ℕ) × Due line × Says contents failures line due before after status)
+    ⊎ Says contents failures memory_line memory_status before after status
+
 -- after a success nothing is said, and the exit status is 0
 abbrev pub IsSilent : {M : Type 0} → M → M → (status : ℕ) → Type 0
 IsSilent before after status = (after ≡ before) × (status ≡ 0)
 
--- after a success this text is said,
-abbrev pub SaysOfSuccess : {M : Type 0} → (contents : M → Option (List ℕ)) → (failures : M → ℕ) → (text : List ℕ) → M
-    → M → (status : ℕ) → Type 0
-SaysOfSuccess contents failures text before after status = Says contents failures text 0 before after status
+-- after a success a text of which `Due` holds is said,
+abbrev pub SaysOfSuccess : {M : Type 0} → (contents : M → Option (List ℕ)) → (failures : M → ℕ)
+    → (Due : List ℕ → Type 0) → M → M → (status : ℕ) → Type 0
+SaysOfSuccess contents failures Due before after status =
+    (text : List ℕ) × Due text × Says contents failures text 0 before after status
 
--- if there is one
+-- or a given one, if there is one
 abbrev pub SaysIfAny : {M : Type 0} → (contents : M → Option (List ℕ)) → (failures : M → ℕ) → Option (List ℕ) → M → M
     → (status : ℕ) → Type 0
 SaysIfAny contents failures None before after status = IsSilent before after status
-SaysIfAny contents failures (Some text) before after status = SaysOfSuccess contents failures text before after status
+SaysIfAny contents failures (Some text) before after status = Says contents failures text 0 before after status
 
 -- it is said; or, if there is no memory for it, the line of Memory, with its status
-abbrev pub TellsOfSuccess : {M : Type 0} → (contents : M → Option (List ℕ)) → (failures : M → ℕ) → (text : List ℕ) → M
-    → M → (status : ℕ) → Type 0
-TellsOfSuccess contents failures text before after status = Tells contents failures text 0 before after status
+abbrev pub TellsOfSuccess : {M : Type 0} → (contents : M → Option (List ℕ)) → (failures : M → ℕ)
+    → (Due : List ℕ → Type 0) → M → M → (status : ℕ) → Type 0
+TellsOfSuccess contents failures Due before after status = TellsOne contents failures Due 0 before after status

@@ -2,48 +2,50 @@
 -- `lists` and `gives` are what the system of files gives, `said` and `unsaid` the contents and failures of the stream
 -- of messages;
 -- `before` and `after` are that stream around the call.
-use Rattle.std.specs.Prelude.{ℕ, Bool, List, [], ◌∷◌, Option, Result, Ok, Err}
+use Rattle.std.specs.Prelude.{ℕ, List, [], ◌∷◌, Option, Result, Ok, Err}
+use Rattle.proto_parse.specs.tree.Dialect.{Dialect}
 use Rattle.source_tree.specs.Files.{TreeFile}
 use Rattle.source_tree.specs.Trees.{IsSourceCount}
 use Rattle.scip_document.specs.Packages.{Packages}
 use Rattle.scip_build.specs.declared.fault.BuildFault.{BuildFault}
 use Rattle.protoscip.specs.declared.fault.Fault.{Fault}
 use Rattle.protoscip.specs.declared.recorded.Recorded.{Recorded}
-use Rattle.protoscip.specs.Explanations.{told}
+use Rattle.protoscip.specs.Explanations.{IsFaultText}
 use Rattle.protoscip.specs.Statuses.{status_of}
-use Rattle.protoscip.specs.ToldLines.{told_text}
+use Rattle.protoscip.specs.ToldLines.{IsToldText}
 use Rattle.command_line.specs.declared.options.IndexOptions.{IndexOptions}
 use Rattle.programs.specs.declared.start_fault.StartFault.{StartFault}
-use Rattle.programs.specs.Messages.{IsSilent, Tells}
+use Rattle.programs.specs.Messages.{IsSilent, Tells, TellsOne}
 use Rattle.programs.specs.Folders.{AreFolders, NamePackages}
+use Rattle.programs.specs.Settings.{explaining}
 use Rattle.programs.specs.StartExplanations.{told as start_told}
 use Rattle.programs.specs.StartFaults.{status_of as start_status}
 use Rattle.programs.specs.Starting.{MayNotStart}
 
--- the end of a run that made an index which lacks this; `says` says how a text is written after a success. If it
--- lacks nothing, nothing is said; else a line for each, and their numbers
-abbrev pub Lacks : {M : Type 0} → (says : List ℕ → M → M → (status : ℕ) → Type 0) → (explain : Bool) → List TreeFile
-    → List BuildFault → M → M → (status : ℕ) → Type 0
+-- the end of a run that made an index which lacks this; `says` says how a text of which something holds is written
+-- after a success. If it lacks nothing, nothing is said; else a line for each, and their numbers
+abbrev pub Lacks : {M : Type 0} → (says : (List ℕ → Type 0) → M → M → (status : ℕ) → Type 0)
+    → (explain : Option Dialect) → List TreeFile → List BuildFault → M → M → (status : ℕ) → Type 0
 Lacks says explain tree [] before after status = IsSilent before after status
 Lacks says explain tree (first ∷ others) before after status =
     (sources : ℕ) × IsSourceCount tree sources
-    × says (told_text explain tree sources (first ∷ others)) before after status
+    × says (IsToldText explain tree sources (first ∷ others)) before after status
 
 -- the end of a run over a tree: after a success, what is told of it is said; after a fault, the line of the fault,
 -- explained if that is asked for, with its status
 abbrev pub Ends : {M A : Type 0} → (said : M → Option (List ℕ)) → (unsaid : M → ℕ)
-    → (says : List ℕ → M → M → (status : ℕ) → Type 0) → (explain : Bool) → List TreeFile
+    → (says : (List ℕ → Type 0) → M → M → (status : ℕ) → Type 0) → (explain : Option Dialect) → List TreeFile
     → (A → List BuildFault) → Result A Fault → M → M → (status : ℕ) → Type 0
 Ends said unsaid says explain tree told_of (Ok done) before after status =
     Lacks says explain tree (told_of done) before after status
 Ends said unsaid says explain tree told_of (Err fault) before after status =
-    Tells said unsaid (told explain tree fault) (status_of fault) before after status
+    TellsOne said unsaid (IsFaultText explain tree fault) (status_of fault) before after status
 
 -- Either the program doesn't start, leaves all but the stream of messages `untouched`, and says why; or there is a
 -- tree of the files, and the run over it ends. `runs` says what the run answers.
 pub data IsRun {M : Type 0} (lists : List ℕ → Option (List (List ℕ)) → Type 0)
     (gives : List ℕ → Option (List ℕ) → Type 0)
-    (said : M → Option (List ℕ)) (unsaid : M → ℕ) (says : List ℕ → M → M → (status : ℕ) → Type 0)
+    (said : M → Option (List ℕ)) (unsaid : M → ℕ) (says : (List ℕ → Type 0) → M → M → (status : ℕ) → Type 0)
     (options : IndexOptions) (untouched : Type 0)
     (runs : List TreeFile → Packages → Result Recorded Fault → Type 0)
     (before after : M) (status : ℕ) : Type 0 where
@@ -53,5 +55,6 @@ pub data IsRun {M : Type 0} (lists : List ℕ → Option (List (List ℕ)) → T
   over_tree : (tree : List TreeFile) (ids : Packages) (done : Result Recorded Fault) → NamePackages options
       → AreFolders lists gives options tree ids
       → runs tree ids done
-      → Ends said unsaid says options.explain tree (λ recorded. recorded.told) done before after status
+      → Ends said unsaid says (explaining options.explain options.accept options.custom_options) tree
+      (λ recorded. recorded.told) done before after status
       → IsRun lists gives said unsaid says options untouched runs before after status

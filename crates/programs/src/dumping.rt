@@ -5,11 +5,11 @@ ghost use Rattle.streams.specs.WholeReads.{IsReadBriefly};
 ghost use Rattle.protoscip.specs.declared.fault.Fault.{Fault};
 ghost use Rattle.protoscip.specs.Dump.{IsDumped, LeavesReader};
 ghost use Rattle.programs.specs.Dumping.{EndsDump};
-ghost use Rattle.programs.specs.Settings.{dialect_of};
+ghost use Rattle.programs.specs.Settings.{dialect_of, explaining};
 
 use crate::host::Host;
 use crate::messages::report;
-use crate::settings::dialect_of;
+use crate::settings::{dialect_of, explaining};
 use command_line::DumpOptions;
 use protoscip::{MEMORY_STATUS, dump_and_keep, dump_tree, fault_text};
 use std::alloc::AllocError;
@@ -31,8 +31,9 @@ pub(crate) fn dump_source<R: Threads + Wait, F, I: Feed, W: Sink, M: Sink>(
         input.old out.old out.new done
         × LeavesReader I.failures I.reads I.ends input.old input.new done
         × IsReadBriefly I.reads input.old input.new
-        × EndsDump I.remaining M.contents M.failures options.now.explain input.old done messages.old messages.new
-        result }
+        × EndsDump I.remaining M.contents M.failures
+        (explaining options.now.explain options.now.accept options.now.custom_options) input.old done messages.old
+        messages.new result }
 {
     let dialect = dialect_of(options.accept, options.custom_options);
     let mut tree = match dump_tree(host.alloc, Vec::new(host.alloc)) {
@@ -42,7 +43,8 @@ pub(crate) fn dump_source<R: Threads + Wait, F, I: Feed, W: Sink, M: Sink>(
     match dump_and_keep(host.rt, host.alloc, dialect, input, &mut tree, out) {
         Ok(()) => 0,
         Err(fault) => {
-            let text = fault_text(host.alloc, &tree, &fault, options.explain);
+            let explain = explaining(options.explain, options.accept, options.custom_options);
+            let text = fault_text(host.alloc, &tree, &fault, explain);
             report(text, fault.status(), messages)
         }
     }

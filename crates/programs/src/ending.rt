@@ -2,13 +2,14 @@
 
 ghost use Rattle.std.specs.Prelude.{string_bytes};
 ghost use Rattle.std.specs.Option.{option_map};
-ghost use Rattle.protoscip.specs.Explanations.{told};
+ghost use Rattle.protoscip.specs.Explanations.{IsFaultText};
 ghost use Rattle.protoscip.specs.FaultLines.{HasFilesOf, HaveFilesOf};
 ghost use Rattle.protoscip.specs.Statuses.{status_of};
-ghost use Rattle.programs.specs.Messages.{SaysIfAny, Tells, TellsOfSuccess};
+ghost use Rattle.programs.specs.Messages.{SaysIfAny, TellsOfSuccess, TellsOne};
 ghost use Rattle.programs.specs.TreeRuns.{Lacks};
 
 use crate::messages::report;
+use proto_parse::Dialect;
 use protoscip::{Fault, fault_text, told_text};
 use scip_build::BuildFault;
 use source_tree::Tree;
@@ -20,7 +21,7 @@ pub(crate) fn tell<M: Sink>(
     alloc: Global,
     tree: &Tree,
     told: &[BuildFault],
-    explain: bool,
+    explain: Option<Dialect>,
     messages: &mut M,
 ) -> u8
     requires { HaveFilesOf tree.now told.now }
@@ -47,12 +48,12 @@ pub(crate) fn stop<M: Sink>(
     alloc: Global,
     tree: &Tree,
     fault: &Fault,
-    explain: bool,
+    explain: Option<Dialect>,
     messages: &mut M,
 ) -> u8
     requires { HasFilesOf tree.now fault.now }
-    ensures { Tells M.contents M.failures (told explain tree.now fault.now) (status_of fault.now) messages.old
-        messages.new result }
+    ensures { TellsOne M.contents M.failures (IsFaultText explain tree.now fault.now) (status_of fault.now)
+        messages.old messages.new result }
 {
     let text = fault_text(alloc, tree, fault, explain);
     report(text, fault.status(), messages)

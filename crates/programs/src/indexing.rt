@@ -13,9 +13,11 @@ use crate::ending::{say_text, stop};
 use crate::host::Host;
 use crate::messages::report;
 use crate::progress::Progress;
+use crate::settings::explaining;
 use crate::start_explanations::start_text;
 use crate::starting::start;
 use command_line::IndexOptions;
+use proto_parse::Dialect;
 use protoscip::{Fault, KeptIndex, index_and_keep};
 use scip_build::Run;
 use source_files::ReadFiles;
@@ -33,7 +35,7 @@ fn end<M: Sink>(
     alloc: Global,
     tree: &Tree,
     done: Result<KeptIndex<'_>, Fault>,
-    explain: bool,
+    explain: Option<Dialect>,
     messages: &mut M,
 ) -> u8
     requires files { IfErr done (HasFilesOf tree.now) }
@@ -98,16 +100,10 @@ where
         workers: run.workers,
         gate: &gate,
     };
-    let done = index_and_keep(
-        &work,
-        &run.tree,
-        &run.choices,
-        &run.settings,
-        options.explain,
-        out,
-    );
+    let explain = explaining(options.explain, options.accept, options.custom_options);
+    let done = index_and_keep(&work, &run.tree, &run.choices, &run.settings, explain, out);
     gate.wipe();
-    let status = end(host.alloc, &run.tree, done, options.explain, messages);
+    let status = end(host.alloc, &run.tree, done, explain, messages);
     forget(run);
     status
 }

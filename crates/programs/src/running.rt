@@ -28,7 +28,7 @@ ghost use Rattle.programs.specs.Paging.{RunsPages};
 ghost use Rattle.programs.specs.Printing.{Prints};
 ghost use Rattle.programs.specs.Queries.{Queried};
 ghost use Rattle.programs.specs.Serving.{Served};
-ghost use Rattle.programs.specs.Settings.{dialect_of};
+ghost use Rattle.programs.specs.Settings.{dialect_of, explaining};
 ghost use Rattle.programs.specs.Snapshotting.{RunsSnapshot};
 ghost use Rattle.programs.specs.Streams.{reader, writer};
 
@@ -126,7 +126,9 @@ where
         out.old out.new done
         × LeavesReader I.failures I.reads I.ends input.old input.new done
         × IsReadBriefly I.reads input.old input.new
-        × EndsDump I.remaining M.contents M.failures (explains request) input.old done messages.old messages.new result)
+        × EndsDump I.remaining M.contents M.failures
+        (explaining options.explain options.accept options.custom_options) input.old done messages.old messages.new
+        result)
         × (file.new ≡ file.old))) }
     // What `query` promises of its answers, and what becomes of that.
     ensures queried { IfOk asked.now (λ request. IfSome (index_path request) (λ path. ((done : Result (Unit {0})

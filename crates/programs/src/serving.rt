@@ -10,10 +10,12 @@ ghost use Rattle.programs.specs.TreeRuns.{Ends};
 use crate::ending::{stop, tell};
 use crate::host::Host;
 use crate::messages::report;
+use crate::settings::explaining;
 use crate::start_explanations::start_text;
 use crate::starting::start;
 use command_line::IndexOptions;
 use index_pool::NoGate;
+use proto_parse::Dialect;
 use protoscip::{Fault, Recorded, session};
 use source_files::ReadFiles;
 use source_tree::Tree;
@@ -27,7 +29,7 @@ fn end<M: Sink>(
     alloc: Global,
     tree: &Tree,
     done: &Result<Recorded, Fault>,
-    explain: bool,
+    explain: Option<Dialect>,
     messages: &mut M,
 ) -> u8
     requires files { IfErr done.now (HasFilesOf tree.now) }
@@ -76,5 +78,6 @@ pub(crate) fn shell<R: Threads + Wait, F: ReadFiles + Sync, I: Feed, W: Sink, M:
         commands,
         answers,
     );
-    end(host.alloc, &run.tree, &done, options.explain, messages)
+    let explain = explaining(options.explain, options.accept, options.custom_options);
+    end(host.alloc, &run.tree, &done, explain, messages)
 }

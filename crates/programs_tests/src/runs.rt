@@ -39,7 +39,7 @@ pub(crate) const SILENT: Row = Row {
 };
 
 // The second row reads: there is no program `nothing`, which is said, with status 2.
-static ROWS: [Row; 21] = [
+static ROWS: [Row; 22] = [
     Row {
         words: "--version",
         printed: "protoscip 1\n\0",
@@ -75,6 +75,16 @@ static ROWS: [Row; 21] = [
         input: " @",
         status: 1,
         said: "protoscip: input.proto@1: BadByte\ninput.proto:1:2: this character can't be here\n  1 |  @\n    |  ^\n",
+        ..SILENT
+    },
+    Row {
+        words: "dump --explain --accept all",
+        input: "option =",
+        status: 1,
+        said: "protoscip: input.proto@7: Grammar
+input.proto:1:8: met `=`: the grammar wants something else here: `(` or a name
+  1 | option =
+    |        ^\n",
         ..SILENT
     },
     Row {

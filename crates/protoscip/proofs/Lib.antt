@@ -10,6 +10,7 @@ mod DumpLemmas
 mod ExplainingLemmas
 -- what an index lacks
 mod LackLemmas
+mod LineLemmas
 -- answers to commands
 mod SessionLemmas
 -- the laws

@@ -1,6 +1,6 @@
 -- What is added to the line of a fault if it is to be explained: the place, a sentence, and the source's line. (The
 -- texts are this project's own.)
-use Rattle.std.specs.Prelude.{ℕ, ◌-◌, Bool, List, [], ◌++◌, Option, None, Some, take, drop, length, nat_eq, codes}
+use Rattle.std.specs.Prelude.{◌≡◌, ℕ, ◌-◌, List, [], ◌++◌, Option, None, Some, take, drop, length, nat_eq, codes}
 use Rattle.std.specs.Prelude.{if◌then◌else◌}
 use Rattle.std.specs.List.{slice_get}
 use Rattle.std.specs.Option.{option_map, unwrap_or}
@@ -12,8 +12,10 @@ use Rattle.proto_lex.specs.declared.fault.LexFault.TheVariants as lexing
 use Rattle.proto_parse.specs.FaultNames.{syntax_offset}
 use Rattle.proto_parse.specs.fault.SyntaxFault.{SyntaxFault}
 use Rattle.proto_parse.specs.fault.SyntaxFault.TheVariants as parsing
+use Rattle.proto_parse.specs.tree.Dialect.{Dialect}
 use Rattle.proto_visibility.specs.declared.place.FilePlace.{FilePlace}
 use Rattle.source_tree.specs.Files.{TreeFile}
+use Rattle.syntax_hints.specs.Hints.{IsHinted}
 use Rattle.protoscip.specs.FaultLines.{line_of, path_of}
 use Rattle.protoscip.specs.declared.fault.Fault.{Fault}
 use Rattle.protoscip.specs.declared.fault.Fault.TheVariants.{Spawn, Memory, Lex, Syntax, Duplicate, MissingImport}
@@ -82,9 +84,11 @@ abbrev pub met : List ℕ → List ℕ
 met bytes = if nat_eq (length bytes) 0 then codes "the text ends here: "
     else codes "met " ++ quoted (take (token_len bytes) bytes) ++ codes ": "
 
-abbrev pub at_met : (path text : List ℕ) → Option ℕ → (sentence : List ℕ) → List ℕ
-at_met path text None sentence = []
-at_met path text (Some at) sentence = explained path text at (token_len (drop at text)) (met (drop at text) ++ sentence)
+-- what could be there instead is told behind the sentence
+abbrev pub at_met : (path text : List ℕ) → Option ℕ → (sentence hints : List ℕ) → List ℕ
+at_met path text None sentence hints = []
+at_met path text (Some at) sentence hints =
+    explained path text at (token_len (drop at text)) (met (drop at text) ++ sentence ++ hints)
 
 abbrev pub at_place : List TreeFile → FilePlace → (sentence : List ℕ) → List ℕ
 at_place tree place sentence =
@@ -95,20 +99,38 @@ at_place tree place sentence =
 abbrev pub at_both : List TreeFile → (first second : FilePlace) → (sentence : List ℕ) → List ℕ
 at_both tree first second sentence = at_place tree second sentence ++ at_place tree first first_sentence
 
+-- ---- hints
+
+-- If the grammar wants something else than what the parser met, what could be there is told, by what is before it.
+abbrev pub AreSyntaxHints : Dialect → (text : List ℕ) → SyntaxFault → (hints : List ℕ) → Type 0
+AreSyntaxHints dialect text (parsing.Grammar at) hints = IsHinted dialect (take at text) hints
+AreSyntaxHints dialect text fault hints = hints ≡ []
+
+-- of a tree whose sources are parsed in this dialect
+abbrev pub AreHints : Dialect → List TreeFile → Fault → (hints : List ℕ) → Type 0
+AreHints dialect tree (Syntax number fault) hints = AreSyntaxHints dialect (bytes_of tree number) fault hints
+AreHints dialect tree fault hints = hints ≡ []
+
 -- ---- explanations
 
 -- It begins with a line end. Nothing is said about lack of memory.
-abbrev pub explanation_of : List TreeFile → Fault → List ℕ
-explanation_of tree Memory = []
-explanation_of tree (Lex number fault) =
+abbrev pub explanation_of : List TreeFile → Fault → (hints : List ℕ) → List ℕ
+explanation_of tree Memory hints = []
+explanation_of tree (Lex number fault) hints =
     at_token (path_of tree number) (bytes_of tree number) (lex_offset fault) (lex_sentence fault)
-explanation_of tree (Syntax number fault) =
-    at_met (path_of tree number) (bytes_of tree number) (syntax_offset fault) (syntax_sentence fault)
-explanation_of tree (Duplicate first second) = at_both tree first second (sentence_of (Duplicate first second))
-explanation_of tree (MissingImport place) = at_place tree place (sentence_of (MissingImport place))
-explanation_of tree (Unresolved place) = at_place tree place (sentence_of (Unresolved place))
-explanation_of tree fault = codes "\n" ++ sentence_of fault
+explanation_of tree (Syntax number fault) hints =
+    at_met (path_of tree number) (bytes_of tree number) (syntax_offset fault) (syntax_sentence fault) hints
+explanation_of tree (Duplicate first second) hints = at_both tree first second (sentence_of (Duplicate first second))
+explanation_of tree (MissingImport place) hints = at_place tree place (sentence_of (MissingImport place))
+explanation_of tree (Unresolved place) hints = at_place tree place (sentence_of (Unresolved place))
+explanation_of tree fault hints = codes "\n" ++ sentence_of fault
 
--- the line of a fault, and its explanation if that is asked for
-abbrev pub told : (explain : Bool) → List TreeFile → Fault → List ℕ
-told explain tree fault = line_of tree fault ++ (if explain then explanation_of tree fault else [])
+-- A line about a fault, and its explanation if that is asked for, with the dialect in which sources are parsed.
+abbrev pub IsExplained : (explain : Option Dialect) → List TreeFile → Fault → (line text : List ℕ) → Type 0
+IsExplained None tree fault line text = text ≡ line
+IsExplained (Some dialect) tree fault line text =
+    (hints : List ℕ) × AreHints dialect tree fault hints × (text ≡ line ++ explanation_of tree fault hints)
+
+-- the line of a fault, so
+abbrev pub IsFaultText : (explain : Option Dialect) → List TreeFile → Fault → (text : List ℕ) → Type 0
+IsFaultText explain tree fault text = IsExplained explain tree fault (line_of tree fault) text

@@ -1,16 +1,17 @@
 -- What is reported, on standard error, of what an index lacks: a line for each thing, and one with their numbers.
 -- (The texts are this project's own.)
-use Rattle.std.specs.Prelude.{◌≡◌, ℕ, ◌-◌, Bool, true, false, List, [], ◌∷◌, ◌++◌, nat_lt, codes, if◌then◌else◌}
+use Rattle.std.specs.Prelude.{◌≡◌, ℕ, ◌-◌, Bool, true, false, List, [], ◌∷◌, ◌++◌, nat_lt, codes}
 use Rattle.std.specs.Prelude.{Option, Some, None}
 use Rattle.std.specs.Fmt.{decimal}
-use Rattle.std.specs.List.{count_by, flat_map}
+use Rattle.std.specs.List.{count_by}
 use Rattle.source_tree.specs.Files.{TreeFile}
 use Rattle.source_tree.specs.Trees.{IsSourceCount}
 use Rattle.proto_lex.specs.FaultNames.{lex_offset}
 use Rattle.proto_parse.specs.FaultNames.{syntax_offset}
+use Rattle.proto_parse.specs.tree.Dialect.{Dialect}
 use Rattle.scip_build.specs.declared.fault.BuildFault.{BuildFault}
 use Rattle.scip_build.specs.declared.fault.BuildFault.TheVariants as build
-use Rattle.protoscip.specs.Explanations.{explanation_of}
+use Rattle.protoscip.specs.Explanations.{IsExplained}
 use Rattle.protoscip.specs.FaultLines.{path_of, name_of, line_of, duplicate_line}
 use Rattle.protoscip.specs.Faults.{fault_of_build}
 use Rattle.protoscip.specs.Lines.{line_at, placed_line}
@@ -39,8 +40,8 @@ told_line tree (Unresolved place) = line_at (untargeted tree place.file) place.s
 told_line tree fault = line_of tree fault
 
 -- the same, and its explanation if that is asked for
-abbrev pub explained_line : (explain : Bool) → List TreeFile → Fault → List ℕ
-explained_line explain tree fault = told_line tree fault ++ (if explain then explanation_of tree fault else [])
+abbrev pub IsToldLine : (explain : Option Dialect) → List TreeFile → Fault → (text : List ℕ) → Type 0
+IsToldLine explain tree fault text = IsExplained explain tree fault (told_line tree fault) text
 
 -- ---- numbers
 
@@ -81,15 +82,26 @@ counts_line sources told =
 -- ---- all of it
 
 -- a line with its end
-abbrev pub ended_line : (explain : Bool) → List TreeFile → BuildFault → List ℕ
-ended_line explain tree fault = explained_line explain tree (fault_of_build fault) ++ codes "\n"
+abbrev pub IsEndedLine : (explain : Option Dialect) → List TreeFile → BuildFault → (text : List ℕ) → Type 0
+IsEndedLine explain tree fault text =
+    (line : List ℕ) × IsToldLine explain tree (fault_of_build fault) line × (text ≡ line ++ codes "\n")
 
--- the lines in their order, and the numbers
-abbrev pub told_text : (explain : Bool) → List TreeFile → (sources : ℕ) → List BuildFault → List ℕ
-told_text explain tree sources told = flat_map (ended_line explain tree) told ++ counts_line sources told
+-- the lines in their order
+abbrev pub AreLines : (explain : Option Dialect) → List TreeFile → List BuildFault → (text : List ℕ) → Type 0
+AreLines explain tree [] text = text ≡ []
+AreLines explain tree (first ∷ others) text =
+    (line rest : List ℕ) × IsEndedLine explain tree first line × AreLines explain tree others rest
+    × (text ≡ line ++ rest)
+
+-- and the numbers
+abbrev pub IsToldText : (explain : Option Dialect) → List TreeFile → (sources : ℕ) → List BuildFault → (text : List ℕ)
+    → Type 0
+IsToldText explain tree sources told text =
+    (lines : List ℕ) × AreLines explain tree told lines × (text ≡ lines ++ counts_line sources told)
 
 -- what is reported of an index that lacks this: nothing if it lacks nothing, else all of it
-abbrev pub IsTextOfLacks : (explain : Bool) → List TreeFile → List BuildFault → Option (List ℕ) → Type 0
+abbrev pub IsTextOfLacks : (explain : Option Dialect) → List TreeFile → List BuildFault → Option (List ℕ) → Type 0
 IsTextOfLacks explain tree [] text = text ≡ None
 IsTextOfLacks explain tree (first ∷ others) text =
-    (sources : ℕ) × IsSourceCount tree sources × (text ≡ Some (told_text explain tree sources (first ∷ others)))
+    (sources : ℕ) × IsSourceCount tree sources
+    × ((told : List ℕ) × IsToldText explain tree sources (first ∷ others) told × (text ≡ Some told))

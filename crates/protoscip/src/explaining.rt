@@ -1,7 +1,9 @@
 //! What is added to the line of a fault if it is to be explained.
 
-ghost use Rattle.std.specs.Prelude.{◌≡◌, ◌++◌, IfOk, OnOk, drop, string_bytes};
+ghost use Rattle.std.specs.Prelude.{◌≡◌, ◌++◌, IfOk, OnOk, drop, string_bytes, take};
 ghost use Rattle.protoscip.specs.Explanations.{
+  AreHints,
+  AreSyntaxHints,
   at_both,
   at_met,
   at_place,
@@ -9,8 +11,9 @@ ghost use Rattle.protoscip.specs.Explanations.{
   bytes_of,
   explained,
   explanation_of,
+  IsExplained,
+  IsFaultText,
   met,
-  told,
 };
 ghost use Rattle.protoscip.specs.FaultLines.{HasFile, HasFilesOf, path_of};
 
@@ -19,8 +22,10 @@ use crate::fault_lines::{fault_line, path_of};
 use crate::sentences::sentence_of;
 use excerpts::{push_excerpt, push_place, push_quoted, token_len};
 use proto_link::FilePlace;
+use proto_parse::{Dialect, SyntaxFault};
 use source_tree::Tree;
 use std::alloc::{AllocError, Global};
+use syntax_hints::hint_text;
 
 /// A file that is shown: its path, and what it holds.
 #[derive(Clone, Copy)]
@@ -42,33 +47,110 @@ fn shown_file(tree: &Tree, file: usize) -> ShownFile<'_>
 }
 
 /// The line, without its end, that says why a run over the tree stops; and, if that is asked for, what explains it: a
-/// place of a source as editors show it, a sentence, and the place's line with the place marked. Nothing explains a
-/// lack of memory.
+/// place of a source as editors show it, a sentence, and the place's line with the place marked. To explain it takes
+/// the dialect in which the tree's sources are parsed. Nothing explains a lack of memory.
 pub fn fault_text(
     alloc: Global,
     tree: &Tree,
     fault: &Fault,
-    explain: bool,
+    explain: Option<Dialect>,
 ) -> Result<String, AllocError>
     requires { HasFilesOf tree.now fault.now }
-    ensures { IfOk result (λ text. string_bytes text ≡ told explain tree.now fault.now) }
+    ensures { IfOk result (λ text. IsFaultText explain tree.now fault.now (string_bytes text)) }
 {
-    let mut text = fault_line(alloc, tree, fault)?;
-    if explain {
-        push_explanation(alloc, &mut text, tree, fault)?;
+    let line = fault_line(alloc, tree, fault)?;
+    with_explanation(alloc, tree, fault, explain, line)
+}
+
+/// A line about a fault, and what explains the fault, if that is asked for.
+pub(crate) fn with_explanation(
+    alloc: Global,
+    tree: &Tree,
+    fault: &Fault,
+    explain: Option<Dialect>,
+    line: String,
+) -> Result<String, AllocError>
+    requires { HasFilesOf tree.now fault.now }
+    ensures { IfOk result (λ text. IsExplained explain tree.now fault.now (string_bytes line) (string_bytes text)) }
+{
+    let mut text = line;
+    if let Some(dialect) = explain {
+        let hints = hints_of(alloc, tree, fault, dialect)?;
+        push_explanation(alloc, &mut text, tree, fault, hints.as_str())?;
     }
     Ok(text)
 }
 
-/// Appends what explains a fault.
-pub(crate) fn push_explanation(
+/// The bytes before an offset; all if it is past the end.
+fn head(bytes: &[u8], at: usize) -> &[u8]
+    ensures { result.now ≡ take at bytes.now }
+{
+    if at < bytes.len() {
+        bytes.split_at(at).0
+    } else {
+        bytes
+    }
+}
+
+/// What could be where the parser met something else.
+fn hints_at(
+    alloc: Global,
+    text: &[u8],
+    fault: &SyntaxFault,
+    dialect: Dialect,
+) -> Result<String, AllocError>
+    ensures { IfOk result (λ hints. AreSyntaxHints dialect text.now fault.now (string_bytes hints)) }
+{
+    match fault {
+        SyntaxFault::Grammar(at) => hint_text(alloc, dialect, head(text, *at)),
+        SyntaxFault::NotProto3(_)
+        | SyntaxFault::CustomOption(_)
+        | SyntaxFault::Aggregate(_)
+        | SyntaxFault::Extend(_)
+        | SyntaxFault::TwoPackages(_)
+        | SyntaxFault::ImportEscape(_)
+        | SyntaxFault::TooDeep(_)
+        | SyntaxFault::Memory => Ok(String::new(alloc)),
+    }
+}
+
+/// The same, of a fault of a tree.
+fn hints_of(
+    alloc: Global,
+    tree: &Tree,
+    fault: &Fault,
+    dialect: Dialect,
+) -> Result<String, AllocError>
+    requires { HasFilesOf tree.now fault.now }
+    ensures { IfOk result (λ hints. AreHints dialect tree.now fault.now (string_bytes hints)) }
+{
+    match fault {
+        Fault::Syntax(file, fault) => {
+            hints_at(alloc, shown_file(tree, *file).text, fault, dialect)
+        }
+        Fault::Spawn
+        | Fault::Memory
+        | Fault::Lex(..)
+        | Fault::Duplicate(..)
+        | Fault::MissingImport(_)
+        | Fault::Unresolved(_)
+        | Fault::TooLarge
+        | Fault::Write(_)
+        | Fault::Read
+        | Fault::Answer(_) => Ok(String::new(alloc)),
+    }
+}
+
+/// Appends what explains a fault. What could be where the parser met something else is given.
+fn push_explanation(
     alloc: Global,
     out: &mut String,
     tree: &Tree,
     fault: &Fault,
+    hints: &str,
 ) -> Result<(), AllocError>
     requires { HasFilesOf tree.now fault.now }
-    ensures { OnOk result (string_bytes out.new ≡ string_bytes out.old ++ explanation_of tree.now fault.now) }
+    ensures { OnOk result (string_bytes out.new ≡ string_bytes out.old ++ explanation_of tree.now fault.now hints.now) }
 {
     let sentence = sentence_of(fault);
     match fault {
@@ -89,6 +171,7 @@ pub(crate) fn push_explanation(
                 shown_file(tree, *file),
                 fault.offset(),
                 sentence,
+                hints,
             )
         }
         Fault::Duplicate(first, second) => {
@@ -164,16 +247,17 @@ fn push_met(out: &mut String, bytes: &[u8]) -> Result<(), AllocError>
     out.push_str(": ")
 }
 
-/// Appends a place where the parser met a token, or the text's end, if there is one.
+/// Appends a place where the parser met a token, or the text's end, if there is one, and what could be there.
 fn push_at_met(
     alloc: Global,
     out: &mut String,
     file: ShownFile<'_>,
     offset: Option<usize>,
     sentence: &str,
+    hints: &str,
 ) -> Result<(), AllocError>
     ensures { OnOk result (string_bytes out.new
-        ≡ string_bytes out.old ++ at_met file.entry.path.now file.entry.text.now offset sentence.now) }
+        ≡ string_bytes out.old ++ at_met file.entry.path.now file.entry.text.now offset sentence.now hints.now) }
 {
     match offset {
         Some(at) => {
@@ -181,6 +265,7 @@ fn push_at_met(
             let mut told = String::new(alloc);
             push_met(&mut told, rest)?;
             told.push_str(sentence)?;
+            told.push_str(hints)?;
             push_explained(alloc, out, file, at, token_len(rest), told.as_str())
         }
         None => Ok(()),

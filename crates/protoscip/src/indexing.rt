@@ -17,6 +17,7 @@ use crate::recorded::Recorded;
 use crate::telling::text_of_lacks;
 use index_hooks::Chooses;
 use index_pool::{Gate, Workers};
+use proto_parse::Dialect;
 use scip_build::{BuiltParts, Parts, Run, Settings, build_in_form};
 use scip_wire::{
     bytes_decode_to_one_index, spelling_decodes_to_its_index, spelling_is_of_pieces, write_pieces,
@@ -58,14 +59,14 @@ pub struct KeptIndex<'a> {
 }
 
 /// Builds the index of a tree and writes its bytes, as `index_tree` does, and hands out all that it made. The report
-/// of what the index lacks, explained if that is asked for, is made before the first write. From then on only a write
-/// can fail.
+/// of what the index lacks, explained if that is asked for, with the dialect of the settings, is made before the first
+/// write. From then on only a write can fail.
 pub fn index_and_keep<'a, R: Threads + Wait, C: Chooses + Sync, G: Gate, W: Sink>(
     run: &Run<'_, R, G>,
     tree: &'a Tree,
     chooser: &C,
     settings: &Settings,
-    explain: bool,
+    explain: Option<Dialect>,
     out: &mut W,
 ) -> Result<KeptIndex<'a>, Fault>
     ensures indexed { MatchResult result
@@ -102,7 +103,7 @@ fn index_and_record<R: Threads + Wait, C: Chooses + Sync, G: Gate, W: Sink>(
     ensures files { IfErr result (HasFilesOf tree.now) }
     ensures told { IfOk result (λ recorded. HaveFilesOf tree.now recorded.told) }
 {
-    let kept = index_and_keep(run, tree, chooser, settings, false, out)?;
+    let kept = index_and_keep(run, tree, chooser, settings, None, out)?;
     let built = kept.built;
     Ok(Recorded {
         choices: built.choices,

@@ -1,23 +1,24 @@
 //! The report of what an index lacks.
 
-ghost use Rattle.std.specs.Prelude.{◌≡◌, ◌++◌, ℕ, IfOk, OnOk, string_bytes};
-ghost use Rattle.std.specs.List.{count_by, flat_map};
+ghost use Rattle.std.specs.Prelude.{◌≡◌, ◌++◌, ℕ, List, IfOk, OnOk, string_bytes};
+ghost use Rattle.std.specs.List.{count_by};
 ghost use Rattle.std.specs.Option.{option_map};
 ghost use Rattle.source_tree.specs.Trees.{IsSourceCount};
 ghost use Rattle.protoscip.specs.FaultLines.{HaveFilesOf};
 ghost use Rattle.protoscip.specs.ToldLines.{
+  AreLines,
   counts_line,
-  ended_line,
   is_import,
   is_skipped,
   is_skipped_source,
   is_use,
   IsTextOfLacks,
+  IsToldText,
   numbers_line,
-  told_text,
 };
 
 use crate::told_lines::push_told;
+use proto_parse::Dialect;
 use scip_build::BuildFault;
 use source_tree::Tree;
 use std::alloc::{AllocError, Global};
@@ -118,11 +119,11 @@ fn push_lines(
     out: &mut String,
     tree: &Tree,
     told: &[BuildFault],
-    explain: bool,
+    explain: Option<Dialect>,
 ) -> Result<(), AllocError>
     requires { HaveFilesOf tree.now told.now }
-    ensures { OnOk result (string_bytes out.new ≡ string_bytes out.old ++ flat_map (ended_line explain tree.now)
-        told.now) }
+    ensures { OnOk result ((lines : List ℕ) × AreLines explain tree.now told.now lines
+        × (string_bytes out.new ≡ string_bytes out.old ++ lines)) }
 {
     for fault in told {
         push_told(alloc, out, tree, *fault, explain)?;
@@ -136,10 +137,10 @@ fn text_of(
     tree: &Tree,
     sources: usize,
     told: &[BuildFault],
-    explain: bool,
+    explain: Option<Dialect>,
 ) -> Result<String, AllocError>
     requires { HaveFilesOf tree.now told.now }
-    ensures { IfOk result (λ text. string_bytes text ≡ told_text explain tree.now sources told.now) }
+    ensures { IfOk result (λ text. IsToldText explain tree.now sources told.now (string_bytes text)) }
 {
     let mut text = String::new(alloc);
     push_lines(alloc, &mut text, tree, told, explain)?;
@@ -154,11 +155,11 @@ pub fn told_text(
     alloc: Global,
     tree: &Tree,
     told: &[BuildFault],
-    explain: bool,
+    explain: Option<Dialect>,
 ) -> Result<String, AllocError>
     requires { HaveFilesOf tree.now told.now }
     ensures { (sources : ℕ) × IsSourceCount tree.now sources
-        × IfOk result (λ text. string_bytes text ≡ told_text explain tree.now sources told.now) }
+        × IfOk result (λ text. IsToldText explain tree.now sources told.now (string_bytes text)) }
 {
     let sources = tree.source_count();
     text_of(alloc, tree, sources, told, explain)
@@ -169,7 +170,7 @@ pub(crate) fn text_of_lacks(
     alloc: Global,
     tree: &Tree,
     told: &[BuildFault],
-    explain: bool,
+    explain: Option<Dialect>,
 ) -> Result<Option<String>, AllocError>
     requires { HaveFilesOf tree.now told.now }
     ensures { IfOk result (λ text. IsTextOfLacks explain tree.now told.now (option_map string_bytes text)) }

@@ -1,16 +1,17 @@
 //! The line of what an index lacks: of a file that is left out, of an import or a use without a target.
 
-ghost use Rattle.std.specs.Prelude.{◌≡◌, ◌++◌, IfOk, OnOk, string_bytes};
+ghost use Rattle.std.specs.Prelude.{◌≡◌, ◌++◌, ℕ, List, IfOk, OnOk, string_bytes};
 ghost use Rattle.protoscip.specs.FaultLines.{HasFile, HasFilesOf, duplicate_line, path_of};
 ghost use Rattle.protoscip.specs.Faults.{fault_of_build};
 ghost use Rattle.protoscip.specs.Lines.{line_at, placed_line};
-ghost use Rattle.protoscip.specs.ToldLines.{ended_line, explained_line, skipped, told_line, untargeted};
+ghost use Rattle.protoscip.specs.ToldLines.{IsEndedLine, IsToldLine, skipped, told_line, untargeted};
 
-use crate::explaining::push_explanation;
+use crate::explaining::with_explanation;
 use crate::fault::Fault;
 use crate::fault_lines::{duplicate_line, fault_line, path_of};
 use crate::lines::placed_line;
 use proto_link::FilePlace;
+use proto_parse::Dialect;
 use scip_build::BuildFault;
 use source_tree::Tree;
 use std::alloc::{AllocError, Global};
@@ -113,16 +114,13 @@ fn explained_line(
     alloc: Global,
     tree: &Tree,
     fault: &Fault,
-    explain: bool,
+    explain: Option<Dialect>,
 ) -> Result<String, AllocError>
     requires { HasFilesOf tree.now fault.now }
-    ensures { IfOk result (λ text. string_bytes text ≡ explained_line explain tree.now fault.now) }
+    ensures { IfOk result (λ text. IsToldLine explain tree.now fault.now (string_bytes text)) }
 {
-    let mut text = told_line(alloc, tree, fault)?;
-    if explain {
-        push_explanation(alloc, &mut text, tree, fault)?;
-    }
-    Ok(text)
+    let line = told_line(alloc, tree, fault)?;
+    with_explanation(alloc, tree, fault, explain, line)
 }
 
 /// Appends that, with its end.
@@ -131,10 +129,11 @@ pub(crate) fn push_told(
     out: &mut String,
     tree: &Tree,
     fault: BuildFault,
-    explain: bool,
+    explain: Option<Dialect>,
 ) -> Result<(), AllocError>
     requires { HasFilesOf tree.now (fault_of_build fault) }
-    ensures { OnOk result (string_bytes out.new ≡ string_bytes out.old ++ ended_line explain tree.now fault) }
+    ensures { OnOk result ((line : List ℕ) × IsEndedLine explain tree.now fault line
+        × (string_bytes out.new ≡ string_bytes out.old ++ line)) }
 {
     let line = explained_line(alloc, tree, &Fault::from(fault), explain)?;
     out.push_str(line.as_str())?;

@@ -142,7 +142,7 @@ fn said_of_index(
     if told.is_empty() {
         return Ok(None);
     }
-    Ok(Some((told_text(alloc, tree, told, false)?, 0)))
+    Ok(Some((told_text(alloc, tree, told, None)?, 0)))
 }
 
 /// What one call of `index_tree` has to say.

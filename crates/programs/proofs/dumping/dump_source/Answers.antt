@@ -1,12 +1,14 @@
 use Rattle.std.specs.String.{string_bytes}
-use Rattle.std.proofs.Common.{inr, refl, arith, [], Result, Err, subst}
+use Rattle.std.proofs.Common.{inr, refl, arith, [], Option, Result, Err, subst}
+use Rattle.std.specs.Prelude.{IfOk}
 use Rattle.proto_parse.specs.tree.Dialect.{Dialect}
 use Rattle.protoscip.specs.declared.fault.Fault.{Fault}
 use Rattle.protoscip.specs.declared.fault.Fault.TheVariants.{Memory}
 use Rattle.protoscip.specs.Dump.{IsDumped, dump_tree}
-use Rattle.protoscip.specs.Explanations.{told as told_of}
+use Rattle.protoscip.specs.Explanations.{IsFaultText}
+use Rattle.programs.specs.Settings.{explaining}
 use Rattle.programs.proofs.DumpEndLemmas.{of_fault}
-use Rattle.programs.proofs.MessageLemmas.{told}
+use Rattle.programs.proofs.MessageLemmas.{told_one}
 use Rattle.programs.proofs.dumping.dump_source.Goals as goal
 
 -- where memory doesn't suffice to begin
@@ -18,8 +20,10 @@ returns-in-Err g c =
       record { due = []; writer = refl; some = ([], tt); told = λ bytes known. tt },
       refl,
       omega arith,
-      of_fault g.I.Feed.remaining g.M.Sink.contents g.M.Sink.failures c.args.options.now.explain c.args.input.now
-          c.args.messages.now c.report.new.messages c.report.result Memory (dump_tree []) tt (inr c.report.ensures),
+      of_fault g.I.Feed.remaining g.M.Sink.contents g.M.Sink.failures
+          (explaining c.args.options.now.explain c.args.options.now.accept c.args.options.now.custom_options)
+          c.args.input.now c.args.messages.now c.report.new.messages c.report.result Memory (dump_tree []) tt
+          (inr c.report.ensures),
     )
 
 -- where the dump stops
@@ -30,13 +34,17 @@ returns g c =
     let of = c.in-Err-dump_and_keep.ensures in
     let done : Result (Unit {0}) Fault = Err fault in
     let tree = c.dump_and_keep.new.tree in
-    let explain = c.args.options.now.explain in
+    let explain =
+    explaining c.args.options.now.explain c.args.options.now.accept c.args.options.now.custom_options in
+    let Told : Option Dialect → Type 0 =
+    λ asked. IfOk c.fault_text-text.result (λ text. IsFaultText asked tree fault (string_bytes text)) in
     let Dumped : Dialect → Type 0 =
     λ dialect. IsDumped g.I.Feed.remaining g.W.Sink.contents g.W.Sink.failures dialect c.args.input.now c.args.out.now
     c.dump_and_keep.new.out done in
-    let said = told g.M.Sink.contents g.M.Sink.failures c.args.messages.now c.report-in-Err-dump_and_keep.new.messages
-    c.report-in-Err-dump_and_keep.result _ _ string_bytes c.fault_text-text.result (told_of explain tree fault)
-    c.status.ensures c.fault_text-text.ensures c.report-in-Err-dump_and_keep.ensures in (
+    let said = told_one g.M.Sink.contents g.M.Sink.failures c.args.messages.now c.report-in-Err-dump_and_keep.new.messages
+    c.report-in-Err-dump_and_keep.result _ _ string_bytes c.fault_text-text.result
+    (IsFaultText explain tree fault) c.status.ensures
+    (subst Told c.explaining-explain.ensures c.fault_text-text.ensures) c.report-in-Err-dump_and_keep.ensures in (
       done,
       subst Dumped c.dialect_of-dialect.ensures of.dumped,
       of.reader,

@@ -1,9 +1,9 @@
 use Rattle.std.specs.String.{string_bytes}
 use Rattle.std.proofs.Common.{refl, sym, ◌∙◌}
-use Rattle.protoscip.specs.ToldLines.{told_text}
+use Rattle.protoscip.specs.ToldLines.{IsToldText}
 use Rattle.programs.specs.Messages.{TellsOfSuccess}
 use Rattle.programs.proofs.LackLemmas.{lacks_nothing, lacks_some}
-use Rattle.programs.proofs.MessageLemmas.{told}
+use Rattle.programs.proofs.MessageLemmas.{told_one}
 use Rattle.programs.proofs.ending.tell.Goals as goal
 
 pub returns-then-is_empty : goal.returns-then-is_empty
@@ -18,7 +18,7 @@ returns g c =
     c.args.messages.now c.report.new.messages c.report.result c.args.told.now (sym c.is_empty.ensures ∙ c.if-is_empty.false) (
       text.0,
       text.1,
-      told g.M.Sink.contents g.M.Sink.failures c.args.messages.now c.report.new.messages c.report.result _ _
-          string_bytes c.told_text.result (told_text c.args.explain c.args.tree.now text.0 c.args.told.now) refl text.2
+      told_one g.M.Sink.contents g.M.Sink.failures c.args.messages.now c.report.new.messages c.report.result _ _
+          string_bytes c.told_text.result (IsToldText c.args.explain c.args.tree.now text.0 c.args.told.now) refl text.2
           c.report.ensures,
     )

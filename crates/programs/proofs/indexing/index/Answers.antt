@@ -1,5 +1,6 @@
 use Rattle.std.specs.String.{string_bytes}
-use Rattle.std.proofs.Common.{refl, ℕ, List, Option, Result}
+use Rattle.std.proofs.Common.{refl, subst, ℕ, List, Option, Result}
+use Rattle.proto_parse.specs.tree.Dialect.{Dialect}
 use Rattle.proto_decl.specs.Seen.{Seen}
 use Rattle.index_hooks.specs.declared.choice.Choice.{Choice}
 use Rattle.index_hooks.specs.declared.choice.DocChoice.{DocChoice}
@@ -7,7 +8,7 @@ use Rattle.scip_build.specs.declared.settings.Settings.{Settings}
 use Rattle.programs.specs.Choices.{IsChosenBy}
 use Rattle.programs.specs.Messages.{SaysOfSuccess}
 use Rattle.programs.specs.StartExplanations.{told as start_told}
-use Rattle.programs.specs.TreeRuns.{not_started, over_tree}
+use Rattle.programs.specs.TreeRuns.{Ends, not_started, over_tree}
 use Rattle.programs.proofs.MessageLemmas.{told}
 use Rattle.programs.proofs.MoveLemmas.{moved4}
 use Rattle.programs.proofs.TreeRunLemmas.{part_of, holds_of_part, ends_alike}
@@ -39,8 +40,12 @@ returns g c =
     λ only doc settings workers. Indexed (IsChosenBy only doc) settings workers done in
     let indexed = holds_of_part recorded (Indexed _ run.settings run.workers) kept c.index_and_keep-done.ensures.indexed
     in
+    let Ended : Option Dialect → Type 0 = λ explain.
+    Ends g.M.Sink.contents g.M.Sink.failures (SaysOfSuccess g.M.Sink.contents g.M.Sink.failures) explain run.tree
+    (λ r. r.told) done c.args.messages.now c.end-status.new.messages c.end-status.result in
     over_tree run.tree run.settings.package done c.in-Ok.ensures.named c.in-Ok.ensures.folders
     (moved4 By c.in-Ok.ensures.only c.in-Ok.ensures.doc c.in-Ok.ensures.settings c.in-Ok.ensures.workers indexed)
+    (subst Ended c.explaining-explain.ensures
     (ends_alike recorded (λ r. r.told) g.M.Sink.contents g.M.Sink.failures
-    (SaysOfSuccess g.M.Sink.contents g.M.Sink.failures) c.args.options.now.explain run.tree kept
-    c.args.messages.now c.end-status.new.messages c.end-status.result c.end-status.ensures)
+    (SaysOfSuccess g.M.Sink.contents g.M.Sink.failures) c.explaining-explain.result run.tree kept
+    c.args.messages.now c.end-status.new.messages c.end-status.result c.end-status.ensures))

@@ -1,10 +1,12 @@
 use Rattle.std.specs.String.{string_bytes}
-use Rattle.std.proofs.Common.{refl, ℕ, List, Option}
+use Rattle.std.proofs.Common.{refl, subst, ℕ, List, Option}
+use Rattle.proto_parse.specs.tree.Dialect.{Dialect}
 use Rattle.index_hooks.specs.declared.choice.DocChoice.{DocChoice}
 use Rattle.scip_build.specs.declared.settings.Settings.{Settings}
 use Rattle.programs.specs.Choices.{IsChosenBy}
+use Rattle.programs.specs.Messages.{TellsOfSuccess}
 use Rattle.programs.specs.StartExplanations.{told as start_told}
-use Rattle.programs.specs.TreeRuns.{not_started, over_tree}
+use Rattle.programs.specs.TreeRuns.{Ends, not_started, over_tree}
 use Rattle.programs.proofs.MessageLemmas.{told}
 use Rattle.programs.proofs.MoveLemmas.{moved4}
 use Rattle.protoscip.specs.Sessions.{Serves}
@@ -26,6 +28,9 @@ returns g c =
     (IsChosenBy only doc) settings run.tree workers
     c.args.commands.now c.session-done.new.commands c.args.answers.now c.session-done.new.answers c.session-done.result
     in
+    let Ended : Option Dialect → Type 0 = λ explain.
+    Ends g.M.Sink.contents g.M.Sink.failures (TellsOfSuccess g.M.Sink.contents g.M.Sink.failures) explain run.tree
+    (λ r. r.told) c.session-done.result c.args.messages.now c.end.new.messages c.end.result in
     over_tree run.tree run.settings.package c.session-done.result c.in-Ok.ensures.named c.in-Ok.ensures.folders
     (moved4 By c.in-Ok.ensures.only c.in-Ok.ensures.doc c.in-Ok.ensures.settings c.in-Ok.ensures.workers
-    c.session-done.ensures.served) c.end.ensures
+    c.session-done.ensures.served) (subst Ended c.explaining-explain.ensures c.end.ensures)

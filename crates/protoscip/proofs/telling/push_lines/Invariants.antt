@@ -1,11 +1,11 @@
-use Rattle.std.proofs.Common.{◌≡◌, ◌++◌, take}
-use Rattle.std.specs.List.{flat_map}
+use Rattle.std.proofs.Common.{◌≡◌, ◌++◌, ℕ, List, drop}
 use Rattle.std.specs.String.{string_bytes}
-use Rattle.protoscip.specs.ToldLines.{ended_line}
+use Rattle.protoscip.specs.ToldLines.{AreLines}
 use Rattle.protoscip.proofs.telling.push_lines.Given as goal
 
--- the lines so far
+-- the lines so far: with those of the others they are all
 abbrev pub invariant-loop-fault : goal.invariant-loop-fault
 invariant-loop-fault l =
-    string_bytes l.out
-    ≡ string_bytes l.fn.out ++ flat_map (ended_line l.explain l.tree) (take l.fault-index l.told)
+    (so_far : List ℕ) × (string_bytes l.out ≡ string_bytes l.fn.out ++ so_far)
+    × ((rest : List ℕ) → AreLines l.explain l.tree (drop l.fault-index l.told) rest
+    → AreLines l.explain l.tree l.told (so_far ++ rest))

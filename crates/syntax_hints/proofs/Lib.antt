@@ -1,0 +1,3 @@
+-- what could stand, and how it is told
+mod HintLemmas
+mod WordingLemmas

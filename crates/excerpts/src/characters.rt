@@ -21,8 +21,10 @@ fn count_going_on(bytes: &[u8]) -> usize
 
 /// The first character of bytes, and those after it.
 pub(crate) fn first_character(bytes: &[u8]) -> Option<(&[u8], &[u8])>
-    ensures parts { MatchOption result (bytes.now ≡ []) (λ parts. characters bytes.now ≡ parts.0.now ∷ characters parts.1.now) }
-    ensures lengths { IfSome result (λ parts. (length parts.1.now < length bytes.now) × (length parts.0.now ≤ length bytes.now)) }
+    ensures parts { MatchOption result (bytes.now ≡ []) (λ parts. characters bytes.now ≡ parts.0.now
+        ∷ characters parts.1.now) }
+    ensures lengths { IfSome result (λ parts. (length parts.1.now < length bytes.now)
+        × (length parts.0.now ≤ length bytes.now)) }
 {
     match bytes {
         [] => None,

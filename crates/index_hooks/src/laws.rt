@@ -8,5 +8,6 @@ use crate::registry::{Chooses, Promises, Registry};
 /// If the promise of each filter and of each rule allows at most one answer for what is seen of a declaration, the
 /// registry has one choice for it.
 pub fn one_choice(registry: &Registry)
-    ensures { OneChoice (⟦<Registry as Promises>⟧.are_exact registry.now) (⟦<Registry as Chooses>⟧.allows registry.now) }
+    ensures { OneChoice (⟦<Registry as Promises>⟧.are_exact registry.now)
+        (⟦<Registry as Chooses>⟧.allows registry.now) }
 {}

@@ -81,7 +81,8 @@ impl Registry {
     pub fn new(alloc: Global) -> Registry
         ensures filters { result.filters ≡ [] }
         ensures rules { result.rules ≡ [] }
-        ensures chooses { (seen : Seen) (choice : Choice) → ⟦<Registry as Chooses>⟧.allows result seen choice → IsDefaultChoice choice }
+        ensures chooses { (seen : Seen) (choice : Choice) → ⟦<Registry as Chooses>⟧.allows result seen choice
+            → IsDefaultChoice choice }
     {
         Registry {
             filters: Sequence::new(alloc),
@@ -155,7 +156,8 @@ impl Chooses for Registry {
     ghost use Rattle.index_hooks.specs.MayChoose.{MayChoose};
 
     // The promises' choices.
-    ghost allows = { λ registry seen choice. MayChoose (λ f keep. (FilterHook-box f).may f.value seen keep) (λ r answer. (DocHook-box r).may r.value seen answer) registry.filters registry.rules choice };
+    ghost allows = { λ registry seen choice. MayChoose (λ f keep. (FilterHook-box f).may f.value seen keep)
+        (λ r answer. (DocHook-box r).may r.value seen answer) registry.filters registry.rules choice };
 
     /// Asks the filters in the order in which they were added, up to the first that answers `false`,
     /// and then the rules, up to the first that doesn't pass, also for what isn't kept.
@@ -170,5 +172,6 @@ impl Chooses for Registry {
 impl Promises for Registry {
     ghost use Rattle.index_hooks.specs.OneChoice.{AreExact};
 
-    ghost are_exact = { λ registry seen. AreExact (λ f keep. (FilterHook-box f).may f.value seen keep) (λ r answer. (DocHook-box r).may r.value seen answer) registry.filters registry.rules };
+    ghost are_exact = { λ registry seen. AreExact (λ f keep. (FilterHook-box f).may f.value seen keep)
+        (λ r answer. (DocHook-box r).may r.value seen answer) registry.filters registry.rules };
 }

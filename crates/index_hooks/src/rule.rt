@@ -27,7 +27,8 @@ impl<P: DocPromise, C: DocCallback> Model for DocRule<P, C> {
 
     ghost view = { λ r. r.promise };
 
-    ghost invariant = { λ r. (seen : Seen) (answer : DocChoice) → C.gives r.callback seen answer → P.may r.promise seen answer };
+    ghost invariant = { λ r. (seen : Seen) (answer : DocChoice) → C.gives r.callback seen answer → P.may r.promise seen
+        answer };
 }
 
 impl<P: DocPromise, C: DocCallback> DocRule<P, C> {

@@ -1,9 +1,38 @@
 //! The core machine: the queues and the takings of workers, changed by events one at a time.
 
-ghost use Rattle.std.specs.Prelude.{◌≡◌, ◌<◌, ◌≤◌, ◌↔◌, [], IfOk, IfSome, IfNone, IsTrue, MatchResult, length, slice_index};
+ghost use Rattle.std.specs.Prelude.{
+  ◌≡◌,
+  ◌<◌,
+  ◌≤◌,
+  ◌↔◌,
+  [],
+  IfOk,
+  IfSome,
+  IfNone,
+  IsTrue,
+  MatchResult,
+  length,
+  slice_index,
+};
 ghost use Rattle.index_pool.specs.declared.workers.TheConstants.{MAX_INPUTS};
-ghost use Rattle.index_pool.specs.CoreMachine.{core_start, CoreStep, MayHappen, IsReady, HasNoted, queue_of, neighbour, after_take};
-ghost use Rattle.index_pool.specs.declared.core_machine.Event.TheVariants.{Seed, Pop, PopEmpty, Steal, StealEmpty, StealRetry};
+ghost use Rattle.index_pool.specs.CoreMachine.{
+  core_start,
+  CoreStep,
+  MayHappen,
+  IsReady,
+  HasNoted,
+  queue_of,
+  neighbour,
+  after_take,
+};
+ghost use Rattle.index_pool.specs.declared.core_machine.Event.TheVariants.{
+  Seed,
+  Pop,
+  PopEmpty,
+  Steal,
+  StealEmpty,
+  StealRetry,
+};
 
 mod worker;
 
@@ -76,7 +105,8 @@ impl Core {
 
     /// Lets one event happen, and answers the number that a worker took by it. Takes no memory.
     pub fn step(&mut self, event: Event) -> Result<Option<usize>, NotPossible>
-        ensures { MatchResult result (λ answer. CoreStep self.old event answer self.new) (λ _. (¬ MayHappen self.old event) × (self.new ≡ self.old)) }
+        ensures { MatchResult result (λ answer. CoreStep self.old event answer self.new)
+            (λ _. (¬ MayHappen self.old event) × (self.new ≡ self.old)) }
     {
         match event {
             Event::Seed(number) => self.seed(number),
@@ -88,8 +118,10 @@ impl Core {
         }
     }
 
+    // Gives the next input to its worker.
     fn seed(&mut self, number: usize) -> Result<Option<usize>, NotPossible>
-        ensures { MatchResult result (λ answer. CoreStep self.old (Seed number) answer self.new) (λ _. (¬ MayHappen self.old (Seed number)) × (self.new ≡ self.old)) }
+        ensures { MatchResult result (λ answer. CoreStep self.old (Seed number) answer self.new)
+            (λ _. (¬ MayHappen self.old (Seed number)) × (self.new ≡ self.old)) }
     {
         if number != self.seeded || number >= self.inputs {
             return Err(NotPossible);
@@ -100,8 +132,10 @@ impl Core {
         Ok(None)
     }
 
+    // A worker takes the first of its own queue.
     fn pop(&mut self, worker: usize) -> Result<Option<usize>, NotPossible>
-        ensures { MatchResult result (λ answer. CoreStep self.old (Pop worker) answer self.new) (λ _. (¬ MayHappen self.old (Pop worker)) × (self.new ≡ self.old)) }
+        ensures { MatchResult result (λ answer. CoreStep self.old (Pop worker) answer self.new)
+            (λ _. (¬ MayHappen self.old (Pop worker)) × (self.new ≡ self.old)) }
     {
         if !self.is_ready(worker) {
             return Err(NotPossible);
@@ -112,8 +146,10 @@ impl Core {
         }
     }
 
+    // A worker notes that its own queue is empty.
     fn note_empty(&mut self, worker: usize) -> Result<Option<usize>, NotPossible>
-        ensures { MatchResult result (λ answer. CoreStep self.old (PopEmpty worker) answer self.new) (λ _. (¬ MayHappen self.old (PopEmpty worker)) × (self.new ≡ self.old)) }
+        ensures { MatchResult result (λ answer. CoreStep self.old (PopEmpty worker) answer self.new)
+            (λ _. (¬ MayHappen self.old (PopEmpty worker)) × (self.new ≡ self.old)) }
     {
         if !self.is_ready(worker) || !self.is_queue_empty(worker) {
             return Err(NotPossible);
@@ -122,8 +158,10 @@ impl Core {
         Ok(None)
     }
 
+    // A worker takes the first of its neighbour's queue.
     fn steal(&mut self, worker: usize) -> Result<Option<usize>, NotPossible>
-        ensures { MatchResult result (λ answer. CoreStep self.old (Steal worker) answer self.new) (λ _. (¬ MayHappen self.old (Steal worker)) × (self.new ≡ self.old)) }
+        ensures { MatchResult result (λ answer. CoreStep self.old (Steal worker) answer self.new)
+            (λ _. (¬ MayHappen self.old (Steal worker)) × (self.new ≡ self.old)) }
     {
         if !self.has_noted(worker) {
             return Err(NotPossible);
@@ -134,8 +172,10 @@ impl Core {
         }
     }
 
+    // A worker finds its neighbour's queue empty.
     fn find_neighbour_empty(&self, worker: usize) -> Result<Option<usize>, NotPossible>
-        ensures { MatchResult result (λ answer. CoreStep self.now (StealEmpty worker) answer self.now) (λ _. ¬ MayHappen self.now (StealEmpty worker)) }
+        ensures { MatchResult result (λ answer. CoreStep self.now (StealEmpty worker) answer self.now)
+            (λ _. ¬ MayHappen self.now (StealEmpty worker)) }
     {
         if self.has_noted(worker) && self.is_queue_empty(self.neighbour(worker)) {
             Ok(None)
@@ -144,8 +184,10 @@ impl Core {
         }
     }
 
+    // A worker tries in vain to steal.
     fn retry(&self, worker: usize) -> Result<Option<usize>, NotPossible>
-        ensures { MatchResult result (λ answer. CoreStep self.now (StealRetry worker) answer self.now) (λ _. ¬ MayHappen self.now (StealRetry worker)) }
+        ensures { MatchResult result (λ answer. CoreStep self.now (StealRetry worker) answer self.now)
+            (λ _. ¬ MayHappen self.now (StealRetry worker)) }
     {
         if self.has_noted(worker) {
             Ok(None)
@@ -170,6 +212,7 @@ impl Core {
         self.is_ready(worker) && self.workers[worker].has_noted()
     }
 
+    // Whether a worker's queue is empty.
     fn is_queue_empty(&self, worker: usize) -> bool
         requires { IsReady self.now worker }
         ensures { IsTrue result ↔ (queue_of self.now worker ≡ []) }
@@ -177,6 +220,7 @@ impl Core {
         self.workers[worker].is_queue_empty()
     }
 
+    // From whom a worker steals.
     fn neighbour(&self, worker: usize) -> usize
         requires { IsReady self.now worker }
         ensures value { result ≡ neighbour self.now worker }
@@ -190,7 +234,8 @@ impl Core {
     fn take(&mut self, from: usize, to: usize) -> Option<usize>
         requires { IsReady self.old from × IsReady self.old to }
         ensures none { IfNone result ((queue_of self.old from ≡ []) × (self.new ≡ self.old)) }
-        ensures some { IfSome result (λ x. (0 < length (queue_of self.old from)) × (x ≡ slice_index (queue_of self.old from) 0) × (self.new ≡ after_take self.old from to)) }
+        ensures some { IfSome result (λ x. (0 < length (queue_of self.old from))
+            × (x ≡ slice_index (queue_of self.old from) 0) × (self.new ≡ after_take self.old from to)) }
     {
         let number = self.workers[from].pop()?;
         self.workers[to].keep(number);

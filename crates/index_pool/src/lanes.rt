@@ -1,12 +1,39 @@
 //! Lanes: the deque of one worker, from which its owner pops and its neighbour steals.
 
-ghost use Rattle.std.specs.Prelude.{◌≡◌, ◌+◌, ◌<◌, ◌≤◌, ◌%◌, ◌/◌, ◌⊎◌, true, false, [], ◌∷◌, ◌++◌, Contains, IfOk, IfSome, IfNone, length};
+ghost use Rattle.std.specs.Prelude.{
+  ◌≡◌,
+  ◌+◌,
+  ◌<◌,
+  ◌≤◌,
+  ◌%◌,
+  ◌/◌,
+  ◌⊎◌,
+  true,
+  false,
+  [],
+  ◌∷◌,
+  ◌++◌,
+  Contains,
+  IfOk,
+  IfSome,
+  IfNone,
+  length,
+};
 ghost use Rattle.std.specs.List.Sorted.{IsPermutation};
 ghost use Rattle.index_pool.specs.Lane.{lane_numbers, lane_view, more_given, more_popped, more_stolen, IsShare};
 ghost use Rattle.crossbeam_deque.specs.Handles.{worker_capacity, worker_flavor, worker_index, worker_view, SameWorker};
 ghost use Rattle.index_pool.specs.StolenCases.{IfGot, IfEmpty, IfRetry, IfNotGot};
 ghost use Rattle.index_pool.specs.Ticket.{number_of};
-ghost use Rattle.index_pool.specs.LaneEnds.{owner_view, owner_deque, found_empty, thief_view, thief_deque, known_gone, tries_left, tries_after};
+ghost use Rattle.index_pool.specs.LaneEnds.{
+  owner_view,
+  owner_deque,
+  found_empty,
+  thief_view,
+  thief_deque,
+  known_gone,
+  tries_left,
+  tries_after,
+};
 
 mod ends;
 mod rule;
@@ -33,8 +60,10 @@ pub fn lane(
     worker: usize,
 ) -> Result<(LaneOwner, LaneThief), AllocError>
     requires { (inputs ≤ MAX_INPUTS) × (worker < workers) }
-    ensures owner { IfOk result (λ ends. owner_view ends.0 ≡ lane_view true false (lane_numbers inputs workers worker) [] []) }
-    ensures thief { IfOk result (λ ends. thief_view ends.1 ≡ lane_view false true (lane_numbers inputs workers worker) [] []) }
+    ensures owner { IfOk result (λ ends. owner_view ends.0 ≡ lane_view true false (lane_numbers inputs workers worker)
+        [] []) }
+    ensures thief { IfOk result (λ ends. thief_view ends.1 ≡ lane_view false true (lane_numbers inputs workers worker)
+        [] []) }
     ensures deque { IfOk result (λ ends. thief_deque ends.1 ≡ owner_deque ends.0) }
     ensures tries { IfOk result (λ ends. tries_left ends.1 ≡ 64) }
     ensures unfound { IfOk result (λ ends. found_empty ends.0 ≡ false) }
@@ -95,9 +124,11 @@ impl LaneOwner {
     /// stolen, once.
     pub fn pop(&mut self) -> Option<Ticket>
         ensures some { IfSome result (λ t. owner_view self.new ≡ more_popped (owner_view self.old) (number_of t ∷ [])) }
-        ensures one_given { IfSome result (λ t. Contains (owner_view self.old).given (number_of t) × (length (owner_view self.old).popped < length (owner_view self.old).given)) }
+        ensures one_given { IfSome result (λ t. Contains (owner_view self.old).given (number_of t)
+            × (length (owner_view self.old).popped < length (owner_view self.old).given)) }
         ensures none { IfNone result (owner_view self.new ≡ owner_view self.old) }
-        ensures whole { IfNone result ((owner_view self.old).steals ≡ true → IsPermutation (owner_view self.old).given ((owner_view self.old).popped ++ (owner_view self.old).stolen)) }
+        ensures whole { IfNone result ((owner_view self.old).steals ≡ true → IsPermutation (owner_view self.old).given
+            ((owner_view self.old).popped ++ (owner_view self.old).stolen)) }
         ensures found { IfNone result (found_empty self.new ≡ true) }
         ensures unfound { IfSome result (λ _. found_empty self.new ≡ false) }
         ensures same { owner_deque self.new ≡ owner_deque self.old }
@@ -117,7 +148,8 @@ impl LaneOwner {
     /// Takes in the thief of the same lane, with what it stole.
     pub fn rejoin(&mut self, thief: LaneThief)
         requires { thief_deque thief ≡ owner_deque self.old }
-        ensures view { owner_view self.new ≡ lane_view true true (owner_view self.old).given (owner_view self.old).popped (thief_view thief).stolen }
+        ensures view { owner_view self.new ≡ lane_view true true (owner_view self.old).given
+            (owner_view self.old).popped (thief_view thief).stolen }
         ensures same { owner_deque self.new ≡ owner_deque self.old }
     {
         let LaneThief { stealer, pass, .. } = thief;
@@ -133,7 +165,8 @@ impl LaneThief {
     /// thief last looked, or if it was empty.
     pub fn steal(&mut self) -> Stolen
         ensures got { IfGot result (λ t. thief_view self.new ≡ more_stolen (thief_view self.old) (number_of t ∷ [])) }
-        ensures one_given { IfGot result (λ t. Contains (thief_view self.old).given (number_of t) × (length (thief_view self.old).stolen < length (thief_view self.old).given)) }
+        ensures one_given { IfGot result (λ t. Contains (thief_view self.old).given (number_of t)
+            × (length (thief_view self.old).stolen < length (thief_view self.old).given)) }
         ensures none { IfNotGot result (thief_view self.new ≡ thief_view self.old) }
         ensures empty { IfEmpty result (IsShare (thief_view self.old)) }
         ensures retry { IfRetry result ((known_gone self.old < known_gone self.new) ⊎ IsShare (thief_view self.old)) }

@@ -51,7 +51,8 @@ pub fn run_phase<R: Threads + Wait, J: Job, G: Gate>(
     requires known { inputs ≤ J.inputs job.now }
     ensures answers { IfOk result (λ outs. AnswersEach (J.gives job.now) inputs outs.items) }
     ensures refused { IfErr result (MayRefuse (J.gives job.now) inputs workers) }
-    ensures ran { MatchResult result (λ outs. AnswersRuns (J.gives job.now) inputs outs.items) (RefusesRuns (J.gives job.now) inputs) }
+    ensures ran { MatchResult result (λ outs. AnswersRuns (J.gives job.now) inputs outs.items)
+        (RefusesRuns (J.gives job.now) inputs) }
 {
     let task = Task { alloc, job, gate };
     match run_phase_refusing(rt, &task, inputs, workers, None) {
@@ -74,9 +75,11 @@ pub fn run_phase_refusing<R: Threads + Wait, J: Job, G: Gate>(
 ) -> Result<Result<Vec<J::Out>, PoolFault<J::Fault>>, AllocError>
     requires few { inputs ≤ MAX_INPUTS }
     requires known { inputs ≤ J.inputs task.now.job.now }
-    ensures answers { IfOk result (λ answer. IfOk answer (λ outs. AnswersEach (J.gives task.now.job.now) inputs outs.items)) }
+    ensures answers { IfOk result (λ answer. IfOk answer (λ outs. AnswersEach (J.gives task.now.job.now) inputs
+        outs.items)) }
     ensures refused { IfOk result (λ answer. IfErr answer (MayRefuse (J.gives task.now.job.now) inputs workers)) }
-    ensures ran { IfOk result (λ answer. MatchResult answer (λ outs. AnswersRuns (J.gives task.now.job.now) inputs outs.items) (RefusesRuns (J.gives task.now.job.now) inputs)) }
+    ensures ran { IfOk result (λ answer. MatchResult answer (λ outs. AnswersRuns (J.gives task.now.job.now) inputs
+        outs.items) (RefusesRuns (J.gives task.now.job.now) inputs)) }
     ensures spawn { IfOk result (λ answer. IsStartRefused refused workers → answer ≡ Err Spawn) }
 {
     match run_lanes(rt, task, inputs, workers, starts_before(refused)) {
@@ -134,7 +137,8 @@ fn further_lanes(
     requires { inputs ≤ MAX_INPUTS }
     ensures count { IfOk result (λ lanes. length lanes.items + 1 ≡ workers) }
     ensures fresh { IfOk result (λ lanes. All (FreshLane inputs) lanes.items) }
-    ensures whole { IfOk result (λ lanes. (h : ℕ → ℕ) → sum_by h (lane_numbers inputs workers 0) + sum_by (λ l. sum_by h (owner_view l.0).given) lanes.items ≡ sum_by h (range_with_len 0 inputs)) }
+    ensures whole { IfOk result (λ lanes. (h : ℕ → ℕ) → sum_by h (lane_numbers inputs workers 0) + sum_by
+        (λ l. sum_by h (owner_view l.0).given) lanes.items ≡ sum_by h (range_with_len 0 inputs)) }
 {
     let mut lanes = Vec::new(alloc);
     for worker in 1..workers.count() {

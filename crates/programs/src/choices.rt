@@ -102,7 +102,8 @@ impl Chooses for OptionChoices {
     ghost use Rattle.std.specs.String.{string_bytes};
     ghost use Rattle.programs.specs.Choices.{IsChosenBy};
 
-    ghost allows = { λ choices seen choice. IsChosenBy (option_map (λ f. string_bytes f.0) choices.filter) (option_map (λ r. r.0) choices.rule) seen choice };
+    ghost allows = { λ choices seen choice. IsChosenBy (option_map (λ f. string_bytes f.0) choices.filter)
+        (option_map (λ r. r.0) choices.rule) seen choice };
 
     fn choose(&self, view: &DeclView<'_>) -> Choice {
         Choice {

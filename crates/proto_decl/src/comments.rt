@@ -1,6 +1,22 @@
 //! Which comments document a declaration.
 
-ghost use Rattle.std.specs.Prelude.{ℕ, ◌≡◌, ◌+◌, ◌<◌, ◌≤◌, ◌↔◌, ◌∷◌, ◌++◌, map, string_bytes, All, IsTrue, IfOk, OnOk, IfSome};
+ghost use Rattle.std.specs.Prelude.{
+  ℕ,
+  ◌≡◌,
+  ◌+◌,
+  ◌<◌,
+  ◌≤◌,
+  ◌↔◌,
+  ◌∷◌,
+  ◌++◌,
+  map,
+  string_bytes,
+  All,
+  IsTrue,
+  IfOk,
+  OnOk,
+  IfSome,
+};
 ghost use Rattle.std.specs.Prelude.{MatchOption};
 ghost use Rattle.std.specs.List.{join_with_byte};
 ghost use Rattle.proto_lex.specs.Ascii as ascii;
@@ -91,7 +107,8 @@ fn joined_texts(
 ) -> Result<OwnedText, AllocError>
     requires first { spec.StandsIn lexed.now first }
     requires others { All (spec.StandsIn lexed.now) others.now }
-    ensures { IfOk result (λ text. text ≡ join_with_byte ascii.line_feed (map (spec.text_of lexed.now) (first ∷ others.now))) }
+    ensures { IfOk result (λ text. text ≡ join_with_byte ascii.line_feed
+        (map (spec.text_of lexed.now) (first ∷ others.now))) }
 {
     let mut joined = String::with_capacity(alloc, room_for(first, others))?;
     joined.push_str(text_of(lexed, first))?;

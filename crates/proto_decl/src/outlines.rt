@@ -5,7 +5,17 @@ ghost use Rattle.std.specs.List.{flat_map};
 ghost use Rattle.proto_lex.specs.Lexed.{IsPart};
 ghost use Rattle.proto_parse.specs.tree.Head.TheVariants as Head;
 ghost use Rattle.proto_parse.specs.Items.{body_of};
-ghost use Rattle.proto_decl.specs.Spans.{OfHeading, OfGroup, OfHead, OfMethod, OfLeaf, OfEnum, OfBody, OfBlock, OfService};
+ghost use Rattle.proto_decl.specs.Spans.{
+  OfHeading,
+  OfGroup,
+  OfHead,
+  OfMethod,
+  OfLeaf,
+  OfEnum,
+  OfBody,
+  OfBlock,
+  OfService,
+};
 ghost use Rattle.proto_decl.specs.Spans.{OfItem};
 ghost use Rattle.proto_decl.specs.Outlines as spec;
 

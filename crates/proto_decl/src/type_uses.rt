@@ -6,7 +6,17 @@ ghost use Rattle.proto_lex.specs.Lexed.{IsPart};
 ghost use Rattle.proto_parse.specs.Items.{body_of};
 ghost use Rattle.proto_decl.specs.Names.{qualified, components_at};
 ghost use Rattle.proto_decl.specs.Outlines.{name_of};
-ghost use Rattle.proto_decl.specs.Spans.{OfHeading, OfTypeName, OfType, OfHead, OfMethod, OfLeaf, OfBody, OfBlock, OfService};
+ghost use Rattle.proto_decl.specs.Spans.{
+  OfHeading,
+  OfTypeName,
+  OfType,
+  OfHead,
+  OfMethod,
+  OfLeaf,
+  OfBody,
+  OfBlock,
+  OfService,
+};
 ghost use Rattle.proto_decl.specs.Spans.{OfItem};
 ghost use Rattle.proto_decl.specs.Uses as spec;
 
@@ -196,7 +206,8 @@ fn use_items<'t>(
     uses: &mut Vec<Use<'t>>,
 ) -> Result<(), AllocError>
     requires { OfBody (IsPart text.now) (body_of items.now) }
-    ensures { OnOk result (uses.new.items ≡ uses.old.items ++ spec.uses_in_body text.now scope.now (body_of items.now)) }
+    ensures { OnOk result (uses.new.items ≡ uses.old.items ++ spec.uses_in_body text.now scope.now
+        (body_of items.now)) }
 {
     for item in items {
         match item {

@@ -1,6 +1,17 @@
 //! Laws about linking, each the contract of an empty function.
 
-ghost use Rattle.proto_link.specs.Laws.{OneNameAUse, OneBrokenFile, OneDeclarationAName, NoPackageIsDeclared, OneEntityAName, OneTargetAUse, OneClash, OneAbsence, OneRefusal, OneOmissionList};
+ghost use Rattle.proto_link.specs.Laws.{
+  OneNameAUse,
+  OneBrokenFile,
+  OneDeclarationAName,
+  NoPackageIsDeclared,
+  OneEntityAName,
+  OneTargetAUse,
+  OneClash,
+  OneAbsence,
+  OneRefusal,
+  OneOmissionList,
+};
 
 use proto_decl::facts_in_order;
 

@@ -99,7 +99,8 @@ impl<'a, 't> Linker<'a, 't> {
     /// The facts of a file, where it has some. Takes no memory.
     pub fn facts_of(&self, number: usize) -> Option<&FileFacts<'t>>
         requires { number < length self.now }
-        ensures { MatchOption result ((facts : Facts) → HasFacts self.now number facts → ⊥) (λ facts. HasFacts self.now number facts.now) }
+        ensures { MatchOption result ((facts : Facts) → HasFacts self.now number facts → ⊥)
+            (λ facts. HasFacts self.now number facts.now) }
     {
         self.namespace.facts_of(number)
     }

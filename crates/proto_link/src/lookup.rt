@@ -46,7 +46,8 @@ fn joined_behind(
     first: &Component,
     others: &[Component],
 ) -> Result<String, AllocError>
-    ensures { IfOk result (λ text. string_bytes text ≡ dotted (map (λ component. component.name) (first.now ∷ others.now))) }
+    ensures { IfOk result (λ text. string_bytes text ≡ dotted (map (λ component. component.name)
+        (first.now ∷ others.now))) }
 {
     let mut text = String::from_str(alloc, first.name.as_str())?;
     for component in others {
@@ -64,7 +65,8 @@ pub(crate) fn name_of(
     type_use: &Use,
 ) -> Result<Option<String>, AllocError>
     requires { file < length namespace.now }
-    ensures { IfOk result (λ found. MatchOption found (IsUnresolved namespace.now file type_use.now) (λ name. Resolves namespace.now file type_use.now (string_bytes name))) }
+    ensures { IfOk result (λ found. MatchOption found (IsUnresolved namespace.now file type_use.now)
+        (λ name. Resolves namespace.now file type_use.now (string_bytes name))) }
 {
     let components = type_use.components.as_slice();
     if type_use.has_leading_dot {
@@ -100,7 +102,9 @@ fn innermost<'s>(
     text: &mut String,
 ) -> Result<Option<&'s str>, AllocError>
     requires { file < length namespace.now }
-    ensures { IfOk result (λ found. MatchOption found ((start : List ℕ) → Innermost namespace.now file (admits role) word.now (scopes_of scope.now) start → ⊥) (λ start. Innermost namespace.now file (admits role) word.now (scopes_of scope.now) start.now)) }
+    ensures { IfOk result (λ found. MatchOption found ((start : List ℕ) → Innermost namespace.now file (admits role)
+        word.now (scopes_of scope.now) start → ⊥) (λ start. Innermost namespace.now file (admits role) word.now
+        (scopes_of scope.now) start.now)) }
 {
     let mut next = Some(scope);
     while let Some(inner) = next {
@@ -122,7 +126,9 @@ fn single(
     word: &str,
 ) -> Result<Option<String>, AllocError>
     requires { file < length namespace.now }
-    ensures { IfOk result (λ found. MatchOption found ((start : List ℕ) → Innermost namespace.now file is_type word.now (scopes_of scope.now) start → ⊥) (λ name. IsSingle namespace.now file word.now (scopes_of scope.now) (string_bytes name))) }
+    ensures { IfOk result (λ found. MatchOption found ((start : List ℕ) → Innermost namespace.now file is_type word.now
+        (scopes_of scope.now) start → ⊥) (λ name. IsSingle namespace.now file word.now (scopes_of scope.now)
+        (string_bytes name))) }
 {
     let mut text = String::with_capacity(alloc, room_under(scope, word))?;
     match innermost(namespace, file, Role::AsType, scope, word, &mut text)? {
@@ -144,7 +150,9 @@ fn compound(
     words: &str,
 ) -> Result<Option<String>, AllocError>
     requires { file < length namespace.now }
-    ensures { IfOk result (λ found. MatchOption found ((name : List ℕ) → IsCompound namespace.now file first.now words.now (scopes_of scope.now) name → ⊥) (λ name. IsCompound namespace.now file first.now words.now (scopes_of scope.now) (string_bytes name))) }
+    ensures { IfOk result (λ found. MatchOption found ((name : List ℕ) → IsCompound namespace.now file first.now
+        words.now (scopes_of scope.now) name → ⊥) (λ name. IsCompound namespace.now file first.now words.now
+        (scopes_of scope.now) (string_bytes name))) }
 {
     let mut text = String::with_capacity(alloc, room_under(scope, words))?;
     match innermost(namespace, file, Role::AsAggregate, scope, first, &mut text)? {
@@ -159,7 +167,8 @@ fn compound(
 // The text, if a file knows a type by it.
 fn if_type(namespace: &Namespace, file: usize, text: String) -> Option<String>
     requires { file < length namespace.now }
-    ensures { MatchOption result (KnowsAs namespace.now file is_type (string_bytes text) → ⊥) (λ name. (string_bytes name ≡ string_bytes text) × KnowsAs namespace.now file is_type (string_bytes text)) }
+    ensures { MatchOption result (KnowsAs namespace.now file is_type (string_bytes text) → ⊥)
+        (λ name. (string_bytes name ≡ string_bytes text) × KnowsAs namespace.now file is_type (string_bytes text)) }
 {
     if namespace.knows(file, text.as_str(), Role::AsType) {
         Some(text)

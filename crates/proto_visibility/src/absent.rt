@@ -6,7 +6,16 @@ ghost use Rattle.std.specs.Option.{is_none};
 ghost use Rattle.proto_decl.specs.Facts.{ImportsInOrder};
 ghost use Rattle.proto_visibility.specs.Sees.{Counts};
 ghost use Rattle.proto_visibility.specs.Absences.{Absent, NoAbsent, AreMissing};
-ghost use Rattle.proto_visibility.specs.Tables.ImportTables.{AreNumbered, imports_of, number_in, is_absent, absent_at, absents_of, NoneIsAbsent, IsFirstAbsent};
+ghost use Rattle.proto_visibility.specs.Tables.ImportTables.{
+  AreNumbered,
+  imports_of,
+  number_in,
+  is_absent,
+  absent_at,
+  absents_of,
+  NoneIsAbsent,
+  IsFirstAbsent,
+};
 
 use crate::file_row::FileRow;
 use crate::link_file::LinkFile;
@@ -40,7 +49,8 @@ pub(crate) fn first_absent(
 
 // The same for the imports of one file.
 fn absent_of(file: &LinkFile, numbers: &HashMap<&str, usize>) -> Option<Span>
-    ensures first { MatchOption result (NoneIsAbsent (number_in numbers.now) file.now.is_included (imports_of file.now)) (IsFirstAbsent (number_in numbers.now) file.now.is_included (imports_of file.now)) }
+    ensures first { MatchOption result (NoneIsAbsent (number_in numbers.now) file.now.is_included (imports_of file.now))
+        (IsFirstAbsent (number_in numbers.now) file.now.is_included (imports_of file.now)) }
     ensures in_order { ImportsInOrder (imports_of file.now) }
 {
     facts_in_order();
@@ -54,12 +64,14 @@ fn absent_of(file: &LinkFile, numbers: &HashMap<&str, usize>) -> Option<Span>
     }
 }
 
+// The first of these imports whose file is missing.
 fn absent_along(
     imports: &[Imported],
     included: bool,
     numbers: &HashMap<&str, usize>,
 ) -> Option<Span>
-    ensures { MatchOption result (NoneIsAbsent (number_in numbers.now) included imports.now) (IsFirstAbsent (number_in numbers.now) included imports.now) }
+    ensures { MatchOption result (NoneIsAbsent (number_in numbers.now) included imports.now)
+        (IsFirstAbsent (number_in numbers.now) included imports.now) }
 {
     for import in imports {
         if is_absent(import, included, numbers) {
@@ -121,6 +133,7 @@ fn add_absent(
     }
 }
 
+// Appends those of these imports whose file is missing.
 fn add_along(
     places: &mut Vec<FilePlace>,
     number: usize,
@@ -137,6 +150,7 @@ fn add_along(
     Ok(())
 }
 
+// Appends an import if its file is missing.
 fn add_if_absent(
     places: &mut Vec<FilePlace>,
     number: usize,

@@ -27,6 +27,7 @@ pub(crate) fn all_prefixes(
     Ok(prefixes)
 }
 
+// The prefixes of the name of a file's package; none if it has no facts.
 fn prefixes_of_file(alloc: Global, file: &LinkFile) -> Result<Sequence<OwnedText>, AllocError>
     ensures { IfOk result (λ prefixes. ArePrefixes (package_name_of file.now) prefixes) }
 {
@@ -60,6 +61,7 @@ pub(crate) fn all_items<'a>(
     Ok(items)
 }
 
+// What a file gives names to, in order of place.
 fn items_of_file<'a>(
     alloc: Global,
     number: usize,

@@ -1,6 +1,20 @@
 //! The first clash of names.
 
-ghost use Rattle.std.specs.Prelude.{List, ℕ, ◌≡◌, ◌<◌, IfOk, OnOk, IfSome, MatchOption, Some, Contains, length, is_some, if◌then◌else◌};
+ghost use Rattle.std.specs.Prelude.{
+  List,
+  ℕ,
+  ◌≡◌,
+  ◌<◌,
+  IfOk,
+  OnOk,
+  IfSome,
+  MatchOption,
+  Some,
+  Contains,
+  length,
+  is_some,
+  if◌then◌else◌,
+};
 ghost use Rattle.std.specs.Str.{bytes_eq};
 ghost use Rattle.proto_visibility.specs.Clashes.{ClashBy, NoClashBy};
 ghost use Rattle.proto_visibility.specs.Tables.NameTables.{AreInPlace, clash_with};
@@ -24,7 +38,12 @@ impl<'a> Model for Item<'a> {
 
     ghost Value = { Item };
 
-    ghost view = { λ item. record { place = item.place; full_name = item.full_name.now; is_declaration = item.is_declaration } };
+    ghost view = { λ item. record {
+      place = item.place;
+      full_name = item.full_name.now;
+      is_declaration =
+          item.is_declaration;
+    } };
 }
 
 // Two items, in order of place, that have one full name and of which one is a declaration: among these pairs, that
@@ -34,7 +53,8 @@ pub(crate) fn first_clash(
     items: &[Item],
 ) -> Result<Option<(FilePlace, FilePlace)>, AllocError>
     requires { AreInPlace items.now }
-    ensures { IfOk result (λ clash. MatchOption clash (NoClashBy (Contains items.now)) (λ places. ClashBy (Contains items.now) places.0 places.1)) }
+    ensures { IfOk result (λ clash. MatchOption clash (NoClashBy (Contains items.now))
+        (λ places. ClashBy (Contains items.now) places.0 places.1)) }
 {
     let mut names = HashMap::new(alloc);
     for (index, item) in items.iter().enumerate() {
@@ -54,7 +74,9 @@ pub(crate) fn first_named<'a>(
     index: usize,
 ) -> Result<Option<usize>, AllocError>
     ensures found { IfOk result (λ first. first ≡ number_in names.old name.now) }
-    ensures kept { IfOk result (λ first. (other : List ℕ) → number_in names.new other ≡ (if is_some first then number_in names.old other else (if bytes_eq name.now other then Some index else number_in names.old other))) }
+    ensures kept { IfOk result (λ first. (other : List ℕ) → number_in names.new other
+        ≡ (if is_some first then number_in names.old other else (if bytes_eq name.now other then Some index else
+        number_in names.old other))) }
 {
     if let Some(first) = names.get(name) {
         return Ok(Some(*first));

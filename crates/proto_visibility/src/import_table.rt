@@ -72,8 +72,10 @@ fn steps_of_file(
     numbers: &HashMap<&str, usize>,
     file: &LinkFile,
 ) -> Result<Steps, AllocError>
-    ensures public { IfOk result (λ steps. steps.public.items ≡ filter_map (target (number_in numbers.now) true) (imports_of file.now)) }
-    ensures plain { IfOk result (λ steps. steps.plain.items ≡ filter_map (target (number_in numbers.now) false) (imports_of file.now)) }
+    ensures public { IfOk result (λ steps. steps.public.items ≡ filter_map (target (number_in numbers.now) true)
+        (imports_of file.now)) }
+    ensures plain { IfOk result (λ steps. steps.plain.items ≡ filter_map (target (number_in numbers.now) false)
+        (imports_of file.now)) }
 {
     match file.facts {
         Some(facts) => steps_along(alloc, numbers, facts.imports()),
@@ -81,13 +83,16 @@ fn steps_of_file(
     }
 }
 
+// The files that these imports name.
 fn steps_along(
     alloc: Global,
     numbers: &HashMap<&str, usize>,
     imports: &[Imported],
 ) -> Result<Steps, AllocError>
-    ensures public { IfOk result (λ steps. steps.public.items ≡ filter_map (target (number_in numbers.now) true) imports.now) }
-    ensures plain { IfOk result (λ steps. steps.plain.items ≡ filter_map (target (number_in numbers.now) false) imports.now) }
+    ensures public { IfOk result (λ steps. steps.public.items ≡ filter_map (target (number_in numbers.now) true)
+        imports.now) }
+    ensures plain { IfOk result (λ steps. steps.plain.items ≡ filter_map (target (number_in numbers.now) false)
+        imports.now) }
 {
     let mut steps = Steps::new(alloc);
     for import in imports {
@@ -97,6 +102,7 @@ fn steps_along(
 }
 
 impl Steps {
+    // None.
     fn new(alloc: Global) -> Steps
         ensures public { result.public.items ≡ [] }
         ensures plain { result.plain.items ≡ [] }
@@ -113,8 +119,10 @@ impl Steps {
         numbers: &HashMap<&str, usize>,
         import: &Imported,
     ) -> Result<(), AllocError>
-        ensures public { OnOk result (self.new.public.items ≡ self.old.public.items ++ filter_map (target (number_in numbers.now) true) (import.now ∷ [])) }
-        ensures plain { OnOk result (self.new.plain.items ≡ self.old.plain.items ++ filter_map (target (number_in numbers.now) false) (import.now ∷ [])) }
+        ensures public { OnOk result (self.new.public.items ≡ self.old.public.items ++ filter_map
+            (target (number_in numbers.now) true) (import.now ∷ [])) }
+        ensures plain { OnOk result (self.new.plain.items ≡ self.old.plain.items ++ filter_map
+            (target (number_in numbers.now) false) (import.now ∷ [])) }
     {
         match numbers.get(import.path.as_str()).copied() {
             Some(number) => self.add(import.kind, number),
@@ -122,9 +130,12 @@ impl Steps {
         }
     }
 
+    // Adds a file, by the kind of its import.
     fn add(&mut self, kind: ImportKind, number: usize) -> Result<(), AllocError>
-        ensures public { OnOk result (self.new.public.items ≡ (if is_public kind then self.old.public.items ++ number ∷ [] else self.old.public.items)) }
-        ensures plain { OnOk result (self.new.plain.items ≡ (if is_public kind then self.old.plain.items else self.old.plain.items ++ number ∷ [])) }
+        ensures public { OnOk result (self.new.public.items ≡ (if is_public kind then self.old.public.items
+            ++ number ∷ [] else self.old.public.items)) }
+        ensures plain { OnOk result (self.new.plain.items ≡ (if is_public kind then self.old.plain.items else
+            self.old.plain.items ++ number ∷ [])) }
     {
         match kind {
             ImportKind::Public => self.public.push(number)?,

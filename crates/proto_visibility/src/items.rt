@@ -26,6 +26,7 @@ pub(crate) fn package_prefixes(
     }
 }
 
+// The first component, then one more each time, up to all of them.
 fn prefixes_of(
     alloc: Global,
     first: &Component,
@@ -63,6 +64,7 @@ pub(crate) fn file_items<'a>(
     Ok(items)
 }
 
+// Those of a file's declarations.
 fn declared_items<'a>(
     alloc: Global,
     number: usize,

@@ -24,7 +24,11 @@ impl<'a, 't> Model for LinkFile<'a, 't> {
 
     ghost Value = { File };
 
-    ghost view = { λ file. record { path = file.path.now; facts = option_map (λ facts. facts.now) file.facts; is_included = file.included } };
+    ghost view = { λ file. record {
+      path = file.path.now;
+      facts = option_map (λ facts. facts.now) file.facts;
+      is_included = file.included;
+    } };
 }
 
 impl LinkFile<'_, '_> {

@@ -13,7 +13,8 @@ use crate::role::Role;
 // A file of a row that gives a name in this role, if there is one.
 pub(crate) fn first_giving(names: &Names, row: &FileRow, name: &str, role: Role) -> Option<usize>
     requires { (other : List ℕ) → IsNonDecreasing (owned_at names.now.packages other) }
-    ensures { MatchOption result ((number : ℕ) → Contains row.now number → IsListed names.now (admits role) name.now number → ⊥) (λ number. Contains row.now number × IsListed names.now (admits role) name.now number) }
+    ensures { MatchOption result ((number : ℕ) → Contains row.now number → IsListed names.now (admits role) name.now
+        number → ⊥) (λ number. Contains row.now number × IsListed names.now (admits role) name.now number) }
 {
     if let Some(number) = first_declaring(names.declaring(name), row, role) {
         return Some(number);
@@ -27,7 +28,8 @@ pub(crate) fn first_giving(names: &Names, row: &FileRow, name: &str, role: Role)
 // The file of the first of these declarations that is admitted in this role and whose file is in
 // the row.
 fn first_declaring(declared: &[DeclaredAt], row: &FileRow, role: Role) -> Option<usize>
-    ensures { MatchOption result ((number : ℕ) → Contains row.now number → IsDeclaring declared.now (admits role) number → ⊥) (λ number. Contains row.now number × IsDeclaring declared.now (admits role) number) }
+    ensures { MatchOption result ((number : ℕ) → Contains row.now number → IsDeclaring declared.now (admits role) number
+        → ⊥) (λ number. Contains row.now number × IsDeclaring declared.now (admits role) number) }
 {
     for one in declared {
         if !role.admits(one.kind) {
@@ -44,7 +46,8 @@ fn first_declaring(declared: &[DeclaredAt], row: &FileRow, role: Role) -> Option
 fn shared(numbers: &[usize], others: &[usize]) -> Option<usize>
     requires numbers { IsNonDecreasing numbers.now }
     requires others { IsNonDecreasing others.now }
-    ensures { MatchOption result ((number : ℕ) → Contains numbers.now number → Contains others.now number → ⊥) (λ number. Contains numbers.now number × Contains others.now number) }
+    ensures { MatchOption result ((number : ℕ) → Contains numbers.now number → Contains others.now number → ⊥)
+        (λ number. Contains numbers.now number × Contains others.now number) }
 {
     if numbers.len() < others.len() {
         first_among(numbers, others)
@@ -56,7 +59,8 @@ fn shared(numbers: &[usize], others: &[usize]) -> Option<usize>
 // The first of these numbers that is among others, which don't fall.
 fn first_among(numbers: &[usize], others: &[usize]) -> Option<usize>
     requires { IsNonDecreasing others.now }
-    ensures { MatchOption result ((number : ℕ) → Contains numbers.now number → Contains others.now number → ⊥) (λ number. Contains numbers.now number × Contains others.now number) }
+    ensures { MatchOption result ((number : ℕ) → Contains numbers.now number → Contains others.now number → ⊥)
+        (λ number. Contains numbers.now number × Contains others.now number) }
 {
     for number in numbers {
         if stands_among(*number, others) {
@@ -76,7 +80,8 @@ pub(crate) fn stands_among(number: usize, others: &[usize]) -> bool
 
 // The index of the first of these declarations that is of the file with this number.
 pub(crate) fn index_in(declared: &[DeclaredAt], file: usize) -> Option<usize>
-    ensures { MatchOption result ((one : DeclaredAt) → Contains declared.now one → one.file ≡ file → ⊥) (λ index. (one : DeclaredAt) × Contains declared.now one × (one.file ≡ file) × (one.index ≡ index)) }
+    ensures { MatchOption result ((one : DeclaredAt) → Contains declared.now one → one.file ≡ file → ⊥)
+        (λ index. (one : DeclaredAt) × Contains declared.now one × (one.file ≡ file) × (one.index ≡ index)) }
 {
     for listed in declared {
         if listed.file == file {

@@ -5,7 +5,15 @@ ghost use Rattle.std.specs.List.Sorted.{IsNonDecreasing};
 ghost use Rattle.std.specs.Str.{bytes_eq};
 ghost use Rattle.proto_visibility.specs.declared.names.DeclaredAt.{DeclaredAt};
 ghost use Rattle.proto_visibility.specs.Tables.FileItems.{AreAllPrefixes};
-ghost use Rattle.proto_visibility.specs.Tables.GivenNames.{listed_at, owned_at, IsDeclaredOf, IsDeclaredIn, AreDeclared, HasPrefixAt, AreNames};
+ghost use Rattle.proto_visibility.specs.Tables.GivenNames.{
+  listed_at,
+  owned_at,
+  IsDeclaredOf,
+  IsDeclaredIn,
+  AreDeclared,
+  HasPrefixAt,
+  AreNames,
+};
 
 use crate::link_file::LinkFile;
 use crate::role::Role;
@@ -86,7 +94,8 @@ fn add_file<'a>(
     number: usize,
     file: &LinkFile<'a, '_>,
 ) -> Result<(), AllocError>
-    ensures { OnOk result ((name : List ℕ) (one : DeclaredAt) → Contains (listed_at names.new name) one ↔ (Contains (listed_at names.old name) one ⊎ IsDeclaredIn number file.now name one)) }
+    ensures { OnOk result ((name : List ℕ) (one : DeclaredAt) → Contains (listed_at names.new name) one ↔
+        (Contains (listed_at names.old name) one ⊎ IsDeclaredIn number file.now name one)) }
 {
     match file.facts {
         Some(facts) => add_declarations(names, number, facts.declarations()),
@@ -94,12 +103,15 @@ fn add_file<'a>(
     }
 }
 
+// Adds a file's messages, enums and services.
 fn add_declarations<'a>(
     names: &mut IndexMap<&'a str, Vec<DeclaredAt>>,
     number: usize,
     declarations: &'a [Declaration],
 ) -> Result<(), AllocError>
-    ensures { OnOk result ((name : List ℕ) (one : DeclaredAt) → Contains (listed_at names.new name) one ↔ (Contains (listed_at names.old name) one ⊎ ((index : ℕ) × IsDeclaredOf number declarations.now index name one))) }
+    ensures { OnOk result ((name : List ℕ) (one : DeclaredAt) → Contains (listed_at names.new name) one ↔
+        (Contains (listed_at names.old name) one ⊎ ((index : ℕ) × IsDeclaredOf number declarations.now index name
+        one))) }
 {
     for (index, declaration) in declarations.iter().enumerate() {
         let kind = declaration.kind;
@@ -116,12 +128,14 @@ fn add_declarations<'a>(
     Ok(())
 }
 
+// Adds a declaration to those that have its name.
 fn add_declared<'a>(
     names: &mut IndexMap<&'a str, Vec<DeclaredAt>>,
     name: &'a str,
     one: DeclaredAt,
 ) -> Result<(), AllocError>
-    ensures { OnOk result ((other : List ℕ) → listed_at names.new other ≡ (if bytes_eq name.now other then listed_at names.old other ++ one ∷ [] else listed_at names.old other)) }
+    ensures { OnOk result ((other : List ℕ) → listed_at names.new other
+        ≡ (if bytes_eq name.now other then listed_at names.old other ++ one ∷ [] else listed_at names.old other)) }
 {
     names.entry(name)?.or_default().push(one)?;
     Ok(())
@@ -132,7 +146,8 @@ fn package_names(
     alloc: Global,
     prefixes: &[Sequence<OwnedText>],
 ) -> Result<IndexMap<String, Vec<usize>>, AllocError>
-    ensures files { IfOk result (λ names. (name : List ℕ) (number : ℕ) → Contains (owned_at names name) number ↔ HasPrefixAt prefixes.now number name) }
+    ensures files { IfOk result (λ names. (name : List ℕ) (number : ℕ) → Contains (owned_at names name) number ↔
+        HasPrefixAt prefixes.now number name) }
     ensures order { IfOk result (λ names. (name : List ℕ) → IsNonDecreasing (owned_at names name)) }
 {
     let mut names = IndexMap::new(alloc);
@@ -151,7 +166,8 @@ fn add_prefixes(
 ) -> Result<(), AllocError>
     requires order { (name : List ℕ) → IsNonDecreasing (owned_at names.old name) }
     requires behind { (name : List ℕ) (other : ℕ) → Contains (owned_at names.old name) other → other ≤ number }
-    ensures files { OnOk result ((name : List ℕ) (other : ℕ) → Contains (owned_at names.new name) other ↔ (Contains (owned_at names.old name) other ⊎ ((other ≡ number) × Contains prefixes.now name))) }
+    ensures files { OnOk result ((name : List ℕ) (other : ℕ) → Contains (owned_at names.new name) other ↔
+        (Contains (owned_at names.old name) other ⊎ ((other ≡ number) × Contains prefixes.now name))) }
     ensures order { OnOk result ((name : List ℕ) → IsNonDecreasing (owned_at names.new name)) }
 {
     for prefix in prefixes {
@@ -160,13 +176,15 @@ fn add_prefixes(
     Ok(())
 }
 
+// Adds a file to those whose package begins with this prefix.
 fn add_prefix(
     alloc: Global,
     names: &mut IndexMap<String, Vec<usize>>,
     number: usize,
     prefix: &str,
 ) -> Result<(), AllocError>
-    ensures { OnOk result ((other : List ℕ) → owned_at names.new other ≡ (if bytes_eq prefix.now other then owned_at names.old other ++ number ∷ [] else owned_at names.old other)) }
+    ensures { OnOk result ((other : List ℕ) → owned_at names.new other ≡ (if bytes_eq prefix.now other then owned_at
+        names.old other ++ number ∷ [] else owned_at names.old other)) }
 {
     if let Some(listed) = names.get_mut(prefix) {
         listed.push(number)?;
@@ -182,7 +200,8 @@ fn add_copied(
     number: usize,
     prefix: &str,
 ) -> Result<(), AllocError>
-    ensures { OnOk result ((other : List ℕ) → owned_at names.new other ≡ (if bytes_eq prefix.now other then owned_at names.old other ++ number ∷ [] else owned_at names.old other)) }
+    ensures { OnOk result ((other : List ℕ) → owned_at names.new other ≡ (if bytes_eq prefix.now other then owned_at
+        names.old other ++ number ∷ [] else owned_at names.old other)) }
 {
     let name = String::from_str(alloc, prefix)?;
     names.entry(name)?.or_default().push(number)?;

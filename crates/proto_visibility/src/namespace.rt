@@ -55,7 +55,8 @@ impl<'a, 't> Model for Namespace<'a, 't> {
 
     ghost view = { λ namespace. namespace.files.now };
 
-    ghost invariant = { λ namespace. IsLinked namespace.files.now namespace.numbers namespace.rows.items namespace.names };
+    ghost invariant = { λ namespace. IsLinked namespace.files.now namespace.numbers namespace.rows.items
+        namespace.names };
 }
 
 impl<'a, 't> Namespace<'a, 't> {
@@ -144,7 +145,8 @@ impl<'a, 't> Namespace<'a, 't> {
     /// A file that a file sees and that gives a name in a role. Takes no memory.
     pub fn first_giving(&self, file: usize, name: &str, role: Role) -> Option<usize>
         requires { file < length self.now }
-        ensures { MatchOption result (KnowsAs self.now file (admits role) name.now → ⊥) (SeesGiving self.now file (admits role) name.now) }
+        ensures { MatchOption result (KnowsAs self.now file (admits role) name.now → ⊥)
+            (SeesGiving self.now file (admits role) name.now) }
     {
         first_giving(&self.names, &self.rows[file], name, role)
     }
@@ -171,7 +173,8 @@ impl<'a, 't> Namespace<'a, 't> {
     /// The facts of a file, where it has some. Takes no memory.
     pub fn facts_of(&self, number: usize) -> Option<&FileFacts<'t>>
         requires { number < length self.now }
-        ensures { MatchOption result ((facts : Facts) → HasFacts self.now number facts → ⊥) (λ facts. HasFacts self.now number facts.now) }
+        ensures { MatchOption result ((facts : Facts) → HasFacts self.now number facts → ⊥)
+            (λ facts. HasFacts self.now number facts.now) }
     {
         let files = self.files;
         let file = &files[number];
@@ -223,7 +226,8 @@ fn clash_among(
 ) -> Result<Option<(FilePlace, FilePlace)>, AllocError>
     requires prefixes { AreAllPrefixes files.now prefixes.now }
     requires counted { (number : ℕ) → Contains counted.now number ↔ Counts files.now number }
-    ensures { IfOk result (λ clash. MatchOption clash (NoClash files.now) (λ places. Clash files.now places.0 places.1)) }
+    ensures { IfOk result (λ clash. MatchOption clash (NoClash files.now)
+        (λ places. Clash files.now places.0 places.1)) }
 {
     let items = all_items(alloc, files, prefixes, counted)?;
     let clash = first_clash(alloc, items.as_slice())?;

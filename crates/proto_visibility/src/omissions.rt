@@ -1,6 +1,21 @@
 //! Which files of a tree with faults are left out.
 
-ghost use Rattle.std.specs.Prelude.{ℕ, ◌≡◌, ◌<◌, ◌+◌, ◌↔◌, None, Some, IsTrue, IfOk, OnOk, MatchOption, Contains, length, slice_set};
+ghost use Rattle.std.specs.Prelude.{
+  ℕ,
+  ◌≡◌,
+  ◌<◌,
+  ◌+◌,
+  ◌↔◌,
+  None,
+  Some,
+  IsTrue,
+  IfOk,
+  OnOk,
+  MatchOption,
+  Contains,
+  length,
+  slice_set,
+};
 ghost use Rattle.proto_visibility.specs.declared.fault.LinkFault.TheVariants.{Broken, Duplicate};
 ghost use Rattle.proto_visibility.specs.Files.{HaveOwnPaths};
 ghost use Rattle.proto_visibility.specs.Sees.{Counts};

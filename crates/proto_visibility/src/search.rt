@@ -1,6 +1,21 @@
 //! A search over files, which finds each of them once.
 
-ghost use Rattle.std.specs.Prelude.{ℕ, ◌≡◌, ◌<◌, ◌≤◌, [], All, OnOk, IfOk, IfSome, Contains, ◌↔◌, length, slice_get, ◌==◌};
+ghost use Rattle.std.specs.Prelude.{
+  ℕ,
+  ◌≡◌,
+  ◌<◌,
+  ◌≤◌,
+  [],
+  All,
+  OnOk,
+  IfOk,
+  IfSome,
+  Contains,
+  ◌↔◌,
+  length,
+  slice_get,
+  ◌==◌,
+};
 ghost use Rattle.std.specs.List.{IsDistinct};
 ghost use Rattle.proto_visibility.specs.Tables.Visits.{visit, visit_all};
 
@@ -67,7 +82,11 @@ impl Search {
     // Finds files, one after the other.
     pub(crate) fn visit_all(&mut self, numbers: &[usize]) -> Result<(), AllocError>
         requires { All (λ number. number < self.old.files) numbers.now }
-        ensures { OnOk result (self.new ≡ record { files = self.old.files; numbers = visit_all self.old.numbers numbers.now }) }
+        ensures { OnOk result (self.new ≡ record {
+          files = self.old.files;
+          numbers = visit_all self.old.numbers
+              numbers.now;
+        }) }
     {
         for number in numbers {
             self.visit(*number)?;

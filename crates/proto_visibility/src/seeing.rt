@@ -46,7 +46,8 @@ fn search_from(search: &mut Search, table: &[Steps], file: usize) -> Result<(), 
     requires files { search.old.files ≡ length table.now }
     requires file { file < length table.now }
     ensures files { OnOk result (search.new.files ≡ search.old.files) }
-    ensures seen { OnOk result ((other : ℕ) → Contains search.new.numbers other ↔ SeesBy (HasStep table.now) file other) }
+    ensures seen { OnOk result ((other : ℕ) → Contains search.new.numbers other ↔ SeesBy (HasStep table.now) file
+        other) }
 {
     search.start();
     search.visit(file)?;

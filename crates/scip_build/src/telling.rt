@@ -118,12 +118,14 @@ fn told_key(fault: &BuildFault) -> ((usize, usize), (usize, bool))
     }
 }
 
+/// The order in which what a run lacks is told.
 fn compare_told(a: &BuildFault, b: &BuildFault) -> Ordering
     ensures { result ≡ told_cmp a.now b.now }
 {
     told_key(a).cmp(&told_key(b))
 }
 
+/// Whether two have one place in that order, so that one of them is told.
 fn are_told_together(a: &BuildFault, b: &BuildFault) -> bool
     ensures { result ≡ eq_by_cmp told_cmp a.now b.now }
 {

@@ -20,6 +20,7 @@ fn push_text(alloc: Global, texts: &mut Sequence<OwnedText>, text: &str) -> Resu
     Ok(())
 }
 
+// A text, or none if it is empty.
 fn one_text(alloc: Global, text: &str) -> Result<Sequence<OwnedText>, AllocError>
     ensures { IfOk result (λ texts. texts ≡ unless_empty text.now) }
 {
@@ -28,6 +29,7 @@ fn one_text(alloc: Global, text: &str) -> Result<Sequence<OwnedText>, AllocError
     Ok(texts)
 }
 
+// Two texts, without those that are empty.
 fn two_texts(alloc: Global, first: &str, second: &str) -> Result<Sequence<OwnedText>, AllocError>
     ensures { IfOk result (λ texts. texts ≡ unless_empty first.now ++ unless_empty second.now) }
 {

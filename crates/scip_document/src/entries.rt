@@ -38,6 +38,7 @@ fn joined(alloc: Global, components: &[Component]) -> Result<OwnedText, AllocErr
     }
 }
 
+// A package's name: its components, with dots between them.
 fn joined_behind(
     alloc: Global,
     first: &Component,
@@ -53,6 +54,7 @@ fn joined_behind(
     Ok(OwnedText::from_string(name))
 }
 
+// That of a file, whose name is its path.
 fn file_entry(alloc: Global, id: &PackageId, path: &str) -> Result<SymbolInformation, AllocError>
     requires { IsGoodPath path.now }
     ensures { IfOk result (λ entry. entry ≡ file_entry id.now path.now) }
@@ -107,6 +109,7 @@ fn entry_with(
     })
 }
 
+// That of a declaration, with the texts that were chosen.
 pub(crate) fn declaration_entry(
     alloc: Global,
     id: &PackageId,

@@ -63,6 +63,7 @@ fn push_part(
     }
 }
 
+// Appends those of the parts of a name.
 fn push_parts(
     named: &mut Vec<(usize, usize)>,
     linker: &Linker<'_, '_>,
@@ -101,6 +102,7 @@ fn push_use(
     }
 }
 
+// Appends those of a source's uses.
 fn push_uses(
     alloc: Global,
     named: &mut Vec<(usize, usize)>,

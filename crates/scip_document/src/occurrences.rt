@@ -9,7 +9,14 @@ ghost use Rattle.scip_symbol.specs.Path.{IsGoodPath};
 ghost use Rattle.scip_document.specs.Chosen.{HasChoice};
 ghost use Rattle.scip_document.specs.Conditions.{HaveGoodPaths};
 ghost use Rattle.scip_document.specs.Occurs.{range_over};
-ghost use Rattle.scip_document.specs.Tables.Listing.{own_occurrence, each_from, has_path, at_import, at_package, at_declaration};
+ghost use Rattle.scip_document.specs.Tables.Listing.{
+  own_occurrence,
+  each_from,
+  has_path,
+  at_import,
+  at_package,
+  at_declaration,
+};
 ghost use Rattle.scip_document.specs.Tables.OwnTexts.{declaration_texts, occurrences_with};
 
 use crate::document_maker::DocumentMaker;

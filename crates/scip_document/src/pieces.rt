@@ -21,6 +21,7 @@ fn number_of(paths: &[&str], path: &str) -> Option<usize>
     paths.binary_search(&path).ok()
 }
 
+// So many marks, none of them set.
 fn clear_marks(alloc: Global, count: usize) -> Result<Vec<bool>, AllocError>
     ensures { IfOk result (λ marks. AreClear count marks.items) }
 {
@@ -68,6 +69,7 @@ fn first_clear(marks: &[bool]) -> Option<usize>
     marks.iter().position(|mark| !*mark)
 }
 
+// The order of documents: by path.
 fn compare_paths(a: &Document, b: &Document) -> Ordering
     ensures { result ≡ document_cmp a.now b.now }
 {

@@ -12,6 +12,7 @@ use proto_lex::Span;
 use proto_link::{LinkFault, Linker, Target};
 use std::alloc::{AllocError, Global};
 
+/// Appends what a use names.
 fn keep(found: &mut Vec<Option<Target>>, target: Option<Target>) -> Result<(), AllocError>
     ensures { OnOk result (found.new.items ≡ found.old.items ++ target ∷ []) }
 {

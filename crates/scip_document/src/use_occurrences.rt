@@ -17,7 +17,14 @@ ghost use Rattle.scip_symbol.specs.Entities.{OfPackage, IsEntity};
 ghost use Rattle.scip_document.specs.Chosen.{HaveChoices};
 ghost use Rattle.scip_document.specs.Packages.{package_of_file, package_of_part};
 ghost use Rattle.scip_document.specs.Named.{HasDeclaration, text_of};
-ghost use Rattle.scip_document.specs.Tables.Listing.{each_from, declared_by, entity_of, is_shown, IsNameable, AreNameable};
+ghost use Rattle.scip_document.specs.Tables.Listing.{
+  each_from,
+  declared_by,
+  entity_of,
+  is_shown,
+  IsNameable,
+  AreNameable,
+};
 ghost use Rattle.scip_document.specs.Tables.Listing.{at_part, at_component, at_target, at_use};
 
 use crate::document_maker::DocumentMaker;

@@ -24,7 +24,12 @@ impl<'a> Model for Reading<'a> {
 
     ghost Value = { ReadFile };
 
-    ghost view = { λ reading. record { path = reading.path.now; is_included = reading.is_included; text = reading.text; facts = reading.facts } };
+    ghost view = { λ reading. record {
+      path = reading.path.now;
+      is_included = reading.is_included;
+      text = reading.text;
+      facts = reading.facts;
+    } };
 }
 
 fn facts_of<'t>(alloc: Global, number: usize, text: &Text<'t>) -> Result<FileFacts<'t>, AllocError>

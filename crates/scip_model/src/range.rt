@@ -38,7 +38,18 @@ impl Model for Range {
 impl Range {
     /// The range of four numbers, if each of them fits a SCIP `int32`.
     pub fn new(start_line: u32, start_column: u32, end_line: u32, end_column: u32) -> Option<Range>
-        ensures { SomeIff result (IsRange (record { start_line = start_line; start_column = start_column; end_line = end_line; end_column = end_column })) (record { start_line = start_line; start_column = start_column; end_line = end_line; end_column = end_column }) }
+        ensures { SomeIff result (IsRange (record {
+          start_line = start_line;
+          start_column = start_column;
+          end_line =
+              end_line;
+          end_column = end_column;
+        })) (record {
+          start_line = start_line;
+          start_column = start_column;
+          end_line = end_line;
+          end_column = end_column;
+        }) }
     {
         if start_line <= MAX_RANGE_NUMBER
             && start_column <= MAX_RANGE_NUMBER

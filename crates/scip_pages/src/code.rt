@@ -86,7 +86,8 @@ fn push_pieces(
     runs: &[Run],
     links: &[Link],
 ) -> Result<(), AllocError>
-    ensures { OnOk result (page.new.items ≡ page.old.items ++ flat_map spec.piece_code (spec.pieces_of links.now line.now runs.now)) }
+    ensures { OnOk result (page.new.items ≡ page.old.items ++ flat_map spec.piece_code
+        (spec.pieces_of links.now line.now runs.now)) }
 {
     let mut rest = line;
     for run in runs {
@@ -117,7 +118,8 @@ pub fn push_line(
     runs: &[Run],
     links: &[Link],
 ) -> Result<(), AllocError>
-    ensures { OnOk result (page.new.items ≡ page.old.items ++ spec.line_code number (spec.pieces_of links.now line.now runs.now)) }
+    ensures { OnOk result (page.new.items ≡ page.old.items ++ spec.line_code number
+        (spec.pieces_of links.now line.now runs.now)) }
 {
     push_line_mark(alloc, page, number)?;
     push_pieces(page, line, runs, links)

@@ -1,12 +1,23 @@
 //! Laws of the crate, each the contract of a function that does nothing.
 
-ghost use Rattle.scip_pages.specs.EscapeLaws.{ShowsTheText, PicturesNulAlone, ShowsTheRest, HasNoMarks, HasOnlyReferences};
+ghost use Rattle.scip_pages.specs.EscapeLaws.{
+  ShowsTheText,
+  PicturesNulAlone,
+  ShowsTheRest,
+  HasNoMarks,
+  HasOnlyReferences,
+};
 ghost use Rattle.scip_pages.specs.ColumnLaws.{AtOneOffset, IsAtItsOffset, CountsUtf8, CountsUtf16, CountsUtf32};
 ghost use Rattle.scip_pages.specs.RunLaws.{NoneCovers, NoneIsNarrower};
 ghost use Rattle.scip_pages.specs.PathLaws.{StaysBelow, HasItsOwnPlace, NamesHaveNoFault};
 ghost use Rattle.scip_pages.specs.UrlLaws.{IsDecoded, LeadsToThePage};
 ghost use Rattle.scip_pages.specs.SnapshotLaws.{HasTheSource, FlatIsOneLine};
-ghost use Rattle.scip_pages.specs.CodeLaws.{CodeShowsTheLines, CodeShowsTheSource, PiecesHaveTheText, PiecesHaveTheLinks};
+ghost use Rattle.scip_pages.specs.CodeLaws.{
+  CodeShowsTheLines,
+  CodeShowsTheSource,
+  PiecesHaveTheText,
+  PiecesHaveTheLinks,
+};
 
 /// What an escaped text shows is the text, with a picture for each NUL, and what comes after it shows as it would by
 /// itself.

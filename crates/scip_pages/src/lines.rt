@@ -77,7 +77,8 @@ fn empty_lists<'a>(alloc: Global, count: usize) -> Result<Vec<Vec<&'a Occurrence
 /// Appends an occurrence to the list of the line on which it begins.
 fn add<'a>(table: &mut [Vec<&'a Occurrence>], occurrence: &'a Occurrence) -> Result<(), AllocError>
     ensures count { length table.new ≡ length table.old }
-    ensures listed { OnOk result ((number : ℕ) → number < length table.old → listed_on table.new number ≡ listed_on table.old number ++ cond (spec.starts_on number occurrence.now) (occurrence.now ∷ []) []) }
+    ensures listed { OnOk result ((number : ℕ) → number < length table.old → listed_on table.new number
+        ≡ listed_on table.old number ++ cond (spec.starts_on number occurrence.now) (occurrence.now ∷ []) []) }
 {
     let line = occurrence.range.start_line() as usize;
     if line < table.len() {
@@ -93,7 +94,8 @@ pub(crate) fn by_line<'a>(
     occurrences: &'a [Occurrence],
 ) -> Result<Vec<Vec<&'a Occurrence>>, AllocError>
     ensures count { IfOk result (λ table. length table.items ≡ count) }
-    ensures listed { IfOk result (λ table. (number : ℕ) → number < count → listed_on table.items number ≡ filter (spec.starts_on number) occurrences.now) }
+    ensures listed { IfOk result (λ table. (number : ℕ) → number < count → listed_on table.items number
+        ≡ filter (spec.starts_on number) occurrences.now) }
 {
     let mut table = empty_lists(alloc, count)?;
     for occurrence in occurrences {

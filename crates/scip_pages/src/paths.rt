@@ -17,18 +17,21 @@ pub enum PathFault {
     Parent,
 }
 
+/// Whether a component is empty.
 fn is_empty(name: &str) -> bool
     ensures { result ≡ bytes_eq name.now (codes "") }
 {
     name == ""
 }
 
+/// Whether it is `.`.
 fn is_dot(name: &str) -> bool
     ensures { result ≡ bytes_eq name.now (codes ".") }
 {
     name == "."
 }
 
+/// Whether it is `..`.
 fn is_parent(name: &str) -> bool
     ensures { result ≡ bytes_eq name.now (codes "..") }
 {

@@ -96,7 +96,8 @@ fn narrower(found: Option<Span>, span: Span) -> Span
 
 /// Lays a span on the bytes that it covers if it is narrower than what is there.
 fn lay(spans: &mut [Option<Span>], span: Span)
-    ensures { (at : ℕ) → at < length spans.old → get_or spans.new at None ≡ cond (spec.covers span at) (Some (spec.narrower (get_or spans.old at None) span)) (get_or spans.old at None) }
+    ensures { (at : ℕ) → at < length spans.old → get_or spans.new at None ≡ cond (spec.covers span at)
+        (Some (spec.narrower (get_or spans.old at None) span)) (get_or spans.old at None) }
 {
     let end = span.end.min(spans.len());
     for at in span.start..end {

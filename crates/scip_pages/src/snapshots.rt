@@ -112,7 +112,8 @@ fn push_note_line(text: &mut Vec<u8>, before: &[u8], line: &str) -> Result<(), A
 
 /// Appends lines of documentation.
 fn push_note_lines(text: &mut Vec<u8>, before: &[u8], lines: &[&str]) -> Result<(), AllocError>
-    ensures { OnOk result (text.new.items ≡ text.old.items ++ flat_map (spec.note_line before.now) (map (λ (line : Bor (List ℕ)). line.now) lines.now)) }
+    ensures { OnOk result (text.new.items ≡ text.old.items ++ flat_map (spec.note_line before.now)
+        (map (λ (line : Bor (List ℕ)). line.now) lines.now)) }
 {
     for line in lines {
         push_note_line(text, before, *line)?;
@@ -152,7 +153,8 @@ fn push_notes(
     before: &[u8],
     texts: &[&str],
 ) -> Result<(), AllocError>
-    ensures { OnOk result (text.new.items ≡ text.old.items ++ flat_map (spec.note before.now) (map (λ (t : Bor (List ℕ)). t.now) texts.now)) }
+    ensures { OnOk result (text.new.items ≡ text.old.items ++ flat_map (spec.note before.now)
+        (map (λ (t : Bor (List ℕ)). t.now) texts.now)) }
 {
     for documentation in texts {
         push_note(alloc, text, before, *documentation)?;
@@ -202,7 +204,8 @@ fn push_mark(
     line: &[u8],
     occurrence: &Occurrence,
 ) -> Result<(), AllocError>
-    ensures { OnOk result (text.new.items ≡ text.old.items ++ spec.mark_in shown.now.unit line.now (documentation_in shown.now.queries.now shown.now.number) occurrence.now) }
+    ensures { OnOk result (text.new.items ≡ text.old.items ++ spec.mark_in shown.now.unit line.now
+        (documentation_in shown.now.queries.now shown.now.number) occurrence.now) }
 {
     let (before, inside) = parts_of(shown.unit, line, occurrence.range);
     push_carets(text, before, inside, occurrence)?;
@@ -222,7 +225,9 @@ fn push_marks(
     line: &[u8],
     occurrences: &[&Occurrence],
 ) -> Result<(), AllocError>
-    ensures { OnOk result (text.new.items ≡ text.old.items ++ flat_map (spec.mark_in shown.now.unit line.now (documentation_in shown.now.queries.now shown.now.number)) (map (λ (o : Bor Occurrence). o.now) occurrences.now)) }
+    ensures { OnOk result (text.new.items ≡ text.old.items ++ flat_map (spec.mark_in shown.now.unit line.now
+        (documentation_in shown.now.queries.now shown.now.number)) (map (λ (o : Bor Occurrence). o.now)
+        occurrences.now)) }
 {
     for occurrence in occurrences {
         push_mark(alloc, text, shown, line, *occurrence)?;
@@ -238,7 +243,9 @@ fn push_line(
     line: &[u8],
     listed: Option<&Vec<&Occurrence>>,
 ) -> Result<(), AllocError>
-    ensures { OnOk result (text.new.items ≡ text.old.items ++ spec.line_text shown.now.unit (documentation_in shown.now.queries.now shown.now.number) (listed_or_none (option_copied listed.entry)) line.now) }
+    ensures { OnOk result (text.new.items ≡ text.old.items ++ spec.line_text shown.now.unit
+        (documentation_in shown.now.queries.now shown.now.number) (listed_or_none (option_copied listed.entry))
+        line.now) }
 {
     text.extend_from_slice(b"  ")?;
     text.extend_from_slice(line)?;
@@ -267,7 +274,9 @@ fn push_lines(
     lines: &[&str],
     table: &[Vec<&Occurrence>],
 ) -> Result<(), AllocError>
-    ensures { OnOk result (text.new.items ≡ text.old.items ++ spec.text_of shown.now.unit (documentation_in shown.now.queries.now shown.now.number) (listed_on table.now) (map (λ (l : Bor (List ℕ)). l.now) lines.now)) }
+    ensures { OnOk result (text.new.items ≡ text.old.items ++ spec.text_of shown.now.unit
+        (documentation_in shown.now.queries.now shown.now.number) (listed_on table.now)
+        (map (λ (l : Bor (List ℕ)). l.now) lines.now)) }
 {
     for (number, line) in lines.iter().enumerate() {
         push_line(alloc, text, shown, line.as_bytes(), listed(table, number))?;
@@ -282,7 +291,9 @@ fn text_of(
     occurrences: &[Occurrence],
     lines: &[&str],
 ) -> Result<Vec<u8>, AllocError>
-    ensures { IfOk result (λ text. text.items ≡ spec.text_of shown.now.unit (documentation_in shown.now.queries.now shown.now.number) (spec.beginning occurrences.now) (map (λ (l : Bor (List ℕ)). l.now) lines.now)) }
+    ensures { IfOk result (λ text. text.items ≡ spec.text_of shown.now.unit
+        (documentation_in shown.now.queries.now shown.now.number) (spec.beginning occurrences.now)
+        (map (λ (l : Bor (List ℕ)). l.now) lines.now)) }
 {
     let table = by_line(alloc, lines.len(), occurrences)?;
     let mut text = Vec::new(alloc);
@@ -297,7 +308,9 @@ fn snapshot_of_lines(
     occurrences: &[Occurrence],
     lines: &[&str],
 ) -> Result<Vec<u8>, SnapshotFault>
-    ensures { Gives (λ text. text.items) result (spec.in_unit (Some shown.now.unit) (documentation_in shown.now.queries.now shown.now.number) occurrences.now (map (λ (l : Bor (List ℕ)). l.now) lines.now)) }
+    ensures { Gives (λ text. text.items) result (spec.in_unit (Some shown.now.unit)
+        (documentation_in shown.now.queries.now shown.now.number) occurrences.now
+        (map (λ (l : Bor (List ℕ)). l.now) lines.now)) }
 {
     match misfit(shown.unit, lines, occurrences) {
         Some(number) => Err(SnapshotFault::Misfit(number)),
@@ -312,7 +325,8 @@ fn snapshot_in(
     occurrences: &[Occurrence],
     source: &str,
 ) -> Result<Vec<u8>, SnapshotFault>
-    ensures { Gives (λ text. text.items) result (spec.in_unit (Some shown.now.unit) (documentation_in shown.now.queries.now shown.now.number) occurrences.now (spec.lines_of source.now)) }
+    ensures { Gives (λ text. text.items) result (spec.in_unit (Some shown.now.unit)
+        (documentation_in shown.now.queries.now shown.now.number) occurrences.now (spec.lines_of source.now)) }
 {
     let lines = lines_of(alloc, source)?;
     snapshot_of_lines(alloc, shown, occurrences, lines.as_slice())
@@ -333,7 +347,8 @@ fn snapshot_for(
     document: &Document,
     source: &str,
 ) -> Result<Vec<u8>, SnapshotFault>
-    ensures { Gives (λ text. text.items) result (spec.in_document (Some document.now) (documentation_in queries.now number) (spec.lines_of source.now)) }
+    ensures { Gives (λ text. text.items) result (spec.in_document (Some document.now)
+        (documentation_in queries.now number) (spec.lines_of source.now)) }
 {
     match unit_in(document) {
         Some(unit) => {

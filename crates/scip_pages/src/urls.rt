@@ -42,7 +42,8 @@ fn kept_len(path: &[u8]) -> usize
 
 /// Appends the first bytes of a path that a URL has as they are, and gives what is behind them.
 fn push_kept<'a>(url: &mut Vec<u8>, path: &'a [u8]) -> Result<&'a [u8], AllocError>
-    ensures path { IfOk result (λ behind. url.new.items ++ spec.encoded behind.now ≡ url.old.items ++ spec.encoded path.now) }
+    ensures path { IfOk result (λ behind. url.new.items ++ spec.encoded behind.now ≡ url.old.items ++ spec.encoded
+        path.now) }
     ensures within { IfOk result (λ behind. length behind.now ≤ length path.now) }
 {
     let (kept, behind) = path.split_at(kept_len(path));

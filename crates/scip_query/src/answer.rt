@@ -7,7 +7,18 @@ ghost use Rattle.std.specs.List.{flat_map, slice_split};
 ghost use Rattle.std.specs.String.{string_bytes};
 ghost use Rattle.scip_model.specs.declared.records.SymbolInformation.{SymbolInformation};
 ghost use Rattle.scip_query.specs.Tables.{site_listed};
-ghost use Rattle.scip_query.specs.AnswerText.{count_line, line_of, site_line, quoted, quoted_line, symbol_line, miss_text, listing, answer_of, answer_to};
+ghost use Rattle.scip_query.specs.AnswerText.{
+  count_line,
+  line_of,
+  site_line,
+  quoted,
+  quoted_line,
+  symbol_line,
+  miss_text,
+  listing,
+  answer_of,
+  answer_to,
+};
 ghost use Rattle.scip_query.specs.Answering.{Answers, line_or_none};
 ghost use Rattle.scip_query.specs.Commands.{max_command_length};
 ghost use Rattle.scip_query.specs.CommandReading.{command_of};
@@ -30,7 +41,8 @@ use streams::{Sink, write_all};
 
 /// The command of a line that isn't too long.
 fn short_command_of(line: &[u8]) -> Option<Command<'_>>
-    ensures { option_map command_view result ≡ (if nat_le (length line.now) max_command_length then command_of line.now else None) }
+    ensures { option_map command_view result ≡ (if nat_le (length line.now) max_command_length then command_of line.now
+        else None) }
 {
     if line.len() <= MAX_COMMAND_LENGTH {
         command_of(line)
@@ -60,7 +72,8 @@ pub fn push_line(text: &mut String, range: Range, roles: i32, name: &str) -> Res
 
 /// Appends the line of the occurrence at a place.
 fn push_site(text: &mut String, documents: &[Document], place: Place) -> Result<(), AllocError>
-    ensures { OnOk result (string_bytes text.new ≡ string_bytes text.old ++ line_or_none (site_listed documents.now place)) }
+    ensures { OnOk result (string_bytes text.new ≡ string_bytes text.old ++ line_or_none
+        (site_listed documents.now place)) }
 {
     let Some(document) = documents.get(place.document) else {
         return Ok(());
@@ -78,7 +91,9 @@ fn push_site(text: &mut String, documents: &[Document], place: Place) -> Result<
 
 /// Appends a line for each place, and how many there are.
 fn push_sites(text: &mut String, documents: &[Document], places: &[Place]) -> Result<(), AllocError>
-    ensures { OnOk result (string_bytes text.new ≡ string_bytes text.old ++ flat_map (λ place. line_or_none (site_listed documents.now place)) places.now ++ count_line (length places.now)) }
+    ensures { OnOk result (string_bytes text.new ≡ string_bytes text.old
+        ++ flat_map (λ place. line_or_none (site_listed documents.now place)) places.now ++ count_line
+        (length places.now)) }
 {
     for place in places {
         push_site(text, documents, *place)?;
@@ -88,14 +103,16 @@ fn push_sites(text: &mut String, documents: &[Document], places: &[Place]) -> Re
 
 /// The lines of a text: what is between its `\n`, and before and after them.
 fn lines_in(alloc: Global, text: &str) -> Result<Vec<&str>, AllocError>
-    ensures { IfOk result (λ lines. map (λ (line : Bor (List ℕ)). line.now) lines.items ≡ slice_split (λ b. b == 10) text.now) }
+    ensures { IfOk result (λ lines. map (λ (line : Bor (List ℕ)). line.now) lines.items ≡ slice_split (λ b. b == 10)
+        text.now) }
 {
     text.split('\n').collect(alloc)
 }
 
 /// Appends lines, each after `| `.
 fn push_lines(text: &mut String, lines: &[&str]) -> Result<(), AllocError>
-    ensures { OnOk result (string_bytes text.new ≡ string_bytes text.old ++ flat_map (λ (line : Bor (List ℕ)). quoted_line line.now) lines.now) }
+    ensures { OnOk result (string_bytes text.new ≡ string_bytes text.old
+        ++ flat_map (λ (line : Bor (List ℕ)). quoted_line line.now) lines.now) }
 {
     for line in lines {
         let line = *line;
@@ -114,7 +131,8 @@ fn push_quoted(alloc: Global, text: &mut String, quoted_text: &str) -> Result<()
 
 /// Appends texts, and how many there are.
 fn push_texts(alloc: Global, text: &mut String, texts: &[&str]) -> Result<(), AllocError>
-    ensures { OnOk result (string_bytes text.new ≡ string_bytes text.old ++ flat_map (λ (t : Bor (List ℕ)). quoted t.now) texts.now ++ count_line (length texts.now)) }
+    ensures { OnOk result (string_bytes text.new ≡ string_bytes text.old
+        ++ flat_map (λ (t : Bor (List ℕ)). quoted t.now) texts.now ++ count_line (length texts.now)) }
 {
     for lines in texts {
         push_quoted(alloc, text, *lines)?;
@@ -124,7 +142,9 @@ fn push_texts(alloc: Global, text: &mut String, texts: &[&str]) -> Result<(), Al
 
 /// Appends the symbols of entries, and how many there are.
 fn push_symbols(text: &mut String, entries: &[&SymbolInformation]) -> Result<(), AllocError>
-    ensures { OnOk result (string_bytes text.new ≡ string_bytes text.old ++ flat_map (λ (entry : Bor SymbolInformation). symbol_line entry.now) entries.now ++ count_line (length entries.now)) }
+    ensures { OnOk result (string_bytes text.new ≡ string_bytes text.old
+        ++ flat_map (λ (entry : Bor SymbolInformation). symbol_line entry.now) entries.now ++ count_line
+        (length entries.now)) }
 {
     for entry in entries {
         let symbol = entry.symbol.as_str();
@@ -135,7 +155,8 @@ fn push_symbols(text: &mut String, entries: &[&SymbolInformation]) -> Result<(),
 
 /// Appends why nothing is found. At `Memory` nothing is appended.
 fn push_fault(text: &mut String, fault: QueryFault) -> Result<(), AllocError>
-    ensures { OnOk result ((miss : Miss) × (fault ≡ fault_of miss) × (string_bytes text.new ≡ string_bytes text.old ++ miss_text miss)) }
+    ensures { OnOk result ((miss : Miss) × (fault ≡ fault_of miss) × (string_bytes text.new ≡ string_bytes text.old
+        ++ miss_text miss)) }
 {
     match fault {
         QueryFault::NoDocument => push_miss(text, Miss::NoDocument),
@@ -144,6 +165,7 @@ fn push_fault(text: &mut String, fault: QueryFault) -> Result<(), AllocError>
     }
 }
 
+/// Appends the line of a refused question.
 fn push_miss(text: &mut String, miss: Miss) -> Result<(), AllocError>
     ensures { OnOk result (string_bytes text.new ≡ string_bytes text.old ++ miss_text miss) }
 {
@@ -162,7 +184,8 @@ impl Queries {
         position: Position,
         path: &str,
     ) -> Result<(), AllocError>
-        ensures { OnOk result (string_bytes text.new ≡ string_bytes text.old ++ listing site_line (definitions_at self.now path.now position)) }
+        ensures { OnOk result (string_bytes text.new ≡ string_bytes text.old ++ listing site_line
+            (definitions_at self.now path.now position)) }
     {
         match self.definitions(alloc, path, position.line, position.column) {
             Ok(places) => push_sites(text, self.documents(), places.as_slice()),
@@ -178,7 +201,8 @@ impl Queries {
         position: Position,
         path: &str,
     ) -> Result<(), AllocError>
-        ensures { OnOk result (string_bytes text.new ≡ string_bytes text.old ++ listing site_line (references_at self.now path.now position)) }
+        ensures { OnOk result (string_bytes text.new ≡ string_bytes text.old ++ listing site_line
+            (references_at self.now path.now position)) }
     {
         match self.references(alloc, path, position.line, position.column) {
             Ok(places) => push_sites(text, self.documents(), places.as_slice()),
@@ -194,7 +218,8 @@ impl Queries {
         position: Position,
         path: &str,
     ) -> Result<(), AllocError>
-        ensures { OnOk result (string_bytes text.new ≡ string_bytes text.old ++ listing quoted (documentation_at self.now path.now position)) }
+        ensures { OnOk result (string_bytes text.new ≡ string_bytes text.old ++ listing quoted
+            (documentation_at self.now path.now position)) }
     {
         match self.documentation(alloc, path, position.line, position.column) {
             Ok(texts) => push_texts(alloc, text, texts.as_slice()),
@@ -204,7 +229,8 @@ impl Queries {
 
     /// Appends the symbols of a document.
     fn push_entries(&self, alloc: Global, text: &mut String, path: &str) -> Result<(), AllocError>
-        ensures { OnOk result (string_bytes text.new ≡ string_bytes text.old ++ listing symbol_line (symbols_of self.now path.now)) }
+        ensures { OnOk result (string_bytes text.new ≡ string_bytes text.old ++ listing symbol_line
+            (symbols_of self.now path.now)) }
     {
         match self.symbols(alloc, path) {
             Ok(entries) => push_symbols(text, entries.as_slice()),
@@ -219,7 +245,8 @@ impl Queries {
         text: &mut String,
         command: &Command<'_>,
     ) -> Result<(), AllocError>
-        ensures { OnOk result (string_bytes text.new ≡ string_bytes text.old ++ answer_of self.now (command_view command.now)) }
+        ensures { OnOk result (string_bytes text.new ≡ string_bytes text.old ++ answer_of self.now
+            (command_view command.now)) }
     {
         match command {
             Command::Ask(Question::Definitions, position, path) => {

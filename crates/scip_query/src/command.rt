@@ -4,7 +4,16 @@ ghost use Rattle.std.specs.Prelude.{◌≡◌, ◌≤◌, length};
 ghost use Rattle.std.specs.List.{AllPass, list_all};
 ghost use Rattle.std.specs.Option.{option_map};
 ghost use Rattle.scip_query.specs.Commands.{is_digit, value_of, max_digits};
-ghost use Rattle.scip_query.specs.CommandReading.{parts_of, is_written, at_most, number_of, path_of, question_of, ask_of, command_of};
+ghost use Rattle.scip_query.specs.CommandReading.{
+  parts_of,
+  is_written,
+  at_most,
+  number_of,
+  path_of,
+  question_of,
+  ask_of,
+  command_of,
+};
 ghost use Rattle.scip_query.specs.CommandViews.{parts_view, text_of, command_view};
 
 use crate::position::Position;
@@ -57,6 +66,7 @@ fn value_of(digits: &[u8]) -> u64
     value
 }
 
+/// Whether all bytes are ASCII digits.
 fn are_digits(word: &[u8]) -> bool
     ensures { result ≡ list_all is_digit word.now }
 {
@@ -110,6 +120,7 @@ fn path_of(path: &[u8]) -> Option<&str>
     }
 }
 
+/// The question that a word asks, if it asks one.
 #[tactic(auto, unfolding(crate::specs::CommandReading::question_of))]
 fn question_of(word: &[u8]) -> Option<Question>
     ensures { result ≡ question_of word.now }

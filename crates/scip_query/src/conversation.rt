@@ -42,7 +42,8 @@ impl Queries {
         conversation: &mut Conversation,
         answers: &mut W,
     ) -> Result<(), AnswerFault>
-        ensures { AnswersNext W.contents W.failures answers.old answers.new conversation.old conversation.new (answer_to self.now conversation.old.line.items) result }
+        ensures { AnswersNext W.contents W.failures answers.old answers.new conversation.old conversation.new
+            (answer_to self.now conversation.old.line.items) result }
     {
         let text = self.answer_to(alloc, conversation.line.as_slice())?;
         let written = conversation.written;
@@ -67,7 +68,8 @@ impl Queries {
         byte: u8,
         answers: &mut W,
     ) -> Result<(), AnswerFault>
-        ensures { (first : W) (read : List ℕ) → Stands W.contents W.failures self.now first read conversation.old answers.old
+        ensures { (first : W) (read : List ℕ) → Stands W.contents W.failures self.now first read conversation.old
+            answers.old
             → Goes W.contents W.failures self.now first (read ++ byte ∷ []) conversation.new answers.new result }
     {
         if byte == b'\n' {
@@ -86,7 +88,8 @@ impl Queries {
         bytes: &[u8],
         answers: &mut W,
     ) -> Result<(), AnswerFault>
-        ensures { (first : W) (read : List ℕ) → Stands W.contents W.failures self.now first read conversation.old answers.old
+        ensures { (first : W) (read : List ℕ) → Stands W.contents W.failures self.now first read conversation.old
+            answers.old
             → Goes W.contents W.failures self.now first (read ++ bytes.now) conversation.new answers.new result }
     {
         for byte in bytes {
@@ -102,7 +105,8 @@ impl Queries {
         conversation: &mut Conversation,
         answers: &mut W,
     ) -> Result<(), AnswerFault>
-        ensures { (first : W) (read : List ℕ) → Stands W.contents W.failures self.now first read conversation.old answers.old
+        ensures { (first : W) (read : List ℕ) → Stands W.contents W.failures self.now first read conversation.old
+            answers.old
             → Concludes W.contents W.failures self.now first read answers.new result }
     {
         if conversation.line.is_empty() {
@@ -125,7 +129,8 @@ impl Queries {
         commands: &mut R,
         answers: &mut W,
     ) -> Result<(), AnswerFault>
-        ensures replies { IsConversed W.contents W.failures self.now answers.old answers.new (R.remaining commands.old) (R.remaining commands.new) result }
+        ensures replies { IsConversed W.contents W.failures self.now answers.old answers.new (R.remaining commands.old)
+            (R.remaining commands.new) result }
         ensures feed { LeavesFeed R.failures R.reads R.ends commands.old commands.new result }
         ensures briefly { IsReadBriefly R.reads commands.old commands.new }
     {

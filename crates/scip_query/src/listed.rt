@@ -1,7 +1,18 @@
 //! What the numbers and places of an index stand for.
 
 ghost use Rattle.std.specs.Prelude.{◌≡◌, option_copied};
-ghost use Rattle.scip_query.specs.Tables.{path_listed, occurrence_listed, symbol_listed, entries_listed, entry_listed, entry_symbol_listed, path_cmp, symbol_cmp, entry_symbol_cmp, inner_cmp};
+ghost use Rattle.scip_query.specs.Tables.{
+  path_listed,
+  occurrence_listed,
+  symbol_listed,
+  entries_listed,
+  entry_listed,
+  entry_symbol_listed,
+  path_cmp,
+  symbol_cmp,
+  entry_symbol_cmp,
+  inner_cmp,
+};
 
 use crate::place::{EntryPlace, Place};
 use crate::position::compare_innermost;

@@ -77,7 +77,8 @@ fn texts_in(alloc: Global, documentation: &[OwnedText]) -> Result<Vec<&str>, All
 
 /// The symbol entries of a document.
 fn entries_of(alloc: Global, document: &Document) -> Result<Vec<&SymbolInformation>, AllocError>
-    ensures { IfOk result (λ entries. map (λ (entry : Bor SymbolInformation). entry.now) entries.items ≡ document.now.symbols) }
+    ensures { IfOk result (λ entries. map (λ (entry : Bor SymbolInformation). entry.now) entries.items
+        ≡ document.now.symbols) }
 {
     let symbols = document.symbols.as_slice();
     let mut entries = Vec::with_capacity(alloc, symbols.len())?;
@@ -90,7 +91,8 @@ fn entries_of(alloc: Global, document: &Document) -> Result<Vec<&SymbolInformati
 impl Queries {
     /// Those places of a subject where it is defined.
     fn definitions_of(&self, alloc: Global, subject: &Subject<'_>) -> Result<Vec<Place>, AllocError>
-        ensures { IfOk result (λ places. places.items ≡ map (λ (site : Site). site.place) (definitions_of self.now (subject_view subject.now))) }
+        ensures { IfOk result (λ places. places.items ≡ map (λ (site : Site). site.place)
+            (definitions_of self.now (subject_view subject.now))) }
     {
         defining(alloc, self.documents(), self.places_about(subject))
     }
@@ -99,7 +101,8 @@ impl Queries {
     /// and then among the external symbols; a local symbol is looked for only in its document.
     fn entry_of(&self, subject: &Subject<'_>) -> Option<&SymbolInformation>
         requires { slice_get self.now.documents subject.now.asked.number ≡ Some subject.now.asked.document.now }
-        ensures { option_copied result ≡ find (λ (entry : SymbolInformation). bytes_eq entry.symbol subject.now.symbol.now) (entries_for self.now (subject_view subject.now)) }
+        ensures { option_copied result ≡ find (λ (entry : SymbolInformation). bytes_eq entry.symbol
+            subject.now.symbol.now) (entries_for self.now (subject_view subject.now)) }
     {
         let places = self.entry_places_with(subject.symbol);
         if is_local(subject.symbol) {
@@ -118,7 +121,8 @@ impl Queries {
         line: u32,
         column: u32,
     ) -> Result<Vec<Place>, QueryFault>
-        ensures { Gives (λ places. places.items) result (site_places (references_at self.now path.now (record { line = line; column = column }))) }
+        ensures { Gives (λ places. places.items) result (site_places (references_at self.now path.now
+            (record { line = line; column = column }))) }
     {
         match self.subject_at(path, Position { line, column }) {
             Ok(subject) => Ok(Vec::from_slice(alloc, self.places_about(&subject))?),
@@ -135,7 +139,8 @@ impl Queries {
         line: u32,
         column: u32,
     ) -> Result<Vec<Place>, QueryFault>
-        ensures { Gives (λ places. places.items) result (site_places (definitions_at self.now path.now (record { line = line; column = column }))) }
+        ensures { Gives (λ places. places.items) result (site_places (definitions_at self.now path.now
+            (record { line = line; column = column }))) }
     {
         match self.subject_at(path, Position { line, column }) {
             Ok(subject) => Ok(self.definitions_of(alloc, &subject)?),
@@ -151,7 +156,8 @@ impl Queries {
         line: u32,
         column: u32,
     ) -> Result<Vec<&str>, QueryFault>
-        ensures { Gives (λ texts. map (λ (text : Bor (List ℕ)). text.now) texts.items) result (documentation_at self.now path.now (record { line = line; column = column })) }
+        ensures { Gives (λ texts. map (λ (text : Bor (List ℕ)). text.now) texts.items) result
+            (documentation_at self.now path.now (record { line = line; column = column })) }
     {
         match self.subject_at(path, Position { line, column }) {
             Ok(subject) => Ok(texts_in(alloc, texts_of(self.entry_of(&subject)))?),
@@ -161,7 +167,8 @@ impl Queries {
 
     /// The symbol entries of the document that a path names, in its order.
     pub fn symbols(&self, alloc: Global, path: &str) -> Result<Vec<&SymbolInformation>, QueryFault>
-        ensures { Gives (λ entries. map (λ (entry : Bor SymbolInformation). entry.now) entries.items) result (symbols_of self.now path.now) }
+        ensures { Gives (λ entries. map (λ (entry : Bor SymbolInformation). entry.now) entries.items) result
+            (symbols_of self.now path.now) }
     {
         match self.named(path) {
             Some(named) => Ok(entries_of(alloc, named.document)?),
@@ -172,7 +179,8 @@ impl Queries {
     /// A symbol as it is asked for in the document with a number, if there is one.
     fn subject_in<'a>(&'a self, document: usize, symbol: &'a str) -> Option<Subject<'a>>
         ensures is { option_map subject_view result ≡ subject_in self.now document symbol.now }
-        ensures listed { IfSome result (λ subject. slice_get self.now.documents subject.asked.number ≡ Some subject.asked.document.now) }
+        ensures listed { IfSome result (λ subject. slice_get self.now.documents subject.asked.number
+            ≡ Some subject.asked.document.now) }
     {
         match self.documents().get(document) {
             Some(found) => Some(Subject {
@@ -231,7 +239,8 @@ impl Queries {
         document: usize,
         symbol: &str,
     ) -> Result<Vec<&str>, AllocError>
-        ensures { IfOk result (λ texts. map (λ (text : Bor (List ℕ)). text.now) texts.items ≡ documentation_in self.now document symbol.now) }
+        ensures { IfOk result (λ texts. map (λ (text : Bor (List ℕ)). text.now) texts.items ≡ documentation_in self.now
+            document symbol.now) }
     {
         texts_in(alloc, self.documentation_texts(document, symbol))
     }

@@ -14,6 +14,7 @@ pub(crate) struct Position {
     pub column: u32,
 }
 
+/// Where a range begins.
 fn start_of(range: Range) -> Position
     ensures { result ≡ start_of range }
 {
@@ -23,6 +24,7 @@ fn start_of(range: Range) -> Position
     }
 }
 
+/// Where it ends.
 fn end_of(range: Range) -> Position
     ensures { result ≡ end_of range }
 {

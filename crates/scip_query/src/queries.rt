@@ -12,7 +12,15 @@ ghost use Rattle.scip_query.specs.declared.miss.Miss.{Miss};
 ghost use Rattle.scip_query.specs.Sites.{Site, document_named};
 ghost use Rattle.scip_query.specs.OccurrenceAt.{occurrence_in, occurrence_at, subject_at};
 ghost use Rattle.scip_query.specs.References.{is_local, references_of};
-ghost use Rattle.scip_query.specs.Tables.{numbered_listed, symbol_listed, entry_listed, entry_symbol_listed, places_from, entry_places_from, IsInnermostFirst};
+ghost use Rattle.scip_query.specs.Tables.{
+  numbered_listed,
+  symbol_listed,
+  entry_listed,
+  entry_symbol_listed,
+  places_from,
+  entry_places_from,
+  IsInnermostFirst,
+};
 ghost use Rattle.scip_query.specs.Views.{named_view, subject_view};
 
 use crate::innermost::innermost_at;
@@ -45,7 +53,8 @@ impl Model for Queries {
 
     ghost view = { λ q. q.index };
 
-    ghost invariant = { λ q. AreTables q.index q.tables.by_path q.tables.inner q.tables.by_symbol q.tables.entries_by_symbol };
+    ghost invariant = { λ q. AreTables q.index q.tables.by_path q.tables.inner q.tables.by_symbol
+        q.tables.entries_by_symbol };
 }
 
 /// A document and its number.
@@ -161,8 +170,10 @@ impl Queries {
 
     /// The symbol at a position of the document that a path names.
     pub(crate) fn subject_at(&self, path: &str, position: Position) -> Result<Subject<'_>, Miss>
-        ensures is { result_map_both subject_view (λ (miss : Miss). miss) result ≡ subject_at self.now path.now position }
-        ensures listed { IfOk result (λ subject. slice_get self.now.documents subject.asked.number ≡ Some subject.asked.document.now) }
+        ensures is { result_map_both subject_view (λ (miss : Miss). miss) result ≡ subject_at self.now path.now
+            position }
+        ensures listed { IfOk result (λ subject. slice_get self.now.documents subject.asked.number
+            ≡ Some subject.asked.document.now) }
     {
         let Some(asked) = self.named(path) else {
             return Err(Miss::NoDocument);
@@ -178,7 +189,8 @@ impl Queries {
 
     /// The places with a symbol, in the index's order.
     fn places_with(&self, symbol: &str) -> &[Place]
-        ensures { result.now ≡ filter (λ (place : Place). is_eq (slice_cmp nat_cmp (symbol_listed self.now.documents place) symbol.now)) (places_from 0 self.now.documents) }
+        ensures { result.now ≡ filter (λ (place : Place). is_eq (slice_cmp nat_cmp
+            (symbol_listed self.now.documents place) symbol.now)) (places_from 0 self.now.documents) }
     {
         places_of(self.documents(), self.tables.by_symbol.as_slice(), symbol)
     }
@@ -197,7 +209,9 @@ impl Queries {
 
     /// The places of the symbol entries with a symbol, those of external symbols last.
     pub(crate) fn entry_places_with(&self, symbol: &str) -> &[EntryPlace]
-        ensures { result.now ≡ filter (λ (place : EntryPlace). is_eq (slice_cmp nat_cmp (entry_symbol_listed self.now place) symbol.now)) (entry_places_from 0 self.now.external_symbols self.now.documents) }
+        ensures { result.now ≡ filter (λ (place : EntryPlace). is_eq (slice_cmp nat_cmp
+            (entry_symbol_listed self.now place) symbol.now)) (entry_places_from 0 self.now.external_symbols
+            self.now.documents) }
     {
         entry_places_of(
             &self.index,

@@ -23,7 +23,8 @@ fn few_of<N>(run: &[N]) -> &[N]
 fn equal_len<N, F: Fn(&N) -> Ordering>(run: &[N], compare: F) -> usize
     requires { F.IsAlwaysCallable compare }
     ensures bound { result ≤ length run.now }
-    ensures parted { (to : N → Ordering) → ComputesKey F.FnMut to compare → IsPartitionedBy (λ n. is_eq (to n)) run.now → IsPartitionPoint (λ n. is_eq (to n) ≡ true) (λ n. is_eq (to n) ≡ false) run.now result }
+    ensures parted { (to : N → Ordering) → ComputesKey F.FnMut to compare → IsPartitionedBy (λ n. is_eq (to n)) run.now
+        → IsPartitionPoint (λ n. is_eq (to n) ≡ true) (λ n. is_eq (to n) ≡ false) run.now result }
 {
     let near = few_of(run).partition_point(
         |n: &N| -> bool
@@ -46,7 +47,8 @@ fn equal_len<N, F: Fn(&N) -> Ordering>(run: &[N], compare: F) -> usize
 /// as equal, and then what compares as greater. Binary searches find it.
 pub(crate) fn run_of<N, F: Fn(&N) -> Ordering>(table: &[N], compare: F) -> &[N]
     requires { F.IsAlwaysCallable compare }
-    ensures { (to : N → Ordering) → ComputesKey F.FnMut to compare → Rises to table.now → result.now ≡ filter (λ n. is_eq (to n)) table.now }
+    ensures { (to : N → Ordering) → ComputesKey F.FnMut to compare → Rises to table.now → result.now
+        ≡ filter (λ n. is_eq (to n)) table.now }
 {
     let from = table.partition_point(
         |n: &N| -> bool

@@ -5,7 +5,17 @@ ghost use Rattle.std.specs.List.{find};
 ghost use Rattle.std.specs.List.Sorted.{IsNonDecreasingBy};
 ghost use Rattle.std.specs.Ordering.{nat_cmp, is_eq};
 ghost use Rattle.std.specs.Cmp.Lexicographic.{slice_cmp};
-ghost use Rattle.scip_query.specs.Tables.{path_listed, symbol_listed, entry_symbol_listed, places_from, entry_places_from, numbers, IsByPath, IsBySymbol, AreEntriesBySymbol};
+ghost use Rattle.scip_query.specs.Tables.{
+  path_listed,
+  symbol_listed,
+  entry_symbol_listed,
+  places_from,
+  entry_places_from,
+  numbers,
+  IsByPath,
+  IsBySymbol,
+  AreEntriesBySymbol,
+};
 ghost use Rattle.scip_query.specs.declared.place.Place.{Place};
 ghost use Rattle.scip_query.specs.declared.place.EntryPlace.{EntryPlace};
 
@@ -17,7 +27,8 @@ use scip_model::{Document, Index};
 /// The numbers of the documents with a path, in the index's order.
 fn numbers_named<'a>(documents: &[Document], by_path: &'a [usize], path: &str) -> &'a [usize]
     requires { IsByPath documents.now by_path.now }
-    ensures { result.now ≡ filter (λ number. is_eq (slice_cmp nat_cmp (path_listed documents.now number) path.now)) (numbers (length documents.now)) }
+    ensures { result.now ≡ filter (λ number. is_eq (slice_cmp nat_cmp (path_listed documents.now number) path.now))
+        (numbers (length documents.now)) }
 {
     run_of(by_path, |number| path_listed(documents, *number).cmp(path))
 }
@@ -26,7 +37,8 @@ fn numbers_named<'a>(documents: &[Document], by_path: &'a [usize], path: &str) -
 #[tactic(auto, using(crate::proofs::RunLemmas::find_first))]
 pub(crate) fn number_named(documents: &[Document], by_path: &[usize], path: &str) -> Option<usize>
     requires { IsByPath documents.now by_path.now }
-    ensures { result ≡ find (λ number. is_eq (slice_cmp nat_cmp (path_listed documents.now number) path.now)) (numbers (length documents.now)) }
+    ensures { result ≡ find (λ number. is_eq (slice_cmp nat_cmp (path_listed documents.now number) path.now))
+        (numbers (length documents.now)) }
 {
     numbers_named(documents, by_path, path).first().copied()
 }
@@ -38,7 +50,8 @@ pub(crate) fn places_of<'a>(
     symbol: &str,
 ) -> &'a [Place]
     requires { IsBySymbol documents.now by_symbol.now }
-    ensures { result.now ≡ filter (λ (place : Place). is_eq (slice_cmp nat_cmp (symbol_listed documents.now place) symbol.now)) (places_from 0 documents.now) }
+    ensures { result.now ≡ filter (λ (place : Place). is_eq (slice_cmp nat_cmp (symbol_listed documents.now place)
+        symbol.now)) (places_from 0 documents.now) }
 {
     run_of(
         by_symbol,
@@ -62,7 +75,9 @@ pub(crate) fn entry_places_of<'a>(
     symbol: &str,
 ) -> &'a [EntryPlace]
     requires { AreEntriesBySymbol index.now entries_by_symbol.now }
-    ensures { result.now ≡ filter (λ (place : EntryPlace). is_eq (slice_cmp nat_cmp (entry_symbol_listed index.now place) symbol.now)) (entry_places_from 0 index.now.external_symbols index.now.documents) }
+    ensures { result.now ≡ filter (λ (place : EntryPlace). is_eq (slice_cmp nat_cmp
+        (entry_symbol_listed index.now place) symbol.now)) (entry_places_from 0 index.now.external_symbols
+        index.now.documents) }
 {
     run_of(
         entries_by_symbol,

@@ -1,7 +1,18 @@
 //! The tables by which an index is searched.
 
 ghost use Rattle.std.specs.Prelude.{◌≡◌, ◌++◌, ◌^◌, ◌<◌, ◌≤◌, ◌+◌, IfOk, OnOk, length};
-ghost use Rattle.scip_query.specs.Tables.{numbers, places_in, places_from, entry_places_in, entry_places_from, IsByPath, IsInnermostFirst, IsBySymbol, AreEntriesBySymbol, AreTables};
+ghost use Rattle.scip_query.specs.Tables.{
+  numbers,
+  places_in,
+  places_from,
+  entry_places_in,
+  entry_places_from,
+  IsByPath,
+  IsInnermostFirst,
+  IsBySymbol,
+  AreEntriesBySymbol,
+  AreTables,
+};
 ghost use Rattle.std.specs.List.{AllZip};
 
 use crate::listed::{compare_entry_symbols, compare_inner, compare_paths, compare_symbols};
@@ -35,6 +46,7 @@ fn numbers(alloc: Global, count: usize) -> Result<Vec<usize>, AllocError>
     Ok(listed)
 }
 
+/// The numbers of the documents, by path.
 fn by_path(alloc: Global, documents: &[Document]) -> Result<Sequence<usize>, AllocError>
     ensures { IfOk result (λ table. IsByPath documents.now table) }
 {
@@ -43,6 +55,7 @@ fn by_path(alloc: Global, documents: &[Document]) -> Result<Sequence<usize>, All
     Ok(Sequence::from_vec(table))
 }
 
+/// The numbers of a document's occurrences, in an order in which inner ones come first.
 fn inner_of(alloc: Global, document: &Document) -> Result<Sequence<usize>, AllocError>
     ensures { IfOk result (λ table. IsInnermostFirst document.now table) }
 {
@@ -52,6 +65,7 @@ fn inner_of(alloc: Global, document: &Document) -> Result<Sequence<usize>, Alloc
     Ok(Sequence::from_vec(table))
 }
 
+/// That table of each document.
 fn inner(alloc: Global, documents: &[Document]) -> Result<Sequence<Sequence<usize>>, AllocError>
     ensures { IfOk result (λ tables. AllZip IsInnermostFirst documents.now tables) }
 {
@@ -90,6 +104,7 @@ fn occurrence_places(alloc: Global, documents: &[Document]) -> Result<Vec<Place>
     Ok(places)
 }
 
+/// The places of all occurrences, by symbol.
 fn by_symbol(alloc: Global, documents: &[Document]) -> Result<Sequence<Place>, AllocError>
     ensures { IfOk result (λ table. IsBySymbol documents.now table) }
 {
@@ -114,7 +129,8 @@ fn push_entry_places(
 
 /// The places of all symbol entries.
 fn entry_places(alloc: Global, index: &Index) -> Result<Vec<EntryPlace>, AllocError>
-    ensures { IfOk result (λ places. places.items ≡ entry_places_from 0 index.now.external_symbols index.now.documents) }
+    ensures { IfOk result (λ places. places.items ≡ entry_places_from 0 index.now.external_symbols
+        index.now.documents) }
 {
     let documents = index.documents.as_slice();
     let mut places = Vec::new(alloc);
@@ -129,6 +145,7 @@ fn entry_places(alloc: Global, index: &Index) -> Result<Vec<EntryPlace>, AllocEr
     Ok(places)
 }
 
+/// The places of all symbol entries, by symbol.
 fn entries_by_symbol(alloc: Global, index: &Index) -> Result<Sequence<EntryPlace>, AllocError>
     ensures { IfOk result (λ table. AreEntriesBySymbol index.now table) }
 {
@@ -139,7 +156,8 @@ fn entries_by_symbol(alloc: Global, index: &Index) -> Result<Sequence<EntryPlace
 
 /// The tables of an index.
 pub(crate) fn tables_of(alloc: Global, index: &Index) -> Result<Tables, AllocError>
-    ensures { IfOk result (λ tables. AreTables index.now tables.by_path tables.inner tables.by_symbol tables.entries_by_symbol) }
+    ensures { IfOk result (λ tables. AreTables index.now tables.by_path tables.inner tables.by_symbol
+        tables.entries_by_symbol) }
 {
     let documents = index.documents.as_slice();
     Ok(Tables {

@@ -1,6 +1,14 @@
 //! Laws of a folder of pages, each the contract of a function that does nothing.
 
-ghost use Rattle.scip_site.specs.FolderLaws.{ReadsAreGood, GoodSourcesFit, FilesStayBelow, FilesAreNoFolders, PagesAreMadeOnce, QuotesShowTheText, QuotesEndNothing};
+ghost use Rattle.scip_site.specs.FolderLaws.{
+  ReadsAreGood,
+  GoodSourcesFit,
+  FilesStayBelow,
+  FilesAreNoFolders,
+  PagesAreMadeOnce,
+  QuotesShowTheText,
+  QuotesEndNothing,
+};
 ghost use Rattle.scip_site.specs.UrlLaws.{PageUrlsLead, FirstUrlsLead, ListedUrlsLead};
 
 use source_files::ReadFiles;

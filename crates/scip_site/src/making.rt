@@ -66,8 +66,11 @@ fn page_in<'a>(
 ) -> Result<Vec<u8>, AllocError>
     requires { AreRight site.now.queries.now site.now.sources.now listed.old.facts.facts.items }
     ensures right { AreRight site.now.queries.now site.now.sources.now listed.new.facts.facts.items }
-    ensures page { IfOk result (λ page. page.items ≡ page_of site.now.queries.now site.now.sources.now number document.now (ids.unit_in document.now) (lines_of source.now)) }
-    ensures listed { IfOk result (λ page. listed.new.script.items ≡ listed.old.script.items ++ listing_text site.now.queries.now (ids.unit_in document.now) (lines_of source.now) document.now.relative_path (firsts_of site.now.queries.now site.now.sources.now number document.now)) }
+    ensures page { IfOk result (λ page. page.items ≡ page_of site.now.queries.now site.now.sources.now number
+        document.now (ids.unit_in document.now) (lines_of source.now)) }
+    ensures listed { IfOk result (λ page. listed.new.script.items ≡ listed.old.script.items ++ listing_text
+        site.now.queries.now (ids.unit_in document.now) (lines_of source.now) document.now.relative_path
+        (firsts_of site.now.queries.now site.now.sources.now number document.now)) }
 {
     let lines = lines_of(alloc, source)?;
     let asked = Asked {
@@ -88,8 +91,10 @@ fn page_at<'a>(
 ) -> Result<Option<Vec<u8>>, AllocError>
     requires { AreRight site.now.queries.now site.now.sources.now listed.old.facts.facts.items }
     ensures right { AreRight site.now.queries.now site.now.sources.now listed.new.facts.facts.items }
-    ensures page { IfOk result (λ page. option_map (λ p. p.items) page ≡ spec.page_at site.now.queries.now site.now.sources.now number) }
-    ensures listed { IfOk result (λ page. listed.new.script.items ≡ listed.old.script.items ++ spec.listing_at site.now.queries.now site.now.sources.now number) }
+    ensures page { IfOk result (λ page. option_map (λ p. p.items) page ≡ spec.page_at site.now.queries.now
+        site.now.sources.now number) }
+    ensures listed { IfOk result (λ page. listed.new.script.items ≡ listed.old.script.items ++ spec.listing_at
+        site.now.queries.now site.now.sources.now number) }
 {
     let Some(document) = site.queries.documents().get(number) else {
         return Ok(None);
@@ -108,7 +113,8 @@ fn make<O: MakeFiles>(
     bytes: &[u8],
     made: &mut O,
 ) -> Result<(), ShowFault>
-    ensures { spec.MakesFiles (maker O.made made.old made.new) (map (spec.in_folder folder.now) (spec.file path.now bytes.now ∷ [])) result }
+    ensures { spec.MakesFiles (maker O.made made.old made.new) (map (spec.in_folder folder.now)
+        (spec.file path.now bytes.now ∷ [])) result }
 {
     let file = path_in(alloc, folder, path)?;
     if made.make_file(file.as_str(), bytes)? {
@@ -126,7 +132,8 @@ fn make_if_some<O: MakeFiles>(
     page: Option<Vec<u8>>,
     made: &mut O,
 ) -> Result<(), ShowFault>
-    ensures { spec.MakesFiles (maker O.made made.old made.new) (map (spec.in_folder folder.now) (spec.page_file path.now (option_map (λ p. p.items) page))) result }
+    ensures { spec.MakesFiles (maker O.made made.old made.new) (map (spec.in_folder folder.now)
+        (spec.page_file path.now (option_map (λ p. p.items) page))) result }
 {
     match page {
         Some(page) => {
@@ -148,8 +155,10 @@ fn make_page<'a, O: MakeFiles>(
 ) -> Result<(), ShowFault>
     requires { AreRight site.now.queries.now site.now.sources.now listed.old.facts.facts.items }
     ensures right { AreRight site.now.queries.now site.now.sources.now listed.new.facts.facts.items }
-    ensures files { spec.MakesFiles (maker O.made made.old made.new) (map (spec.in_folder folder.now) (spec.page_file_at site.now.queries.now site.now.sources.now number)) result }
-    ensures listed { OnOk result (listed.new.script.items ≡ listed.old.script.items ++ spec.listing_at site.now.queries.now site.now.sources.now number) }
+    ensures files { spec.MakesFiles (maker O.made made.old made.new) (map (spec.in_folder folder.now)
+        (spec.page_file_at site.now.queries.now site.now.sources.now number)) result }
+    ensures listed { OnOk result (listed.new.script.items ≡ listed.old.script.items ++ spec.listing_at
+        site.now.queries.now site.now.sources.now number) }
 {
     let page = page_at(alloc, site, number, listed)?;
     let path = path_listed(site.queries.documents(), number);
@@ -165,8 +174,11 @@ fn make_each<'a, O: MakeFiles>(
     made: &mut O,
 ) -> Result<(), ShowFault>
     requires { AreRight site.now.queries.now site.now.sources.now listed.old.facts.facts.items }
-    ensures files { spec.MakesFiles (maker O.made made.old made.new) (map (spec.in_folder folder.now) (spec.pages site.now.queries.now site.now.sources.now (numbers (length site.now.queries.now.documents)))) result }
-    ensures listed { OnOk result (listed.new.script.items ≡ listed.old.script.items ++ spec.listings site.now.queries.now site.now.sources.now (numbers (length site.now.queries.now.documents))) }
+    ensures files { spec.MakesFiles (maker O.made made.old made.new) (map (spec.in_folder folder.now)
+        (spec.pages site.now.queries.now site.now.sources.now (numbers (length site.now.queries.now.documents))))
+        result }
+    ensures listed { OnOk result (listed.new.script.items ≡ listed.old.script.items ++ spec.listings
+        site.now.queries.now site.now.sources.now (numbers (length site.now.queries.now.documents))) }
 {
     let count = site.queries.documents().len();
     for number in 0..count {
@@ -183,7 +195,8 @@ fn make_shared<O: MakeFiles>(
     first: &[u8],
     made: &mut O,
 ) -> Result<(), ShowFault>
-    ensures { spec.MakesFiles (maker O.made made.old made.new) (map (spec.in_folder folder.now) (spec.shared script.now first.now)) result }
+    ensures { spec.MakesFiles (maker O.made made.old made.new) (map (spec.in_folder folder.now)
+        (spec.shared script.now first.now)) result }
 {
     make(alloc, folder, "pages.css", STYLE.as_bytes(), made)?;
     make(alloc, folder, "search.js", SEARCH.as_bytes(), made)?;
@@ -198,7 +211,8 @@ fn push_path<'a>(
     sources: &[Option<OwnedText>],
     number: usize,
 ) -> Result<(), AllocError>
-    ensures { OnOk result (map (λ (p : Bor (List ℕ)). p.now) paths.new.items ≡ map (λ (p : Bor (List ℕ)). p.now) paths.old.items ++ spec.path_or_none documents.now sources.now number) }
+    ensures { OnOk result (map (λ (p : Bor (List ℕ)). p.now) paths.new.items ≡ map (λ (p : Bor (List ℕ)). p.now)
+        paths.old.items ++ spec.path_or_none documents.now sources.now number) }
 {
     if has_page(sources, number) {
         paths.push(path_listed(documents, number))?;
@@ -213,7 +227,8 @@ fn paths_in<'a>(
     sources: &[Option<OwnedText>],
     order: &[usize],
 ) -> Result<Vec<&'a str>, AllocError>
-    ensures { IfOk result (λ paths. map (λ (p : Bor (List ℕ)). p.now) paths.items ≡ spec.paths_in documents.now sources.now order.now) }
+    ensures { IfOk result (λ paths. map (λ (p : Bor (List ℕ)). p.now) paths.items ≡ spec.paths_in documents.now
+        sources.now order.now) }
 {
     let mut paths = Vec::new(alloc);
     for number in order {
@@ -224,7 +239,8 @@ fn paths_in<'a>(
 
 /// The first page.
 fn first_of(alloc: Global, site: &Site<'_>, order: &[usize]) -> Result<Vec<u8>, AllocError>
-    ensures { IfOk result (λ page. page.items ≡ tree_spec.first_page (spec.paths_in site.now.queries.now.documents site.now.sources.now order.now)) }
+    ensures { IfOk result (λ page. page.items ≡ tree_spec.first_page (spec.paths_in site.now.queries.now.documents
+        site.now.sources.now order.now)) }
 {
     let paths = paths_in(alloc, site.queries.documents(), site.sources, order)?;
     first_page(alloc, &paths)
@@ -256,7 +272,8 @@ fn make_all<O: MakeFiles>(
     order: &[usize],
     made: &mut O,
 ) -> Result<(), ShowFault>
-    ensures { spec.MakesFiles (maker O.made made.old made.new) (map (spec.in_folder folder.now) (spec.site_files site.now.queries.now site.now.sources.now order.now)) result }
+    ensures { spec.MakesFiles (maker O.made made.old made.new) (map (spec.in_folder folder.now)
+        (spec.site_files site.now.queries.now site.now.sources.now order.now)) result }
 {
     let first = first_of(alloc, site, order)?;
     let mut listed = nothing_listed(alloc, site.queries)?;
@@ -283,7 +300,8 @@ pub fn make_pages<F: ReadFiles, O: MakeFiles, M: Sink>(
     made: &mut O,
     messages: &mut M,
 ) -> Result<(), ShowFault>
-    ensures { spec.Makes (F.gives files.now) folders.now.root.now folders.now.to.now queries.now (maker O.made made.old made.new) (writer M.contents M.failures messages.old messages.new) result }
+    ensures { spec.Makes (F.gives files.now) folders.now.root.now folders.now.to.now queries.now
+        (maker O.made made.old made.new) (writer M.contents M.failures messages.old messages.new) result }
 {
     let documents = queries.documents();
     let order = by_path(alloc, documents)?;

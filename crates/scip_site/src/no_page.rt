@@ -49,7 +49,8 @@ pub(crate) fn tell<M: Sink>(
     why: NoPage,
     messages: &mut M,
 ) -> Result<(), ShowFault>
-    ensures { SaysLine (line_with path.now (name_of why)) (writer M.contents M.failures messages.old messages.new) result }
+    ensures { SaysLine (line_with path.now (name_of why)) (writer M.contents M.failures messages.old messages.new)
+        result }
 {
     let line = line_with(alloc, path, why.name())?;
     say(messages, line.as_str());

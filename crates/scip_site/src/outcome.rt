@@ -29,7 +29,8 @@ fn fit_or_misfit(
     document: &Document,
     source: &str,
 ) -> Result<Result<OwnedText, NoPage>, AllocError>
-    ensures { IfOk result (λ outcome. outcome ≡ spec.fit_or_misfit source.now (misfit unit (lines_of source.now) document.now.occurrences)) }
+    ensures { IfOk result (λ outcome. outcome ≡ spec.fit_or_misfit source.now
+        (misfit unit (lines_of source.now) document.now.occurrences)) }
 {
     let lines = lines_of(alloc, source)?;
     match misfit(unit, &lines, document.occurrences.as_slice()) {
@@ -44,7 +45,8 @@ fn in_unit(
     document: &Document,
     source: &str,
 ) -> Result<Result<OwnedText, NoPage>, AllocError>
-    ensures { IfOk result (λ outcome. outcome ≡ spec.in_unit (unit_of document.now.position_encoding) document.now.occurrences source.now) }
+    ensures { IfOk result (λ outcome. outcome ≡ spec.in_unit (unit_of document.now.position_encoding)
+        document.now.occurrences source.now) }
 {
     match unit_of(document.position_encoding) {
         Some(unit) => fit_or_misfit(alloc, unit, document, source),
@@ -73,7 +75,8 @@ fn below_root<F: ReadFiles>(
     root: &str,
     document: &Document,
 ) -> Result<Result<OwnedText, NoPage>, AllocError>
-    ensures { IfOk result (λ outcome. (source : Option (List ℕ)) × F.gives files.now (path_in root.now document.now.relative_path) source × (outcome ≡ spec.of_source document.now source)) }
+    ensures { IfOk result (λ outcome. (source : Option (List ℕ)) × F.gives files.now
+        (path_in root.now document.now.relative_path) source × (outcome ≡ spec.of_source document.now source)) }
 {
     let file = path_in(alloc, root, document.relative_path.as_str())?;
     match files.read_file(alloc, file.as_str())? {
@@ -88,7 +91,8 @@ pub(crate) fn outcome_of<F: ReadFiles>(
     files: &F,
     wanted: &Wanted<'_>,
 ) -> Result<Result<OwnedText, NoPage>, AllocError>
-    ensures { IfOk result (λ outcome. spec.IsRead (F.gives files.now) wanted.now.root.now wanted.now.document.now (spec.fault_of wanted.now.document.now) wanted.now.repeated outcome) }
+    ensures { IfOk result (λ outcome. spec.IsRead (F.gives files.now) wanted.now.root.now wanted.now.document.now
+        (spec.fault_of wanted.now.document.now) wanted.now.repeated outcome) }
 {
     match path_fault(wanted.document.relative_path.as_str()) {
         Some(_) => Ok(Err(NoPage::BadPath)),

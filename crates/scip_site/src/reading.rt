@@ -45,7 +45,8 @@ fn keep<M: Sink>(
     sources: &mut Vec<Option<OwnedText>>,
     messages: &mut M,
 ) -> Result<(), ShowFault>
-    ensures { spec.Keeps path.now outcome sources.old.items sources.new.items (writer M.contents M.failures messages.old messages.new) result }
+    ensures { spec.Keeps path.now outcome sources.old.items sources.new.items
+        (writer M.contents M.failures messages.old messages.new) result }
 {
     match outcome {
         Ok(source) => {
@@ -67,7 +68,8 @@ fn read_one<F: ReadFiles, M: Sink>(
     sources: &mut Vec<Option<OwnedText>>,
     messages: &mut M,
 ) -> Result<(), ShowFault>
-    ensures { spec.ReadsOne (F.gives files.now) wanted.now.root.now wanted.now.repeated wanted.now.document.now sources.old.items sources.new.items (writer M.contents M.failures messages.old messages.new) result }
+    ensures { spec.ReadsOne (F.gives files.now) wanted.now.root.now wanted.now.repeated wanted.now.document.now
+        sources.old.items sources.new.items (writer M.contents M.failures messages.old messages.new) result }
 {
     let outcome = outcome_of(alloc, files, wanted)?;
     keep(
@@ -89,7 +91,8 @@ fn read_each<F: ReadFiles, M: Sink>(
     messages: &mut M,
 ) -> Result<(), ShowFault>
     requires { sources.old.items ≡ [] }
-    ensures { spec.ReadsAll (F.gives files.now) root.now documents.now sources.new.items (writer M.contents M.failures messages.old messages.new) result }
+    ensures { spec.ReadsAll (F.gives files.now) root.now documents.now sources.new.items
+        (writer M.contents M.failures messages.old messages.new) result }
 {
     let repeats = are_repeated(alloc, documents)?;
     for (number, document) in documents.iter().enumerate() {
@@ -111,7 +114,8 @@ pub(crate) fn read_all<F: ReadFiles, M: Sink>(
     documents: &[Document],
     messages: &mut M,
 ) -> Result<Vec<Option<OwnedText>>, ShowFault>
-    ensures { spec.ReadsInto (F.gives files.now) root.now documents.now (writer M.contents M.failures messages.old messages.new) (spec.listed_in result) }
+    ensures { spec.ReadsInto (F.gives files.now) root.now documents.now
+        (writer M.contents M.failures messages.old messages.new) (spec.listed_in result) }
 {
     let mut sources = Vec::new(alloc);
     read_each(alloc, files, root, documents, &mut sources, messages)?;

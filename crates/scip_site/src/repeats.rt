@@ -17,7 +17,8 @@ fn see<'a>(
     number: usize,
 ) -> Result<bool, AllocError>
     ensures found { IfOk result (λ was. was ≡ is_seen seen.old path.now) }
-    ensures seen { IfOk result (λ was. (other : List ℕ) → is_seen seen.new other ≡ (bytes_eq path.now other || is_seen seen.old other)) }
+    ensures seen { IfOk result (λ was. (other : List ℕ) → is_seen seen.new other
+        ≡ (bytes_eq path.now other || is_seen seen.old other)) }
 {
     let was = seen.get(path).is_some();
     seen.insert(path, number)?;
@@ -26,7 +27,8 @@ fn see<'a>(
 
 /// For each document whether one before it has its path.
 pub(crate) fn are_repeated(alloc: Global, documents: &[Document]) -> Result<Vec<bool>, AllocError>
-    ensures { IfOk result (λ repeats. repeats.items ≡ map (is_repeated documents.now) (numbers (length documents.now))) }
+    ensures { IfOk result (λ repeats. repeats.items ≡ map (is_repeated documents.now)
+        (numbers (length documents.now))) }
 {
     let mut seen = HashMap::new(alloc);
     let mut repeats = Vec::with_capacity(alloc, documents.len())?;

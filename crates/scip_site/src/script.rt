@@ -94,7 +94,8 @@ fn push_named(
     asked: &Asked<'_>,
     place: Place,
 ) -> Result<(), AllocError>
-    ensures { OnOk result (script.new.items ≡ script.old.items ++ spec.named_text site.now.queries.now asked.now.unit (map (λ (l : Bor (List ℕ)). l.now) asked.now.lines.now) place) }
+    ensures { OnOk result (script.new.items ≡ script.old.items ++ spec.named_text site.now.queries.now asked.now.unit
+        (map (λ (l : Bor (List ℕ)). l.now) asked.now.lines.now) place) }
 {
     let documents = site.queries.documents();
     let name = name_of(asked.unit, asked.lines, occurrence_listed(documents, place));
@@ -109,7 +110,8 @@ fn push_all_named(
     asked: &Asked<'_>,
     firsts: &[Place],
 ) -> Result<(), AllocError>
-    ensures { OnOk result (script.new.items ≡ script.old.items ++ flat_map (spec.named_text site.now.queries.now asked.now.unit (map (λ (l : Bor (List ℕ)). l.now) asked.now.lines.now)) firsts.now) }
+    ensures { OnOk result (script.new.items ≡ script.old.items ++ flat_map (spec.named_text site.now.queries.now
+        asked.now.unit (map (λ (l : Bor (List ℕ)). l.now) asked.now.lines.now)) firsts.now) }
 {
     for place in firsts {
         push_named(alloc, script, site, asked, *place)?;
@@ -140,7 +142,8 @@ pub(crate) fn push_listing(
     asked: &Asked<'_>,
     firsts: &[Place],
 ) -> Result<(), AllocError>
-    ensures { OnOk result (script.new.items ≡ script.old.items ++ spec.listing_text site.now.queries.now asked.now.unit (map (λ (l : Bor (List ℕ)). l.now) asked.now.lines.now) path.now firsts.now) }
+    ensures { OnOk result (script.new.items ≡ script.old.items ++ spec.listing_text site.now.queries.now asked.now.unit
+        (map (λ (l : Bor (List ℕ)). l.now) asked.now.lines.now) path.now firsts.now) }
 {
     push_page(alloc, script, path)?;
     push_all_named(alloc, script, site, asked, firsts)?;

@@ -21,7 +21,8 @@ fn is_name(name: &str, names: &[&str], at: usize) -> bool
 
 /// Whether the names with a number on two ways are the same.
 fn same_at(here: &[&str], names: &[&str], at: usize) -> bool
-    ensures { result ≡ spec.same_at (map (λ (n : Bor (List ℕ)). n.now) here.now) (map (λ (n : Bor (List ℕ)). n.now) names.now) at }
+    ensures { result ≡ spec.same_at (map (λ (n : Bor (List ℕ)). n.now) here.now)
+        (map (λ (n : Bor (List ℕ)). n.now) names.now) at }
 {
     match here.get(at) {
         Some(name) => is_name(*name, names, at),
@@ -31,7 +32,8 @@ fn same_at(here: &[&str], names: &[&str], at: usize) -> bool
 
 /// How many of the first names of two ways are the same.
 fn common(here: &[&str], names: &[&str]) -> usize
-    ensures { result ≡ spec.common (map (λ (n : Bor (List ℕ)). n.now) here.now) (map (λ (n : Bor (List ℕ)). n.now) names.now) }
+    ensures { result ≡ spec.common (map (λ (n : Bor (List ℕ)). n.now) here.now)
+        (map (λ (n : Bor (List ℕ)). n.now) names.now) }
 {
     for at in 0..here.len() {
         if !same_at(here, names, at) {
@@ -53,7 +55,8 @@ fn but_last<'a>(names: &'a [&'a str]) -> &'a [&'a str]
 
 /// The names of the folders on a path that has these names.
 fn folders_in<'a>(names: &'a [&'a str]) -> &'a [&'a str]
-    ensures { map (λ (n : Bor (List ℕ)). n.now) result.now ≡ spec.but_last (map (λ (n : Bor (List ℕ)). n.now) names.now) }
+    ensures { map (λ (n : Bor (List ℕ)). n.now) result.now ≡ spec.but_last
+        (map (λ (n : Bor (List ℕ)). n.now) names.now) }
 {
     but_last(names)
 }
@@ -127,7 +130,8 @@ fn push_opens(
     kept: usize,
     folders: &[&str],
 ) -> Result<(), AllocError>
-    ensures { OnOk result (page.new.items ≡ page.old.items ++ spec.opens kept [] (map (λ (n : Bor (List ℕ)). n.now) folders.now)) }
+    ensures { OnOk result (page.new.items ≡ page.old.items ++ spec.opens kept []
+        (map (λ (n : Bor (List ℕ)). n.now) folders.now)) }
 {
     let mut above = Vec::new(alloc);
     let mut left = kept;
@@ -149,7 +153,8 @@ fn push_leaf(
     path: &str,
     names: &[&str],
 ) -> Result<(), AllocError>
-    ensures { OnOk result (page.new.items ≡ page.old.items ++ spec.leaf_with path.now (map (λ (n : Bor (List ℕ)). n.now) names.now)) }
+    ensures { OnOk result (page.new.items ≡ page.old.items ++ spec.leaf_with path.now
+        (map (λ (n : Bor (List ℕ)). n.now) names.now)) }
 {
     let to = page_path(alloc, path)?;
     let mut url = Vec::new(alloc);
@@ -167,7 +172,8 @@ fn push_between(
     path: &str,
     names: &[&str],
 ) -> Result<(), AllocError>
-    ensures { OnOk result (page.new.items ≡ page.old.items ++ spec.step_with (map (λ (n : Bor (List ℕ)). n.now) here.now) path.now (map (λ (n : Bor (List ℕ)). n.now) names.now)) }
+    ensures { OnOk result (page.new.items ≡ page.old.items ++ spec.step_with
+        (map (λ (n : Bor (List ℕ)). n.now) here.now) path.now (map (λ (n : Bor (List ℕ)). n.now) names.now)) }
 {
     let folders = folders_in(names);
     let kept = common(here, folders);
@@ -195,7 +201,8 @@ fn push_end(alloc: Global, page: &mut Vec<u8>, before: &str) -> Result<(), Alloc
 
 /// Appends a tree of paths, of which those in one folder are one after another.
 fn push_tree(alloc: Global, page: &mut Vec<u8>, paths: &[&str]) -> Result<(), AllocError>
-    ensures { OnOk result (page.new.items ≡ page.old.items ++ spec.tree [] (map (λ (p : Bor (List ℕ)). p.now) paths.now)) }
+    ensures { OnOk result (page.new.items ≡ page.old.items ++ spec.tree []
+        (map (λ (p : Bor (List ℕ)). p.now) paths.now)) }
 {
     let mut before = "";
     let mut rest = paths;

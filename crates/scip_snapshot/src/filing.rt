@@ -27,7 +27,9 @@ fn file_text<O: MakeFiles>(
     text: &[u8],
     made: &mut O,
 ) -> Result<(), ShowFault>
-    ensures { Goes (AreFiled (maker O.made made.old made.new) folder.now) (AreFiledButOne (maker O.made made.old made.new) folder.now) (AreFiled (maker O.made made.old made.new) folder.now []) path.now text.now result }
+    ensures { Goes (AreFiled (maker O.made made.old made.new) folder.now)
+        (AreFiledButOne (maker O.made made.old made.new) folder.now) (AreFiled (maker O.made made.old made.new)
+        folder.now []) path.now text.now result }
 {
     let file = path_in(alloc, folder, path)?;
     if made.make_file(file.as_str(), text)? {
@@ -46,7 +48,10 @@ fn file_one<F: ReadFiles, O: MakeFiles, M: Sink>(
     made: &mut O,
     messages: &mut M,
 ) -> Result<(), ShowFault>
-    ensures { ShowsOne (F.gives files.now) asked.now.root.now asked.now.queries.now asked.now.number asked.now.path.now (AreFiled (maker O.made made.old made.new) folder.now) (AreFiledButOne (maker O.made made.old made.new) folder.now) (AreFiled (maker O.made made.old made.new) folder.now []) (writer M.contents M.failures messages.old messages.new) result }
+    ensures { ShowsOne (F.gives files.now) asked.now.root.now asked.now.queries.now asked.now.number asked.now.path.now
+        (AreFiled (maker O.made made.old made.new) folder.now) (AreFiledButOne (maker O.made made.old made.new)
+        folder.now) (AreFiled (maker O.made made.old made.new) folder.now [])
+        (writer M.contents M.failures messages.old messages.new) result }
 {
     match outcome_of(alloc, files, asked)? {
         Ok(text) => file_text(alloc, folder, asked.path, text.as_slice(), made),
@@ -68,7 +73,9 @@ pub fn file_all<F: ReadFiles, O: MakeFiles, M: Sink>(
     made: &mut O,
     messages: &mut M,
 ) -> Result<(), ShowFault>
-    ensures { Shows (F.gives files.now) folders.now.root.now queries.now (AreFiled (maker O.made made.old made.new) folders.now.to.now) (AreFiledButOne (maker O.made made.old made.new) folders.now.to.now) (writer M.contents M.failures messages.old messages.new) result }
+    ensures { Shows (F.gives files.now) folders.now.root.now queries.now
+        (AreFiled (maker O.made made.old made.new) folders.now.to.now) (AreFiledButOne (maker O.made made.old made.new)
+        folders.now.to.now) (writer M.contents M.failures messages.old messages.new) result }
 {
     for (number, document) in queries.documents().iter().enumerate() {
         let asked = Asked {

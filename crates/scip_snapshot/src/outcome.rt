@@ -47,7 +47,8 @@ fn text_of(
     asked: &Asked<'_>,
     source: &str,
 ) -> Result<Result<Vec<u8>, LeftOut>, AllocError>
-    ensures { IfOk result (λ outcome. outcome_view outcome ≡ of_snapshot (snapshot_of asked.now.queries.now asked.now.number source.now)) }
+    ensures { IfOk result (λ outcome. outcome_view outcome ≡ of_snapshot
+        (snapshot_of asked.now.queries.now asked.now.number source.now)) }
 {
     match snapshot(alloc, asked.queries, asked.number, source) {
         Ok(text) => Ok(Ok(text)),
@@ -62,7 +63,8 @@ fn outcome_with(
     asked: &Asked<'_>,
     bytes: &[u8],
 ) -> Result<Result<Vec<u8>, LeftOut>, AllocError>
-    ensures { IfOk result (λ outcome. outcome_view outcome ≡ of_source asked.now.queries.now asked.now.number (Some bytes.now)) }
+    ensures { IfOk result (λ outcome. outcome_view outcome ≡ of_source asked.now.queries.now asked.now.number
+        (Some bytes.now)) }
 {
     match str::from_utf8(bytes) {
         Ok(source) => text_of(alloc, asked, source),
@@ -76,7 +78,9 @@ fn outcome_below<F: ReadFiles>(
     files: &F,
     asked: &Asked<'_>,
 ) -> Result<Result<Vec<u8>, LeftOut>, AllocError>
-    ensures { IfOk result (λ outcome. (source : Option (List ℕ)) × F.gives files.now (path_in asked.now.root.now asked.now.path.now) source × (outcome_view outcome ≡ of_source asked.now.queries.now asked.now.number source)) }
+    ensures { IfOk result (λ outcome. (source : Option (List ℕ)) × F.gives files.now
+        (path_in asked.now.root.now asked.now.path.now) source × (outcome_view outcome ≡ of_source asked.now.queries.now
+        asked.now.number source)) }
 {
     let file = path_in(alloc, asked.root, asked.path)?;
     match files.read_file(alloc, file.as_str())? {
@@ -91,7 +95,8 @@ pub(crate) fn outcome_of<F: ReadFiles>(
     files: &F,
     asked: &Asked<'_>,
 ) -> Result<Result<Vec<u8>, LeftOut>, AllocError>
-    ensures { IfOk result (λ outcome. IsOutcome (F.gives files.now) asked.now.root.now asked.now.queries.now asked.now.number asked.now.path.now (outcome_view outcome)) }
+    ensures { IfOk result (λ outcome. IsOutcome (F.gives files.now) asked.now.root.now asked.now.queries.now
+        asked.now.number asked.now.path.now (outcome_view outcome)) }
 {
     match path_fault(asked.path) {
         Some(_) => Ok(Err(LeftOut::BadPath)),

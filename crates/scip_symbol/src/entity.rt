@@ -3,7 +3,17 @@
 ghost use Rattle.std.specs.Prelude.{◌≡◌, ◌≢◌, ◌++◌, ◌∷◌, [], map, All, OnOk, IfOk};
 ghost use Rattle.proto_decl.specs.Ancestors.{component_names};
 ghost use Rattle.scip_symbol.specs.Parts.{IsDescriptor};
-ghost use Rattle.scip_symbol.specs.Entities.{OfFile, OfPackage, OfDeclaration, suffix_of, namespace_of, step_descriptor, global_in, symbol_in, IsEntity};
+ghost use Rattle.scip_symbol.specs.Entities.{
+  OfFile,
+  OfPackage,
+  OfDeclaration,
+  suffix_of,
+  namespace_of,
+  step_descriptor,
+  global_in,
+  symbol_in,
+  IsEntity,
+};
 
 use crate::package::PackageId;
 use crate::symbol::{Descriptor, GlobalSymbol, Suffix, Symbol, SymbolParts};
@@ -65,12 +75,14 @@ fn push_step(
     Ok(())
 }
 
+/// Appends the namespaces of all components.
 fn push_namespaces(
     alloc: Global,
     descriptors: &mut Vec<Descriptor>,
     components: &[Component],
 ) -> Result<(), AllocError>
-    ensures { OnOk result (descriptors.new.items ≡ descriptors.old.items ++ map namespace_of (component_names components.now)) }
+    ensures { OnOk result (descriptors.new.items ≡ descriptors.old.items ++ map namespace_of
+        (component_names components.now)) }
 {
     for component in components {
         push_namespace(alloc, descriptors, component.name.as_str())?;
@@ -78,6 +90,7 @@ fn push_namespaces(
     Ok(())
 }
 
+/// Appends the descriptors of steps.
 fn push_steps(
     alloc: Global,
     descriptors: &mut Vec<Descriptor>,
@@ -160,7 +173,8 @@ pub fn symbol_of(
     way: &DeclarationPath,
 ) -> Result<Symbol, AllocError>
     requires { IsEntity (OfDeclaration (component_names components.now) way.now) }
-    ensures { IfOk result (λ symbol. symbol ≡ symbol_in id.now (OfDeclaration (component_names components.now) way.now)) }
+    ensures { IfOk result (λ symbol. symbol ≡ symbol_in id.now (OfDeclaration (component_names components.now)
+        way.now)) }
 {
     let mut descriptors = Vec::new(alloc);
     push_namespaces(alloc, &mut descriptors, components)?;

@@ -5,7 +5,14 @@ ghost use denote.Ref.{Bor};
 ghost use Rattle.std.specs.String.{string_bytes};
 ghost use Rattle.proto_decl.specs.Ancestors.{component_names};
 ghost use Rattle.scip_symbol.specs.SymbolText.{descriptor_text, symbol_text};
-ghost use Rattle.scip_symbol.specs.Entities.{OfFile, OfPackage, OfDeclaration, namespace_of, step_descriptor, symbol_in};
+ghost use Rattle.scip_symbol.specs.Entities.{
+  OfFile,
+  OfPackage,
+  OfDeclaration,
+  namespace_of,
+  step_descriptor,
+  symbol_in,
+};
 ghost use Rattle.scip_symbol.specs.EntityTexts.{front_with, front_in, namespaces_text, steps_text};
 ghost use Rattle.scip_symbol.specs.Package.{Package};
 
@@ -54,8 +61,10 @@ fn push_step(out: &mut String, step: &DeclarationStep) -> Result<(), AllocError>
     push_suffix(out, &suffix)
 }
 
+/// Appends the texts of the namespaces of all components.
 fn push_namespaces(out: &mut String, components: &[Component]) -> Result<(), AllocError>
-    ensures { OnOk result (string_bytes out.new ≡ string_bytes out.old ++ namespaces_text (component_names components.now)) }
+    ensures { OnOk result (string_bytes out.new ≡ string_bytes out.old ++ namespaces_text
+        (component_names components.now)) }
 {
     for component in components {
         push_namespace(out, component.name.as_str())?;
@@ -63,8 +72,10 @@ fn push_namespaces(out: &mut String, components: &[Component]) -> Result<(), All
     Ok(())
 }
 
+/// Appends the texts of the namespaces of names.
 fn push_names(out: &mut String, names: &[&str]) -> Result<(), AllocError>
-    ensures { OnOk result (string_bytes out.new ≡ string_bytes out.old ++ namespaces_text (map (λ (name : Bor (List ℕ)). name.now) names.now)) }
+    ensures { OnOk result (string_bytes out.new ≡ string_bytes out.old ++ namespaces_text
+        (map (λ (name : Bor (List ℕ)). name.now) names.now)) }
 {
     for name in names {
         push_namespace(out, name)?;
@@ -72,6 +83,7 @@ fn push_names(out: &mut String, names: &[&str]) -> Result<(), AllocError>
     Ok(())
 }
 
+/// Appends the texts of the descriptors of steps.
 fn push_steps(out: &mut String, way: &[DeclarationStep]) -> Result<(), AllocError>
     ensures { OnOk result (string_bytes out.new ≡ string_bytes out.old ++ steps_text way.now) }
 {
@@ -106,7 +118,8 @@ pub fn print_package(
     id: &PackageId,
     components: &[Component],
 ) -> Result<String, AllocError>
-    ensures { IfOk result (λ text. string_bytes text ≡ symbol_text (symbol_in id.now (OfPackage (component_names components.now)))) }
+    ensures { IfOk result (λ text. string_bytes text ≡ symbol_text (symbol_in id.now
+        (OfPackage (component_names components.now)))) }
 {
     let mut text = String::with_capacity(alloc, ROOM)?;
     push_front(&mut text, id)?;
@@ -120,7 +133,8 @@ pub fn print_package_named(
     id: &PackageId,
     names: &[&str],
 ) -> Result<String, AllocError>
-    ensures { IfOk result (λ text. string_bytes text ≡ symbol_text (symbol_in id.now (OfPackage (map (λ (name : Bor (List ℕ)). name.now) names.now)))) }
+    ensures { IfOk result (λ text. string_bytes text ≡ symbol_text (symbol_in id.now
+        (OfPackage (map (λ (name : Bor (List ℕ)). name.now) names.now)))) }
 {
     let mut text = String::with_capacity(alloc, ROOM)?;
     push_front(&mut text, id)?;
@@ -136,7 +150,8 @@ pub fn print_declaration(
     components: &[Component],
     way: &DeclarationPath,
 ) -> Result<String, AllocError>
-    ensures { IfOk result (λ text. string_bytes text ≡ symbol_text (symbol_in id.now (OfDeclaration (component_names components.now) way.now))) }
+    ensures { IfOk result (λ text. string_bytes text ≡ symbol_text (symbol_in id.now
+        (OfDeclaration (component_names components.now) way.now))) }
 {
     let mut text = String::with_capacity(alloc, ROOM)?;
     push_front(&mut text, id)?;

@@ -68,7 +68,8 @@ impl PackageId {
     pub fn new(parts: [String; 3]) -> Result<PackageId, BadPart>
         ensures package { IfOk result (λ p. p ≡ package_of (map string_bytes parts)) }
         ensures accepted { IsPackage (package_of (map string_bytes parts)) → IsOk result }
-        ensures bad { IfErr result (λ e. (e.parts ≡ parts) × (e.part < 3) × IsFirstBad (map string_bytes parts) e.part) }
+        ensures bad { IfErr result (λ e. (e.parts ≡ parts) × (e.part < 3) × IsFirstBad (map string_bytes parts)
+            e.part) }
     {
         match first_bad_part(&parts) {
             Some(part) => Err(BadPart { part, parts }),

@@ -4,7 +4,16 @@ ghost use Rattle.std.specs.Prelude.{◌≡◌, ◌++◌, ◌<◌, ◌∷◌, [],
 ghost use Rattle.std.specs.List.{list_all};
 ghost use Rattle.std.specs.String.{string_bytes};
 ghost use Rattle.scip_symbol.specs.Names.{is_identifier_character, is_simple_identifier, doubled, space};
-ghost use Rattle.scip_symbol.specs.SymbolText.{part_text, name_text, front_text, suffix_text, descriptor_text, descriptors_text, global_text, symbol_text};
+ghost use Rattle.scip_symbol.specs.SymbolText.{
+  part_text,
+  name_text,
+  front_text,
+  suffix_text,
+  descriptor_text,
+  descriptors_text,
+  global_text,
+  symbol_text,
+};
 ghost use Rattle.scip_symbol.specs.SpellsSymbol.{SpellsSymbol};
 
 use crate::symbol::{Descriptor, GlobalSymbol, Suffix, Symbol, SymbolParts};
@@ -17,6 +26,7 @@ pub(crate) fn is_identifier_character(byte: u8) -> bool
     byte.is_ascii_alphanumeric() || b"_+-$".contains(&byte)
 }
 
+/// Whether a name may have all these bytes without backticks.
 fn are_identifier_characters(bytes: &[u8]) -> bool
     ensures { result ≡ list_all is_identifier_character bytes.now }
 {
@@ -89,6 +99,7 @@ pub(crate) fn push_suffix(out: &mut String, suffix: &Suffix) -> Result<(), Alloc
     }
 }
 
+/// Appends a descriptor.
 fn push_descriptor(out: &mut String, descriptor: &Descriptor) -> Result<(), AllocError>
     ensures { OnOk result (string_bytes out.new ≡ string_bytes out.old ++ descriptor_text descriptor.now) }
 {
@@ -97,6 +108,7 @@ fn push_descriptor(out: &mut String, descriptor: &Descriptor) -> Result<(), Allo
     push_suffix(out, &descriptor.suffix)
 }
 
+/// Appends descriptors.
 fn push_descriptors(out: &mut String, descriptors: &[Descriptor]) -> Result<(), AllocError>
     ensures { OnOk result (string_bytes out.new ≡ string_bytes out.old ++ descriptors_text descriptors.now) }
 {
@@ -117,6 +129,7 @@ pub(crate) fn push_part(out: &mut String, part: &str) -> Result<(), AllocError>
     out.push_str(" ")
 }
 
+/// Appends the text of a global symbol.
 fn push_global(out: &mut String, symbol: &GlobalSymbol) -> Result<(), AllocError>
     ensures { OnOk result (string_bytes out.new ≡ string_bytes out.old ++ global_text symbol.now) }
 {
@@ -128,6 +141,7 @@ fn push_global(out: &mut String, symbol: &GlobalSymbol) -> Result<(), AllocError
     push_descriptors(out, symbol.descriptors.as_slice())
 }
 
+/// Appends the text of a symbol.
 fn push_symbol(out: &mut String, symbol: &SymbolParts) -> Result<(), AllocError>
     ensures { OnOk result (string_bytes out.new ≡ string_bytes out.old ++ symbol_text symbol.now) }
 {

@@ -3,11 +3,41 @@
 //! The private readers see only the rest of a text. So their `BadSymbol` has the number of bytes that are left at the
 //! place if no symbol goes on like this. `read` turns it into the offset.
 
-ghost use Rattle.std.specs.Prelude.{◌≡◌, ◌<◌, ◌++◌, [], ◌∷◌, false, length, IfOk, IfErr, OnOk, MatchOption, MatchResult};
+ghost use Rattle.std.specs.Prelude.{
+  ◌≡◌,
+  ◌<◌,
+  ◌++◌,
+  [],
+  ◌∷◌,
+  false,
+  length,
+  IfOk,
+  IfErr,
+  OnOk,
+  MatchOption,
+  MatchResult,
+};
 ghost use Rattle.std.specs.Prelude.{take, drop};
 ghost use Rattle.scip_symbol.specs.Names.{is_identifier_character, space};
 ghost use Rattle.scip_symbol.specs.Gives.{Gives};
-ghost use Rattle.scip_symbol.specs.Reading.{after, expect_at, undoubled_at, run_len, simple_at, name_at, disambiguator_at, suffix_at, enclosed_at, descriptor_at, descriptors_at, spaced_at, part_at, global_at, local_at, symbol_at};
+ghost use Rattle.scip_symbol.specs.Reading.{
+  after,
+  expect_at,
+  undoubled_at,
+  run_len,
+  simple_at,
+  name_at,
+  disambiguator_at,
+  suffix_at,
+  enclosed_at,
+  descriptor_at,
+  descriptors_at,
+  spaced_at,
+  part_at,
+  global_at,
+  local_at,
+  symbol_at,
+};
 ghost use Rattle.scip_symbol.specs.SpellsSymbol.{SpellsSymbol};
 ghost use Rattle.scip_symbol.specs.LongestFront.{IsFaultOf};
 ghost use Rattle.scip_symbol.specs.declared.symbol.SymbolParts.{SymbolParts};
@@ -160,6 +190,7 @@ fn read_enclosed<'a>(
     Ok((Descriptor { name, suffix }, rest))
 }
 
+/// The descriptor at the front of a text, and what is behind it.
 #[tactic(auto, unfolding(crate::specs::Reading::descriptor_at))]
 fn read_descriptor<'a>(alloc: Global, text: &'a str) -> Result<(Descriptor, &'a str), SymbolFault>
     ensures { Gives (λ x. (x.0, x.1.now)) result (descriptor_at text.now) }
@@ -222,6 +253,7 @@ fn read_part<'a>(alloc: Global, text: &'a str) -> Result<(OwnedText, &'a str), S
     Ok((word, rest))
 }
 
+/// The global symbol that a text spells.
 #[tactic(auto, unfolding(crate::specs::Reading::global_at))]
 fn read_global(alloc: Global, text: &str) -> Result<SymbolParts, SymbolFault>
     ensures { Gives (λ s. s) result (global_at text.now) }
@@ -254,6 +286,7 @@ fn read_local(alloc: Global, text: &str) -> Result<SymbolParts, SymbolFault>
     }
 }
 
+/// The symbol that a text spells, local or global.
 #[tactic(auto, unfolding(crate::specs::Reading::symbol_at))]
 fn read_parts(alloc: Global, text: &str) -> Result<SymbolParts, SymbolFault>
     ensures { Gives (λ s. s) result (symbol_at text.now) }

@@ -13,7 +13,8 @@ ghost use Rattle.scip_wire.specs.WellFormed.{IsWellFormed};
 
 /// Bytes have at most one field list (Protocol Buffers encoding).
 pub fn bytes_have_one_field_list()
-    ensures { (bytes : List ℕ) (fields others : List Field) → HasFields bytes fields → HasFields bytes others → fields ≡ others }
+    ensures { (bytes : List ℕ) (fields others : List Field) → HasFields bytes fields → HasFields bytes others
+        → fields ≡ others }
 {}
 
 /// Bytes decode to at most one index.
@@ -56,5 +57,6 @@ pub fn spelling_decodes_to_its_index()
 /// The spelling of an index is that of its pieces: its metadata's record, one of each document, and those
 /// of its external entries, one after another.
 pub fn spelling_is_of_pieces()
-    ensures { (i : Index) → spelling_of i ≡ joined_pieces i.metadata (map document_record i.documents) i.external_symbols }
+    ensures { (i : Index) → spelling_of i ≡ joined_pieces i.metadata (map document_record i.documents)
+        i.external_symbols }
 {}

@@ -21,8 +21,10 @@ fn write_in_order<W: Sink>(
     sink: &mut W,
 ) -> Result<(), CutOff>
     requires { length (joined_pieces metadata.now documents.now external_symbols.now) ≤ max_index_len }
-    ensures ok { OnOk result (IsWritten W.contents W.failures sink.old sink.new (joined_pieces metadata.now documents.now external_symbols.now)) }
-    ensures err { IfErr result (λ e. IsCutOff W.contents W.failures sink.old sink.new (joined_pieces metadata.now documents.now external_symbols.now) e.written) }
+    ensures ok { OnOk result (IsWritten W.contents W.failures sink.old sink.new
+        (joined_pieces metadata.now documents.now external_symbols.now)) }
+    ensures err { IfErr result (λ e. IsCutOff W.contents W.failures sink.old sink.new
+        (joined_pieces metadata.now documents.now external_symbols.now) e.written) }
 {
     let mut out = Buffer::new();
     encode_pieces(&mut out, sink, metadata, documents, external_symbols);
@@ -37,9 +39,12 @@ pub fn write_pieces<W: Sink>(
     external_symbols: &Sequence<SymbolInformation>,
     sink: &mut W,
 ) -> Result<(), WriteFault>
-    ensures ok { OnOk result (IsWritten W.contents W.failures sink.old sink.new (joined_pieces metadata.now documents.now external_symbols.now)) }
-    ensures too_large { (result ≡ Err WriteFault.TooLarge) ↔ (max_index_len < length (joined_pieces metadata.now documents.now external_symbols.now)) }
-    ensures refused { IfErr result (Leaves W.contents W.failures sink.old sink.new (joined_pieces metadata.now documents.now external_symbols.now)) }
+    ensures ok { OnOk result (IsWritten W.contents W.failures sink.old sink.new
+        (joined_pieces metadata.now documents.now external_symbols.now)) }
+    ensures too_large { (result ≡ Err WriteFault.TooLarge) ↔ (max_index_len < length
+        (joined_pieces metadata.now documents.now external_symbols.now)) }
+    ensures refused { IfErr result (Leaves W.contents W.failures sink.old sink.new
+        (joined_pieces metadata.now documents.now external_symbols.now)) }
     ensures known { IfSome metadata.now IsFitMetadata }
     ensures known_externals { All IsFitInfo external_symbols.now }
 {

@@ -37,12 +37,14 @@ use std::alloc::Global;
 /// `bytes_decode_or_have_a_fault`).
 pub fn read_index(alloc: Global, bytes: &[u8]) -> Result<Index, WireFault>
     ensures found { IfOk result (λ index. Decodes bytes.now index) }
-    ensures only { (index : Index) → Decodes bytes.now index → MatchResult result (λ i. i ≡ index) (λ e. e ≡ WireFault.Memory) }
+    ensures only { (index : Index) → Decodes bytes.now index → MatchResult result (λ i. i ≡ index)
+        (λ e. e ≡ WireFault.Memory) }
     ensures fault { IfErr result (λ e. (e ≡ WireFault.Memory) ⊎ NoIndex bytes.now e) }
 {
     read_whole(alloc, bytes)
 }
 
+/// The index whose record is all the bytes.
 #[tactic(auto, unfolding(crate::specs::Reading::index_at, crate::specs::Blamed::index_fault))]
 fn read_whole(alloc: Global, bytes: &[u8]) -> Result<Index, WireFault>
     ensures reads { Gives (λ i. i) result (index_at bytes.now) }

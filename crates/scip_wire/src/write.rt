@@ -43,7 +43,8 @@ pub fn spell_index(alloc: Global, index: &Index) -> Result<Vec<u8>, SpellFault>
 fn write_spelling<W: Sink>(index: &Index, sink: &mut W) -> Result<(), CutOff>
     requires { length (spelling_of index.now) ≤ max_index_len }
     ensures ok { OnOk result (IsWritten W.contents W.failures sink.old sink.new (spelling_of index.now)) }
-    ensures err { IfErr result (λ e. IsCutOff W.contents W.failures sink.old sink.new (spelling_of index.now) e.written) }
+    ensures err { IfErr result (λ e. IsCutOff W.contents W.failures sink.old sink.new (spelling_of index.now)
+        e.written) }
 {
     let mut out = Buffer::new();
     index.encode(&mut out, sink);

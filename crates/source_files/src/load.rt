@@ -1,6 +1,19 @@
 //! The tree of the sources below a root and the files below included roots.
 
-ghost use Rattle.std.specs.Prelude.{◌≡◌, ◌+◌, ◌++◌, ◌<◌, Some, IfOk, IfErr, MatchResult, length, map, slice_get, string_bytes};
+ghost use Rattle.std.specs.Prelude.{
+  ◌≡◌,
+  ◌+◌,
+  ◌++◌,
+  ◌<◌,
+  Some,
+  IfOk,
+  IfErr,
+  MatchResult,
+  length,
+  map,
+  slice_get,
+  string_bytes,
+};
 ghost use Rattle.std.specs.Option.{option_map};
 ghost use Rattle.source_tree.specs.Trees.{IsTreeOf};
 ghost use Rattle.source_files.specs.Roots.{AreBelowEach};
@@ -48,7 +61,8 @@ fn path_of(files: Vec<Source>, number: usize) -> String
 // The path of the file with a number, through the sources and then the included files.
 fn path_among(sources: Vec<Source>, included: Vec<Source>, number: usize) -> String
     requires { number < length sources.items + length included.items }
-    ensures { option_map (λ file. file.path) (slice_get (sources.items ++ included.items) number) ≡ Some (string_bytes result) }
+    ensures { option_map (λ file. file.path) (slice_get (sources.items ++ included.items) number)
+        ≡ Some (string_bytes result) }
 {
     let count = sources.len();
     if number < count {
@@ -118,7 +132,8 @@ pub fn load_tree_with_paths<R: Threads + Wait, G: Gate, F: ReadFiles + Sync>(
     root: &str,
     included: &[String],
 ) -> Result<LoadedTree, LoadFault>
-    ensures loaded { IfOk result (λ loaded. IsLoadedBelow (F.lists readers.now.files.now) (F.gives readers.now.files.now)
+    ensures loaded { IfOk result (λ loaded. IsLoadedBelow (F.lists readers.now.files.now)
+        (F.gives readers.now.files.now)
         root.now (map string_bytes included.now) loaded.tree (map string_bytes loaded.own.items)
         (map (λ paths. map string_bytes paths.items) loaded.others.items)) }
     ensures refused { IfErr result (MayNotLoad (F.lists readers.now.files.now) (F.gives readers.now.files.now) root.now

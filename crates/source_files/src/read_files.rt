@@ -20,7 +20,8 @@ pub trait ReadFiles {
     /// The paths below a root of the regular files there whose names end in `.proto`, by their bytes. None if the
     /// root, or a folder below it, can't be read.
     fn list_sources(&self, alloc: Global, root: &str) -> Result<Option<Vec<String>>, AllocError>
-        ensures { IfOk result (λ listed. lists self.now root.now (option_map (λ paths. map string_bytes paths.items) listed)) };
+        ensures { IfOk result (λ listed. lists self.now root.now (option_map (λ paths. map string_bytes paths.items)
+            listed)) };
 
     /// The bytes of the file with a path. None if it can't be read.
     fn read_file(&self, alloc: Global, path: &str) -> Result<Option<Vec<u8>>, AllocError>

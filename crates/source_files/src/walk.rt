@@ -27,6 +27,7 @@ struct Walk {
     paths: Vec<String>,
 }
 
+// Three texts, one behind the other.
 fn joined(alloc: Global, front: &str, name: &str, end: &str) -> Result<String, AllocError> {
     let length = front.len().saturating_add(name.len());
     let mut path = String::with_capacity(alloc, length.saturating_add(end.len()))?;

@@ -58,7 +58,8 @@ fn empty_lists(alloc: Global, lines: &[&str]) -> Result<Vec<Vec<usize>>, AllocEr
 /// Appends a number to the list of a line.
 fn add_on(table: &mut [Vec<usize>], line: usize, number: usize) -> Result<(), AllocError>
     ensures count { length table.new ≡ length table.old }
-    ensures listed { OnOk result ((at : ℕ) → at < length table.old → listed_on table.new at ≡ listed_on table.old at ++ cond (line == at) (number ∷ []) []) }
+    ensures listed { OnOk result ((at : ℕ) → at < length table.old → listed_on table.new at ≡ listed_on table.old at
+        ++ cond (line == at) (number ∷ []) []) }
 {
     if line < table.len() {
         table[line].push(number)?;
@@ -73,7 +74,8 @@ fn add(
     number: usize,
 ) -> Result<(), AllocError>
     ensures count { length table.new ≡ length table.old }
-    ensures listed { OnOk result ((at : ℕ) → at < length table.old → listed_on table.new at ≡ listed_on table.old at ++ cond (spec.begins_on occurrences.now at number) (number ∷ []) []) }
+    ensures listed { OnOk result ((at : ℕ) → at < length table.old → listed_on table.new at ≡ listed_on table.old at
+        ++ cond (spec.begins_on occurrences.now at number) (number ∷ []) []) }
 {
     match occurrences.get(number) {
         Some(occurrence) => add_on(table, occurrence.range.start_line() as usize, number),
@@ -89,7 +91,8 @@ fn by_line(
     listed: &[usize],
 ) -> Result<Vec<Vec<usize>>, AllocError>
     ensures count { IfOk result (λ table. length table.items ≡ length lines.now) }
-    ensures listed { IfOk result (λ table. (line : ℕ) → line < length lines.now → listed_on table.items line ≡ filter (spec.begins_on occurrences.now line) listed.now) }
+    ensures listed { IfOk result (λ table. (line : ℕ) → line < length lines.now → listed_on table.items line
+        ≡ filter (spec.begins_on occurrences.now line) listed.now) }
 {
     let mut table = empty_lists(alloc, lines)?;
     for number in listed {
@@ -177,7 +180,8 @@ fn push_numbered(
     marking: &[usize],
     number: usize,
 ) -> Result<(), AllocError>
-    ensures { OnOk result (page.new.items ≡ page.old.items ++ spec.line_text code.now.unit code.now.occurrences.now code.now.links.now (map (λ (l : Bor (List ℕ)). l.now) code.now.lines.now) marking.now number) }
+    ensures { OnOk result (page.new.items ≡ page.old.items ++ spec.line_text code.now.unit code.now.occurrences.now
+        code.now.links.now (map (λ (l : Bor (List ℕ)). l.now) code.now.lines.now) marking.now number) }
 {
     let line = line_at(code.lines, number.saturating_sub(1)).as_bytes();
     push_lead(page, number)?;
@@ -204,7 +208,9 @@ fn push_all_numbered(
     table: &[Vec<usize>],
     numbers: &[usize],
 ) -> Result<(), AllocError>
-    ensures { OnOk result (page.new.items ≡ page.old.items ++ flat_map (spec.line_by code.now.unit code.now.occurrences.now code.now.links.now (map (λ (l : Bor (List ℕ)). l.now) code.now.lines.now) (listed_on table.now)) numbers.now) }
+    ensures { OnOk result (page.new.items ≡ page.old.items ++ flat_map (spec.line_by code.now.unit
+        code.now.occurrences.now code.now.links.now (map (λ (l : Bor (List ℕ)). l.now) code.now.lines.now)
+        (listed_on table.now)) numbers.now) }
 {
     for number in numbers {
         let marking = listed_on(table, number.saturating_sub(1));
@@ -215,7 +221,8 @@ fn push_all_numbered(
 
 /// For each line the occurrences that begin on it.
 fn table_of(alloc: Global, code: &Code<'_>) -> Result<Vec<Vec<usize>>, AllocError>
-    ensures { IfOk result (λ table. (line : ℕ) → line < length code.now.lines.now → listed_on table.items line ≡ spec.beginning code.now.occurrences.now line) }
+    ensures { IfOk result (λ table. (line : ℕ) → line < length code.now.lines.now → listed_on table.items line
+        ≡ spec.beginning code.now.occurrences.now line) }
 {
     let listed = numbers(alloc, code.occurrences.len())?;
     let table = by_line(alloc, code.lines, code.occurrences, &listed)?;
@@ -228,7 +235,8 @@ pub(crate) fn push_code(
     page: &mut Vec<u8>,
     code: &Code<'_>,
 ) -> Result<(), AllocError>
-    ensures { OnOk result (page.new.items ≡ page.old.items ++ spec.code_text code.now.unit code.now.occurrences.now code.now.links.now (map (λ (l : Bor (List ℕ)). l.now) code.now.lines.now)) }
+    ensures { OnOk result (page.new.items ≡ page.old.items ++ spec.code_text code.now.unit code.now.occurrences.now
+        code.now.links.now (map (λ (l : Bor (List ℕ)). l.now) code.now.lines.now)) }
 {
     let table = table_of(alloc, code)?;
     let numbers = line_numbers(alloc, code.lines)?;

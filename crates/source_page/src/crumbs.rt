@@ -51,7 +51,8 @@ fn push_name(
     name: &str,
     others: &[&str],
 ) -> Result<(), AllocError>
-    ensures { OnOk result (page.new.items ≡ page.old.items ++ spec.name_text from.now folder.now name.now (map (λ (n : Bor (List ℕ)). n.now) others.now)) }
+    ensures { OnOk result (page.new.items ≡ page.old.items ++ spec.name_text from.now folder.now name.now
+        (map (λ (n : Bor (List ℕ)). n.now) others.now)) }
 {
     match others {
         [] => push_last(page, name.as_bytes()),
@@ -66,7 +67,8 @@ fn push_names(
     from: &str,
     names: &[&str],
 ) -> Result<(), AllocError>
-    ensures { OnOk result (page.new.items ≡ page.old.items ++ spec.names_text from.now [] (map (λ (n : Bor (List ℕ)). n.now) names.now)) }
+    ensures { OnOk result (page.new.items ≡ page.old.items ++ spec.names_text from.now []
+        (map (λ (n : Bor (List ℕ)). n.now) names.now)) }
 {
     let mut folder = Vec::new(alloc);
     let mut rest = names;

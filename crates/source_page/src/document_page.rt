@@ -44,7 +44,9 @@ fn push_main<'a>(
     firsts: &[Place],
 ) -> Result<(), AllocError>
     requires { AreRight site.now.queries.now site.now.sources.now facts.now.facts.items }
-    ensures { OnOk result (page.new.items ≡ page.old.items ++ spec.main_text site.now.queries.now site.now.sources.now code.now.unit code.now.occurrences.now code.now.links.now (map (λ (l : Bor (List ℕ)). l.now) code.now.lines.now) firsts.now) }
+    ensures { OnOk result (page.new.items ≡ page.old.items ++ spec.main_text site.now.queries.now site.now.sources.now
+        code.now.unit code.now.occurrences.now code.now.links.now (map (λ (l : Bor (List ℕ)). l.now) code.now.lines.now)
+        firsts.now) }
 {
     page.extend_from_slice(b"<main>\n<pre>")?;
     push_code(alloc, page, code)?;
@@ -64,7 +66,9 @@ fn page_with<'a>(
     firsts: &[Place],
 ) -> Result<Vec<u8>, AllocError>
     requires { AreRight site.now.queries.now site.now.sources.now facts.now.facts.items }
-    ensures { IfOk result (λ page. page.items ≡ spec.start_text path.now ++ spec.main_text site.now.queries.now site.now.sources.now code.now.unit code.now.occurrences.now code.now.links.now (map (λ (l : Bor (List ℕ)). l.now) code.now.lines.now) firsts.now) }
+    ensures { IfOk result (λ page. page.items ≡ spec.start_text path.now ++ spec.main_text site.now.queries.now
+        site.now.sources.now code.now.unit code.now.occurrences.now code.now.links.now
+        (map (λ (l : Bor (List ℕ)). l.now) code.now.lines.now) firsts.now) }
 {
     let mut page = Vec::new(alloc);
     push_start(alloc, &mut page, path)?;
@@ -83,8 +87,11 @@ pub fn page_and_firsts<'a>(
 ) -> Result<Vec<u8>, AllocError>
     requires { AreRight site.now.queries.now site.now.sources.now facts.old.facts.items }
     ensures right { AreRight site.now.queries.now site.now.sources.now facts.new.facts.items }
-    ensures page { IfOk result (λ page. page.items ≡ spec.page_of site.now.queries.now site.now.sources.now asked.now.number asked.now.document.now asked.now.unit (map (λ (l : Bor (List ℕ)). l.now) asked.now.lines.now)) }
-    ensures firsts { IfOk result (λ page. defined.new.items ≡ defined.old.items ++ spec.firsts_of site.now.queries.now site.now.sources.now asked.now.number asked.now.document.now) }
+    ensures page { IfOk result (λ page. page.items ≡ spec.page_of site.now.queries.now site.now.sources.now
+        asked.now.number asked.now.document.now asked.now.unit (map (λ (l : Bor (List ℕ)). l.now)
+        asked.now.lines.now)) }
+    ensures firsts { IfOk result (λ page. defined.new.items ≡ defined.old.items ++ spec.firsts_of site.now.queries.now
+        site.now.sources.now asked.now.number asked.now.document.now) }
 {
     let places = places_of(alloc, asked.number, asked.document)?;
     let linked = linked_of(alloc, site, facts, &places)?;
@@ -109,7 +116,9 @@ pub fn page<'a>(
 ) -> Result<Vec<u8>, AllocError>
     requires { AreRight site.now.queries.now site.now.sources.now facts.old.facts.items }
     ensures right { AreRight site.now.queries.now site.now.sources.now facts.new.facts.items }
-    ensures page { IfOk result (λ page. page.items ≡ spec.page_of site.now.queries.now site.now.sources.now asked.now.number asked.now.document.now asked.now.unit (map (λ (l : Bor (List ℕ)). l.now) asked.now.lines.now)) }
+    ensures page { IfOk result (λ page. page.items ≡ spec.page_of site.now.queries.now site.now.sources.now
+        asked.now.number asked.now.document.now asked.now.unit (map (λ (l : Bor (List ℕ)). l.now)
+        asked.now.lines.now)) }
 {
     let mut firsts = Vec::new(alloc);
     page_and_firsts(alloc, site, facts, asked, &mut firsts)

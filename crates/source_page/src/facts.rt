@@ -203,7 +203,8 @@ fn known_by(
     symbol: &str,
 ) -> Result<Known, AllocError>
     requires { Tells site.now.queries.now site.now.sources.now document symbol.now fact.now }
-    ensures { IfOk result (λ known. known ≡ spec.known_of site.now.queries.now site.now.sources.now document symbol.now) }
+    ensures { IfOk result (λ known. known ≡ spec.known_of site.now.queries.now site.now.sources.now document
+        symbol.now) }
 {
     let label = label_of(alloc, symbol, fact.documentation)?;
     Ok(Known {
@@ -259,7 +260,8 @@ impl<'a> Facts<'a> {
     ) -> Result<Fact<'a>, AllocError>
         requires { AreRight site.now.queries.now site.now.sources.now self.old.facts.items }
         ensures right { AreRight site.now.queries.now site.now.sources.now self.new.facts.items }
-        ensures tells { IfOk result (λ fact. Tells site.now.queries.now site.now.sources.now place.document symbol.now fact) }
+        ensures tells { IfOk result (λ fact. Tells site.now.queries.now site.now.sources.now place.document symbol.now
+            fact) }
     {
         let hinted = hint_at(&self.hints, place);
         match fact_for(site, &self.facts, hinted, place.document, symbol) {
@@ -278,7 +280,8 @@ impl<'a> Facts<'a> {
     ) -> Result<Known, AllocError>
         requires { AreRight site.now.queries.now site.now.sources.now self.old.facts.items }
         ensures right { AreRight site.now.queries.now site.now.sources.now self.new.facts.items }
-        ensures found { IfOk result (λ known. known ≡ spec.known_of site.now.queries.now site.now.sources.now place.document symbol.now) }
+        ensures found { IfOk result (λ known. known ≡ spec.known_of site.now.queries.now site.now.sources.now
+            place.document symbol.now) }
     {
         let fact = self.fact_at(site, place, symbol)?;
         known_by(alloc, site, &fact, place.document, symbol)

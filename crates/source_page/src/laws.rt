@@ -1,6 +1,14 @@
 //! Laws of the crate, each the contract of a function that does nothing.
 
-ghost use Rattle.source_page.specs.Laws.{HasTheSource, LeadsToAPage, LeadsIfDefined, LinksLead, UsesLead, DefinitionsLead, EachUrlLeads};
+ghost use Rattle.source_page.specs.Laws.{
+  HasTheSource,
+  LeadsToAPage,
+  LeadsIfDefined,
+  LinksLead,
+  UsesLead,
+  DefinitionsLead,
+  EachUrlLeads,
+};
 
 /// The code of a page, without its marks and with its references undone, is the source, byte for byte, but that the
 /// picture of a NUL stands for a NUL.

@@ -132,8 +132,10 @@ fn push_linked<'a>(
 ) -> Result<(), AllocError>
     requires { AreRight site.now.queries.now site.now.sources.now facts.old.facts.items }
     ensures right { AreRight site.now.queries.now site.now.sources.now facts.new.facts.items }
-    ensures links { OnOk result (linked.new.links.items ≡ linked.old.links.items ++ spec.link_at site.now.queries.now site.now.sources.now place ∷ []) }
-    ensures firsts { OnOk result (linked.new.firsts.items ≡ linked.old.firsts.items ++ cond (spec.is_first site.now.queries.now site.now.sources.now place) (place ∷ []) []) }
+    ensures links { OnOk result (linked.new.links.items ≡ linked.old.links.items ++ spec.link_at site.now.queries.now
+        site.now.sources.now place ∷ []) }
+    ensures firsts { OnOk result (linked.new.firsts.items ≡ linked.old.firsts.items
+        ++ cond (spec.is_first site.now.queries.now site.now.sources.now place) (place ∷ []) []) }
 {
     let symbol = symbol_listed(site.queries.documents(), place);
     let known = facts.known_for(alloc, site, place, symbol)?;
@@ -152,8 +154,10 @@ pub(crate) fn linked_of<'a>(
 ) -> Result<Linked, AllocError>
     requires { AreRight site.now.queries.now site.now.sources.now facts.old.facts.items }
     ensures right { AreRight site.now.queries.now site.now.sources.now facts.new.facts.items }
-    ensures links { IfOk result (λ linked. linked.links.items ≡ map (spec.link_at site.now.queries.now site.now.sources.now) places.now) }
-    ensures firsts { IfOk result (λ linked. linked.firsts.items ≡ filter (spec.is_first site.now.queries.now site.now.sources.now) places.now) }
+    ensures links { IfOk result (λ linked. linked.links.items ≡ map (spec.link_at site.now.queries.now
+        site.now.sources.now) places.now) }
+    ensures firsts { IfOk result (λ linked. linked.firsts.items ≡ filter (spec.is_first site.now.queries.now
+        site.now.sources.now) places.now) }
 {
     let mut linked = Linked {
         links: Vec::with_capacity(alloc, places.len())?,

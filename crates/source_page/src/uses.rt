@@ -29,7 +29,8 @@ fn use_name(alloc: Global, path: &str, line: usize) -> Result<String, AllocError
 
 /// The name of the use at a place.
 fn name_at(alloc: Global, documents: &[Document], place: Place) -> Result<String, AllocError>
-    ensures { IfOk result (λ name. string_bytes name ≡ spec.use_name (path_listed documents.now place.document) (line_listed documents.now place)) }
+    ensures { IfOk result (λ name. string_bytes name ≡ spec.use_name (path_listed documents.now place.document)
+        (line_listed documents.now place)) }
 {
     let path = path_listed(documents, place.document);
     use_name(alloc, path, line_listed(documents, place))
@@ -74,7 +75,8 @@ fn push_if_use(
     definition: Place,
     place: Place,
 ) -> Result<(), AllocError>
-    ensures { OnOk result (page.new.items ≡ page.old.items ++ spec.use_or_none site.now.queries.now site.now.sources.now definition place) }
+    ensures { OnOk result (page.new.items ≡ page.old.items ++ spec.use_or_none site.now.queries.now site.now.sources.now
+        definition place) }
 {
     if is_use(site, definition, place) {
         push_use(alloc, page, site, definition.document, place)
@@ -92,7 +94,8 @@ fn push_uses<'a>(
     definition: Place,
 ) -> Result<(), AllocError>
     requires { AreRight site.now.queries.now site.now.sources.now facts.now.facts.items }
-    ensures { OnOk result (page.new.items ≡ page.old.items ++ spec.uses_text site.now.queries.now site.now.sources.now definition) }
+    ensures { OnOk result (page.new.items ≡ page.old.items ++ spec.uses_text site.now.queries.now site.now.sources.now
+        definition) }
 {
     let symbol = symbol_listed(site.queries.documents(), definition);
     let places = facts.places_for(site, definition, symbol);
@@ -108,7 +111,8 @@ pub fn name_of<'a>(
     lines: &'a [&'a str],
     occurrence: Option<&Occurrence>,
 ) -> &'a [u8]
-    ensures { result.now ≡ spec.name_of unit (map (λ (l : Bor (List ℕ)). l.now) lines.now) (option_copied occurrence.entry) }
+    ensures { result.now ≡ spec.name_of unit (map (λ (l : Bor (List ℕ)). l.now) lines.now)
+        (option_copied occurrence.entry) }
 {
     match occurrence {
         Some(occurrence) => {
@@ -155,7 +159,8 @@ fn push_defined_head(
     code: &Code<'_>,
     place: Place,
 ) -> Result<(), AllocError>
-    ensures { OnOk result (page.new.items ≡ page.old.items ++ spec.defined_head site.now.queries.now code.now.unit (map (λ (l : Bor (List ℕ)). l.now) code.now.lines.now) code.now.links.now place) }
+    ensures { OnOk result (page.new.items ≡ page.old.items ++ spec.defined_head site.now.queries.now code.now.unit
+        (map (λ (l : Bor (List ℕ)). l.now) code.now.lines.now) code.now.links.now place) }
 {
     let documents = site.queries.documents();
     let name = name_of(code.unit, code.lines, occurrence_listed(documents, place));
@@ -176,7 +181,9 @@ fn push_defined<'a>(
     place: Place,
 ) -> Result<(), AllocError>
     requires { AreRight site.now.queries.now site.now.sources.now facts.now.facts.items }
-    ensures { OnOk result (page.new.items ≡ page.old.items ++ spec.defined_text site.now.queries.now site.now.sources.now code.now.unit (map (λ (l : Bor (List ℕ)). l.now) code.now.lines.now) code.now.links.now place) }
+    ensures { OnOk result (page.new.items ≡ page.old.items ++ spec.defined_text site.now.queries.now
+        site.now.sources.now code.now.unit (map (λ (l : Bor (List ℕ)). l.now) code.now.lines.now) code.now.links.now
+        place) }
 {
     push_defined_head(alloc, page, site, code, place)?;
     push_uses(alloc, page, site, facts, place)
@@ -192,7 +199,9 @@ fn push_each_defined<'a>(
     firsts: &[Place],
 ) -> Result<(), AllocError>
     requires { AreRight site.now.queries.now site.now.sources.now facts.now.facts.items }
-    ensures { OnOk result (page.new.items ≡ page.old.items ++ flat_map (spec.defined_text site.now.queries.now site.now.sources.now code.now.unit (map (λ (l : Bor (List ℕ)). l.now) code.now.lines.now) code.now.links.now) firsts.now) }
+    ensures { OnOk result (page.new.items ≡ page.old.items ++ flat_map (spec.defined_text site.now.queries.now
+        site.now.sources.now code.now.unit (map (λ (l : Bor (List ℕ)). l.now) code.now.lines.now) code.now.links.now)
+        firsts.now) }
 {
     for place in firsts {
         push_defined(alloc, page, site, facts, code, *place)?;
@@ -210,7 +219,8 @@ pub(crate) fn push_all_defined<'a>(
     firsts: &[Place],
 ) -> Result<(), AllocError>
     requires { AreRight site.now.queries.now site.now.sources.now facts.now.facts.items }
-    ensures { OnOk result (page.new.items ≡ page.old.items ++ spec.all_defined site.now.queries.now site.now.sources.now code.now.unit (map (λ (l : Bor (List ℕ)). l.now) code.now.lines.now) code.now.links.now firsts.now) }
+    ensures { OnOk result (page.new.items ≡ page.old.items ++ spec.all_defined site.now.queries.now site.now.sources.now
+        code.now.unit (map (λ (l : Bor (List ℕ)). l.now) code.now.lines.now) code.now.links.now firsts.now) }
 {
     page.extend_from_slice(b"<aside><h2>Definitions and their uses</h2>\n<dl>\n")?;
     push_each_defined(alloc, page, site, facts, code, firsts)?;

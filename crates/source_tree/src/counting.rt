@@ -68,7 +68,8 @@ fn marks_of<'a>(
     taken: HashSet<&'a str>,
     included: &'a [Source],
 ) -> Result<Vec<bool>, AllocError>
-    ensures { IfOk result (λ marks. (paths : List (List ℕ)) → ((path : List ℕ) → has_path taken.entry path ≡ is_taken paths path) → marks.items ≡ marks_of paths included.now) }
+    ensures { IfOk result (λ marks. (paths : List (List ℕ)) → ((path : List ℕ) → has_path taken.entry path
+        ≡ is_taken paths path) → marks.items ≡ marks_of paths included.now) }
 {
     let mut taken = taken;
     let mut marks = Vec::with_capacity(alloc, included.len())?;

@@ -1,6 +1,24 @@
 //! Reading a source to its end.
 
-ghost use Rattle.std.specs.Prelude.{◌≡◌, ◌≤◌, ◌+◌, ◌-◌, ◌++◌, ℕ, List, Some, None, Ok, take, length, min, IfOk, IfErr, IfSome, OnOk};
+ghost use Rattle.std.specs.Prelude.{
+  ◌≡◌,
+  ◌≤◌,
+  ◌+◌,
+  ◌-◌,
+  ◌++◌,
+  ℕ,
+  List,
+  Some,
+  None,
+  Ok,
+  take,
+  length,
+  min,
+  IfOk,
+  IfErr,
+  IfSome,
+  OnOk,
+};
 ghost use Rattle.streams.specs.WholeReads.{IsReadThrough, IsReadFault, IsReadBriefly};
 ghost use Rattle.source_tree.specs.Reading.{kept_bytes, max_kept_length};
 
@@ -31,7 +49,8 @@ fn append_kept(bytes: &mut Vec<u8>, part: &[u8]) -> Result<(), AllocError>
 ///
 /// None if a read failed, or `MAX_READS` reads gave no end.
 pub fn read_source<R: Feed>(alloc: Global, source: &mut R) -> Result<Option<Vec<u8>>, AllocError>
-    ensures bytes { IfOk result (λ read. IfSome read (λ bytes. (all : List ℕ) → R.remaining source.old ≡ Some all → bytes.items ≡ kept_bytes all)) }
+    ensures bytes { IfOk result (λ read. IfSome read (λ bytes. (all : List ℕ) → R.remaining source.old ≡ Some all
+        → bytes.items ≡ kept_bytes all)) }
     ensures few { IfOk result (λ read. IfSome read (λ bytes. length bytes.items ≤ max_kept_length)) }
     ensures through { IfOk result (λ read. IfSome read (λ _. IsReadThrough R.failures R.ends source.old source.new)) }
     ensures read { result ≡ Ok None → IsReadFault R.failures R.reads R.ends source.old source.new }

@@ -1,6 +1,22 @@
 //! The tree of a run's files.
 
-ghost use Rattle.std.specs.Prelude.{◌≡◌, ℕ, ◌+◌, ◌<◌, ◌≤◌, ◌↔◌, ◌++◌, [], Some, IsTrue, IfOk, IfErr, MatchOption, length, slice_get};
+ghost use Rattle.std.specs.Prelude.{
+  ◌≡◌,
+  ℕ,
+  ◌+◌,
+  ◌<◌,
+  ◌≤◌,
+  ◌↔◌,
+  ◌++◌,
+  [],
+  Some,
+  IsTrue,
+  IfOk,
+  IfErr,
+  MatchOption,
+  length,
+  slice_get,
+};
 ghost use Rattle.std.specs.Option.{option_map};
 ghost use Rattle.source_tree.specs.Trees.{max_files, IsTree, IsSourceCount, IsTreeOf, HaveGoodPaths};
 ghost use Rattle.source_tree.specs.Refusals.{AreTooMany, IsFirstBad, MayRefuse, ComeBack};
@@ -131,7 +147,8 @@ impl Tree {
     // The file with a number, as it was handed in.
     fn file(&self, number: usize) -> &Source
         requires { number < length self.now }
-        ensures { option_map (λ file. record { path = file.path; bytes = file.bytes }) (slice_get self.now number) ≡ Some result.now }
+        ensures { option_map (λ file. record { path = file.path; bytes = file.bytes }) (slice_get self.now number)
+            ≡ Some result.now }
     {
         match self.sources.get(number) {
             Some(source) => source,
@@ -150,7 +167,8 @@ fn are_too_many(sources: &[Source], included: &[Source]) -> bool
 // The first file without a good path, through the sources and then the included files.
 fn first_bad_path(sources: &[Source], included: &[Source]) -> Option<usize>
     requires { length sources.now + length included.now ≤ max_files }
-    ensures { MatchOption result (HaveGoodPaths (sources.now ++ included.now)) (IsFirstBad (sources.now ++ included.now)) }
+    ensures { MatchOption result (HaveGoodPaths (sources.now ++ included.now))
+        (IsFirstBad (sources.now ++ included.now)) }
 {
     match first_bad(sources) {
         Some(number) => Some(number),

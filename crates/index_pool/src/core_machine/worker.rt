@@ -29,12 +29,14 @@ impl CoreWorker {
         })
     }
 
+    // Whether its queue is empty.
     pub(crate) fn is_queue_empty(&self) -> bool
         ensures { IsTrue result ↔ ((worker_state self.now).queue ≡ []) }
     {
         self.queue.is_empty()
     }
 
+    // Whether it has noted so.
     pub(crate) fn has_noted(&self) -> bool
         ensures { result ≡ (worker_state self.now).found_empty }
     {
@@ -52,8 +54,11 @@ impl CoreWorker {
 
     // Takes the first number off the queue.
     pub(crate) fn pop(&mut self) -> Option<usize>
-        ensures none { IfNone result (((worker_state self.old).queue ≡ []) × (worker_state self.new ≡ worker_state self.old)) }
-        ensures some { IfSome result (λ x. (0 < length (worker_state self.old).queue) × (x ≡ slice_index (worker_state self.old).queue 0) × (worker_state self.new ≡ unqueued (worker_state self.old))) }
+        ensures none { IfNone result (((worker_state self.old).queue ≡ [])
+            × (worker_state self.new ≡ worker_state self.old)) }
+        ensures some { IfSome result (λ x. (0 < length (worker_state self.old).queue)
+            × (x ≡ slice_index (worker_state self.old).queue 0) × (worker_state self.new
+            ≡ unqueued (worker_state self.old))) }
         ensures rooms { rooms self.new ≡ rooms self.old }
     {
         self.queue.pop_front()
@@ -68,6 +73,7 @@ impl CoreWorker {
         self.takings.push_reserved(number);
     }
 
+    // Notes that its queue is empty.
     pub(crate) fn note_empty(&mut self)
         ensures state { worker_state self.new ≡ noted (worker_state self.old) }
         ensures rooms { rooms self.new ≡ rooms self.old }

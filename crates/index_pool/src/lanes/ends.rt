@@ -1,7 +1,14 @@
 //! The two ends of a lane.
 
 ghost use Rattle.std.specs.Prelude.{◌≡◌, true};
-ghost use Rattle.crossbeam_deque.specs.Handles.{view, IsPassOf, stealer_deque, stealer_flavor, worker_flavor, worker_view};
+ghost use Rattle.crossbeam_deque.specs.Handles.{
+  view,
+  IsPassOf,
+  stealer_deque,
+  stealer_flavor,
+  worker_flavor,
+  worker_view,
+};
 
 use super::rule::{LaneRule, LaneView};
 use crossbeam_deque::{Pass, Stealer, Worker};

@@ -68,7 +68,8 @@ pub(crate) struct Pops;
 impl Outcome<usize, LaneView> for Pops {
     ghost use Rattle.index_pool.specs.Lane.{more_popped};
 
-    ghost then = { λ v xs w. (w ≡ more_popped v xs) × All (Contains v.given) xs × (length (v.popped ++ xs) ≤ length v.given) };
+    ghost then = { λ v xs w. (w ≡ more_popped v xs) × All (Contains v.given) xs
+        × (length (v.popped ++ xs) ≤ length v.given) };
 
     ghost empty = { λ v. v.owns ≡ true → v.steals ≡ true → IsPermutation v.given (v.popped ++ v.stolen) };
 }
@@ -80,7 +81,8 @@ pub(crate) struct Steals;
 impl Outcome<usize, LaneView> for Steals {
     ghost use Rattle.index_pool.specs.Lane.{more_stolen, IsShare};
 
-    ghost then = { λ v xs w. (w ≡ more_stolen v xs) × All (Contains v.given) xs × (length (v.stolen ++ xs) ≤ length v.given) };
+    ghost then = { λ v xs w. (w ≡ more_stolen v xs) × All (Contains v.given) xs
+        × (length (v.stolen ++ xs) ≤ length v.given) };
 
     ghost empty = { IsShare };
 }

@@ -46,6 +46,7 @@ fn placed<A: Drop>(
     Ok(slots)
 }
 
+// A slot for each input, with nothing in it.
 fn empty_slots<A: Drop>(alloc: Global, inputs: usize) -> Result<Vec<Option<A>>, AllocError>
     ensures { IfOk result (λ slots. (length slots.items ≡ inputs) × All (λ slot. slot ≡ None) slots.items) }
 {
@@ -56,6 +57,7 @@ fn empty_slots<A: Drop>(alloc: Global, inputs: usize) -> Result<Vec<Option<A>>, 
     Ok(slots)
 }
 
+// Puts an answer into its input's slot.
 fn put<A: Drop>(slots: &mut Vec<Option<A>>, number: usize, answer: A)
     requires { number < length slots.old.items }
     ensures { slots.new.items ≡ slice_set slots.old.items number (Some answer) }

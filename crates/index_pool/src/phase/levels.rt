@@ -2,7 +2,17 @@
 
 ghost use Rattle.std.specs.Prelude.{◌≡◌, ℕ, ◌+◌, ◌<◌, ◌≤◌, false, [], All, length, sum_by, IfOk, IfErr, IfSome, OnOk};
 ghost use Rattle.index_pool.specs.LaneEnds.{owner_deque, owner_view, thief_deque, thief_view};
-ghost use Rattle.index_pool.specs.PhaseSteps.{AllBelow, FreshPost, FreshLane, AllGiven, weight, Worked, Gathers, Settles, MayStop};
+ghost use Rattle.index_pool.specs.PhaseSteps.{
+  AllBelow,
+  FreshPost,
+  FreshLane,
+  AllGiven,
+  weight,
+  Worked,
+  Gathers,
+  Settles,
+  MayStop,
+};
 ghost use Rattle.index_pool.specs.declared.phase.fault.Stop.TheVariants.{Memory};
 
 use super::fault::Stop;
@@ -44,7 +54,8 @@ fn start<'s, E, J: Job, G: Gate>(
     starts: usize,
 ) -> Option<PromisedHandle<Done<Result<J::Out, J::Fault>>, Duty<J>>>
     requires { FreshPost (J.inputs task.now.job.now) post }
-    ensures { IfSome result (λ h. (h.promise.job.value ≡ task.now.job.now) × (h.promise.post.value ≡ post) × (0 < starts)) }
+    ensures { IfSome result (λ h. (h.promise.job.value ≡ task.now.job.now) × (h.promise.post.value ≡ post)
+        × (0 < starts)) }
 {
     if starts == 0 {
         return None;
@@ -173,8 +184,11 @@ pub(crate) fn close<J: Job, G: Gate>(
 ) -> Result<(), AllocError>
     requires deque { thief_deque thief ≡ owner_deque owner }
     requires below { AllBelow (J.inputs task.now.job.now) (owner_view owner).given }
-    ensures answers { AllGiven (J.gives task.now.job.now) results.old.items → AllGiven (J.gives task.now.job.now) results.new.items }
-    ensures weighed { OnOk result ((h : ℕ → ℕ) → weight h results.new.items + (sum_by h (owner_view owner).popped + sum_by h (thief_view thief).stolen) ≡ weight h results.old.items + sum_by h (owner_view owner).given) }
+    ensures answers { AllGiven (J.gives task.now.job.now) results.old.items → AllGiven (J.gives task.now.job.now)
+        results.new.items }
+    ensures weighed { OnOk result ((h : ℕ → ℕ) → weight h results.new.items +
+        (sum_by h (owner_view owner).popped + sum_by h (thief_view thief).stolen) ≡ weight h results.old.items + sum_by
+        h (owner_view owner).given) }
 {
     owner.rejoin(thief);
     run_own(task, &mut owner, results)?;

@@ -56,10 +56,13 @@ pub(crate) fn run_own<J: Job, G: Gate>(
 ) -> Result<(), AllocError>
     requires { AllBelow (J.inputs task.now.job.now) (owner_view owner.old).given }
     ensures owner { PoppedMore owner.old owner.new }
-    ensures answers { AllGiven (J.gives task.now.job.now) results.old.items → AllGiven (J.gives task.now.job.now) results.new.items }
-    ensures weighed { OnOk result ((h : ℕ → ℕ) → weight h results.new.items + sum_by h (owner_view owner.old).popped ≡ weight h results.old.items + sum_by h (owner_view owner.new).popped) }
+    ensures answers { AllGiven (J.gives task.now.job.now) results.old.items → AllGiven (J.gives task.now.job.now)
+        results.new.items }
+    ensures weighed { OnOk result ((h : ℕ → ℕ) → weight h results.new.items + sum_by h (owner_view owner.old).popped
+        ≡ weight h results.old.items + sum_by h (owner_view owner.new).popped) }
     ensures emptied { OnOk result (found_empty owner.new ≡ true) }
-    ensures whole { OnOk result ((owner_view owner.old).steals ≡ true → IsPermutation (owner_view owner.old).given ((owner_view owner.new).popped ++ (owner_view owner.old).stolen)) }
+    ensures whole { OnOk result ((owner_view owner.old).steals ≡ true → IsPermutation (owner_view owner.old).given
+        ((owner_view owner.new).popped ++ (owner_view owner.old).stolen)) }
 {
     'pops: loop {
         results.reserve(1)?;
@@ -82,8 +85,10 @@ fn run_stolen<J: Job, G: Gate>(
     requires own { found_empty own.now ≡ true }
     requires below { AllBelow (J.inputs task.now.job.now) (thief_view thief.old).given }
     ensures thief { StoleMore thief.old thief.new }
-    ensures answers { AllGiven (J.gives task.now.job.now) results.old.items → AllGiven (J.gives task.now.job.now) results.new.items }
-    ensures weighed { OnOk result ((h : ℕ → ℕ) → weight h results.new.items + sum_by h (thief_view thief.old).stolen ≡ weight h results.old.items + sum_by h (thief_view thief.new).stolen) }
+    ensures answers { AllGiven (J.gives task.now.job.now) results.old.items → AllGiven (J.gives task.now.job.now)
+        results.new.items }
+    ensures weighed { OnOk result ((h : ℕ → ℕ) → weight h results.new.items + sum_by h (thief_view thief.old).stolen
+        ≡ weight h results.old.items + sum_by h (thief_view thief.new).stolen) }
     ensures tried { OnOk result (tries_left thief.new ≡ 0) }
 {
     'steals: while thief.tries() > 0 {
@@ -145,8 +150,11 @@ fn run_both<J: Job, G: Gate>(
     ensures thief { StoleMore thief.old thief.new }
     ensures emptied { OnOk result (found_empty owner.new ≡ true) }
     ensures tried { OnOk result (tries_left thief.new ≡ 0) }
-    ensures answers { AllGiven (J.gives task.now.job.now) results.old.items → AllGiven (J.gives task.now.job.now) results.new.items }
-    ensures weighed { OnOk result ((h : ℕ → ℕ) → weight h results.new.items + (sum_by h (owner_view owner.old).popped + sum_by h (thief_view thief.old).stolen) ≡ weight h results.old.items + (sum_by h (owner_view owner.new).popped + sum_by h (thief_view thief.new).stolen)) }
+    ensures answers { AllGiven (J.gives task.now.job.now) results.old.items → AllGiven (J.gives task.now.job.now)
+        results.new.items }
+    ensures weighed { OnOk result ((h : ℕ → ℕ) → weight h results.new.items +
+        (sum_by h (owner_view owner.old).popped + sum_by h (thief_view thief.old).stolen) ≡ weight h results.old.items +
+        (sum_by h (owner_view owner.new).popped + sum_by h (thief_view thief.new).stolen)) }
 {
     run_own(task, owner, results)?;
     run_stolen(task, owner, thief, results)

@@ -76,7 +76,8 @@ pub fn take_only<M: Decode>(
     end: usize,
 ) -> Result<(), WireFault>
     requires { length bytes.now ≤ end }
-    ensures reads { Gives (λ _. place.new) result (only_after (λ b. fold_at field_at M.step b M.none) place.old bytes.now) }
+    ensures reads { Gives (λ _. place.new) result (only_after (λ b. fold_at field_at M.step b M.none) place.old
+        bytes.now) }
     ensures fault { Blames result
         (only_fault (λ end bytes. message_fault M.step M.step_fault end bytes M.none) start end place.old (Delimited bytes.now)) }
 {
@@ -97,7 +98,8 @@ pub fn add_message<M: Decode>(
     end: usize,
 ) -> Result<(), WireFault>
     requires { length bytes.now ≤ end }
-    ensures reads { Gives (λ _. messages.new) result (more_after (λ b. fold_at field_at M.step b M.none) messages.old bytes.now) }
+    ensures reads { Gives (λ _. messages.new) result (more_after (λ b. fold_at field_at M.step b M.none) messages.old
+        bytes.now) }
     ensures fault { Blames result (message_fault M.step M.step_fault end bytes.now M.none) }
 {
     Ok(add(messages, read_message(alloc, bytes, end)?)?)

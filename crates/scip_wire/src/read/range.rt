@@ -15,7 +15,8 @@ use sequences::Sequence;
 /// Adds the numbers of a packed field, whose record is at `start` in the input (Protocol Buffers
 /// encoding, Packed Repeated Fields). After an error the numbers are of no use.
 pub fn add_packed(numbers: &mut Sequence<u32>, bytes: &[u8], start: usize) -> Result<(), WireFault>
-    ensures reads { Gives (λ _. numbers.new) result (fold_at (varint_at max_varint_len) packed_step bytes.now numbers.old) }
+    ensures reads { Gives (λ _. numbers.new) result (fold_at (varint_at max_varint_len) packed_step bytes.now
+        numbers.old) }
     ensures fault { Blames result (packed_fault start bytes.now numbers.old) }
 {
     let mut rest = bytes;

@@ -2,7 +2,14 @@
 
 ghost use Rattle.std.specs.Prelude.{◌≡◌, ◌≤◌, ◌+◌, ◌*◌, List, ℕ, [], ◌∷◌, length, All, IsUtf8};
 ghost use Rattle.scip_wire.specs.Fields.{max_field_number};
-ghost use Rattle.scip_wire.specs.Spelling.{bytes_of, bytes_field, text_fields, int_fields, repeated_text_fields, in_64_bits};
+ghost use Rattle.scip_wire.specs.Spelling.{
+  bytes_of,
+  bytes_field,
+  text_fields,
+  int_fields,
+  repeated_text_fields,
+  in_64_bits,
+};
 ghost use Rattle.scip_wire.specs.Saturated.{saturated, fields_len};
 ghost use Rattle.scip_wire.specs.Outputs.{IsPut};
 
@@ -13,7 +20,8 @@ use sequences::{OwnedText, Sequence};
 /// The length of a record with so many bytes, with its tag and length.
 pub(super) fn record_len(number: u64, len: u64) -> u64
     requires { number ≤ max_field_number }
-    ensures { (bytes : List ℕ) → len ≡ saturated (length bytes) → result ≡ saturated (fields_len (bytes_field number bytes ∷ [])) }
+    ensures { (bytes : List ℕ) → len ≡ saturated (length bytes) → result ≡ saturated (fields_len (bytes_field number
+        bytes ∷ [])) }
 {
     let front = varint_len(8 * number + 2) + varint_len(len);
     len.saturating_add(front)

@@ -48,7 +48,8 @@ pub(super) fn encode_message<M: Encode, W, O: Output<W>>(
 )
     requires number { number ≤ max_field_number }
     requires short { fields_len (M.fields message.now) < 2 ^ 64 }
-    ensures { IsPut O.holds sink.old out.old sink.new out.new (bytes_of (bytes_field number (bytes_of (M.fields message.now)) ∷ [])) }
+    ensures { IsPut O.holds sink.old out.old sink.new out.new (bytes_of (bytes_field number
+        (bytes_of (M.fields message.now)) ∷ [])) }
 {
     encode_varint(out, sink, 8 * number + 2);
     encode_varint(out, sink, message.encoded_len());
@@ -76,7 +77,8 @@ pub(super) fn encode_optional_message<M: Encode, W, O: Output<W>>(
 )
     requires number { number ≤ max_field_number }
     requires short { fields_len (optional_message_fields number M.fields message.now) < 2 ^ 64 }
-    ensures { IsPut O.holds sink.old out.old sink.new out.new (bytes_of (optional_message_fields number M.fields message.now)) }
+    ensures { IsPut O.holds sink.old out.old sink.new out.new (bytes_of (optional_message_fields number M.fields
+        message.now)) }
 {
     if let Some(message) = message {
         encode_message(out, sink, number, message);
@@ -114,7 +116,8 @@ pub(super) fn encode_messages<M: Encode, W, O: Output<W>>(
 )
     requires number { number ≤ max_field_number }
     requires short { fields_len (repeated_message_fields number M.fields messages.now) < 2 ^ 64 }
-    ensures { IsPut O.holds sink.old out.old sink.new out.new (bytes_of (repeated_message_fields number M.fields messages.now)) }
+    ensures { IsPut O.holds sink.old out.old sink.new out.new (bytes_of (repeated_message_fields number M.fields
+        messages.now)) }
 {
     encode_slice(out, sink, number, messages.as_slice());
 }
@@ -123,7 +126,8 @@ pub(super) fn encode_messages<M: Encode, W, O: Output<W>>(
 fn encode_slice<M: Encode, W, O: Output<W>>(out: &mut O, sink: &mut W, number: u64, messages: &[M])
     requires number { number ≤ max_field_number }
     requires short { fields_len (repeated_message_fields number M.fields messages.now) < 2 ^ 64 }
-    ensures { IsPut O.holds sink.old out.old sink.new out.new (bytes_of (repeated_message_fields number M.fields messages.now)) }
+    ensures { IsPut O.holds sink.old out.old sink.new out.new (bytes_of (repeated_message_fields number M.fields
+        messages.now)) }
 {
     'messages: for message in messages {
         encode_message(out, sink, number, message);

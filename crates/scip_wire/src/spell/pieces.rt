@@ -72,7 +72,8 @@ pub(crate) fn encode_pieces<W, O: Output<W>>(
     external_symbols: &Sequence<SymbolInformation>,
 )
     requires { length (joined_pieces metadata.now documents.now external_symbols.now) ≤ max_index_len }
-    ensures { IsPut O.holds sink.old out.old sink.new out.new (joined_pieces metadata.now documents.now external_symbols.now) }
+    ensures { IsPut O.holds sink.old out.old sink.new out.new (joined_pieces metadata.now documents.now
+        external_symbols.now) }
 {
     encode_optional_message(out, sink, 1, metadata);
     encode_records(out, sink, documents);

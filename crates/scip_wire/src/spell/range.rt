@@ -15,7 +15,8 @@ use scip_model::Range;
 /// The length of a range's record.
 pub(super) fn range_len(number: u64, range: &Range) -> u64
     requires { number ≤ max_field_number }
-    ensures value { result ≡ saturated (fields_len (bytes_field number (flat_map varint (range_numbers range.now)) ∷ [])) }
+    ensures value { result ≡ saturated (fields_len (bytes_field number (flat_map varint (range_numbers range.now))
+        ∷ [])) }
     ensures fit { IsRange range.now }
 {
     record_len(number, numbers_len(range))
@@ -24,7 +25,8 @@ pub(super) fn range_len(number: u64, range: &Range) -> u64
 /// Puts a range's record.
 pub(super) fn encode_range<W, O: Output<W>>(out: &mut O, sink: &mut W, number: u64, range: &Range)
     requires { number ≤ max_field_number }
-    ensures { IsPut O.holds sink.old out.old sink.new out.new (bytes_of (bytes_field number (flat_map varint (range_numbers range.now)) ∷ [])) }
+    ensures { IsPut O.holds sink.old out.old sink.new out.new (bytes_of (bytes_field number
+        (flat_map varint (range_numbers range.now)) ∷ [])) }
 {
     encode_varint(out, sink, 8 * number + 2);
     encode_varint(out, sink, numbers_len(range));

@@ -8,6 +8,8 @@ pub mod Shorter
 pub mod StepsFall
 -- What is in the grammar is read
 pub mod Exact
+-- What is left of the tokens
+pub mod Tails
 -- Where the spans of a tree stand
 pub mod Walk
 -- The lists of a tree that are never empty

@@ -1,6 +1,8 @@
--- What is proto3 without custom options is proto3 if all sources are accepted.
-use Rattle.std.proofs.Common.{◌≡◌, ℕ, zero, suc, Bool, true, false, Option, List, refl}
+-- What is proto3 is proto3 if all sources are accepted, too, unless an extend is read past.
+use Rattle.std.proofs.Common.{◌≡◌, ℕ, zero, suc, Bool, true, false, Option, List, refl, sym, ◌∙◌, codes}
+use Rattle.std.specs.List.{list_any}
 use Rattle.proto_lex.specs.declared.span.Span.{Span}
+use Rattle.proto_grammar.specs.declared.tree.CustomOptions.{CustomOptions}
 use Rattle.proto_grammar.specs.declared.tree.CustomOptions.TheVariants.{Refuse, Skip}
 use Rattle.proto_grammar.specs.declared.tree.Dialect.TheVariants as dialect
 use Rattle.proto_grammar.specs.declared.tree.Syntax.TheVariants.{Proto3, Extended}
@@ -14,17 +16,21 @@ use Rattle.proto_grammar.specs.declared.tree.Service.{Service}
 use Rattle.proto_grammar.specs.declared.tree.Item.{Item}
 use Rattle.proto_grammar.specs.declared.tree.File.{File}
 use Rattle.proto_grammar.specs.Lexeme.{Lexeme}
+use Rattle.proto_grammar.specs.Terminal.{is_word}
+use Rattle.proto_grammar.specs.Tree.{BlockTree}
 use Rattle.proto_parse.specs.Limits.{max_message_depth}
-use Rattle.proto_grammar.specs.Grammar.Repetition.{Until, Adds, Passes}
+use Rattle.proto_grammar.specs.Grammar.Repetition.{One, Until, Adds, Passes}
+use Rattle.proto_grammar.specs.Grammar.Repetition.One.{one}
 use Rattle.proto_grammar.specs.Grammar.Repetition.Until.{done, more}
 use Rattle.proto_grammar.specs.Grammar.Repetition.Adds.{adds}
 use Rattle.proto_grammar.specs.Grammar.Repetition.Passes.{passes}
 use Rattle.proto_grammar.specs.Grammar.Options.{IsOptionPart, IsDotPart, IsOptionName, IsConstant, IsSetting}
 use Rattle.proto_grammar.specs.Grammar.Options.{IsCommaSetting, IsOption, IsOptions}
-use Rattle.proto_grammar.specs.Grammar.Options.IsOptionPart.{plain as plain_part}
+use Rattle.proto_grammar.specs.Grammar.Options.IsOptionPart.{plain as plain_part, extension}
 use Rattle.proto_grammar.specs.Grammar.Options.IsDotPart.{dot_part}
 use Rattle.proto_grammar.specs.Grammar.Options.IsOptionName.{option_name}
 use Rattle.proto_grammar.specs.Grammar.Options.IsConstant.{name as a_name, signed, unsigned, strings as some_strings}
+use Rattle.proto_grammar.specs.Grammar.Options.IsConstant.{aggregate}
 use Rattle.proto_grammar.specs.Grammar.Options.IsSetting.{setting}
 use Rattle.proto_grammar.specs.Grammar.Options.IsCommaSetting.{comma_setting}
 use Rattle.proto_grammar.specs.Grammar.Options.IsOption.{option}
@@ -34,8 +40,9 @@ use Rattle.proto_grammar.specs.Grammar.Fields.IsNumbered.{numbered}
 use Rattle.proto_grammar.specs.Grammar.Fields.IsTyped.{typed}
 use Rattle.proto_grammar.specs.Grammar.Fields.IsLabel.{repeated, optional, no_label}
 use Rattle.proto_grammar.specs.Grammar.Fields.IsMapField.{map_field}
-use Rattle.proto_parse.specs.Grammar.Messages.{IsEnumItem, IsEnum, IsBraced, IsLabelled, IsMember}
-use Rattle.proto_parse.specs.Grammar.Messages.{IsOneofItem, IsMessageItem, IsInside}
+use Rattle.proto_parse.specs.Grammar.Messages.{IsEnumItem, IsEnum, IsBraced, IsLabelled, IsMember, IsOneofItem}
+use Rattle.proto_parse.specs.Grammar.Messages.{IsOneof, IsPassedExtend, IsExtendStatement, IsMessage, IsMessageItem}
+use Rattle.proto_parse.specs.Grammar.Messages.{IsInside}
 use Rattle.proto_parse.specs.Grammar.Messages.IsValue.{value}
 use Rattle.proto_parse.specs.Grammar.Messages.IsEnumItem.{empty as enums-empty, option as enums-option}
 use Rattle.proto_parse.specs.Grammar.Messages.IsEnumItem.{reserved as enums-reserved, value as enums-value}
@@ -47,6 +54,7 @@ use Rattle.proto_parse.specs.Grammar.Messages.IsOneofMember.{oneof_member}
 use Rattle.proto_parse.specs.Grammar.Messages.IsOneofItem.{empty as oneofs-empty, option as oneofs-option}
 use Rattle.proto_parse.specs.Grammar.Messages.IsOneofItem.{member as oneofs-member}
 use Rattle.proto_parse.specs.Grammar.Messages.IsOneof.{oneof}
+use Rattle.proto_parse.specs.Grammar.Messages.IsPassedExtend.{passed_extend}
 use Rattle.proto_parse.specs.Grammar.Messages.IsExtendStatement.{kept, passed}
 use Rattle.proto_parse.specs.Grammar.Messages.IsMessage.{message}
 use Rattle.proto_parse.specs.Grammar.Messages.IsMessageItem.{empty as items-empty, message as items-message}
@@ -69,6 +77,11 @@ use Rattle.proto_parse.specs.Grammar.Files.IsStatement.{option as statements-opt
 use Rattle.proto_parse.specs.Grammar.Files.IsStatement.{enum as statements-enum, service as statements-service}
 use Rattle.proto_parse.specs.Grammar.Files.IsStatement.{extend as statements-extend}
 use Rattle.proto_parse.specs.Grammar.Files.IsFile.{file}
+use Rattle.proto_parse.specs.Extends.{HasNoExtend}
+use Rattle.proto_grammar.proofs.OptionSteps.{both_false}
+use Rattle.proto_parse.proofs.Tails.{IsTail, PassedOver, one_past, joined_past, heading_past, adds_past}
+use Rattle.proto_parse.proofs.Tails.{oneof_item_past, message_item_past, inside_past, statement_past}
+use Rattle.proto_parse.proofs.Tails.IsTail.{here, onward}
 
 -- repetition
 until_wide : {S : Type 0} {ends : List Lexeme → Bool} {Step Wide : S → List Lexeme → S → List Lexeme → Type 0}
@@ -89,139 +102,212 @@ passes_wide : {Item Wide : List Lexeme → List Lexeme → Type 0}
 passes_wide wide s t a b (passes i) = passes (wide a b i)
 
 -- options
-part_wide : {a b : List Lexeme} → IsOptionPart Refuse a b → IsOptionPart Skip a b
+part_wide : {custom : CustomOptions} {a b : List Lexeme} → IsOptionPart custom a b → IsOptionPart Skip a b
 part_wide (plain_part n) = plain_part n
+part_wide (extension o n c) = extension o n c
 
-dot_part_wide : (a b : List Lexeme) → IsDotPart Refuse a b → IsDotPart Skip a b
+dot_part_wide : {custom : CustomOptions} (a b : List Lexeme) → IsDotPart custom a b → IsDotPart Skip a b
 dot_part_wide a b (dot_part d p) = dot_part d (part_wide p)
 
-option_name_wide : {a b : List Lexeme} → IsOptionName Refuse a b → IsOptionName Skip a b
+option_name_wide : {custom : CustomOptions} {a b : List Lexeme} → IsOptionName custom a b → IsOptionName Skip a b
 option_name_wide (option_name p u) = option_name (part_wide p) (until_wide (passes_wide dot_part_wide) u)
 
-constant_wide : {a b : List Lexeme} → IsConstant Refuse a b → IsConstant Skip a b
+constant_wide : {custom : CustomOptions} {a b : List Lexeme} → IsConstant custom a b → IsConstant Skip a b
 constant_wide (a_name n) = a_name n
 constant_wide (signed s n) = signed s n
 constant_wide (unsigned n) = unsigned n
 constant_wide (some_strings t) = some_strings t
+constant_wide (aggregate o rest) = aggregate o rest
 
-setting_wide : {a b : List Lexeme} → IsSetting Refuse a b → IsSetting Skip a b
+setting_wide : {custom : CustomOptions} {a b : List Lexeme} → IsSetting custom a b → IsSetting Skip a b
 setting_wide (setting n q c) = setting (option_name_wide n) q (constant_wide c)
 
-comma_setting_wide : (a b : List Lexeme) → IsCommaSetting Refuse a b → IsCommaSetting Skip a b
+comma_setting_wide : {custom : CustomOptions} (a b : List Lexeme) → IsCommaSetting custom a b → IsCommaSetting Skip a b
 comma_setting_wide a b (comma_setting c s) = comma_setting c (setting_wide s)
 
-option_wide : {a b : List Lexeme} → IsOption Refuse a b → IsOption Skip a b
+option_wide : {custom : CustomOptions} {a b : List Lexeme} → IsOption custom a b → IsOption Skip a b
 option_wide (option k v s) = option k (setting_wide v) s
 
-options_wide : {a b : List Lexeme} → IsOptions Refuse a b → IsOptions Skip a b
+options_wide : {custom : CustomOptions} {a b : List Lexeme} → IsOptions custom a b → IsOptions Skip a b
 options_wide (none none_next) = none none_next
 options_wide (some o v u c) = some o (setting_wide v) (until_wide (passes_wide comma_setting_wide) u) c
 
 -- fields
-numbered_wide : {first : Span} {a b : List Lexeme} {x : Heading} → IsNumbered Refuse first a x b
-    → IsNumbered Skip first a x b
+numbered_wide : {custom : CustomOptions} {first : Span} {a b : List Lexeme} {x : Heading}
+    → IsNumbered custom first a x b → IsNumbered Skip first a x b
 numbered_wide (numbered n q i o s) = numbered n q i (options_wide o) s
 
-typed_wide : {first : Span} {label : Option Label} {a b : List Lexeme} {x : Field} → IsTyped Refuse first label a x b
-    → IsTyped Skip first label a x b
+typed_wide : {custom : CustomOptions} {first : Span} {label : Option Label} {a b : List Lexeme} {x : Field}
+    → IsTyped custom first label a x b → IsTyped Skip first label a x b
 typed_wide (typed t n) = typed t (numbered_wide n)
 
-label_wide : {a b : List Lexeme} {x : Option Label} → IsLabel (Proto3 Refuse) a x b → IsLabel Extended a x b
+label_wide : {custom : CustomOptions} {a b : List Lexeme} {x : Option Label} → IsLabel (Proto3 custom) a x b
+    → IsLabel Extended a x b
 label_wide (repeated w) = repeated w
 label_wide (optional w) = optional w
 label_wide (no_label is p q) = no_label refl p q
 
-map_field_wide : {a b : List Lexeme} {x : MapField} → IsMapField Refuse a x b → IsMapField Skip a x b
+map_field_wide : {custom : CustomOptions} {a b : List Lexeme} {x : MapField} → IsMapField custom a x b
+    → IsMapField Skip a x b
 map_field_wide (map_field f l k c v g h) = map_field f l k c v g (numbered_wide h)
 
 -- enums
-enum_item_wide : (a b : List Lexeme) (x : Option Heading) → IsEnumItem Refuse a x b → IsEnumItem Skip a x b
+enum_item_wide : {custom : CustomOptions} (a b : List Lexeme) (x : Option Heading) → IsEnumItem custom a x b
+    → IsEnumItem Skip a x b
 enum_item_wide a b x (enums-empty s) = enums-empty s
 enum_item_wide a b x (enums-option is o) = enums-option is (option_wide o)
 enum_item_wide a b x (enums-reserved is r) = enums-reserved is r
 enum_item_wide a b x (enums-value p q r (value n e i o c)) = enums-value p q r (value n e i (options_wide o) c)
 
-enum_wide : {a b : List Lexeme} {x : Enum} → IsEnum Refuse a x b → IsEnum Skip a x b
+enum_wide : {custom : CustomOptions} {a b : List Lexeme} {x : Enum} → IsEnum custom a x b → IsEnum Skip a x b
 enum_wide (enum h u c) = enum h (until_wide (adds_wide enum_item_wide) u) c
 
+-- The tokens hold no extend that is read past. They can't if custom options are refused.
+abbrev PassesNone : CustomOptions → List Lexeme → Type 0
+PassesNone Refuse a = Unit {0}
+PassesNone Skip a = HasNoExtend a
+
+no_extend_left : {tail a : List Lexeme} → IsTail tail a → HasNoExtend a → HasNoExtend tail
+no_extend_left here free = free
+no_extend_left (onward {t = t} {rest = rest} left) free =
+    no_extend_left left (both_false (is_word (codes "extend") t) (list_any (is_word (codes "extend")) rest) free).1
+
+none_left : (custom : CustomOptions) {tail a : List Lexeme} → IsTail tail a → PassesNone custom a
+    → PassesNone custom tail
+none_left Refuse left free = tt
+none_left Skip left free = no_extend_left left free
+
+no_extend_next : {a b : List Lexeme} {span : Span} → One (is_word (codes "extend")) a span b → HasNoExtend a → ⊥
+no_extend_next (one {t = t} {rest = rest} e) free =
+    let differs : is_word (codes "extend") t ≡ false =
+    (both_false (is_word (codes "extend") t) (list_any (is_word (codes "extend")) rest) free).0 in
+    let both : true ≡ false = sym e ∙ differs in
+    cc
+
+none_passed : {custom : CustomOptions} {a b : List Lexeme} → IsPassedExtend custom a b → PassesNone custom a → ⊥
+none_passed (passed_extend k n o u c) free = no_extend_next k free
+
+-- steps from tokens without an extend that is read past
+until_kept : (custom : CustomOptions) {S : Type 0} {ends : List Lexeme → Bool}
+    {Step Wide : S → List Lexeme → S → List Lexeme → Type 0}
+    → ((s t : S) (a b : List Lexeme) → Step s a t b → PassesNone custom a → Wide s a t b)
+    → ((s t : S) (a b : List Lexeme) → Step s a t b → IsTail b a)
+    → {s t : S} {a b : List Lexeme} → Until ends Step s a t b → PassesNone custom a → Until ends Wide s a t b
+until_kept custom wide left (done e) free = done e
+until_kept custom wide left (more {s = s} {t = t} {a = a} {b = b} further first rest) free =
+    more further (wide s t a b first free)
+    (until_kept custom wide left rest (none_left custom (left s t a b first) free))
+
+adds_kept : (custom : CustomOptions) {A : Type 0} {Item Wide : List Lexeme → Option A → List Lexeme → Type 0}
+    → ((a b : List Lexeme) (x : Option A) → Item a x b → PassesNone custom a → Wide a x b) → (s t : List A)
+    (a b : List Lexeme) → Adds Item s a t b → PassesNone custom a → Adds Wide s a t b
+adds_kept custom wide s t a b (adds {item = x} i) free = adds (wide a b x i free)
+
 -- messages
-abbrev Widens : (List Lexeme → List Item → List Lexeme → Type 0) → (List Lexeme → List Item → List Lexeme → Type 0)
-    → Type 0
-Widens Inner Wide = (a b : List Lexeme) (x : List Item) → Inner a x b → Wide a x b
+abbrev pub Widens : {A : Type 0} → CustomOptions → (Is Wide : List Lexeme → A → List Lexeme → Type 0) → Type 0
+Widens {A} custom Is Wide = (a b : List Lexeme) (x : A) → Is a x b → PassesNone custom a → Wide a x b
 
-braced_wide : {Is Wide : List Lexeme → Option Item → List Lexeme → Type 0}
-    → ((a b : List Lexeme) (x : Option Item) → Is a x b → Wide a x b)
-    → Widens (IsBraced Is) (IsBraced Wide)
-braced_wide wide a b x (braced u c) = braced (until_wide (adds_wide wide) u) c
+braced_wide : (custom : CustomOptions) (Is Wide : List Lexeme → Option Item → List Lexeme → Type 0) → PassedOver Is
+    → Widens custom Is Wide → Widens custom (IsBraced Is) (IsBraced Wide)
+braced_wide custom Is Wide over wide a b x (braced u c) free =
+    braced (until_kept custom (adds_kept custom wide) (λ s t a b i. adds_past Is over b s t a b i here) u free) c
 
-module _ (Inner Wide : List Lexeme → List Item → List Lexeme → Type 0) (wide : Widens Inner Wide) where
+module _ (custom : CustomOptions) (Inner Wide : List Lexeme → List Item → List Lexeme → Type 0)
+    (over : PassedOver Inner) (wide : Widens custom Inner Wide) where
   labelled_wide : {first : Span} {label : Option Label} {a b : List Lexeme} {x : Item}
-      → IsLabelled (Proto3 Refuse) Inner first label a x b → IsLabelled Extended Wide first label a x b
+      → IsLabelled (Proto3 custom) Inner first label a x b → IsLabelled Extended Wide first label a x b
   labelled_wide (labelled-field is f) = labelled-field refl (typed_wide f)
-  labelled_wide (labelled-group is g) = absurd (let none : false ≡ true = is in cc)
+  labelled_wide (labelled-group is g) = absurd (let free : false ≡ true = is in cc)
 
-  member_wide : {a b : List Lexeme} {x : Item} → IsMember (Proto3 Refuse) Inner a x b → IsMember Extended Wide a x b
+  member_wide : {a b : List Lexeme} {x : Item} → IsMember (Proto3 custom) Inner a x b → IsMember Extended Wide a x b
   member_wide (member l i) = member (label_wide l) (labelled_wide i)
 
-  oneof_item_wide : (a b : List Lexeme) (x : Option Item) → IsOneofItem (Proto3 Refuse) Inner a x b
-      → IsOneofItem Extended Wide a x b
-  oneof_item_wide a b x (oneofs-empty s) = oneofs-empty s
-  oneof_item_wide a b x (oneofs-option is o) = oneofs-option is (option_wide o)
-  oneof_item_wide a b x (oneofs-member p q (oneof_member i)) = oneofs-member p q (oneof_member (labelled_wide i))
+  oneof_item_wide : Widens custom (IsOneofItem (Proto3 custom) Inner) (IsOneofItem Extended Wide)
+  oneof_item_wide a b x (oneofs-empty s) free = oneofs-empty s
+  oneof_item_wide a b x (oneofs-option is o) free = oneofs-option is (option_wide o)
+  oneof_item_wide a b x (oneofs-member p q (oneof_member i)) free = oneofs-member p q (oneof_member (labelled_wide i))
 
-  message_item_wide : (a b : List Lexeme) (x : Option Item) → IsMessageItem (Proto3 Refuse) Inner a x b
-      → IsMessageItem Extended Wide a x b
-  message_item_wide a b x (items-empty is s) = items-empty is s
-  message_item_wide a b x (items-message is (message {b = c} {items = items} h i)) =
-      items-message is (message h (wide c b items i))
-  message_item_wide a b x (items-enum is e) = items-enum is (enum_wide e)
-  message_item_wide a b x (items-option is o) = items-option is (option_wide o)
-  message_item_wide a b x (items-oneof is (oneof {b = c} {items = items} h i)) =
-      items-oneof is (oneof h (braced_wide oneof_item_wide c b items i))
-  message_item_wide a b x (items-map_field is f) = items-map_field is (map_field_wide f)
-  message_item_wide a b x (items-reserved is r) = items-reserved is r
-  message_item_wide a b x (items-extend is (kept keeps e)) = absurd (let none : false ≡ true = keeps in cc)
-  message_item_wide a b x (items-extend is (passed e)) = elim e [ ]
-  message_item_wide a b x (items-extensions is proto2 r) = absurd (let none : false ≡ true = proto2 in cc)
-  message_item_wide a b x (items-member is m) = items-member is (member_wide m)
+  message_wide : Widens custom (IsMessage Inner) (IsMessage Wide)
+  message_wide a b x (message {b = c} {items = items} h i) free =
+      message h (wide c b items i (none_left custom (heading_past h here) free))
 
-inside_wide : (levels : ℕ) → Widens (IsInside (Proto3 Refuse) levels) (IsInside Extended levels)
+  oneof_wide : Widens custom (IsOneof (Proto3 custom) Inner) (IsOneof Extended Wide)
+  oneof_wide a b x (oneof {b = c} {items = items} h i) free =
+      oneof h (braced_wide custom (IsOneofItem (Proto3 custom) Inner) (IsOneofItem Extended Wide)
+      (oneof_item_past (Proto3 custom) Inner over) oneof_item_wide c b items i
+      (none_left custom (heading_past h here) free))
+
+  -- an extend is read past, or refused
+  no_extend_wide : {a b : List Lexeme} {x : Option BlockTree} → IsExtendStatement Inner (Proto3 custom) a x b
+      → PassesNone custom a → ⊥
+  no_extend_wide (kept keeps e) free = absurd (let never : false ≡ true = keeps in cc)
+  no_extend_wide (passed e) free = none_passed e free
+
+  message_item_wide : Widens custom (IsMessageItem (Proto3 custom) Inner) (IsMessageItem Extended Wide)
+  message_item_wide a b x (items-empty is s) free = items-empty is s
+  message_item_wide a b x (items-message {message = y} is m) free = items-message is (message_wide a b y m free)
+  message_item_wide a b x (items-enum is e) free = items-enum is (enum_wide e)
+  message_item_wide a b x (items-option is o) free = items-option is (option_wide o)
+  message_item_wide a b x (items-oneof {oneof = y} is o) free = items-oneof is (oneof_wide a b y o free)
+  message_item_wide a b x (items-map_field is f) free = items-map_field is (map_field_wide f)
+  message_item_wide a b x (items-reserved is r) free = items-reserved is r
+  message_item_wide a b x (items-extend is e) free = absurd (no_extend_wide e free)
+  message_item_wide a b x (items-extensions is proto2 r) free = absurd (let never : false ≡ true = proto2 in cc)
+  message_item_wide a b x (items-member is m) free = items-member is (member_wide m)
+
+inside_wide : (custom : CustomOptions) (levels : ℕ)
+    → Widens custom (IsInside (Proto3 custom) levels) (IsInside Extended levels)
 unfolding IsInside
-inside_wide zero a b x i = absurd i
-inside_wide (suc levels) a b x i =
-    braced_wide (message_item_wide (IsInside (Proto3 Refuse) levels) (IsInside Extended levels) (inside_wide levels)) a
-    b x i
+inside_wide custom zero a b x i free = absurd i
+inside_wide custom (suc levels) a b x i free =
+    braced_wide custom (IsMessageItem (Proto3 custom) (IsInside (Proto3 custom) levels))
+    (IsMessageItem Extended (IsInside Extended levels))
+    (message_item_past (Proto3 custom) (IsInside (Proto3 custom) levels) (inside_past (Proto3 custom) levels))
+    (message_item_wide custom (IsInside (Proto3 custom) levels) (IsInside Extended levels)
+    (inside_past (Proto3 custom) levels) (inside_wide custom levels)) a b x i free
 
 -- services
-method_item_wide : (a b : List Lexeme) → IsMethodItem Refuse a b → IsMethodItem Skip a b
+method_item_wide : {custom : CustomOptions} (a b : List Lexeme) → IsMethodItem custom a b → IsMethodItem Skip a b
 method_item_wide a b (method_items-empty s) = method_items-empty s
 method_item_wide a b (method_items-option is o) = method_items-option is (option_wide o)
 
-method_end_wide : {a b : List Lexeme} {x : Span} → IsMethodEnd Refuse a x b → IsMethodEnd Skip a x b
+method_end_wide : {custom : CustomOptions} {a b : List Lexeme} {x : Span} → IsMethodEnd custom a x b
+    → IsMethodEnd Skip a x b
 method_end_wide (semicolon s) = semicolon s
 method_end_wide (body o u c) = body o (until_wide (passes_wide method_item_wide) u) c
 
-service_item_wide : (a b : List Lexeme) (x : Option Method) → IsServiceItem Refuse a x b → IsServiceItem Skip a x b
+service_item_wide : {custom : CustomOptions} (a b : List Lexeme) (x : Option Method)
+    → IsServiceItem custom a x b → IsServiceItem Skip a x b
 service_item_wide a b x (services-empty s) = services-empty s
 service_item_wide a b x (services-option is o) = services-option is (option_wide o)
 service_item_wide a b x (services-method is (method f n i r o e)) =
     services-method is (method f n i r o (method_end_wide e))
 
-service_wide : {a b : List Lexeme} {x : Service} → IsService Refuse a x b → IsService Skip a x b
+service_wide : {custom : CustomOptions} {a b : List Lexeme} {x : Service} → IsService custom a x b
+    → IsService Skip a x b
 service_wide (service h u c) = service h (until_wide (adds_wide service_item_wide) u) c
 
 -- files
-statement_wide : (f g : File) (a b : List Lexeme) → IsStatement (Proto3 Refuse) f a g b → IsStatement Extended f a g b
-statement_wide f g a b (statements-empty is s) = statements-empty is s
-statement_wide f g a b (statements-import is i) = statements-import is i
-statement_wide f g a b (statements-package_statement is none_yet p) = statements-package_statement is none_yet p
-statement_wide f g a b (statements-option is o) = statements-option is (option_wide o)
-statement_wide f g a b (statements-message m is (message {b = c} {items = items} h i)) =
-    statements-message m is (message h (inside_wide max_message_depth c b items i))
-statement_wide f g a b (statements-enum is e) = statements-enum is (enum_wide e)
-statement_wide f g a b (statements-service is s) = statements-service is (service_wide s)
-statement_wide f g a b (statements-extend is (kept keeps e)) = absurd (let none : false ≡ true = keeps in cc)
-statement_wide f g a b (statements-extend is (passed e)) = elim e [ ]
+statement_wide : (custom : CustomOptions) (f g : File) (a b : List Lexeme) → IsStatement (Proto3 custom) f a g b
+    → PassesNone custom a → IsStatement Extended f a g b
+statement_wide custom f g a b (statements-empty is s) free = statements-empty is s
+statement_wide custom f g a b (statements-import is i) free = statements-import is i
+statement_wide custom f g a b (statements-package_statement is none_yet p) free =
+    statements-package_statement is none_yet p
+statement_wide custom f g a b (statements-option is o) free = statements-option is (option_wide o)
+statement_wide custom f g a b (statements-message m is i) free =
+    statements-message m is (message_wide custom (IsInside (Proto3 custom) max_message_depth)
+    (IsInside Extended max_message_depth) (inside_past (Proto3 custom) max_message_depth)
+    (inside_wide custom max_message_depth) a b m i free)
+statement_wide custom f g a b (statements-enum is e) free = statements-enum is (enum_wide e)
+statement_wide custom f g a b (statements-service is s) free = statements-service is (service_wide s)
+statement_wide custom f g a b (statements-extend is e) free =
+    absurd (no_extend_wide custom (IsInside (Proto3 custom) max_message_depth) (IsInside Extended max_message_depth)
+    (inside_past (Proto3 custom) max_message_depth) (inside_wide custom max_message_depth) e free)
 
-pub file_wide : {a : List Lexeme} {x : File} → IsFile (dialect.Proto3 Refuse) a x → IsFile dialect.All a x
-file_wide (file (proto3 k q t s) u) = file (proto3 k q t s) (until_wide statement_wide u)
+pub file_wide : {custom : CustomOptions} {a : List Lexeme} {x : File} → IsFile (dialect.Proto3 custom) a x
+    → PassesNone custom a → IsFile dialect.All a x
+file_wide {custom} (file (proto3 k q t s) u) free =
+    file (proto3 k q t s) (until_kept custom (statement_wide custom)
+    (λ f g a b i. statement_past (Proto3 custom) f g a b i b here) u
+    (none_left custom (one_past k (one_past q (joined_past t (one_past s here)))) free))

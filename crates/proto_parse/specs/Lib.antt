@@ -12,6 +12,7 @@ pub mod Limits
 pub mod Choice
 pub mod Grammar
 pub mod Derives
+pub mod Extends
 pub mod Faults
 -- Where the spans of a tree are
 pub mod Walk

@@ -8,7 +8,8 @@ ghost use Rattle.proto_parse.specs.Walk.{Mark, Among, MarksAreInOrder, marks_of_
 ghost use Rattle.proto_parse.specs.Walk.{marks_of_package, PackageIsAmongItems};
 ghost use Rattle.proto_parse.specs.Filled.{FilledFile};
 ghost use Rattle.proto_parse.specs.Derives.{Derives};
-ghost use Rattle.proto_grammar.specs.declared.tree.CustomOptions.TheVariants.{Refuse};
+ghost use Rattle.proto_parse.specs.Extends.{HasNoExtend};
+ghost use Rattle.proto_grammar.specs.declared.tree.CustomOptions.TheVariants.{Refuse, Skip};
 ghost use Rattle.proto_grammar.specs.declared.tree.Dialect.{Dialect};
 ghost use Rattle.proto_grammar.specs.declared.tree.Dialect.TheVariants.{Proto3, All};
 ghost use Rattle.proto_grammar.specs.declared.tree.File.{File};
@@ -52,4 +53,11 @@ pub fn names_have_components()
 pub fn proto3_among_all()
     ensures { (text : List ℕ) (tokens : List Token) (file : File)
         → Derives (Proto3 Refuse) text tokens file → Derives All text tokens file }
+{}
+
+/// A tree that tokens derive where only proto3 is accepted and custom options are read past, they derive where all
+/// sources are, too, if none of them is the word `extend`.
+pub fn proto3_without_extend_among_all()
+    ensures { (text : List ℕ) (tokens : List Token) (file : File) → HasNoExtend (lexemes_of text tokens)
+        → Derives (Proto3 Skip) text tokens file → Derives All text tokens file }
 {}

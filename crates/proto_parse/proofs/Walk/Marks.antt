@@ -82,9 +82,7 @@ use Rattle.proto_parse.specs.Grammar.Services.IsMethod.{method}
 use Rattle.proto_parse.specs.Grammar.Services.IsServiceItem.{empty as services-empty, option as services-option}
 use Rattle.proto_parse.specs.Grammar.Services.IsServiceItem.{method as services-method}
 use Rattle.proto_parse.specs.Grammar.Services.IsService.{service}
-use Rattle.proto_parse.specs.Grammar.Files.{empty_file, IsSyntax, IsPathLiteral, IsImport, IsPackage, IsStatement}
-use Rattle.proto_parse.specs.Grammar.Files.{IsFile}
-use Rattle.proto_parse.specs.Grammar.Files.IsSyntax.{proto3, proto2, no_statement}
+use Rattle.proto_parse.specs.Grammar.Files.{empty_file, IsPathLiteral, IsImport, IsPackage, IsStatement, IsFile}
 use Rattle.proto_parse.specs.Grammar.Files.IsPathLiteral.{path_literal}
 use Rattle.proto_parse.specs.Grammar.Files.IsImport.{import}
 use Rattle.proto_parse.specs.Grammar.Files.IsPackage.{package_statement}
@@ -95,10 +93,12 @@ use Rattle.proto_parse.specs.Grammar.Files.IsStatement.{enum as statements-enum,
 use Rattle.proto_parse.specs.Grammar.Files.IsStatement.{extend as statements-extend}
 use Rattle.proto_parse.specs.Grammar.Files.IsFile.{file}
 use Rattle.proto_parse.proofs.Walk.Past.{same_kind, past, at_a_name, at_a_word, at_a_group_name, at_a_scalar, at_a_key}
-use Rattle.proto_parse.proofs.Walk.Past.{at_a_literal, at_another, at_its_first, until_past, option_past, options_past}
-use Rattle.proto_parse.proofs.Walk.Past.{label_past, integer_past, reserved_past, extensions_past, passed_extend_past}
-use Rattle.proto_parse.proofs.Walk.Past.{method_item_past, joined_past, enum_past, file_message_past, file_extend_past}
-use Rattle.proto_parse.proofs.Walk.Past.{service_past, package_past, import_kind_past, import_past}
+use Rattle.proto_parse.proofs.Walk.Past.{at_a_literal, at_another, at_its_first, over}
+use Rattle.proto_parse.proofs.Tails.IsTail.{here}
+use Rattle.proto_parse.proofs.Tails.{until_past, option_past, options_past, label_past, integer_past, reserved_past}
+use Rattle.proto_parse.proofs.Tails.{extensions_past, passed_extend_past, method_item_past, enum_past, service_past}
+use Rattle.proto_parse.proofs.Tails.{file_message_past, file_extend_past, package_past, import_kind_past, import_past}
+use Rattle.proto_parse.proofs.Tails.{syntax_past}
 
 -- marks of two lists
 pub each_then-append : {A : Type 0} (marks_then : A → List Mark → List Mark) (xs ys : List A) (marks : List Mark)
@@ -182,7 +182,8 @@ type_marks (named not n) behind = type_name_marks n behind
 numbered_marks : {custom : CustomOptions} {first : Span} {a b : List Lexeme} {x : Heading} {marks : List Mark}
     → IsNumbered custom first a x b → Among marks b
     → Among (Name x.name ∷ (Other x.closing ∷ marks)) a
-numbered_marks (numbered n q i o s) behind = at_a_name n (past q (past i (options_past o (at_another s behind))))
+numbered_marks (numbered n q i o s) behind =
+    at_a_name n (past q (past i (over (options_past o here) (at_another s behind))))
 
 numbered_first : {custom : CustomOptions} {first : Span} {a b : List Lexeme} {x : Heading}
     → IsNumbered custom first a x b → x.first ≡ first
@@ -201,14 +202,15 @@ heading_marks (heading f n c) behind = at_its_first f (at_a_name n (at_another c
 value_marks : {custom : CustomOptions} {a b : List Lexeme} {x : Heading} {marks : List Mark} → IsValue custom a x b
     → Among marks b → Among (heading_then x marks) a
 value_marks (value (one {t} e) q i o s) behind =
-    at_first (at_name (same_kind Identifier t.kind e) (past q (integer_past i (options_past o (at_another s behind)))))
+    at_first (at_name (same_kind Identifier t.kind e) (past q (over (integer_past i (options_past o here))
+    (at_another s behind))))
 
 enum_item_marks : (custom : CustomOptions) (a b : List Lexeme) (x : Option Heading) → IsEnumItem custom a x b
     → (marks : List Mark) → Among marks b
     → Among (each_then heading_then (option_to_list x) marks) a
 enum_item_marks custom a b x (enums-empty s) marks behind = past s behind
-enum_item_marks custom a b x (enums-option is o) marks behind = option_past o behind
-enum_item_marks custom a b x (enums-reserved is r) marks behind = reserved_past r behind
+enum_item_marks custom a b x (enums-option is o) marks behind = over (option_past o here) behind
+enum_item_marks custom a b x (enums-reserved is r) marks behind = over (reserved_past r here) behind
 enum_item_marks custom a b x (enums-value p q r v) marks behind = value_marks v behind
 
 enum_marks : {custom : CustomOptions} {a b : List Lexeme} {x : Enum} {marks : List Mark} → IsEnum custom a x b
@@ -253,7 +255,7 @@ group_marks : (custom : CustomOptions) (Inner : List Lexeme → List Item → Li
     → Among (block_then x marks) (t ∷ rest)
 group_marks custom Inner marked t label rest a c x earlier
     (group {b = b} {items = items} (group_head w n q i o k) inside) marks behind =
-    at_first (earlier _ (at_a_word (codes "group") w (at_a_group_name n (past q (past i (options_past o
+    at_first (earlier _ (at_a_word (codes "group") w (at_a_group_name n (past q (past i (over (options_past o here)
     (at_another k (marked b c items inside marks behind))))))))
 
 field_marks : {custom : CustomOptions} {t : Lexeme} {label : Option Label} {rest a b : List Lexeme} {x : Field}
@@ -276,12 +278,13 @@ labelled_marks syntax Inner marked t label rest a b x earlier (labelled-group {g
 member_marks : (syntax : Syntax) (Inner : List Lexeme → List Item → List Lexeme → Type 0)
     → MarkedBy items_then Inner → MarkedBy block_item_then (IsMember syntax Inner)
 member_marks syntax Inner marked a c x (member {t = t} {rest = rest} {b = b} {label = label} l i) marks behind =
-    labelled_marks syntax Inner marked t label rest b c x (λ marks behind. label_past l behind) i marks behind
+    labelled_marks syntax Inner marked t label rest b c x (λ marks behind. over (label_past l here) behind) i marks
+    behind
 
 oneof_item_marks : (syntax : Syntax) (Inner : List Lexeme → List Item → List Lexeme → Type 0)
     → MarkedBy items_then Inner → MarkedBy option_then (IsOneofItem syntax Inner)
 oneof_item_marks syntax Inner marked a b x (oneofs-empty s) marks behind = past s behind
-oneof_item_marks syntax Inner marked a b x (oneofs-option is o) marks behind = option_past o behind
+oneof_item_marks syntax Inner marked a b x (oneofs-option is o) marks behind = over (option_past o here) behind
 oneof_item_marks syntax Inner marked a b x
     (oneofs-member {item = y} p q (oneof_member {t = t} {rest = rest} i)) marks behind =
     labelled_marks syntax Inner marked t None rest (t ∷ rest) b y (λ marks behind. behind) i marks behind
@@ -317,7 +320,7 @@ extend_statement_marks : (syntax : Syntax) (Inner : List Lexeme → List Item �
     → MarkedBy items_then Inner → MarkedBy extended_then (IsExtendStatement Inner syntax)
 extend_statement_marks syntax Inner marked a b x (kept {extend = y} is e) marks behind =
     extend_marks syntax Inner marked a b y e marks behind
-extend_statement_marks syntax Inner marked a b x (passed e) marks behind = passed_extend_past e behind
+extend_statement_marks syntax Inner marked a b x (passed e) marks behind = over (passed_extend_past e here) behind
 
 block_item_marks : (x : Option BlockTree) (marks : List Mark)
     → option_then (option_map tree.Block x) marks ≡ extended_then x marks
@@ -330,14 +333,15 @@ message_item_marks syntax Inner marked a b x (items-empty is s) marks behind = p
 message_item_marks syntax Inner marked a b x (items-message {message = y} is i) marks behind =
     message_marks Inner marked a b y i marks behind
 message_item_marks syntax Inner marked a b x (items-enum is e) marks behind = enum_marks e behind
-message_item_marks syntax Inner marked a b x (items-option is o) marks behind = option_past o behind
+message_item_marks syntax Inner marked a b x (items-option is o) marks behind = over (option_past o here) behind
 message_item_marks syntax Inner marked a b x (items-oneof {oneof = y} is o) marks behind =
     oneof_marks syntax Inner marked a b y o marks behind
 message_item_marks syntax Inner marked a b x (items-map_field is f) marks behind = map_field_marks f behind
-message_item_marks syntax Inner marked a b x (items-reserved is r) marks behind = reserved_past r behind
+message_item_marks syntax Inner marked a b x (items-reserved is r) marks behind = over (reserved_past r here) behind
 message_item_marks syntax Inner marked a b x (items-extend {extend = y} is e) marks behind =
     rw (block_item_marks y marks) (extend_statement_marks syntax Inner marked a b y e marks behind)
-message_item_marks syntax Inner marked a b x (items-extensions is allowed r) marks behind = extensions_past r behind
+message_item_marks syntax Inner marked a b x (items-extensions is allowed r) marks behind =
+    over (extensions_past r here) behind
 message_item_marks syntax Inner marked a b x (items-member {item = y} is m) marks behind =
     member_marks syntax Inner marked a b y m marks behind
 
@@ -357,7 +361,7 @@ method_end_marks : {custom : CustomOptions} {a b : List Lexeme} {x : Span} {mark
     → IsMethodEnd custom a x b → Among marks b → Among (Other x ∷ marks) a
 method_end_marks (semicolon s) behind = at_another s behind
 method_end_marks {custom} {marks = marks} (body o u c) behind =
-    at_another o (until_past marks (method_item_past custom marks) _ _ _ _ u (past c behind))
+    at_another o (over (until_past _ (method_item_past custom _) _ _ _ _ u here) (past c behind))
 
 method_marks : {custom : CustomOptions} {a b : List Lexeme} {x : Method} {marks : List Mark} → IsMethod custom a x b
     → Among marks b → Among (method_then x marks) a
@@ -368,7 +372,7 @@ service_item_marks : (custom : CustomOptions) (a b : List Lexeme) (x : Option Me
     → (marks : List Mark) → Among marks b
     → Among (each_then method_then (option_to_list x) marks) a
 service_item_marks custom a b x (services-empty s) marks behind = past s behind
-service_item_marks custom a b x (services-option is o) marks behind = option_past o behind
+service_item_marks custom a b x (services-option is o) marks behind = over (option_past o here) behind
 service_item_marks custom a b x (services-method is m) marks behind = method_marks m behind
 
 service_marks : {custom : CustomOptions} {a b : List Lexeme} {x : Service} {marks : List Mark} → IsService custom a x b
@@ -384,7 +388,7 @@ import_marks : {a b : List Lexeme} {x : Import} {marks : List Mark} → IsImport
     → Among (import_then x marks) a
 import_marks (import k i l u s) behind =
     let others = others_marks literal_then path_literal_marks u (past s behind) in
-    past k (import_kind_past i (rw others.1 (at_a_literal l others.2)))
+    past k (over (import_kind_past i here) (rw others.1 (at_a_literal l others.2)))
 
 pub package_marks : {a b : List Lexeme} {x : List Span} {marks : List Mark} → IsPackage a x b → Among marks b
     → Among (names_then x marks) a
@@ -402,11 +406,11 @@ pub statement_items : (syntax : Syntax) (f g : File) (a b : List Lexeme) → IsS
     → Puts (λ (x : File). x.items) item_then f a g b marks
 statement_items syntax f g a b (statements-empty is s) marks behind = ([], sym (append-nil f.items), past s behind)
 statement_items syntax f g a b (statements-import is i) marks behind =
-    ([], sym (append-nil f.items), import_past i behind)
+    ([], sym (append-nil f.items), over (import_past i here) behind)
 statement_items syntax f g a b (statements-package_statement is none_yet p) marks behind =
-    ([], sym (append-nil f.items), package_past p behind)
+    ([], sym (append-nil f.items), over (package_past p here) behind)
 statement_items syntax f g a b (statements-option is o) marks behind =
-    ([], sym (append-nil f.items), option_past o behind)
+    ([], sym (append-nil f.items), over (option_past o here) behind)
 statement_items syntax f g a b (statements-message m is i) marks behind = (
   item.Block m ∷ [],
   refl,
@@ -430,17 +434,17 @@ statement_imports syntax f g a b (statements-empty is s) marks behind = ([], sym
 statement_imports syntax f g a b (statements-import {import = x} is i) marks behind =
     (x ∷ [], refl, import_marks i behind)
 statement_imports syntax f g a b (statements-package_statement is none_yet p) marks behind =
-    ([], sym (append-nil f.imports), package_past p behind)
+    ([], sym (append-nil f.imports), over (package_past p here) behind)
 statement_imports syntax f g a b (statements-option is o) marks behind =
-    ([], sym (append-nil f.imports), option_past o behind)
+    ([], sym (append-nil f.imports), over (option_past o here) behind)
 statement_imports syntax f g a b (statements-message m is i) marks behind =
-    ([], sym (append-nil f.imports), file_message_past syntax a b m i marks behind)
+    ([], sym (append-nil f.imports), over (file_message_past syntax a b m i b here) behind)
 statement_imports syntax f g a b (statements-enum is i) marks behind =
-    ([], sym (append-nil f.imports), enum_past i behind)
+    ([], sym (append-nil f.imports), over (enum_past i here) behind)
 statement_imports syntax f g a b (statements-service is i) marks behind =
-    ([], sym (append-nil f.imports), service_past i behind)
+    ([], sym (append-nil f.imports), over (service_past i here) behind)
 statement_imports syntax f g a b (statements-extend {extend = x} is e) marks behind =
-    ([], sym (append-nil f.imports), file_extend_past syntax a b x e marks behind)
+    ([], sym (append-nil f.imports), over (file_extend_past syntax a b x e b here) behind)
 
 abbrev packages_of : File → List (List Span)
 packages_of f = option_to_list f.package_name
@@ -451,44 +455,38 @@ statement_package : (syntax : Syntax) (f g : File) (a b : List Lexeme) → IsSta
 statement_package syntax f g a b (statements-empty is s) marks behind =
     ([], sym (append-nil (packages_of f)), past s behind)
 statement_package syntax f g a b (statements-import is i) marks behind =
-    ([], sym (append-nil (packages_of f)), import_past i behind)
+    ([], sym (append-nil (packages_of f)), over (import_past i here) behind)
 statement_package syntax f g a b (statements-package_statement {components = x} is none_yet p) marks behind =
     (x ∷ [], rw none_yet refl, package_marks p behind)
 statement_package syntax f g a b (statements-option is o) marks behind =
-    ([], sym (append-nil (packages_of f)), option_past o behind)
+    ([], sym (append-nil (packages_of f)), over (option_past o here) behind)
 statement_package syntax f g a b (statements-message m is i) marks behind =
-    ([], sym (append-nil (packages_of f)), file_message_past syntax a b m i marks behind)
+    ([], sym (append-nil (packages_of f)), over (file_message_past syntax a b m i b here) behind)
 statement_package syntax f g a b (statements-enum is i) marks behind =
-    ([], sym (append-nil (packages_of f)), enum_past i behind)
+    ([], sym (append-nil (packages_of f)), over (enum_past i here) behind)
 statement_package syntax f g a b (statements-service is i) marks behind =
-    ([], sym (append-nil (packages_of f)), service_past i behind)
+    ([], sym (append-nil (packages_of f)), over (service_past i here) behind)
 statement_package syntax f g a b (statements-extend {extend = x} is e) marks behind =
-    ([], sym (append-nil (packages_of f)), file_extend_past syntax a b x e marks behind)
-
-pub syntax_past : {dialect : Dialect} {a b : List Lexeme} {x : Syntax} {marks : List Mark} → IsSyntax dialect a x b
-    → Among marks b → Among marks a
-syntax_past (proto3 k q t s) behind = past k (past q (joined_past t (past s behind)))
-syntax_past (proto2 k q t s) behind = past k (past q (joined_past t (past s behind)))
-syntax_past (no_statement p q) behind = behind
+    ([], sym (append-nil (packages_of f)), over (file_extend_past syntax a b x e b here) behind)
 
 pub items_among : {dialect : Dialect} {a : List Lexeme} (f : File) → IsFile dialect a f
     → Among (marks_of_items f) a
 items_among f (file {b = b} {c = c} {syntax = syntax} s u) =
     let p = until_puts (λ (x : File). x.items) item_then (statement_items syntax) empty_file f b c u [] no_marks in
-    syntax_past s (rw p.1 p.2)
+    over (syntax_past s here) (rw p.1 p.2)
 
 pub imports_among : {dialect : Dialect} {a : List Lexeme} (f : File) → IsFile dialect a f
     → Among (marks_of_imports f) a
 imports_among f (file {b = b} {c = c} {syntax = syntax} s u) =
     let p = until_puts (λ (x : File). x.imports) import_then (statement_imports syntax) empty_file f b c u [] no_marks
     in
-    syntax_past s (rw p.1 p.2)
+    over (syntax_past s here) (rw p.1 p.2)
 
 pub package_among : {dialect : Dialect} {a : List Lexeme} (f : File) → IsFile dialect a f
     → Among (marks_of_package f) a
 package_among f (file {b = b} {c = c} {syntax = syntax} s u) =
     let p = until_puts packages_of names_then (statement_package syntax) empty_file f b c u [] no_marks in
-    syntax_past s (rw p.1 p.2)
+    over (syntax_past s here) (rw p.1 p.2)
 
 -- from an earlier place on too
 from_earlier : (earlier place : ℕ) (spans : List Span) → earlier ≤ place → AreInOrder place spans

@@ -17,7 +17,9 @@ use Rattle.proto_parse.specs.Grammar.Files.IsFile.{file}
 use Rattle.proto_parse.specs.Walk.{Mark, Among, each_then, item_then, names_then, IsAmongItems, PackageIsAmongItems}
 use Rattle.proto_parse.specs.Walk.Among.{none as no_marks}
 use Rattle.proto_parse.proofs.Walk.Marks.{Puts, each_then-append, until_puts, statement_items, package_marks}
-use Rattle.proto_parse.proofs.Walk.Marks.{syntax_past}
+use Rattle.proto_parse.proofs.Walk.Past.{over}
+use Rattle.proto_parse.proofs.Tails.{syntax_past}
+use Rattle.proto_parse.proofs.Tails.IsTail.{here}
 
 -- a package's name stays
 statement_keeps : (syntax : Syntax) (f g : File) (a b : List Lexeme) (components : List Span)
@@ -114,4 +116,4 @@ by_name syntax g a b c (Some components) is earlier u =
 pub package_among_items : {dialect : Dialect} {a : List Lexeme} (g : File) → IsFile dialect a g
     → PackageIsAmongItems g.package_name g.items a
 package_among_items {a = a} g (file {b = b} {c = c} {syntax = syntax} s u) =
-    by_name syntax g a b c g.package_name refl (λ marks among. syntax_past s among) u
+    by_name syntax g a b c g.package_name refl (λ marks among. over (syntax_past s here) among) u

@@ -2,4 +2,4 @@ use Rattle.proto_parse.proofs.Widened.{file_wide}
 use Rattle.proto_parse.proofs.laws.proto3_among_all.Goals as goal
 
 pub returns : goal.returns
-returns c = λ text tokens file d. file_wide d
+returns c = λ text tokens file d. file_wide d tt

@@ -1,7 +1,6 @@
 //! What a page defines, and who uses it.
 
 ghost use Rattle.std.specs.Prelude.{◌≡◌, ◌++◌, ℕ, List, map, IfOk, OnOk, option_copied};
-ghost use Rattle.std.specs.String.{string_bytes};
 ghost use Rattle.std.specs.Borrow.{Bor};
 ghost use Rattle.std.specs.List.{flat_map};
 ghost use Rattle.scip_query.specs.Tables.{path_listed};
@@ -16,20 +15,27 @@ use crate::places::{line_listed, occurrence_listed, path_listed, symbol_listed};
 use crate::site::{Site, has_page, same_place};
 use crate::urls::place_url;
 use scip_model::{Document, Occurrence};
-use scip_pages::{ColumnUnit, Link, parts_of, push_attribute, push_escaped};
+use scip_pages::{ColumnUnit, Link, parts_of, push_attribute, push_decimal, push_escaped};
 use scip_query::Place;
 use std::alloc::{AllocError, Global};
 
+/// Besides the path, the room for the name of a use: most fit.
+const LINE_ROOM: usize = 8;
+
 /// How a use is named: by its path and its line.
-fn use_name(alloc: Global, path: &str, line: usize) -> Result<String, AllocError>
-    ensures { IfOk result (λ name. string_bytes name ≡ spec.use_name path.now line) }
+fn use_name(alloc: Global, path: &str, line: usize) -> Result<Vec<u8>, AllocError>
+    ensures { IfOk result (λ name. name.items ≡ spec.use_name path.now line) }
 {
-    format!(in alloc; "{path}:{line}")
+    let mut name = Vec::with_capacity(alloc, path.len().saturating_add(LINE_ROOM))?;
+    name.extend_from_slice(path.as_bytes())?;
+    name.extend_from_slice(b":")?;
+    push_decimal(&mut name, line)?;
+    Ok(name)
 }
 
 /// The name of the use at a place.
-fn name_at(alloc: Global, documents: &[Document], place: Place) -> Result<String, AllocError>
-    ensures { IfOk result (λ name. string_bytes name ≡ spec.use_name (path_listed documents.now place.document)
+fn name_at(alloc: Global, documents: &[Document], place: Place) -> Result<Vec<u8>, AllocError>
+    ensures { IfOk result (λ name. name.items ≡ spec.use_name (path_listed documents.now place.document)
         (line_listed documents.now place)) }
 {
     let path = path_listed(documents, place.document);
@@ -57,7 +63,7 @@ fn push_use(
 {
     let url = place_url(alloc, site.queries, from, place)?;
     let name = name_at(alloc, site.queries.documents(), place)?;
-    push_use_link(page, &url, name.as_bytes())
+    push_use_link(page, &url, &name)
 }
 
 /// Whether a place is a use of what is defined at another.

@@ -50,7 +50,7 @@ fn push_page_path(alloc: Global, url: &mut Vec<u8>, path: &str) -> Result<(), Al
 }
 
 /// Appends the place of a line.
-fn push_line_place(url: &mut Vec<u8>, line: usize) -> Result<(), AllocError>
+pub(crate) fn push_line_place(url: &mut Vec<u8>, line: usize) -> Result<(), AllocError>
     ensures { OnOk result (url.new.items ≡ url.old.items ++ line_place line) }
 {
     url.extend_from_slice(b"#L")?;

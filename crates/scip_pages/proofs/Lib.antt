@@ -1,5 +1,6 @@
 pub mod PlainLemmas
 pub mod EscapeLemmas
+pub mod DecimalLemmas
 pub mod ColumnLemmas
 pub mod OffsetLemmas
 pub mod UnitLemmas

@@ -4,10 +4,11 @@ ghost use Rattle.std.specs.Prelude.{◌≡◌, ◌++◌, codes, take, drop, OnOk
 ghost use Rattle.std.specs.List.{flat_map};
 ghost use Rattle.scip_pages.specs.Code as spec;
 
+use crate::decimals::push_decimal;
 use crate::escapes::push_escaped;
 use crate::runs::Run;
 use sequences::Sequence;
-use std::alloc::{AllocError, Global};
+use std::alloc::AllocError;
 
 /// Where a piece of code leads.
 #[derive(Debug, Drop)]
@@ -99,19 +100,18 @@ fn push_pieces(
 }
 
 /// Appends the place of a line with a number.
-fn push_line_mark(alloc: Global, page: &mut Vec<u8>, number: usize) -> Result<(), AllocError>
+fn push_line_mark(page: &mut Vec<u8>, number: usize) -> Result<(), AllocError>
     ensures { OnOk result (page.new.items ≡ page.old.items ++ spec.line_mark number) }
 {
-    let id = format!(in alloc; "L{number}")?;
-    page.extend_from_slice(b"<a")?;
-    push_attribute(page, b"id", id.as_bytes())?;
-    page.extend_from_slice(b"></a>")
+    page.extend_from_slice(b"<a id=\"L")?;
+    push_decimal(page, number)?;
+    page.extend_from_slice(b"\"></a>")?;
+    Ok(())
 }
 
 /// Appends a line of code with a number from 1. Each of its runs that has an occurrence becomes the link that has the
 /// occurrence's number; if there is none it stays text.
 pub fn push_line(
-    alloc: Global,
     page: &mut Vec<u8>,
     number: usize,
     line: &[u8],
@@ -121,6 +121,6 @@ pub fn push_line(
     ensures { OnOk result (page.new.items ≡ page.old.items ++ spec.line_code number
         (spec.pieces_of links.now line.now runs.now)) }
 {
-    push_line_mark(alloc, page, number)?;
+    push_line_mark(page, number)?;
     push_pieces(page, line, runs, links)
 }

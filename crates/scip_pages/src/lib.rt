@@ -4,6 +4,7 @@
 
 mod code;
 mod columns;
+mod decimals;
 mod escapes;
 mod laws;
 mod lines;
@@ -15,6 +16,7 @@ mod urls;
 
 pub use code::{Link, cut, push_attribute, push_line};
 pub use columns::{ColumnUnit, offset_of, unit_of};
+pub use decimals::push_decimal;
 pub use escapes::{escape, push_escaped};
 pub use laws::{
     code_shows_the_source, columns_have_one_offset, escapes_become_no_marks, escapes_show_the_text,

@@ -144,7 +144,7 @@ fn spans_of(
 ) -> Result<Vec<Span>, AllocError>
     ensures { IfOk result (λ spans. spans.items ≡ spec.spans_of unit occurrences.now line.now marking.now) }
 {
-    let mut spans = Vec::new(alloc);
+    let mut spans = Vec::with_capacity(alloc, marking.len())?;
     for number in marking {
         push_span(&mut spans, unit, occurrences, line, *number)?;
     }
@@ -187,7 +187,7 @@ fn push_numbered(
     push_lead(page, number)?;
     let spans = spans_of(alloc, code.unit, code.occurrences, line, marking)?;
     let runs = line_runs(alloc, &spans, line.len())?;
-    push_line(alloc, page, number, line, &runs, code.links)
+    push_line(page, number, line, &runs, code.links)
 }
 
 /// The list of the line with a number; an empty one where there is none.

@@ -16,6 +16,9 @@ use scip_pages::ColumnUnit;
 use scip_query::Place;
 use std::alloc::{AllocError, Global};
 
+/// The room for a line of a page: most pages fit that have as much for each.
+const LINE_ROOM: usize = 384;
+
 /// A document with its number, what its columns count, and the lines of its source.
 #[derive(Clone, Copy)]
 pub struct Asked<'a> {
@@ -70,7 +73,7 @@ fn page_with<'a>(
         site.now.sources.now code.now.unit code.now.occurrences.now code.now.links.now
         (map (λ (l : Bor (List ℕ)). l.now) code.now.lines.now) firsts.now) }
 {
-    let mut page = Vec::new(alloc);
+    let mut page = Vec::with_capacity(alloc, code.lines.len().saturating_mul(LINE_ROOM))?;
     push_start(alloc, &mut page, path)?;
     push_main(alloc, &mut page, site, facts, code, firsts)?;
     Ok(page)

@@ -10,7 +10,7 @@ use crate::places::symbol_listed;
 use crate::site::{Site, same_place};
 use crate::urls::{empty_url, push_place_url};
 use scip_model::Document;
-use scip_pages::Link;
+use scip_pages::{Link, push_decimal};
 use scip_query::Place;
 use sequences::Sequence;
 use std::alloc::{AllocError, Global};
@@ -41,11 +41,11 @@ pub(crate) fn places_of(
 }
 
 /// Appends the URL of the uses of what the occurrence with a number defines, on the same page.
-fn push_uses_url(alloc: Global, url: &mut Vec<u8>, number: usize) -> Result<(), AllocError>
+fn push_uses_url(url: &mut Vec<u8>, number: usize) -> Result<(), AllocError>
     ensures { OnOk result (url.new.items ≡ url.old.items ++ spec.uses_url number) }
 {
-    let place = format!(in alloc; "#U{number}")?;
-    url.extend_from_slice(place.as_bytes())
+    url.extend_from_slice(b"#U")?;
+    push_decimal(url, number)
 }
 
 /// Appends where the occurrence at a place leads whose symbol is defined at another.
@@ -59,7 +59,7 @@ fn push_target(
     ensures { OnOk result (url.new.items ≡ url.old.items ++ spec.target_of site.now.queries.now place definition) }
 {
     if same_place(definition, place) {
-        push_uses_url(alloc, url, place.occurrence)
+        push_uses_url(url, place.occurrence)
     } else {
         push_place_url(alloc, url, site.queries, place.document, definition)
     }

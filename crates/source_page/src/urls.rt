@@ -8,7 +8,7 @@ ghost use Rattle.source_page.specs.Crumbs.{file_url, folder_id, folder_url};
 
 use crate::places::{line_listed, path_listed};
 use crate::site::folder_marks;
-use scip_pages::{push_encoded, push_ups};
+use scip_pages::{push_decimal, push_encoded, push_ups};
 use scip_query::{Place, Queries};
 use std::alloc::{AllocError, Global};
 
@@ -50,11 +50,11 @@ fn push_page_path(alloc: Global, url: &mut Vec<u8>, path: &str) -> Result<(), Al
 }
 
 /// Appends the place of a line.
-fn push_line_place(alloc: Global, url: &mut Vec<u8>, line: usize) -> Result<(), AllocError>
+pub(crate) fn push_line_place(url: &mut Vec<u8>, line: usize) -> Result<(), AllocError>
     ensures { OnOk result (url.new.items ≡ url.old.items ++ line_place line) }
 {
-    let place = format!(in alloc; "#L{line}")?;
-    url.extend_from_slice(place.as_bytes())
+    url.extend_from_slice(b"#L")?;
+    push_decimal(url, line)
 }
 
 /// Appends the URL by which the page of the document with the number `from` names the line of a place.
@@ -70,7 +70,7 @@ pub(crate) fn push_place_url(
     let documents = queries.documents();
     push_page_ups(url, path_listed(documents, from))?;
     push_page_path(alloc, url, path_listed(documents, place.document))?;
-    push_line_place(alloc, url, line_listed(documents, place))?;
+    push_line_place(url, line_listed(documents, place))?;
     Ok(())
 }
 

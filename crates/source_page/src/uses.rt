@@ -1,35 +1,46 @@
 //! What a page defines, and who uses it.
 
 ghost use Rattle.std.specs.Prelude.{◌≡◌, ◌++◌, ℕ, List, map, IfOk, OnOk, option_copied};
-ghost use Rattle.std.specs.String.{string_bytes};
 ghost use Rattle.std.specs.Borrow.{Bor};
 ghost use Rattle.std.specs.List.{flat_map};
 ghost use Rattle.scip_query.specs.Tables.{path_listed};
 ghost use Rattle.source_page.specs.Site.{line_listed};
 ghost use Rattle.source_page.specs.Facts.{AreRight};
+ghost use Rattle.source_page.specs.Targets.{uses_id};
 ghost use Rattle.source_page.specs.Uses as spec;
+ghost use Rattle.scip_pages.specs.Urls.{line_place};
 
 use crate::code::{Code, line_at};
 use crate::facts::Facts;
 use crate::marks::push_link;
 use crate::places::{line_listed, occurrence_listed, path_listed, symbol_listed};
 use crate::site::{Site, has_page, same_place};
-use crate::urls::place_url;
+use crate::urls::{place_url, push_line_place};
 use scip_model::{Document, Occurrence};
-use scip_pages::{ColumnUnit, Link, parts_of, push_attribute, push_escaped};
+use scip_pages::{ColumnUnit, Link, parts_of, push_attribute, push_decimal, push_escaped};
 use scip_query::Place;
 use std::alloc::{AllocError, Global};
 
+/// Besides the path, the room for the name of a use: most fit.
+const LINE_ROOM: usize = 8;
+
+/// The room for the name of a place on a page: most fit.
+const PLACE_ROOM: usize = 8;
+
 /// How a use is named: by its path and its line.
-fn use_name(alloc: Global, path: &str, line: usize) -> Result<String, AllocError>
-    ensures { IfOk result (λ name. string_bytes name ≡ spec.use_name path.now line) }
+fn use_name(alloc: Global, path: &str, line: usize) -> Result<Vec<u8>, AllocError>
+    ensures { IfOk result (λ name. name.items ≡ spec.use_name path.now line) }
 {
-    format!(in alloc; "{path}:{line}")
+    let mut name = Vec::with_capacity(alloc, path.len().saturating_add(LINE_ROOM))?;
+    name.extend_from_slice(path.as_bytes())?;
+    name.extend_from_slice(b":")?;
+    push_decimal(&mut name, line)?;
+    Ok(name)
 }
 
 /// The name of the use at a place.
-fn name_at(alloc: Global, documents: &[Document], place: Place) -> Result<String, AllocError>
-    ensures { IfOk result (λ name. string_bytes name ≡ spec.use_name (path_listed documents.now place.document)
+fn name_at(alloc: Global, documents: &[Document], place: Place) -> Result<Vec<u8>, AllocError>
+    ensures { IfOk result (λ name. name.items ≡ spec.use_name (path_listed documents.now place.document)
         (line_listed documents.now place)) }
 {
     let path = path_listed(documents, place.document);
@@ -57,7 +68,7 @@ fn push_use(
 {
     let url = place_url(alloc, site.queries, from, place)?;
     let name = name_at(alloc, site.queries.documents(), place)?;
-    push_use_link(page, &url, name.as_bytes())
+    push_use_link(page, &url, &name)
 }
 
 /// Whether a place is a use of what is defined at another.
@@ -133,6 +144,25 @@ fn label_at(links: &[Link], number: usize) -> &[u8]
     }
 }
 
+/// The place of the uses of what the occurrence with a number defines.
+fn uses_id(alloc: Global, occurrence: usize) -> Result<Vec<u8>, AllocError>
+    ensures { IfOk result (λ id. id.items ≡ uses_id occurrence) }
+{
+    let mut id = Vec::with_capacity(alloc, PLACE_ROOM)?;
+    id.extend_from_slice(b"U")?;
+    push_decimal(&mut id, occurrence)?;
+    Ok(id)
+}
+
+/// The URL of a line of the same page.
+fn line_url(alloc: Global, line: usize) -> Result<Vec<u8>, AllocError>
+    ensures { IfOk result (λ url. url.items ≡ line_place line) }
+{
+    let mut url = Vec::with_capacity(alloc, PLACE_ROOM)?;
+    push_line_place(&mut url, line)?;
+    Ok(url)
+}
+
 /// Appends the attributes of what is defined at a place: its own place, and the link to its line.
 fn push_places(
     alloc: Global,
@@ -142,12 +172,12 @@ fn push_places(
 ) -> Result<(), AllocError>
     ensures { OnOk result (page.new.items ≡ page.old.items ++ spec.places_text occurrence line) }
 {
-    let id = format!(in alloc; "U{occurrence}")?;
-    let url = format!(in alloc; "#L{line}")?;
+    let id = uses_id(alloc, occurrence)?;
+    let url = line_url(alloc, line)?;
     page.extend_from_slice(b"<dt")?;
-    push_attribute(page, b"id", id.as_bytes())?;
+    push_attribute(page, b"id", &id)?;
     page.extend_from_slice(b"><a")?;
-    push_attribute(page, b"href", url.as_bytes())?;
+    push_attribute(page, b"href", &url)?;
     page.extend_from_slice(b"><b>")
 }
 

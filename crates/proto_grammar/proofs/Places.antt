@@ -43,15 +43,17 @@ first-lexemes_of text tokens place t spelling here spelled =
     let same : spelling ≡ part_of text t.span = rw here at spelled in
     rw same (first-drop (lexeme_of text) tokens place ∙ rw here refl)
 
--- the offset of the token at the place
-offset-of : (text : List ℕ) (o : Option Token) (n otherwise : ℕ)
-    → n ≡ option_map_or (λ (t : Token). t.span.start) o otherwise
-    → IfSome (option_map (lexeme_of text) o) (λ t. n ≡ t.span.start)
-offset-of text None n otherwise e = tt
-offset-of text (Some t) n otherwise e = e
+-- the offset of the token at the place, or else where the text ends
+offset-of : (text : List ℕ) (o : Option Token) (otherwise : ℕ)
+    → option_map_or (λ (t : Token). t.span.start) o otherwise
+    ≡ option_map_or (λ (t : Lexeme). t.span.start) (option_map (lexeme_of text) o) otherwise
+offset-of text None otherwise = refl
+offset-of text (Some t) otherwise = refl
 
 pub first-offset : (text : List ℕ) (tokens : List Token) (place n : ℕ)
     → n ≡ option_map_or (λ (t : Token). t.span.start) (slice_get tokens place) (length text)
-    → IfSome (first (drop place (lexemes_of text tokens))) (λ t. n ≡ t.span.start)
+    → n ≡ option_map_or (λ (t : Lexeme). t.span.start) (first (drop place (lexemes_of text tokens))) (length text)
 first-offset text tokens place n e =
-    rw (first-drop (lexeme_of text) tokens place) (offset-of text (slice_get tokens place) n (length text) e)
+    e ∙ (offset-of text (slice_get tokens place) (length text)
+    ∙ ap (λ (o : Option Lexeme). option_map_or (λ (t : Lexeme). t.span.start) o (length text))
+    (sym (first-drop (lexeme_of text) tokens place)))

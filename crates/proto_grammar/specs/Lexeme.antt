@@ -1,5 +1,5 @@
 -- Tokens with their spellings: the terminals of the grammar.
-use Rattle.std.specs.Prelude.{ℕ, List, map}
+use Rattle.std.specs.Prelude.{ℕ, List, map, length}
 use Rattle.proto_lex.specs.Lexed.{part_of}
 use Rattle.proto_lex.specs.declared.span.Span.{Span}
 use Rattle.proto_lex.specs.declared.token.Token.{Token}
@@ -17,3 +17,12 @@ lexeme_of text token = record { kind = token.kind; spelling = part_of text token
 -- The tokens of a text, each with its spelling.
 abbrev pub lexemes_of : List ℕ → List Token → List Lexeme
 lexemes_of text tokens = map (lexeme_of text) tokens
+
+-- A place among the tokens of a text: the tokens that are left, and where the text ends.
+pub record Place : Type 0 where
+  pub left : List Lexeme
+  pub end : ℕ
+
+-- The place before the first token.
+abbrev pub start_of : List ℕ → List Token → Place
+start_of text tokens = record { left = lexemes_of text tokens; end = length text }

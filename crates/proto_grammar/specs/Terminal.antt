@@ -9,7 +9,7 @@ use Rattle.proto_lex.specs.declared.token.TokenKind.TheVariants.{Identifier, Int
 use Rattle.proto_lex.specs.declared.token.TokenKind.TheVariants.{Equals, OpenBrace, CloseBrace, OpenBracket}
 use Rattle.proto_lex.specs.declared.token.TokenKind.TheVariants.{CloseBracket, OpenParenthesis, CloseParenthesis, Less}
 use Rattle.proto_lex.specs.declared.token.TokenKind.TheVariants.{Greater, Comma, Dot, Colon, Plus, Minus, Slash}
-use Rattle.proto_grammar.specs.Lexeme.{Lexeme}
+use Rattle.proto_grammar.specs.Lexeme.{Lexeme, Place}
 
 abbrev pub number_of : TokenKind → ℕ
 number_of Identifier = 0
@@ -95,6 +95,10 @@ first (t ∷ rest) = Some t
 abbrev pub others : List Lexeme → List Lexeme
 others [] = []
 others (t ∷ rest) = rest
+
+-- Where the next token begins, or where the text ends if none is left.
+abbrev pub offset_at : Place → ℕ
+offset_at place = option_map_or (λ (t : Lexeme). t.span.start) (first place.left) place.end
 
 -- Whether the next token passes the test.
 abbrev pub first_is : (Lexeme → Bool) → List Lexeme → Bool

@@ -1,6 +1,6 @@
 //! The parser's place among the tokens, and single tokens.
 
-ghost use Rattle.std.specs.Prelude.{◌≡◌, ◌==◌, length, option_map, slice_get, IfSome, bytes_eq};
+ghost use Rattle.std.specs.Prelude.{◌≡◌, ◌==◌, length, option_map, slice_get, bytes_eq};
 ghost use Rattle.std.specs.List.{list_any};
 ghost use Rattle.std.specs.Option.{option_map_or};
 ghost use Rattle.proto_lex.specs.Ascii as ascii;
@@ -9,9 +9,9 @@ ghost use Rattle.proto_grammar.specs.declared.tree.CustomOptions.TheVariants.{Sk
 ghost use Rattle.proto_grammar.specs.Terminal.{first, others, first_is, of_kind, is_word, key_words, scalar_words};
 ghost use Rattle.proto_grammar.specs.Terminal.{is_scalar, is_key, is_sign, is_numeral, is_number, is_plain_literal};
 ghost use Rattle.proto_grammar.specs.Terminal.{between_quotes, begins_scalar, begins_group, is_capitalized};
-ghost use Rattle.proto_grammar.specs.Terminal.{is_group_name, is_end};
+ghost use Rattle.proto_grammar.specs.Terminal.{is_group_name, is_end, offset_at};
 ghost use Rattle.proto_grammar.specs.Reading.Repetition.{token_that, span_at};
-ghost use Rattle.proto_grammar.specs.Lexeme.{lexemes_of};
+ghost use Rattle.proto_grammar.specs.Lexeme.{start_of};
 ghost use Rattle.proto_grammar.specs.View.{lexeme_view};
 
 use crate::fault::SyntaxFault;
@@ -153,7 +153,8 @@ fn offset_at(tokens: &Tokens<'_, '_>, place: usize) -> usize
     }
 }
 
-/// A place among the tokens of a text. Contracts see the tokens after it, with their spellings.
+/// A place among the tokens of a text. Contracts see the tokens after it, with their spellings, and where the text
+/// ends.
 #[derive(Drop)]
 pub struct Parser<'t> {
     tokens: &'t Tokens<'t, 't>,
@@ -161,25 +162,28 @@ pub struct Parser<'t> {
 }
 
 impl<'t> Model for Parser<'t> {
-    ghost use Rattle.std.specs.Prelude.{List, drop};
-    ghost use Rattle.proto_grammar.specs.Lexeme.{Lexeme, lexemes_of};
+    ghost use Rattle.std.specs.Prelude.{drop, length};
+    ghost use Rattle.proto_grammar.specs.Lexeme.{Place, lexemes_of};
 
-    ghost Value = { List Lexeme };
+    ghost Value = { Place };
 
-    ghost view = { λ parser. drop parser.next (lexemes_of parser.tokens.now.text parser.tokens.now.tokens) };
+    ghost view = { λ parser. record {
+      left = drop parser.next (lexemes_of parser.tokens.now.text parser.tokens.now.tokens);
+      end = length parser.tokens.now.text;
+    } };
 }
 
 impl<'t> Parser<'t> {
     /// The place before the first token.
     pub fn new(tokens: &'t Tokens<'t, 't>) -> Parser<'t>
-        ensures { result ≡ lexemes_of tokens.now.text tokens.now.tokens }
+        ensures { result ≡ start_of tokens.now.text tokens.now.tokens }
     {
         Parser { tokens, next: 0 }
     }
 
     /// The next token, if there is one.
     pub fn peek(&self) -> Option<Lexeme<'t>>
-        ensures { first self.now ≡ option_map lexeme_view result }
+        ensures { first self.now.left ≡ option_map lexeme_view result }
     {
         let tokens = self.tokens;
         let token = tokens.tokens().get(self.next)?;
@@ -193,8 +197,9 @@ impl<'t> Parser<'t> {
 
     /// Takes the next token, if there is one.
     pub fn next(&mut self) -> Option<Lexeme<'t>>
-        ensures token { first self.old ≡ option_map lexeme_view result }
-        ensures rest { self.new ≡ others self.old }
+        ensures token { first self.old.left ≡ option_map lexeme_view result }
+        ensures rest { self.new.left ≡ others self.old.left }
+        ensures end { self.new.end ≡ self.old.end }
     {
         let lexeme = self.peek();
         self.advance();
@@ -204,7 +209,8 @@ impl<'t> Parser<'t> {
     /// Moves past the next token, if there is one.
     #[tactic(auto, using(crate::proofs::Places::others_drop))]
     pub fn advance(&mut self)
-        ensures { self.new ≡ others self.old }
+        ensures rest { self.new.left ≡ others self.old.left }
+        ensures end { self.new.end ≡ self.old.end }
     {
         if self.next < self.tokens.tokens().len() {
             self.next += 1;
@@ -213,28 +219,28 @@ impl<'t> Parser<'t> {
 
     /// How many tokens are left.
     pub(crate) fn left(&self) -> usize
-        ensures { result ≡ length self.now }
+        ensures { result ≡ length self.now.left }
     {
         self.tokens.tokens().len().saturating_sub(self.next)
     }
 
     /// The offset of the next token, or the text's length.
     pub fn offset(&self) -> usize
-        ensures { IfSome (first self.now) (λ t. result ≡ t.span.start) }
+        ensures { result ≡ offset_at self.now }
     {
         offset_at(self.tokens, self.next)
     }
 
     /// Whether no token is left.
     pub fn is_at_end(&self) -> bool
-        ensures { result ≡ is_end self.now }
+        ensures { result ≡ is_end self.now.left }
     {
         self.peek().is_none()
     }
 
     /// Whether the next token is of the kind.
     pub fn is_at(&self, kind: TokenKind) -> bool
-        ensures { result ≡ first_is (of_kind kind) self.now }
+        ensures { result ≡ first_is (of_kind kind) self.now.left }
     {
         match self.peek() {
             Some(lexeme) => lexeme.kind == kind,
@@ -244,7 +250,7 @@ impl<'t> Parser<'t> {
 
     /// Whether the next token is the word.
     pub fn is_at_word(&self, word: &str) -> bool
-        ensures { result ≡ first_is (is_word word.now) self.now }
+        ensures { result ≡ first_is (is_word word.now) self.now.left }
     {
         match self.peek() {
             Some(lexeme) => lexeme.is_word(word),
@@ -254,7 +260,7 @@ impl<'t> Parser<'t> {
 
     /// Whether the next token is `-` or `+`.
     pub(crate) fn is_at_sign(&self) -> bool
-        ensures { result ≡ first_is is_sign self.now }
+        ensures { result ≡ first_is is_sign self.now.left }
     {
         match self.peek() {
             Some(lexeme) => lexeme.is_sign(),
@@ -264,7 +270,7 @@ impl<'t> Parser<'t> {
 
     /// The place after the next token, if there is one.
     fn behind(&self) -> Parser<'t>
-        ensures { result ≡ others self.now }
+        ensures { result.left ≡ others self.now.left }
     {
         let mut behind = Parser {
             tokens: self.tokens,
@@ -276,14 +282,14 @@ impl<'t> Parser<'t> {
 
     /// Whether the token after the next one is of the kind.
     pub fn is_before(&self, kind: TokenKind) -> bool
-        ensures { result ≡ first_is (of_kind kind) (others self.now) }
+        ensures { result ≡ first_is (of_kind kind) (others self.now.left) }
     {
         self.behind().is_at(kind)
     }
 
     /// Whether the next token is the word of a scalar type, which no `.` follows.
     pub(crate) fn is_at_scalar(&self) -> bool
-        ensures { result ≡ begins_scalar self.now }
+        ensures { result ≡ begins_scalar self.now.left }
     {
         match self.peek() {
             Some(lexeme) => lexeme.is_scalar() && !self.is_before(TokenKind::Dot),
@@ -293,7 +299,7 @@ impl<'t> Parser<'t> {
 
     /// Whether the next token is the word `group`, which no `.` follows.
     pub fn is_at_group(&self) -> bool
-        ensures { result ≡ begins_group self.now }
+        ensures { result ≡ begins_group self.now.left }
     {
         self.is_at_word("group") && !self.is_before(TokenKind::Dot)
     }
@@ -301,7 +307,7 @@ impl<'t> Parser<'t> {
     /// Where the next token is. It isn't taken.
     #[tactic(auto, unfolding(crate::specs::Reading::Repetition::span_at))]
     pub fn span(&self) -> Result<Span, SyntaxFault>
-        ensures { Gives Skip (λ x. x) self.now result (span_at self.now) }
+        ensures { Gives Skip (λ x. x) self.now.left result (span_at self.now.left) }
     {
         match self.peek() {
             Some(lexeme) => Ok(lexeme.span),
@@ -313,7 +319,7 @@ impl<'t> Parser<'t> {
     /// methods that take a part, unless they say otherwise.
     #[tactic(auto, unfolding(crate::specs::Reading::Repetition::token_that))]
     pub fn token(&mut self, kind: TokenKind) -> Result<Span, SyntaxFault>
-        ensures { Gives Skip (λ x. x) self.new result (token_that (of_kind kind) self.old) }
+        ensures { Gives Skip (λ x. x) self.new.left result (token_that (of_kind kind) self.old.left) }
     {
         let offset = self.offset();
         match self.next() {
@@ -325,7 +331,7 @@ impl<'t> Parser<'t> {
     /// Takes the word.
     #[tactic(auto, unfolding(crate::specs::Reading::Repetition::token_that))]
     pub fn word(&mut self, word: &str) -> Result<Span, SyntaxFault>
-        ensures { Gives Skip (λ x. x) self.new result (token_that (is_word word.now) self.old) }
+        ensures { Gives Skip (λ x. x) self.new.left result (token_that (is_word word.now) self.old.left) }
     {
         let offset = self.offset();
         match self.next() {
@@ -337,7 +343,7 @@ impl<'t> Parser<'t> {
     /// Takes a group's name, which begins with a capital letter.
     #[tactic(auto, unfolding(crate::specs::Reading::Repetition::token_that))]
     pub(crate) fn group_name(&mut self) -> Result<Span, SyntaxFault>
-        ensures { Gives Skip (λ x. x) self.new result (token_that is_group_name self.old) }
+        ensures { Gives Skip (λ x. x) self.new.left result (token_that is_group_name self.old.left) }
     {
         let offset = self.offset();
         match self.next() {
@@ -349,7 +355,7 @@ impl<'t> Parser<'t> {
     /// Takes the word of a scalar type.
     #[tactic(auto, unfolding(crate::specs::Reading::Repetition::token_that))]
     pub(crate) fn scalar(&mut self) -> Result<Span, SyntaxFault>
-        ensures { Gives Skip (λ x. x) self.new result (token_that is_scalar self.old) }
+        ensures { Gives Skip (λ x. x) self.new.left result (token_that is_scalar self.old.left) }
     {
         let offset = self.offset();
         match self.next() {
@@ -361,7 +367,7 @@ impl<'t> Parser<'t> {
     /// Takes the word of a scalar type that may be a map's key.
     #[tactic(auto, unfolding(crate::specs::Reading::Repetition::token_that))]
     pub(crate) fn key(&mut self) -> Result<Span, SyntaxFault>
-        ensures { Gives Skip (λ x. x) self.new result (token_that is_key self.old) }
+        ensures { Gives Skip (λ x. x) self.new.left result (token_that is_key self.old.left) }
     {
         let offset = self.offset();
         match self.next() {
@@ -373,7 +379,7 @@ impl<'t> Parser<'t> {
     /// Takes a number without a sign.
     #[tactic(auto, unfolding(crate::specs::Reading::Repetition::token_that))]
     pub(crate) fn numeral(&mut self) -> Result<Span, SyntaxFault>
-        ensures { Gives Skip (λ x. x) self.new result (token_that is_numeral self.old) }
+        ensures { Gives Skip (λ x. x) self.new.left result (token_that is_numeral self.old.left) }
     {
         let offset = self.offset();
         match self.next() {
@@ -385,7 +391,7 @@ impl<'t> Parser<'t> {
     /// Takes what may be after a sign.
     #[tactic(auto, unfolding(crate::specs::Reading::Repetition::token_that))]
     pub(crate) fn number(&mut self) -> Result<Span, SyntaxFault>
-        ensures { Gives Skip (λ x. x) self.new result (token_that is_number self.old) }
+        ensures { Gives Skip (λ x. x) self.new.left result (token_that is_number self.old.left) }
     {
         let offset = self.offset();
         match self.next() {
@@ -397,7 +403,7 @@ impl<'t> Parser<'t> {
     /// Takes a `-` or `+`.
     #[tactic(auto, unfolding(crate::specs::Reading::Repetition::token_that))]
     pub(crate) fn sign(&mut self) -> Result<Span, SyntaxFault>
-        ensures { Gives Skip (λ x. x) self.new result (token_that is_sign self.old) }
+        ensures { Gives Skip (λ x. x) self.new.left result (token_that is_sign self.old.left) }
     {
         let offset = self.offset();
         match self.next() {
@@ -409,7 +415,7 @@ impl<'t> Parser<'t> {
     /// Takes a literal of an import's path: ImportEscape if it has a `\`.
     #[tactic(auto, unfolding(crate::specs::Reading::Repetition::token_that))]
     pub fn plain_literal(&mut self) -> Result<Span, SyntaxFault>
-        ensures { Gives Skip (λ x. x) self.new result (token_that is_plain_literal self.old) }
+        ensures { Gives Skip (λ x. x) self.new.left result (token_that is_plain_literal self.old.left) }
     {
         let offset = self.offset();
         match self.next() {

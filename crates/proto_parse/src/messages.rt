@@ -23,7 +23,7 @@ pub const MAX_MESSAGE_DEPTH: usize = 64;
 
 /// What the next statement of a message is.
 fn message_statement(parser: &Parser<'_>, syntax: Syntax) -> MessageStatement
-    ensures { result ≡ message_statement_of syntax parser.now }
+    ensures { result ≡ message_statement_of syntax parser.now.left }
 {
     let Some(lexeme) = parser.peek() else {
         return MessageStatement::Member;
@@ -61,7 +61,7 @@ fn message_statement(parser: &Parser<'_>, syntax: Syntax) -> MessageStatement
 /// The ranges of a message's extensions. Only proto2 has them.
 #[tactic(auto, unfolding(crate::specs::Reading::Messages::ranges_at))]
 fn ranges(parser: &mut Parser<'_>, syntax: Syntax) -> Result<Option<Item>, SyntaxFault>
-    ensures { Gives (custom_of syntax) (λ x. x) parser.new result (ranges_at syntax parser.old) }
+    ensures { Gives (custom_of syntax) (λ x. x) parser.new.left result (ranges_at syntax parser.old.left) }
 {
     if !syntax.is_proto2() {
         return Err(SyntaxFault::Grammar(parser.offset()));
@@ -80,7 +80,8 @@ pub(crate) fn message(
     syntax: Syntax,
     levels: usize,
 ) -> Result<Block, SyntaxFault>
-    ensures { Gives (custom_of syntax) (λ x. x) parser.new result (message_at (inside_at syntax levels) parser.old) }
+    ensures { Gives (custom_of syntax) (λ x. x) parser.new.left result
+        (message_at (inside_at syntax levels) parser.old.left) }
 {
     if levels == 0 {
         return Err(SyntaxFault::TooDeep(parser.offset()));
@@ -105,8 +106,8 @@ fn group(
     first: Span,
     label: Option<Label>,
 ) -> Result<Block, SyntaxFault>
-    ensures { Gives (custom_of syntax) (λ x. x) parser.new result
-        (group_at (custom_of syntax) (inside_at syntax levels) first label parser.old) }
+    ensures { Gives (custom_of syntax) (λ x. x) parser.new.left result
+        (group_at (custom_of syntax) (inside_at syntax levels) first label parser.old.left) }
 {
     if levels == 0 {
         return Err(SyntaxFault::TooDeep(first.start));
@@ -130,8 +131,8 @@ fn labelled(
     first: Span,
     label: Option<Label>,
 ) -> Result<Item, SyntaxFault>
-    ensures { Gives (custom_of syntax) (λ x. x) parser.new result
-        (labelled_at syntax (inside_at syntax levels) first label parser.old) }
+    ensures { Gives (custom_of syntax) (λ x. x) parser.new.left result
+        (labelled_at syntax (inside_at syntax levels) first label parser.old.left) }
 {
     if syntax.is_proto2() && parser.is_at_group() {
         return Ok(Item::Block(group(parser, alloc, syntax, levels, first, label)?));
@@ -149,8 +150,8 @@ fn member(
     syntax: Syntax,
     levels: usize,
 ) -> Result<Item, SyntaxFault>
-    ensures { Gives (custom_of syntax) (λ x. x) parser.new result
-        (member_at syntax (inside_at syntax levels) parser.old) }
+    ensures { Gives (custom_of syntax) (λ x. x) parser.new.left result
+        (member_at syntax (inside_at syntax levels) parser.old.left) }
 {
     let first = parser.span()?;
     let label = parser.label(syntax)?;
@@ -166,8 +167,8 @@ fn oneof_member(
     syntax: Syntax,
     levels: usize,
 ) -> Result<Item, SyntaxFault>
-    ensures { Gives (custom_of syntax) (λ x. x) parser.new result
-        (oneof_member_at syntax (inside_at syntax levels) parser.old) }
+    ensures { Gives (custom_of syntax) (λ x. x) parser.new.left result
+        (oneof_member_at syntax (inside_at syntax levels) parser.old.left) }
 {
     let first = parser.span()?;
     labelled(parser, alloc, syntax, levels, first, None)
@@ -182,8 +183,8 @@ fn oneof_item(
     syntax: Syntax,
     levels: usize,
 ) -> Result<Option<Item>, SyntaxFault>
-    ensures { Gives (custom_of syntax) (λ x. x) parser.new result
-        (oneof_item_at syntax (inside_at syntax levels) parser.old) }
+    ensures { Gives (custom_of syntax) (λ x. x) parser.new.left result
+        (oneof_item_at syntax (inside_at syntax levels) parser.old.left) }
 {
     if parser.is_at(TokenKind::Semicolon) {
         parser.advance();
@@ -205,8 +206,8 @@ fn extend_item(
     syntax: Syntax,
     levels: usize,
 ) -> Result<Option<Item>, SyntaxFault>
-    ensures { Gives (custom_of syntax) (λ x. x) parser.new result
-        (extend_item_at syntax (inside_at syntax levels) parser.old) }
+    ensures { Gives (custom_of syntax) (λ x. x) parser.new.left result
+        (extend_item_at syntax (inside_at syntax levels) parser.old.left) }
 {
     if parser.is_at(TokenKind::Semicolon) {
         parser.advance();
@@ -224,8 +225,8 @@ fn oneof(
     syntax: Syntax,
     levels: usize,
 ) -> Result<Block, SyntaxFault>
-    ensures { Gives (custom_of syntax) (λ x. x) parser.new result
-        (oneof_at syntax (inside_at syntax levels) parser.old) }
+    ensures { Gives (custom_of syntax) (λ x. x) parser.new.left result
+        (oneof_at syntax (inside_at syntax levels) parser.old.left) }
 {
     let heading = heading(parser, "oneof")?;
     let items = braced(parser, alloc, syntax, levels, Within::Oneof)?;
@@ -244,8 +245,8 @@ fn extend(
     syntax: Syntax,
     levels: usize,
 ) -> Result<Block, SyntaxFault>
-    ensures { Gives (custom_of syntax) (λ x. x) parser.new result
-        (extend_at syntax (inside_at syntax levels) parser.old) }
+    ensures { Gives (custom_of syntax) (λ x. x) parser.new.left result
+        (extend_at syntax (inside_at syntax levels) parser.old.left) }
 {
     parser.word("extend")?;
     let extended = parser.named_type(alloc)?;
@@ -266,8 +267,8 @@ pub(crate) fn extend_statement(
     syntax: Syntax,
     levels: usize,
 ) -> Result<Option<Block>, SyntaxFault>
-    ensures { Gives (custom_of syntax) (λ x. x) parser.new result
-        (extend_statement_at syntax (inside_at syntax levels) parser.old) }
+    ensures { Gives (custom_of syntax) (λ x. x) parser.new.left result
+        (extend_statement_at syntax (inside_at syntax levels) parser.old.left) }
 {
     match syntax {
         Syntax::Proto3(custom) => {
@@ -287,8 +288,8 @@ fn message_item(
     syntax: Syntax,
     levels: usize,
 ) -> Result<Option<Item>, SyntaxFault>
-    ensures { Gives (custom_of syntax) (λ x. x) parser.new result
-        (message_item_at syntax (inside_at syntax levels) parser.old) }
+    ensures { Gives (custom_of syntax) (λ x. x) parser.new.left result
+        (message_item_at syntax (inside_at syntax levels) parser.old.left) }
 {
     let custom = syntax.custom_options();
     match message_statement(parser, syntax) {
@@ -331,8 +332,8 @@ fn item(
     levels: usize,
     within: Within,
 ) -> Result<Option<Item>, SyntaxFault>
-    ensures { Gives (custom_of syntax) (λ x. x) parser.new result
-        (item_at within syntax (inside_at syntax levels) parser.old) }
+    ensures { Gives (custom_of syntax) (λ x. x) parser.new.left result
+        (item_at within syntax (inside_at syntax levels) parser.old.left) }
 {
     match within {
         Within::Message => message_item(parser, alloc, syntax, levels),
@@ -350,8 +351,8 @@ fn items(
     levels: usize,
     within: Within,
 ) -> Result<Vec<Item>, SyntaxFault>
-    ensures { Gives (custom_of syntax) (λ x. x.items) parser.new result
-        (until_at closes (adding (item_at within syntax (inside_at syntax levels))) [] parser.old) }
+    ensures { Gives (custom_of syntax) (λ x. x.items) parser.new.left result
+        (until_at closes (adding (item_at within syntax (inside_at syntax levels))) [] parser.old.left) }
 {
     let mut items = Vec::new(alloc);
     'items: while !parser.is_at(TokenKind::CloseBrace) {
@@ -372,8 +373,8 @@ fn braced(
     levels: usize,
     within: Within,
 ) -> Result<Vec<Item>, SyntaxFault>
-    ensures { Gives (custom_of syntax) (λ x. x.items) parser.new result
-        (braced_at (item_at within syntax (inside_at syntax levels)) parser.old) }
+    ensures { Gives (custom_of syntax) (λ x. x.items) parser.new.left result
+        (braced_at (item_at within syntax (inside_at syntax levels)) parser.old.left) }
 {
     let items = items(parser, alloc, syntax, levels, within)?;
     parser.token(TokenKind::CloseBrace)?;

@@ -32,8 +32,8 @@ fn is_spelled(left: Option<&[u8]>) -> bool
 
 /// Takes the next token, and gives what is between its quotes.
 fn content<'t>(parser: &mut Parser<'t>) -> &'t [u8]
-    ensures content { result.now ≡ content_of (first parser.old) }
-    ensures rest { parser.new ≡ others parser.old }
+    ensures content { result.now ≡ content_of (first parser.old.left) }
+    ensures rest { parser.new.left ≡ others parser.old.left }
 {
     match parser.next() {
         Some(lexeme) => lexeme.between_quotes(),
@@ -43,8 +43,8 @@ fn content<'t>(parser: &mut Parser<'t>) -> &'t [u8]
 
 /// Which version the literals that are next spell when joined.
 fn version(parser: &mut Parser<'_>) -> Version
-    ensures version { result ≡ version_of (joined_of parser.old) }
-    ensures rest { parser.new ≡ behind_literals parser.old }
+    ensures version { result ≡ version_of (joined_of parser.old.left) }
+    ensures rest { parser.new.left ≡ behind_literals parser.old.left }
 {
     let mut proto3: Option<&[u8]> = Some(b"proto3");
     let mut proto2: Option<&[u8]> = Some(b"proto2");
@@ -75,7 +75,7 @@ fn proto3_in(dialect: Dialect) -> Syntax
 /// Literals that name a version that is accepted.
 #[tactic(auto, using(crate::proofs::Joined::no_literal), unfolding(crate::specs::Reading::Syntax::version_at))]
 fn accepted(parser: &mut Parser<'_>, dialect: Dialect) -> Result<Syntax, SyntaxFault>
-    ensures { Gives Skip (λ x. x) parser.new result (version_at dialect parser.old) }
+    ensures { Gives Skip (λ x. x) parser.new.left result (version_at dialect parser.old.left) }
 {
     let start = parser.offset();
     if !parser.is_at(TokenKind::StringLiteral) {
@@ -91,7 +91,7 @@ fn accepted(parser: &mut Parser<'_>, dialect: Dialect) -> Result<Syntax, SyntaxF
 /// A syntax statement (proto3 specification, "Syntax").
 #[tactic(auto, unfolding(crate::specs::Reading::Syntax::syntax_statement_at))]
 fn syntax_statement(parser: &mut Parser<'_>, dialect: Dialect) -> Result<Syntax, SyntaxFault>
-    ensures { Gives Skip (λ x. x) parser.new result (syntax_statement_at dialect parser.old) }
+    ensures { Gives Skip (λ x. x) parser.new.left result (syntax_statement_at dialect parser.old.left) }
 {
     parser.word("syntax")?;
     parser.token(TokenKind::Equals)?;
@@ -103,7 +103,7 @@ fn syntax_statement(parser: &mut Parser<'_>, dialect: Dialect) -> Result<Syntax,
 /// A file's grammar, by its syntax statement. A file without one is proto2.
 #[tactic(auto, unfolding(crate::specs::Reading::Syntax::syntax_at))]
 pub(crate) fn syntax(parser: &mut Parser<'_>, dialect: Dialect) -> Result<Syntax, SyntaxFault>
-    ensures { Gives Skip (λ x. x) parser.new result (syntax_at dialect parser.old) }
+    ensures { Gives Skip (λ x. x) parser.new.left result (syntax_at dialect parser.old.left) }
 {
     if parser.is_at_word("syntax") {
         return syntax_statement(parser, dialect);

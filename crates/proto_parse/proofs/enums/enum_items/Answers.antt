@@ -8,34 +8,36 @@ use Rattle.proto_parse.proofs.StepsFall.{enum_items_fall}
 use Rattle.proto_parse.proofs.enums.enum_items.Goals as goal
 
 pub items-smaller : goal.items-smaller
-items-smaller c = enum_items_fall c.args.custom c.items.values c.items.parser (_, c.enum_item.new.parser)
-    (adding-step (enum_item_at c.args.custom) c.items.values c.in_ok-item.item c.items.parser c.enum_item.new.parser
+items-smaller c = enum_items_fall c.args.custom c.items.values c.items.parser.left (_, c.enum_item.new.parser.left)
+    (adding-step (enum_item_at c.args.custom) c.items.values c.in_ok-item.item c.items.parser.left
+    c.enum_item.new.parser.left
     c.in_ok-item.ensures)
 
 pub items-preserved : goal.items-preserved
 items-preserved c =
-    let further : closes c.items.parser ≡ false = cc in
+    let further : closes c.items.parser.left ≡ false = cc in
     rw c.in_ok-keep.ensures
     (goes_on closes (adding (enum_item_at c.args.custom))
-    (enum_items_fall c.args.custom) c.items.values _ c.items.parser c.enum_item.new.parser _ c.items.invariant
+    (enum_items_fall c.args.custom) c.items.values _ c.items.parser.left c.enum_item.new.parser.left _ c.items.invariant
     further
-    (adding-step (enum_item_at c.args.custom) c.items.values c.in_ok-item.item c.items.parser c.enum_item.new.parser
+    (adding-step (enum_item_at c.args.custom) c.items.values c.in_ok-item.item c.items.parser.left
+    c.enum_item.new.parser.left
     c.in_ok-item.ensures))
 
 pub returns-in_err-item : goal.returns-in_err-item
 unfolding enum_items_at
 returns-in_err-item c =
-    let further : closes c.items.parser ≡ false = cc in
+    let further : closes c.items.parser.left ≡ false = cc in
     let p = err_from_is_err_and c.from_residual.result c.from_residual.ensures.1 in
     rw (p.1, p.2)
-    (Fails-of _ _ ((enum_item_at c.args.custom) c.items.parser) _
+    (Fails-of _ _ ((enum_item_at c.args.custom) c.items.parser.left) _
     (λ none. stops closes (adding (enum_item_at c.args.custom))
-    (enum_items_fall c.args.custom) c.items.values c.items.parser _ c.items.invariant further
-    (adding-none (enum_item_at c.args.custom) c.items.values c.items.parser none)) c.in_err-item.ensures)
+    (enum_items_fall c.args.custom) c.items.values c.items.parser.left _ c.items.invariant further
+    (adding-none (enum_item_at c.args.custom) c.items.values c.items.parser.left none)) c.in_err-item.ensures)
 
 pub returns : goal.returns
 unfolding enum_items_at
 returns c =
-    let past : closes c.items.parser ≡ true = cc in
+    let past : closes c.items.parser.left ≡ true = cc in
     is_done closes (adding (enum_item_at c.args.custom))
-    (enum_items_fall c.args.custom) c.items.values c.items.parser _ c.items.invariant past
+    (enum_items_fall c.args.custom) c.items.values c.items.parser.left _ c.items.invariant past

@@ -11,39 +11,40 @@ use Rattle.proto_parse.proofs.messages.+parser.Goals as goal
 
 pub items-items-smaller : goal.items-items-smaller
 items-items-smaller t c =
-    items_fall c.args.within c.args.syntax c.args.levels c.items.items.items c.items.parser (_, c.item.new.parser)
+    items_fall c.args.within c.args.syntax c.args.levels c.items.items.items c.items.parser.left
+    (_, c.item.new.parser.left)
     (adding-step (item_at c.args.within c.args.syntax (inside_at c.args.syntax c.args.levels)) c.items.items.items
-    c.in_ok-item.item c.items.parser c.item.new.parser c.in_ok-item.ensures)
+    c.in_ok-item.item c.items.parser.left c.item.new.parser.left c.in_ok-item.ensures)
 
 pub items-items-preserved : goal.items-items-preserved
 items-items-preserved t c =
-    let further : closes c.items.parser ≡ false = cc in
+    let further : closes c.items.parser.left ≡ false = cc in
     rw c.in_ok-keep_item.ensures
     (goes_on closes (adding (item_at c.args.within c.args.syntax (inside_at c.args.syntax c.args.levels)))
     (items_fall c.args.within c.args.syntax c.args.levels)
-    c.items.items.items _ c.items.parser c.item.new.parser _ c.items.invariant further
+    c.items.items.items _ c.items.parser.left c.item.new.parser.left _ c.items.invariant further
     (adding-step (item_at c.args.within c.args.syntax (inside_at c.args.syntax c.args.levels)) c.items.items.items
-    c.in_ok-item.item c.items.parser c.item.new.parser c.in_ok-item.ensures))
+    c.in_ok-item.item c.items.parser.left c.item.new.parser.left c.in_ok-item.ensures))
 
 pub items-returns-in_err-item : goal.items-returns-in_err-item
 items-returns-in_err-item t c =
-    let further : closes c.items.parser ≡ false = cc in
+    let further : closes c.items.parser.left ≡ false = cc in
     let p = err_from_is_err_and c.from_residual.result c.from_residual.ensures.1 in
     rw (p.1, p.2)
-    (Fails-of _ _ (item_at c.args.within c.args.syntax (inside_at c.args.syntax c.args.levels) c.items.parser) _
+    (Fails-of _ _ (item_at c.args.within c.args.syntax (inside_at c.args.syntax c.args.levels) c.items.parser.left) _
     (λ none. stops closes (adding (item_at c.args.within c.args.syntax (inside_at c.args.syntax c.args.levels)))
     (items_fall c.args.within c.args.syntax c.args.levels)
-    c.items.items.items c.items.parser _ c.items.invariant further
+    c.items.items.items c.items.parser.left _ c.items.invariant further
     (adding-none (item_at c.args.within c.args.syntax (inside_at c.args.syntax c.args.levels)) c.items.items.items
-    c.items.parser none))
+    c.items.parser.left none))
     c.in_err-item.ensures)
 
 pub items-returns : goal.items-returns
 items-returns t c =
-    let past : closes c.items.parser ≡ true = cc in
+    let past : closes c.items.parser.left ≡ true = cc in
     is_done closes (adding (item_at c.args.within c.args.syntax (inside_at c.args.syntax c.args.levels)))
     (items_fall c.args.within c.args.syntax c.args.levels)
-    c.items.items.items c.items.parser _ c.items.invariant past
+    c.items.items.items c.items.parser.left _ c.items.invariant past
 
 pub message-returns : goal.message-returns
 unfolding message_at
@@ -51,7 +52,7 @@ message-returns t c =
     let some : 0 < c.args.levels = omega arith in
     rw (
       c.in_ok-heading.ensures,
-      inside_further c.args.syntax c.args.levels c.heading.new.parser some ∙ c.in_ok-items.ensures,
+      inside_further c.args.syntax c.args.levels c.heading.new.parser.left some ∙ c.in_ok-items.ensures,
     ) refl
 
 pub message-returns-in_err-items : goal.message-returns-in_err-items
@@ -61,10 +62,10 @@ message-returns-in_err-items t c =
     let inside = item_at Message c.args.syntax (inside_at c.args.syntax (c.args.levels - 1)) in
     let p = err_from_is_err_and c.from_residual-in_err-items.result c.from_residual-in_err-items.ensures.1 in
     rw (p.1, p.2)
-    (Fails-of _ _ (braced_at inside c.heading.new.parser) _
+    (Fails-of _ _ (braced_at inside c.heading.new.parser.left) _
     (λ none. rw (
       c.in_ok-heading.ensures,
-      inside_further c.args.syntax c.args.levels c.heading.new.parser some ∙ none,
+      inside_further c.args.syntax c.args.levels c.heading.new.parser.left some ∙ none,
     ) refl) c.in_err-items.ensures)
 
 pub group-returns : goal.group-returns
@@ -74,7 +75,7 @@ group-returns t c =
     rw (
       ← c.custom_options.ensures,
       c.in_ok-group.ensures,
-      inside_further c.args.syntax c.args.levels c.group_head.new.self some ∙ c.in_ok-items.ensures,
+      inside_further c.args.syntax c.args.levels c.group_head.new.self.left some ∙ c.in_ok-items.ensures,
     ) refl
 
 pub group-returns-in_err-items : goal.group-returns-in_err-items
@@ -84,9 +85,9 @@ group-returns-in_err-items t c =
     let inside = item_at Message c.args.syntax (inside_at c.args.syntax (c.args.levels - 1)) in
     let p = err_from_is_err_and c.from_residual-in_err-items.result c.from_residual-in_err-items.ensures.1 in
     rw (p.1, p.2)
-    (Fails-of _ _ (braced_at inside c.group_head.new.self) _
+    (Fails-of _ _ (braced_at inside c.group_head.new.self.left) _
     (λ none. rw (
       ← c.custom_options.ensures,
       c.in_ok-group.ensures,
-      inside_further c.args.syntax c.args.levels c.group_head.new.self some ∙ none,
+      inside_further c.args.syntax c.args.levels c.group_head.new.self.left some ∙ none,
     ) refl) c.in_err-items.ensures)

@@ -8,34 +8,35 @@ use Rattle.proto_parse.proofs.StepsFall.{service_items_fall}
 use Rattle.proto_parse.proofs.services.service_items.Goals as goal
 
 pub items-smaller : goal.items-smaller
-items-smaller c = service_items_fall c.args.custom c.items.methods c.items.parser (_, c.service_item.new.parser)
-    (adding-step (service_item_at c.args.custom) c.items.methods c.in_ok-item.item c.items.parser
-    c.service_item.new.parser c.in_ok-item.ensures)
+items-smaller c = service_items_fall c.args.custom c.items.methods c.items.parser.left
+    (_, c.service_item.new.parser.left)
+    (adding-step (service_item_at c.args.custom) c.items.methods c.in_ok-item.item c.items.parser.left
+    c.service_item.new.parser.left c.in_ok-item.ensures)
 
 pub items-preserved : goal.items-preserved
 items-preserved c =
-    let further : closes c.items.parser ≡ false = cc in
+    let further : closes c.items.parser.left ≡ false = cc in
     rw c.in_ok-keep.ensures
     (goes_on closes (adding (service_item_at c.args.custom))
-    (service_items_fall c.args.custom) c.items.methods _ c.items.parser c.service_item.new.parser _
+    (service_items_fall c.args.custom) c.items.methods _ c.items.parser.left c.service_item.new.parser.left _
     c.items.invariant further
-    (adding-step (service_item_at c.args.custom) c.items.methods c.in_ok-item.item c.items.parser
-    c.service_item.new.parser c.in_ok-item.ensures))
+    (adding-step (service_item_at c.args.custom) c.items.methods c.in_ok-item.item c.items.parser.left
+    c.service_item.new.parser.left c.in_ok-item.ensures))
 
 pub returns-in_err-item : goal.returns-in_err-item
 unfolding service_items_at
 returns-in_err-item c =
-    let further : closes c.items.parser ≡ false = cc in
+    let further : closes c.items.parser.left ≡ false = cc in
     let p = err_from_is_err_and c.from_residual.result c.from_residual.ensures.1 in
     rw (p.1, p.2)
-    (Fails-of _ _ ((service_item_at c.args.custom) c.items.parser) _
+    (Fails-of _ _ ((service_item_at c.args.custom) c.items.parser.left) _
     (λ none. stops closes (adding (service_item_at c.args.custom))
-    (service_items_fall c.args.custom) c.items.methods c.items.parser _ c.items.invariant further
-    (adding-none (service_item_at c.args.custom) c.items.methods c.items.parser none)) c.in_err-item.ensures)
+    (service_items_fall c.args.custom) c.items.methods c.items.parser.left _ c.items.invariant further
+    (adding-none (service_item_at c.args.custom) c.items.methods c.items.parser.left none)) c.in_err-item.ensures)
 
 pub returns : goal.returns
 unfolding service_items_at
 returns c =
-    let past : closes c.items.parser ≡ true = cc in
+    let past : closes c.items.parser.left ≡ true = cc in
     is_done closes (adding (service_item_at c.args.custom))
-    (service_items_fall c.args.custom) c.items.methods c.items.parser _ c.items.invariant past
+    (service_items_fall c.args.custom) c.items.methods c.items.parser.left _ c.items.invariant past

@@ -7,14 +7,14 @@ use Rattle.proto_parse.proofs.syntax.version.Goals as goal
 
 pub literals-preserved : goal.literals-preserved
 literals-preserved c =
-    let is : first_is (of_kind StringLiteral) c.literals.parser ≡ true = cc in
+    let is : first_is (of_kind StringLiteral) c.literals.parser.left ≡ true = cc in
     record {
       proto3 = left_further (option_map {T = Bor (List ℕ)} {U = List ℕ} (λ t. t.now) c.literals.proto3) _ _
-          c.literals.parser _ _ is c.content-literal.ensures.content c.content-literal.ensures.rest
+          c.literals.parser.left _ _ is c.content-literal.ensures.content c.content-literal.ensures.rest
           c.stripped-proto3.ensures c.literals.invariant.proto3;
       proto2 = left_further (option_map {T = Bor (List ℕ)} {U = List ℕ} (λ t. t.now) c.literals.proto2) _ _
-          c.literals.parser _ _ is c.content-literal.ensures.content c.content-literal.ensures.rest
+          c.literals.parser.left _ _ is c.content-literal.ensures.content c.content-literal.ensures.rest
           c.stripped-proto2.ensures c.literals.invariant.proto2;
-      behind = ap behind_literals c.content-literal.ensures.rest ∙ sym (joined_further c.literals.parser is).1
+      behind = ap behind_literals c.content-literal.ensures.rest ∙ sym (joined_further c.literals.parser.left is).1
           ∙ c.literals.invariant.behind;
     }

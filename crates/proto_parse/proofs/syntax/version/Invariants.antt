@@ -4,12 +4,12 @@ use Rattle.proto_parse.proofs.syntax.version.Given as goal
 
 abbrev pub invariant-literals : goal.invariant-literals
 invariant-literals l = record {
-  proto3 : is_left (option_map (λ t. t.now) l.proto3) (joined_of l.parser)
-      ≡ is_left (Some (codes "proto3")) (joined_of l.initial.parser);
-  proto2 : is_left (option_map (λ t. t.now) l.proto2) (joined_of l.parser)
-      ≡ is_left (Some (codes "proto2")) (joined_of l.initial.parser);
-  behind : behind_literals l.parser ≡ behind_literals l.initial.parser;
+  proto3 : is_left (option_map (λ t. t.now) l.proto3) (joined_of l.parser.left)
+      ≡ is_left (Some (codes "proto3")) (joined_of l.initial.parser.left);
+  proto2 : is_left (option_map (λ t. t.now) l.proto2) (joined_of l.parser.left)
+      ≡ is_left (Some (codes "proto2")) (joined_of l.initial.parser.left);
+  behind : behind_literals l.parser.left ≡ behind_literals l.initial.parser.left;
 }
 
 abbrev pub decreases-literals : goal.decreases-literals
-decreases-literals l = length l.parser
+decreases-literals l = length l.parser.left

@@ -4,9 +4,9 @@ use Rattle.proto_grammar.proofs.parser.Parser.closed.Given as goal
 
 abbrev pub invariant-tokens : goal.invariant-tokens
 invariant-tokens l = record {
-  same : closed_at l.depth l.self ≡ closed_at 1 l.initial.self;
-  bounded : l.depth + length l.self ≤ l.left;
+  same : closed_at l.depth l.self.left ≡ closed_at 1 l.initial.self.left;
+  bounded : l.depth + length l.self.left ≤ l.left;
 }
 
 abbrev pub decreases-tokens : goal.decreases-tokens
-decreases-tokens l = length l.self
+decreases-tokens l = length l.self.left

@@ -9,34 +9,37 @@ use Rattle.proto_grammar.proofs.StepsFall.{dot_names_fall}
 use Rattle.proto_grammar.proofs.parser.Parser.dot_names.Goals as goal
 
 pub names-smaller : goal.names-smaller
-names-smaller c = dot_names_fall c.names.components c.names.self (_, c.dot_name.new.self)
-    (adding-step dot_name_at c.names.components c.in_ok-name.name c.names.self c.dot_name.new.self c.in_ok-name.ensures)
+names-smaller c = dot_names_fall c.names.components c.names.self.left (_, c.dot_name.new.self.left)
+    (adding-step dot_name_at c.names.components c.in_ok-name.name c.names.self.left c.dot_name.new.self.left
+    c.in_ok-name.ensures)
 
 pub names-preserved : goal.names-preserved
 names-preserved c =
-    let is : first_is (of_kind Dot) c.names.self ≡ true = cc in
-    let further : not_next Dot c.names.self ≡ false = rw is refl in
+    let is : first_is (of_kind Dot) c.names.self.left ≡ true = cc in
+    let further : not_next Dot c.names.self.left ≡ false = rw is refl in
     rw c.in_ok-keep.ensures
-    (goes_on (not_next Dot) (adding dot_name_at) dot_names_fall c.names.components _ c.names.self c.dot_name.new.self _
+    (goes_on (not_next Dot) (adding dot_name_at) dot_names_fall c.names.components _ c.names.self.left
+    c.dot_name.new.self.left _
     c.names.invariant further
-    (adding-step dot_name_at c.names.components c.in_ok-name.name c.names.self c.dot_name.new.self
+    (adding-step dot_name_at c.names.components c.in_ok-name.name c.names.self.left c.dot_name.new.self.left
     c.in_ok-name.ensures))
 
 pub returns-in_err-name : goal.returns-in_err-name
 unfolding dot_names_at
 returns-in_err-name c =
-    let is : first_is (of_kind Dot) c.names.self ≡ true = cc in
-    let further : not_next Dot c.names.self ≡ false = rw is refl in
+    let is : first_is (of_kind Dot) c.names.self.left ≡ true = cc in
+    let further : not_next Dot c.names.self.left ≡ false = rw is refl in
     let p = err_from_is_err_and c.from_residual.result c.from_residual.ensures.1 in
     rw (p.1, p.2)
-    (Fails-of _ _ (dot_name_at c.names.self) _
+    (Fails-of _ _ (dot_name_at c.names.self.left) _
     (λ none. stops (not_next Dot)
-    (adding dot_name_at) dot_names_fall c.names.components c.names.self _ c.names.invariant further
-    (adding-none dot_name_at c.names.components c.names.self none)) c.in_err-name.ensures)
+    (adding dot_name_at) dot_names_fall c.names.components c.names.self.left _ c.names.invariant further
+    (adding-none dot_name_at c.names.components c.names.self.left none)) c.in_err-name.ensures)
 
 pub returns : goal.returns
 unfolding dot_names_at
 returns c =
-    let is : first_is (of_kind Dot) c.names.self ≡ false = cc in
-    let past : not_next Dot c.names.self ≡ true = rw is refl in
-    is_done (not_next Dot) (adding dot_name_at) dot_names_fall c.names.components c.names.self _ c.names.invariant past
+    let is : first_is (of_kind Dot) c.names.self.left ≡ false = cc in
+    let past : not_next Dot c.names.self.left ≡ true = rw is refl in
+    is_done (not_next Dot) (adding dot_name_at) dot_names_fall c.names.components c.names.self.left _ c.names.invariant
+    past

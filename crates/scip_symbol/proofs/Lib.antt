@@ -5,9 +5,11 @@ pub mod UndoubledLemmas
 pub mod NameLemmas
 pub mod DescriptorLemmas
 pub mod SymbolLemmas
+pub mod AsciiLemmas
 pub mod LocalLemmas
 pub mod StopLemmas
 pub mod BeginLemmas
+pub mod BeginSymbolLemmas
 pub mod LongestLemmas
 pub mod SpellingLemmas
 pub mod PackageLemmas

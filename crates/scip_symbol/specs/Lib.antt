@@ -11,7 +11,7 @@ pub mod Entities
 pub mod EntityTexts
 pub mod OneEntity
 -- where a text that spells none stops
-pub mod LongestFront
+pub mod LongestPrefix
 -- what the reader's functions give
 pub mod Reading
 pub mod Gives

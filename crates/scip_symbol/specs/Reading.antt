@@ -1,4 +1,4 @@
--- What the reader's private functions give. Public contracts speak of `SpellsSymbol` and `IsLongestFront`.
+-- What the reader's private functions give. Public contracts speak of `SpellsSymbol` and `IsLongestPrefix`.
 use Rattle.std.specs.Prelude.{ℕ, zero, suc, ◌+◌, Bool, true, false, cond, Option, Some, None, Result, Ok, Err, List, []}
 use Rattle.std.specs.Prelude.{◌∷◌, length, take, drop, codes, nat_eq, bytes_eq}
 use Rattle.std.specs.List.{prefix_len}

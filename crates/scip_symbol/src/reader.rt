@@ -39,7 +39,7 @@ ghost use Rattle.scip_symbol.specs.Reading.{
   symbol_at,
 };
 ghost use Rattle.scip_symbol.specs.SpellsSymbol.{SpellsSymbol};
-ghost use Rattle.scip_symbol.specs.LongestFront.{IsFaultOf};
+ghost use Rattle.scip_symbol.specs.LongestPrefix.{IsFaultOf};
 ghost use Rattle.scip_symbol.specs.declared.symbol.SymbolParts.{SymbolParts};
 ghost use Rattle.scip_symbol.specs.declared.fault.SymbolFault.TheVariants as fault;
 

@@ -4,8 +4,8 @@ use Rattle.scip_symbol.specs.Gives.{Stops}
 use Rattle.scip_symbol.specs.SpellsSymbol.{SpellsSymbol}
 use Rattle.scip_symbol.proofs.ReadLemmas.{same_ok}
 use Rattle.scip_symbol.proofs.SymbolLemmas.{symbol-found, symbol-exact, unspelled}
-use Rattle.scip_symbol.specs.LongestFront.{IsLongestFront}
-use Rattle.scip_symbol.proofs.LongestLemmas.{longest-front}
+use Rattle.scip_symbol.specs.LongestPrefix.{IsLongestPrefix}
+use Rattle.scip_symbol.proofs.LongestLemmas.{longest-prefix}
 use Rattle.scip_symbol.proofs.SpellingLemmas.{spelled-is}
 use Rattle.scip_symbol.proofs.reader.read.Goals as goal
 
@@ -32,5 +32,5 @@ pub returns-in-Err-BadSymbol-clause-fault : goal.returns-in-Err-BadSymbol-clause
 returns-in-Err-BadSymbol-clause-fault c =
     let stopped = subst (λ stop. Stops stop (symbol_at c.args.text.now)) c.in-Err-BadSymbol.field-0-is
     c.in-Err-BadSymbol.ensures in
-    subst (IsLongestFront c.args.text.now) (sym c.saturating_sub.ensures)
-    (longest-front c.args.text.now c.in-Err-BadSymbol.left stopped)
+    subst (IsLongestPrefix c.args.text.now) (sym c.saturating_sub.ensures)
+    (longest-prefix c.args.text.now c.in-Err-BadSymbol.left stopped)

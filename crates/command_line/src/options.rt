@@ -1,13 +1,14 @@
 //! What `index` and `shell` are told of a tree.
 
 ghost use Rattle.std.specs.Prelude.{◌≤◌};
+ghost use Rattle.index_pool.specs.declared.workers.TheConstants.{MAX_WORKERS};
 
 /// The values of the argument ROOT and of the options of `index` and `shell`. An option that isn't given has its default.
 #[derive(Debug, Drop)]
 pub struct IndexOptions {
     /// The path of the folder whose sources are indexed, as it was written.
     pub root: String,
-    /// How many threads, 1 to 16; 4 if it isn't given.
+    /// How many threads, 1 to `MAX_WORKERS`; 4 if it isn't given.
     pub workers: usize,
     /// Where the sources' folder is, as a URI; `file:///` if it isn't given.
     pub project_root: String,
@@ -35,7 +36,7 @@ pub struct IndexOptions {
     pub faulty: FaultyWord,
     /// Whether a fault is explained.
     pub explain: bool,
-    ghost workers_fit: { (1 ≤ workers) × (workers ≤ 16) },
+    ghost workers_fit: { (1 ≤ workers) × (workers ≤ MAX_WORKERS) },
 }
 
 /// What `dump` is given.

@@ -32,6 +32,7 @@ use crate::names::{
 };
 use crate::words::WordLists;
 use clap::{Arg, ArgAction, value_parser};
+use index_pool::MAX_WORKERS;
 use std::alloc::{AllocError, Global};
 
 /// An argument that has to be given.
@@ -80,13 +81,16 @@ fn taking_words<'a>(option: Arg<'a>, words: &'a [&'a str]) -> Arg<'a>
     option.value_parser(words)
 }
 
-/// The option, with a number from 1 to 16 for its value.
+/// The option, with a number from 1 to `MAX_WORKERS` for its value.
 fn taking_threads<'a>(option: Arg<'a>) -> Arg<'a>
     ensures rule { rule_of result ≡ taking_threads (rule_of option.entry) }
     ensures local { result.global ≡ option.entry.global }
 {
-    option.value_parser(value_parser!(usize).range(1..=16))
+    option.value_parser(value_parser!(usize).range(1..=MAX_WORKERS as i64))
 }
+
+// The number in the text of help is the limit.
+const _: () = prove!(MAX_WORKERS == 16);
 
 /// How many threads there are.
 fn workers<'a>(alloc: Global) -> Arg<'a>

@@ -2,6 +2,7 @@
 
 ghost use Rattle.std.specs.Prelude.{◌≡◌, ◌≤◌, IfOk, [], map, codes, string_bytes, option_map, unwrap_or};
 ghost use Rattle.clap.specs.Words.{all_of, first_of, found_of, rows_of};
+ghost use Rattle.index_pool.specs.declared.workers.TheConstants.{MAX_WORKERS};
 ghost use Rattle.command_line.specs.Values.{
   Carries,
   CarriesDump,
@@ -145,18 +146,18 @@ fn package_folders_of(
     }
 }
 
-/// The number of threads. `clap` takes no number but 1 to 16.
+/// The number of threads. `clap` takes no number but 1 to `MAX_WORKERS`.
 fn workers_of(given: &ArgMatches<'_>) -> usize
     ensures number { result ≡ workers_of (rows_of (found_of given.now)) }
-    ensures fits { (1 ≤ result) × (result ≤ 16) }
+    ensures fits { (1 ≤ result) × (result ≤ MAX_WORKERS) }
 {
     fitting(given.get_one::<usize>(WORKERS))
 }
 
-/// A number from 1 to 16, or the default for any other.
+/// A number from 1 to `MAX_WORKERS`, or the default for any other.
 fn fitting(number: Option<usize>) -> usize
     ensures number { result ≡ fitting number }
-    ensures fits { (1 ≤ result) × (result ≤ 16) }
+    ensures fits { (1 ≤ result) × (result ≤ MAX_WORKERS) }
 {
     match number {
         Some(number) if 1 <= number && number <= MAX_WORKERS => number,

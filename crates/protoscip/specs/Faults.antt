@@ -6,8 +6,6 @@ use Rattle.scip_build.specs.declared.fault.FileFault.TheVariants as file
 use Rattle.std.specs.Prelude.{ℕ}
 use Rattle.scip_query.specs.declared.answer_fault.AnswerFault.{AnswerFault}
 use Rattle.scip_query.specs.declared.answer_fault.AnswerFault.TheVariants as answer
-use Rattle.scip_wire.specs.declared.write_fault.SpellFault.{SpellFault}
-use Rattle.scip_wire.specs.declared.write_fault.SpellFault.TheVariants as spelling
 use Rattle.scip_wire.specs.declared.write_fault.WriteFault.{WriteFault}
 use Rattle.scip_wire.specs.declared.write_fault.WriteFault.TheVariants as writing
 use Rattle.protoscip.specs.declared.fault.Fault.{Fault}
@@ -26,10 +24,6 @@ fault_of_build (build.File number fault) = fault_of_file number fault
 fault_of_build (build.Duplicate first second) = Duplicate first second
 fault_of_build (build.MissingImport place) = MissingImport place
 fault_of_build (build.Unresolved place) = Unresolved place
-
-abbrev pub fault_of_spelling : SpellFault → Fault
-fault_of_spelling spelling.TooLarge = TooLarge
-fault_of_spelling spelling.Memory = Memory
 
 abbrev pub fault_of_writing : WriteFault → Fault
 fault_of_writing writing.TooLarge = TooLarge

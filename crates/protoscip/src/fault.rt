@@ -10,7 +10,7 @@ use proto_link::FilePlace;
 use proto_parse::SyntaxFault;
 use scip_build::{BuildFault, FileFault};
 use scip_query::AnswerFault;
-use scip_wire::{SpellFault, WriteFault};
+use scip_wire::WriteFault;
 use std::alloc::AllocError;
 use std::error::Error;
 use std::fmt;
@@ -79,19 +79,6 @@ impl From<BuildFault> for Fault {
             BuildFault::Duplicate(first, second) => Fault::Duplicate(first, second),
             BuildFault::MissingImport(place) => Fault::MissingImport(place),
             BuildFault::Unresolved(place) => Fault::Unresolved(place),
-        }
-    }
-}
-
-impl From<SpellFault> for Fault {
-    ghost use Rattle.protoscip.specs.Faults.{fault_of_spelling};
-
-    ghost from_gives = { λ fault e. e ≡ fault_of_spelling fault };
-
-    fn from(fault: SpellFault) -> Fault {
-        match fault {
-            SpellFault::TooLarge => Fault::TooLarge,
-            SpellFault::Memory => Fault::Memory,
         }
     }
 }

@@ -16,7 +16,10 @@ use std::alloc::Global;
 pub(crate) fn read_back(alloc: Global, index: Index) -> Result<Index, Fault>
     ensures { MatchResult result (IsReadBack index) (IsNotReadBack index) }
 {
-    let bytes = spell_index(alloc, &index)?;
+    let bytes = match spell_index(alloc, &index)? {
+        Some(bytes) => bytes,
+        None => return Err(Fault::TooLarge),
+    };
     spelling_decodes_to_its_index();
     bytes_decode_to_one_index();
     match read_index(alloc, &bytes) {

@@ -4,8 +4,14 @@ ghost use Rattle.std.specs.Prelude.{◌≡◌};
 ghost use Rattle.protoscip.specs.Explanations.{lex_sentence, sentence_of, syntax_sentence};
 
 use crate::fault::Fault;
-use proto_lex::LexFault;
-use proto_parse::SyntaxFault;
+use proto_lex::{LexFault, MAX_TEXT_LENGTH};
+use proto_parse::{MAX_MESSAGE_DEPTH, SyntaxFault};
+use scip_wire::MAX_INDEX_LEN;
+
+// The numbers in the sentences are the limits.
+const _: () = prove!(
+    MAX_TEXT_LENGTH == 67_108_864 && MAX_MESSAGE_DEPTH == 64 && MAX_INDEX_LEN == 2_147_483_647
+);
 
 /// For a fault of a text or of its lexing; empty for lack of memory.
 fn lex_sentence(fault: &LexFault) -> &'static str

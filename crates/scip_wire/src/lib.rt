@@ -19,4 +19,4 @@ pub use read::read_index;
 pub use spell::spell_document;
 pub use wire_fault::WireFault;
 pub use write::{MAX_INDEX_LEN, encoded_len, spell_index, write_index};
-pub use write_fault::{SpellFault, TooLarge, WriteFault};
+pub use write_fault::{TooLarge, WriteFault};

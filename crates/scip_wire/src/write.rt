@@ -1,15 +1,15 @@
 //! Writing an index.
 
-ghost use Rattle.std.specs.Prelude.{◌≡◌, ◌<◌, ◌≤◌, ◌↔◌, length, IfOk, IfErr, OnOk, OkIff, Err};
+ghost use Rattle.std.specs.Prelude.{◌≡◌, ◌<◌, ◌≤◌, ◌↔◌, length, None, IfSome, IfOk, IfErr, OnOk, OkIff, Ok, Err};
 ghost use Rattle.streams.specs.WholeWrites.{IsWritten, IsCutOff};
 ghost use Rattle.scip_wire.specs.Spelling.{spelling_of, max_index_len};
 ghost use Rattle.scip_wire.specs.WellFormed.{IsWellFormed};
 ghost use Rattle.scip_wire.specs.Writing.{Leaves};
 
 use crate::spell::{Buffer, Encode};
-use crate::write_fault::{SpellFault, TooLarge, WriteFault};
+use crate::write_fault::{TooLarge, WriteFault};
 use scip_model::Index;
-use std::alloc::Global;
+use std::alloc::{AllocError, Global};
 use streams::{CutOff, Sink};
 
 /// The most bytes that an index may have: the Protocol Buffers libraries' own limit.
@@ -27,16 +27,19 @@ pub fn encoded_len(index: &Index) -> Result<u32, TooLarge>
     Ok(len as u32)
 }
 
-/// The spelling of an index, whole in memory.
-pub fn spell_index(alloc: Global, index: &Index) -> Result<Vec<u8>, SpellFault>
-    ensures bytes { IfOk result (λ bytes. bytes.items ≡ spelling_of index.now) }
-    ensures too_large { (result ≡ Err SpellFault.TooLarge) ↔ (max_index_len < length (spelling_of index.now)) }
+/// The spelling of an index, whole in memory; `None` if it is longer than `MAX_INDEX_LEN` bytes.
+pub fn spell_index(alloc: Global, index: &Index) -> Result<Option<Vec<u8>>, AllocError>
+    ensures bytes { IfOk result (λ spelled. IfSome spelled (λ bytes. bytes.items ≡ spelling_of index.now)) }
+    ensures too_large { (result ≡ Ok None) ↔ (max_index_len < length (spelling_of index.now)) }
     ensures known { IsWellFormed index.now }
 {
-    let len = encoded_len(index)?;
+    let len = match encoded_len(index) {
+        Ok(len) => len,
+        Err(TooLarge) => return Ok(None),
+    };
     let mut bytes = Vec::with_capacity(alloc, len as usize)?;
     index.encode(&mut bytes, &mut ());
-    Ok(bytes)
+    Ok(Some(bytes))
 }
 
 /// Writes the spelling of an index that isn't too long.

@@ -1,6 +1,5 @@
 //! Why an index isn't written.
 
-use std::alloc::{AllocError, AllocFailed};
 use streams::CutOff;
 use thiserror::Error;
 
@@ -8,17 +7,6 @@ use thiserror::Error;
 #[derive(Clone, Copy, Debug, Drop, PartialEq, Eq, Error)]
 #[error("TooLarge")]
 pub struct TooLarge;
-
-/// Why an index isn't spelled.
-#[derive(Clone, Copy, Debug, Drop, PartialEq, Eq, Error)]
-pub enum SpellFault {
-    /// The spelling is longer than `MAX_INDEX_LEN` bytes.
-    #[error("TooLarge")]
-    TooLarge,
-    /// Memory ran out.
-    #[error("Memory")]
-    Memory,
-}
 
 /// Why an index isn't written.
 #[derive(Clone, Copy, Debug, Drop, PartialEq, Eq, Error)]
@@ -29,39 +17,6 @@ pub enum WriteFault {
     /// A write failed after this many bytes of the spelling, counted from the first.
     #[error("Write({0})")]
     Write(usize),
-}
-
-impl From<AllocError> for SpellFault {
-    ghost use Rattle.std.specs.Prelude.{◌≡◌};
-    ghost use Rattle.scip_wire.specs.declared.write_fault.SpellFault.TheVariants.{Memory};
-
-    ghost from_gives = { λ _ e. e ≡ Memory };
-
-    fn from(_refused: AllocError) -> SpellFault {
-        SpellFault::Memory
-    }
-}
-
-impl<T: Drop> From<AllocFailed<T>> for SpellFault {
-    ghost use Rattle.std.specs.Prelude.{◌≡◌};
-    ghost use Rattle.scip_wire.specs.declared.write_fault.SpellFault.TheVariants.{Memory};
-
-    ghost from_gives = { λ _ e. e ≡ Memory };
-
-    fn from(_refused: AllocFailed<T>) -> SpellFault {
-        SpellFault::Memory
-    }
-}
-
-impl From<TooLarge> for SpellFault {
-    ghost use Rattle.std.specs.Prelude.{◌≡◌};
-    ghost use Rattle.scip_wire.specs.declared.write_fault.SpellFault.TheVariants.{TooLarge};
-
-    ghost from_gives = { λ _ e. e ≡ TooLarge };
-
-    fn from(_refused: TooLarge) -> SpellFault {
-        SpellFault::TooLarge
-    }
 }
 
 impl From<TooLarge> for WriteFault {

@@ -1,8 +1,8 @@
 //! Calls of the encoding that are made again after want of memory, where the second answer counts.
 
 use scip_model::Index;
-use scip_wire::{SpellFault, WireFault, encoded_len, read_index, spell_index};
-use std::alloc::Global;
+use scip_wire::{WireFault, encoded_len, read_index, spell_index};
+use std::alloc::{AllocError, Global};
 use std::process::Abort;
 
 /// Sees that what a case says holds. (A formatted assertion is proved once, here.)
@@ -23,10 +23,10 @@ pub fn decoded(alloc: Global, bytes: &[u8]) -> Result<Index, WireFault> {
     }
 }
 
-/// The bytes of the index. They are spelled again after `Memory`.
-pub fn spelled(alloc: Global, index: &Index) -> Result<Vec<u8>, SpellFault> {
+/// The bytes of the index, if they aren't too many. They are spelled again after want of memory.
+pub fn spelled(alloc: Global, index: &Index) -> Result<Option<Vec<u8>>, AllocError> {
     match spell_index(alloc, index) {
-        Err(SpellFault::Memory) => spell_index(alloc, index),
+        Err(AllocError) => spell_index(alloc, index),
         answer => answer,
     }
 }
@@ -34,8 +34,8 @@ pub fn spelled(alloc: Global, index: &Index) -> Result<Vec<u8>, SpellFault> {
 /// Whether an index is spelled as these bytes, without more memory than it needs.
 pub fn is_spelled(alloc: Global, index: &Index, want: &[u8]) -> bool {
     match spelled(alloc, index) {
-        Ok(bytes) => *bytes == *want && bytes.capacity() <= want.len().saturating_mul(2),
-        Err(_) => false,
+        Ok(Some(bytes)) => *bytes == *want && bytes.capacity() <= want.len().saturating_mul(2),
+        _ => false,
     }
 }
 

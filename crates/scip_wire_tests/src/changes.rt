@@ -19,8 +19,8 @@ fn stay_so(alloc: Global, bytes: &[u8]) -> bool {
 /// Whether an index is the same once it was written and read again.
 fn stays(alloc: Global, index: &Index) -> bool {
     match spelled(alloc, index) {
-        Ok(bytes) => stay_so(alloc, &bytes),
-        Err(_) => false,
+        Ok(Some(bytes)) => stay_so(alloc, &bytes),
+        _ => false,
     }
 }
 

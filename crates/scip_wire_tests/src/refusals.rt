@@ -3,7 +3,7 @@
 
 use crate::calls::{decoded, see, see_all};
 use crate::indexes::{MESSAGE, UNPACKED};
-use scip_wire::{SpellFault, WireFault, WriteFault};
+use scip_wire::{WireFault, WriteFault};
 use std::alloc::Global;
 use std::test::Fail;
 
@@ -125,7 +125,5 @@ fn faults_are_printed_by_their_names(rt: HostRuntime) -> Result<(), Fail> {
     let (large, cut) = (WriteFault::TooLarge, WriteFault::Write(9));
     let text = format!(in rt.alloc(); "{large} {cut}")?;
     see(&rt, text.as_str() == "TooLarge Write(9)", "writing");
-    let text = format!(in rt.alloc(); "{} {}", SpellFault::TooLarge, SpellFault::Memory)?;
-    see(&rt, text.as_str() == "TooLarge Memory", "spelling");
     Ok(())
 }

@@ -8,5 +8,5 @@ pub returns-clause-bytes : goal.returns-clause-bytes
 returns-clause-bytes c =
     let made = c.in_ok-bytes.ensures in
     let room : length (spelling_of c.args.index.now) ≤ vec_capacity c.in_ok-bytes.bytes =
-    omega (arith, c.in_ok-len.ensures.len.1, made.exact) in
+    omega (arith, c.in-Ok.ensures.len.1, made.exact) in
     all_filled _ _ _ _ _ made.items made.len room c.encode.ensures

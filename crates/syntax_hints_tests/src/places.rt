@@ -84,7 +84,7 @@ fn in_files(rt: HostRuntime) -> Result<(), Fail> {
 fn far_behind(rt: HostRuntime) -> Result<(), Fail> {
     let mut front = String::new(rt.alloc());
     front.push_str(SYNTAX)?;
-    while front.len() < MAX_FRONT {
+    for _ in SYNTAX.len()..MAX_FRONT {
         front.push_str(" ")?;
     }
     let last = hints_behind(rt.alloc(), PROTO3, front.as_str())?;

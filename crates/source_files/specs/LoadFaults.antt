@@ -1,11 +1,19 @@
--- The steps to a tree: what each answers.
-use Rattle.std.specs.Prelude.{ℕ, ⊤, List, Option, string_bytes}
+-- Why there is no tree: its name, and what each step to a tree answers.
+use Rattle.std.specs.Prelude.{ℕ, ⊤, List, Option, codes, string_bytes}
 use Rattle.source_tree.specs.Files.{SourceFile}
 use Rattle.source_tree.specs.Refusals.{AreTooMany}
 use Rattle.source_files.specs.declared.load_fault.LoadFault.{LoadFault}
 use Rattle.source_files.specs.declared.load_fault.LoadFault.TheVariants.{Unreadable, TooMany, BadPath, SamePath, Memory}
 use Rattle.source_files.specs.Roots.{IsUnreadableBelow}
 use Rattle.source_files.specs.Loads.{HasBadPath, HasSamePath}
+
+-- the name in a line that says so (the names are this project's own)
+abbrev pub name_of : LoadFault → List ℕ
+name_of (Unreadable name) = codes "Unreadable"
+name_of TooMany = codes "TooMany"
+name_of (BadPath path) = codes "BadPath"
+name_of (SamePath path) = codes "SamePath"
+name_of Memory = codes "Memory"
 
 -- why files below several roots can't be read
 abbrev pub MayStopBelow : (List ℕ → Option (List (List ℕ)) → Type 0) → (List ℕ → Option (List ℕ) → Type 0)

@@ -1,5 +1,8 @@
 //! Why the files below roots make no tree.
 
+ghost use Rattle.std.specs.Prelude.{◌≡◌};
+ghost use Rattle.source_files.specs.LoadFaults.{name_of};
+
 use std::alloc::AllocError;
 
 /// Why there is no tree of the sources below a root and the files below included roots.
@@ -19,12 +22,26 @@ pub enum LoadFault {
 }
 
 impl From<AllocError> for LoadFault {
-    ghost use Rattle.std.specs.Prelude.{◌≡◌};
     ghost use Rattle.source_files.specs.declared.load_fault.LoadFault.TheVariants.{Memory};
 
     ghost from_gives = { λ _ e. e ≡ Memory };
 
     fn from(_refused: AllocError) -> LoadFault {
         LoadFault::Memory
+    }
+}
+
+impl LoadFault {
+    /// The name in its line: the variant's.
+    pub fn name(&self) -> &'static str
+        ensures { result.now ≡ name_of self.now }
+    {
+        match self {
+            LoadFault::Unreadable(_) => "Unreadable",
+            LoadFault::TooMany => "TooMany",
+            LoadFault::BadPath(_) => "BadPath",
+            LoadFault::SamePath(_) => "SamePath",
+            LoadFault::Memory => "Memory",
+        }
     }
 }

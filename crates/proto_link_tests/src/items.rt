@@ -13,6 +13,7 @@ pub(crate) struct Item {
     pub(crate) entity: Entity,
 }
 
+/// Adds an item.
 fn add_item(
     alloc: Global,
     items: &mut Vec<Item>,
@@ -31,6 +32,7 @@ fn add_item(
     Ok(())
 }
 
+/// Adds the components of a package statement.
 fn add_package(
     alloc: Global,
     items: &mut Vec<Item>,
@@ -49,6 +51,7 @@ fn add_package(
     Ok(())
 }
 
+/// Adds the declarations of a file.
 fn add_declarations(
     alloc: Global,
     items: &mut Vec<Item>,
@@ -65,6 +68,7 @@ fn add_declarations(
     Ok(())
 }
 
+/// Adds the items of a file, if it has facts.
 fn add_items(
     alloc: Global,
     items: &mut Vec<Item>,
@@ -100,6 +104,7 @@ fn is_before(place: FilePlace, other: FilePlace) -> bool {
     place.file < other.file || (place.file == other.file && place.span.start < other.span.start)
 }
 
+/// Whether the first is before the second and has its name, and not both are packages.
 fn exclude_each_other(first: &Item, second: &Item) -> bool {
     is_before(first.place, second.place)
         && first.full_name.as_str() == second.full_name.as_str()
@@ -120,6 +125,7 @@ fn lesser(
     }
 }
 
+/// The least pair, beside those with this second item.
 fn least_with(
     items: &[Item],
     second: &Item,

@@ -17,6 +17,7 @@ use command_line::IndexOptions;
 use index_pool::NoGate;
 use proto_parse::Dialect;
 use protoscip::{Fault, Recorded, session};
+use scip_build::Run;
 use source_files::ReadFiles;
 use source_tree::Tree;
 use std::alloc::Global;
@@ -67,14 +68,17 @@ pub(crate) fn shell<R: Threads + Wait, F: ReadFiles + Sync, I: Feed, W: Sink, M:
             return report(text, fault.status(), messages);
         }
     };
+    let work = Run {
+        rt: host.rt,
+        alloc: host.alloc,
+        workers: run.workers,
+        gate: &NoGate,
+    };
     let done = session(
-        host.rt,
-        host.alloc,
+        &work,
         &run.tree,
         &run.choices,
-        run.workers,
         &run.settings,
-        &NoGate,
         commands,
         answers,
     );

@@ -4,7 +4,8 @@ ghost use Rattle.std.specs.Prelude.{IfErr, IfOk};
 ghost use Rattle.protoscip.specs.FaultLines.{HasFilesOf, HaveFilesOf};
 ghost use Rattle.programs.specs.Messages.{TellsOfSuccess};
 ghost use Rattle.programs.specs.Serving.{Served};
-ghost use Rattle.programs.specs.Streams.{reader, writer};
+ghost use Rattle.programs.specs.Streams.{reader};
+ghost use Rattle.scip_snapshot.specs.Showing.{writer};
 ghost use Rattle.programs.specs.TreeRuns.{Ends};
 
 use crate::ending::{stop, tell};

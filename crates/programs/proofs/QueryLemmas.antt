@@ -13,7 +13,8 @@ use Rattle.protoscip.specs.Sessions.{MayAnswer, AreAnswered}
 use Rattle.programs.specs.declared.query_fault.QueryFault.{QueryFault}
 use Rattle.programs.specs.declared.query_fault.QueryFault.TheVariants as query
 use Rattle.programs.specs.Queries.{IsReadFrom, IsAnswered, AreUnused, Queried}
-use Rattle.programs.specs.Streams.{Reader, Writer}
+use Rattle.programs.specs.Streams.{Reader}
+use Rattle.scip_snapshot.specs.Showing.{Writer}
 
 -- why commands aren't answered is why the program stops
 abbrev pub outcome_of : Result (Unit {0}) AnswerFault → Result (Unit {0}) QueryFault

@@ -5,7 +5,7 @@ use Rattle.protoscip.specs.Indexes.{Indexes}
 use Rattle.command_line.specs.declared.options.IndexOptions.{IndexOptions}
 use Rattle.programs.specs.Messages.{SaysOfSuccess}
 use Rattle.programs.specs.Settings.{allowed_by, settings_in}
-use Rattle.programs.specs.Streams.{Writer}
+use Rattle.scip_snapshot.specs.Showing.{Writer}
 use Rattle.programs.specs.TreeRuns.{IsRun}
 
 -- it doesn't start, and nothing is written; or the tree of the files is indexed into the file, as the options say

@@ -10,7 +10,8 @@ use Rattle.scip_query.specs.declared.answer_fault.AnswerFault.TheVariants as ans
 use Rattle.protoscip.specs.Sessions.{AreAnswered, AreUntouched}
 use Rattle.programs.specs.declared.query_fault.QueryFault.{QueryFault}
 use Rattle.programs.specs.declared.query_fault.QueryFault.TheVariants.{Unreadable, Wire, Answers}
-use Rattle.programs.specs.Streams.{Reader, Writer}
+use Rattle.programs.specs.Streams.{Reader}
+use Rattle.scip_snapshot.specs.Showing.{Writer}
 
 -- the index that the file's bytes decode to; or that it can't be read, or that they decode to none, and why; or memory
 -- ran out

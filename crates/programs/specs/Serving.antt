@@ -5,7 +5,8 @@ use Rattle.protoscip.specs.Sessions.{AreUntouched, Serves}
 use Rattle.command_line.specs.declared.options.IndexOptions.{IndexOptions}
 use Rattle.programs.specs.Messages.{TellsOfSuccess}
 use Rattle.programs.specs.Settings.{allowed_by, settings_in}
-use Rattle.programs.specs.Streams.{Reader, Writer}
+use Rattle.programs.specs.Streams.{Reader}
+use Rattle.scip_snapshot.specs.Showing.{Writer}
 use Rattle.programs.specs.TreeRuns.{IsRun}
 
 -- it doesn't start, and nothing is read or written; or commands are answered from the index of the tree of the files,

@@ -1,6 +1,7 @@
 -- Why the documents of an index aren't all shown: what is said about it, and the exit status. (Texts and statuses are
 -- this project's own.)
 use Rattle.std.specs.Prelude.{Bool, ℕ, List, [], ◌++◌, codes, if◌then◌else◌}
+use Rattle.scip_snapshot.specs.ShowFaults.{name_of}
 use Rattle.scip_snapshot.specs.declared.show_fault.ShowFault.{ShowFault}
 use Rattle.scip_snapshot.specs.declared.show_fault.ShowFault.TheVariants.{Write, Memory}
 use Rattle.protoscip.specs.Lines.{plain_line}
@@ -10,10 +11,6 @@ use Rattle.protoscip.specs.declared.statuses.TheConstants.{MEMORY_STATUS, STREAM
 abbrev pub explanation_of : ShowFault → List ℕ
 explanation_of Write = codes "\nonly a first part could be written"
 explanation_of Memory = []
-
-abbrev pub name_of : ShowFault → List ℕ
-name_of Write = codes "Write"
-name_of Memory = codes "Memory"
 
 -- its line, explained if that is asked for
 abbrev pub told : (explain : Bool) → ShowFault → List ℕ

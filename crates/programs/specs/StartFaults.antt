@@ -1,5 +1,6 @@
 -- Why a program about a tree doesn't start: what is said about it, and the exit status.
 use Rattle.std.specs.Prelude.{ℕ, List, codes, string_bytes}
+use Rattle.source_files.specs.LoadFaults.{name_of as load_name}
 use Rattle.source_files.specs.declared.load_fault.LoadFault.TheVariants.{Unreadable, TooMany, BadPath, SamePath, Memory}
 use Rattle.programs.specs.declared.start_fault.StartFault.{StartFault}
 use Rattle.programs.specs.declared.start_fault.StartFault.TheVariants.{BadPart, BadFolder, Load}
@@ -7,14 +8,20 @@ use Rattle.programs.specs.declared.statuses.TheConstants.{COMMAND_LINE_STATUS}
 use Rattle.protoscip.specs.Lines.{path_line, plain_line}
 use Rattle.protoscip.specs.declared.statuses.TheConstants.{MEMORY_STATUS, SOURCES_STATUS, STREAM_STATUS}
 
+-- the name in its line: the package of a folder is refused as that of the run is
+abbrev pub name_of : StartFault → List ℕ
+name_of BadPart = codes "BadPart"
+name_of (BadFolder path) = codes "BadPart"
+name_of (Load fault) = load_name fault
+
 abbrev pub line_of : StartFault → List ℕ
-line_of BadPart = plain_line (codes "BadPart")
-line_of (BadFolder path) = path_line (string_bytes path) (codes "BadPart")
-line_of (Load (Unreadable name)) = path_line (string_bytes name) (codes "Unreadable")
-line_of (Load TooMany) = plain_line (codes "TooMany")
-line_of (Load (BadPath path)) = path_line (string_bytes path) (codes "BadPath")
-line_of (Load (SamePath path)) = path_line (string_bytes path) (codes "SamePath")
-line_of (Load Memory) = plain_line (codes "Memory")
+line_of BadPart = plain_line (name_of BadPart)
+line_of (BadFolder path) = path_line (string_bytes path) (name_of (BadFolder path))
+line_of (Load (Unreadable name)) = path_line (string_bytes name) (load_name (Unreadable name))
+line_of (Load TooMany) = plain_line (load_name TooMany)
+line_of (Load (BadPath path)) = path_line (string_bytes path) (load_name (BadPath path))
+line_of (Load (SamePath path)) = path_line (string_bytes path) (load_name (SamePath path))
+line_of (Load Memory) = plain_line (load_name Memory)
 
 abbrev pub status_of : StartFault → ℕ
 status_of BadPart = COMMAND_LINE_STATUS

@@ -1,4 +1,4 @@
--- What a call does with a reader and with a writer.
+-- What a call does with a reader.
 use Rattle.std.specs.Prelude.{ℕ, List, Option}
 
 -- a reader before and after a call, and what its trait says about it: the bytes that remain, and how many reads
@@ -14,14 +14,3 @@ pub record Reader (R : Type 0) : Type 0 where
 abbrev pub reader : {R : Type 0} → (R → Option (List ℕ)) → (failures reads ends : R → ℕ) → R → R → Reader R
 reader remaining failures reads ends before after =
     record { remaining = remaining; failures = failures; reads = reads; ends = ends; before = before; after = after }
-
--- a writer before and after a call, and what its trait says about it: what it was given, and how many writes failed
-pub record Writer (W : Type 0) : Type 0 where
-  pub contents : W → Option (List ℕ)
-  pub failures : W → ℕ
-  pub before : W
-  pub after : W
-
-abbrev pub writer : {W : Type 0} → (W → Option (List ℕ)) → (failures : W → ℕ) → W → W → Writer W
-writer contents failures before after =
-    record { contents = contents; failures = failures; before = before; after = after }

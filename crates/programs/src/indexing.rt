@@ -6,7 +6,7 @@ ghost use Rattle.protoscip.specs.FaultLines.{HasFilesOf};
 ghost use Rattle.protoscip.specs.ToldLines.{IsTextOfLacks};
 ghost use Rattle.programs.specs.Indexing.{Indexed};
 ghost use Rattle.programs.specs.Messages.{SaysOfSuccess};
-ghost use Rattle.programs.specs.Streams.{writer};
+ghost use Rattle.scip_snapshot.specs.Showing.{writer};
 ghost use Rattle.programs.specs.TreeRuns.{Ends};
 
 use crate::ending::{say_text, stop};

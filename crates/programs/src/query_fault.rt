@@ -56,16 +56,6 @@ impl From<WireFault> for QueryFault {
     }
 }
 
-impl From<AnswerFault> for QueryFault {
-    ghost use Rattle.programs.specs.declared.query_fault.QueryFault.TheVariants.{Answers};
-
-    ghost from_gives = { λ fault e. e ≡ Answers fault };
-
-    fn from(fault: AnswerFault) -> QueryFault {
-        QueryFault::Answers(fault)
-    }
-}
-
 impl QueryFault {
     /// The name in its line: the variant's, or that of what it holds.
     pub fn name(&self) -> &'static str

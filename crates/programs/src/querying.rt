@@ -1,7 +1,8 @@
 //! Answers to commands about the index that a file holds.
 
 ghost use Rattle.programs.specs.Queries.{IsReadFrom, Queried};
-ghost use Rattle.programs.specs.Streams.{reader, writer};
+ghost use Rattle.programs.specs.Streams.{reader};
+ghost use Rattle.scip_snapshot.specs.Showing.{writer};
 
 use crate::query_fault::QueryFault;
 use protoscip::answer_commands;
@@ -44,6 +45,8 @@ pub fn query<F: ReadFiles, R: Feed, W: Sink>(
         commands.new) (writer W.contents W.failures answers.old answers.new) result }
 {
     let index = index_of_file(alloc, files, path)?;
-    answer_commands(alloc, index, commands, answers)?;
-    Ok(())
+    match answer_commands(alloc, index, commands, answers) {
+        Ok(()) => Ok(()),
+        Err(fault) => Err(QueryFault::Answers(fault)),
+    }
 }

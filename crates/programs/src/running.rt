@@ -2,7 +2,7 @@
 
 ghost use Rattle.std.specs.Prelude.{◌≡◌, Result, IfSome, IfOk, IfErr};
 ghost use Rattle.std.specs.Io.KnownBytes.{Appends};
-ghost use Rattle.scip_snapshot.specs.Showing.{maker, writer as stream};
+ghost use Rattle.scip_snapshot.specs.Showing.{maker, writer};
 ghost use Rattle.command_line.specs.Requests.{
   dump_options,
   explains,
@@ -30,7 +30,7 @@ ghost use Rattle.programs.specs.Queries.{Queried};
 ghost use Rattle.programs.specs.Serving.{Served};
 ghost use Rattle.programs.specs.Settings.{dialect_of, explaining};
 ghost use Rattle.programs.specs.Snapshotting.{RunsSnapshot};
-ghost use Rattle.programs.specs.Streams.{reader, writer};
+ghost use Rattle.programs.specs.Streams.{reader};
 
 use crate::dumping::dump_source;
 use crate::host::Host;
@@ -150,13 +150,13 @@ where
         × (file.new ≡ file.old))) }
     // What `snapshot` does.
     ensures snapshotted { IfOk asked.now (λ request. IfSome (snapshot_options request) (λ options.
-        RunsSnapshot (F.gives host.now.files.now) options (stream W.contents W.failures out.old out.new)
-        (maker O.made file.old file.new) (stream M.contents M.failures messages.old messages.new) result
+        RunsSnapshot (F.gives host.now.files.now) options (writer W.contents W.failures out.old out.new)
+        (maker O.made file.old file.new) (writer M.contents M.failures messages.old messages.new) result
         × (input.new ≡ input.old))) }
     // What `pages` does.
     ensures paged { IfOk asked.now (λ request. IfSome (pages_options request) (λ options.
         RunsPages (F.frees host.now.files.now) (F.gives host.now.files.now) options
-        (maker O.made file.old file.new) (stream M.contents M.failures messages.old messages.new) result
+        (maker O.made file.old file.new) (writer M.contents M.failures messages.old messages.new) result
         × (input.new ≡ input.old) × (out.new ≡ out.old))) }
     // Nothing was asked for, since memory ran out, and that is said.
     ensures unknown { IfErr asked.now (λ _. Tells M.contents M.failures memory_line memory_status messages.old

@@ -4,7 +4,8 @@ ghost use Rattle.std.specs.Prelude.{IfErr, IfOk};
 ghost use Rattle.protoscip.specs.FaultLines.{HasFilesOf, HaveFilesOf};
 ghost use Rattle.programs.specs.Messages.{TellsOfSuccess};
 ghost use Rattle.programs.specs.Serving.{Served};
-ghost use Rattle.programs.specs.Streams.{reader, writer};
+ghost use Rattle.programs.specs.Streams.{reader};
+ghost use Rattle.scip_snapshot.specs.Showing.{writer};
 ghost use Rattle.programs.specs.TreeRuns.{Ends};
 
 use crate::ending::{stop, tell};
@@ -17,6 +18,7 @@ use command_line::IndexOptions;
 use index_pool::NoGate;
 use proto_parse::Dialect;
 use protoscip::{Fault, Recorded, session};
+use scip_build::Run;
 use source_files::ReadFiles;
 use source_tree::Tree;
 use std::alloc::Global;
@@ -67,14 +69,17 @@ pub(crate) fn shell<R: Threads + Wait, F: ReadFiles + Sync, I: Feed, W: Sink, M:
             return report(text, fault.status(), messages);
         }
     };
+    let work = Run {
+        rt: host.rt,
+        alloc: host.alloc,
+        workers: run.workers,
+        gate: &NoGate,
+    };
     let done = session(
-        host.rt,
-        host.alloc,
+        &work,
         &run.tree,
         &run.choices,
-        run.workers,
         &run.settings,
-        &NoGate,
         commands,
         answers,
     );

@@ -1,21 +1,11 @@
 //! What is said where the documents of an index aren't all shown.
 
 ghost use Rattle.std.specs.Prelude.{◌≡◌, IfOk, string_bytes};
-ghost use Rattle.programs.specs.ShowFaults.{explanation_of, name_of, status_of, told};
+ghost use Rattle.programs.specs.ShowFaults.{explanation_of, status_of, told};
 
 use protoscip::{MEMORY_STATUS, STREAM_STATUS, plain_line};
 use scip_snapshot::ShowFault;
 use std::alloc::{AllocError, Global};
-
-/// Its name.
-fn name_of(fault: ShowFault) -> &'static str
-    ensures { result.now ≡ name_of fault }
-{
-    match fault {
-        ShowFault::Write => "Write",
-        ShowFault::Memory => "Memory",
-    }
-}
 
 /// A sentence after a line end; nothing for lack of memory.
 fn explanation_of(fault: ShowFault) -> &'static str
@@ -35,7 +25,7 @@ pub(crate) fn show_text(
 ) -> Result<String, AllocError>
     ensures { IfOk result (λ text. string_bytes text ≡ told explain fault) }
 {
-    let mut text = plain_line(alloc, name_of(fault))?;
+    let mut text = plain_line(alloc, fault.name())?;
     if explain {
         text.push_str(explanation_of(fault))?;
     }

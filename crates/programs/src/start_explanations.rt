@@ -5,7 +5,11 @@ ghost use Rattle.programs.specs.StartExplanations.{explanation_of, told};
 
 use crate::start_fault::StartFault;
 use source_files::LoadFault;
+use source_tree::MAX_FILES;
 use std::alloc::{AllocError, Global};
+
+// The number in the sentence is the limit.
+const _: () = prove!(MAX_FILES == 65_536);
 
 /// A sentence after a line end; nothing for a fault of the command line, and for lack of memory.
 fn explanation_of(fault: &StartFault) -> &'static str

@@ -1,7 +1,7 @@
 //! Why a program about a tree doesn't start.
 
 ghost use Rattle.std.specs.Prelude.{◌≡◌, IfOk, string_bytes};
-ghost use Rattle.programs.specs.StartFaults.{line_of, status_of};
+ghost use Rattle.programs.specs.StartFaults.{line_of, name_of, status_of};
 
 use crate::statuses::COMMAND_LINE_STATUS;
 use protoscip::{MEMORY_STATUS, SOURCES_STATUS, STREAM_STATUS, path_line, plain_line};
@@ -41,19 +41,29 @@ impl From<LoadFault> for StartFault {
 }
 
 impl StartFault {
+    /// The name in its line: the package of a folder is refused as that of the run is.
+    fn name(&self) -> &'static str
+        ensures { result.now ≡ name_of self.now }
+    {
+        match self {
+            StartFault::BadPart | StartFault::BadFolder(_) => "BadPart",
+            StartFault::Load(fault) => fault.name(),
+        }
+    }
+
     /// The line, without its end, that says this.
     pub(crate) fn line(&self, alloc: Global) -> Result<String, AllocError>
         ensures { IfOk result (λ line. string_bytes line ≡ line_of self.now) }
     {
+        let name = self.name();
         match self {
-            StartFault::BadPart => plain_line(alloc, "BadPart"),
-            StartFault::BadFolder(path) => path_line(alloc, path.as_str(), "BadPart"),
+            StartFault::BadPart => plain_line(alloc, name),
+            StartFault::BadFolder(path) => path_line(alloc, path.as_str(), name),
             StartFault::Load(fault) => match fault {
-                LoadFault::Unreadable(name) => path_line(alloc, name.as_str(), "Unreadable"),
-                LoadFault::TooMany => plain_line(alloc, "TooMany"),
-                LoadFault::BadPath(path) => path_line(alloc, path.as_str(), "BadPath"),
-                LoadFault::SamePath(path) => path_line(alloc, path.as_str(), "SamePath"),
-                LoadFault::Memory => plain_line(alloc, "Memory"),
+                LoadFault::Unreadable(path) => path_line(alloc, path.as_str(), name),
+                LoadFault::BadPath(path) => path_line(alloc, path.as_str(), name),
+                LoadFault::SamePath(path) => path_line(alloc, path.as_str(), name),
+                LoadFault::TooMany | LoadFault::Memory => plain_line(alloc, name),
             },
         }
     }

@@ -23,7 +23,7 @@ use index_pool::{NoGate, Workers};
 use proto_decl::DeclView;
 use proto_lex::Encoding;
 use proto_parse::Dialect;
-use scip_build::{Faulty, Settings, build};
+use scip_build::{Faulty, Run, Settings, build};
 use scip_document::FilePackages;
 use scip_symbol::PackageId;
 use sequences::OwnedText;
@@ -100,8 +100,14 @@ fn listing_of<R: Threads + Wait>(
         (λ listing. IsListing dialect bytes (string_bytes listing)) (IsRefusal dialect bytes) }
 {
     let settings = dump_settings(alloc, dialect)?;
-    let worker = one_worker();
-    let built = build(rt, alloc, tree, &DefaultChoices, worker, &settings, &NoGate)?;
+    let workers = one_worker();
+    let run = Run {
+        rt,
+        alloc,
+        workers,
+        gate: &NoGate,
+    };
+    let built = build(&run, tree, &DefaultChoices, &settings)?;
     let index = read_back(alloc, built.index)?;
     let listing = dump_text(alloc, &index)?;
     Ok(listing)

@@ -16,7 +16,7 @@ use crate::laws::headline_of_tree;
 use crate::recorded::Recorded;
 use crate::telling::text_of_lacks;
 use index_hooks::Chooses;
-use index_pool::{Gate, Workers};
+use index_pool::Gate;
 use proto_parse::Dialect;
 use scip_build::{BuiltParts, Parts, Run, Settings, build_in_form};
 use scip_wire::{
@@ -24,7 +24,6 @@ use scip_wire::{
 };
 use sequences::Sequence;
 use source_tree::Tree;
-use std::alloc::Global;
 use std::sync::Wait;
 use std::thread::Threads;
 use streams::Sink;
@@ -88,8 +87,12 @@ pub fn index_and_keep<'a, R: Threads + Wait, C: Chooses + Sync, G: Gate, W: Sink
     Ok(KeptIndex { built, text })
 }
 
-/// Builds the index of a tree and writes its bytes, as `index_tree` does.
-fn index_and_record<R: Threads + Wait, C: Chooses + Sync, G: Gate, W: Sink>(
+/// Builds the index of a tree on workers, calls the gate before and after each file, and writes the index's bytes.
+/// What was chosen for each declaration comes back, and what was left out. Each query for definitions or references
+/// over the index that the bytes decode to is exact, as `headline` says.
+///
+/// `Fault` says why there is no index, and in which order. After every fault but `Write`, nothing was written.
+pub fn index_tree<R: Threads + Wait, C: Chooses + Sync, G: Gate, W: Sink>(
     run: &Run<'_, R, G>,
     tree: &Tree,
     chooser: &C,
@@ -109,35 +112,4 @@ fn index_and_record<R: Threads + Wait, C: Chooses + Sync, G: Gate, W: Sink>(
         choices: built.choices,
         told: built.told,
     })
-}
-
-/// Builds the index of a tree on workers, calls the gate before and after each file, and writes the index's bytes.
-/// What was chosen for each declaration comes back, and what was left out. Each query for definitions or references
-/// over the index that the bytes decode to is exact, as `headline` says.
-///
-/// `Fault` says why there is no index, and in which order. After every fault but `Write`, nothing was written.
-pub fn index_tree<R: Threads + Wait, C: Chooses + Sync, G: Gate, W: Sink>(
-    rt: &R,
-    alloc: Global,
-    tree: &Tree,
-    chooser: &C,
-    workers: Workers,
-    settings: &Settings,
-    gate: &G,
-    out: &mut W,
-) -> Result<Recorded, Fault>
-    ensures indexed { Indexes W.contents W.failures (C.allows chooser.now) settings.now tree.now workers out.old out.new
-        result }
-    ensures navigable { IfOk result (λ recorded. WritesNavigable W.contents W.failures (C.allows chooser.now)
-        settings.now tree.now recorded out.old out.new) }
-    ensures files { IfErr result (HasFilesOf tree.now) }
-    ensures told { IfOk result (λ recorded. HaveFilesOf tree.now recorded.told) }
-{
-    let run = Run {
-        rt,
-        alloc,
-        workers,
-        gate,
-    };
-    index_and_record(&run, tree, chooser, settings, out)
 }

@@ -12,8 +12,8 @@ use crate::laws::headline_of_tree;
 use crate::reading_back::read_back;
 use crate::recorded::Recorded;
 use index_hooks::Chooses;
-use index_pool::{Gate, Workers};
-use scip_build::{Built, Settings, build};
+use index_pool::Gate;
+use scip_build::{Built, Run, Settings, build};
 use scip_model::Index;
 use source_tree::Tree;
 use std::alloc::Global;
@@ -44,18 +44,15 @@ fn converse<F: Feed, W: Sink>(
 /// are written, and after `Memory` the commands before are answered. After every other fault nothing was read or
 /// written.
 pub fn session<R: Threads + Wait, C: Chooses + Sync, G: Gate, F: Feed, W: Sink>(
-    rt: &R,
-    alloc: Global,
+    run: &Run<'_, R, G>,
     tree: &Tree,
     chooser: &C,
-    workers: Workers,
     settings: &Settings,
-    gate: &G,
     commands: &mut F,
     answers: &mut W,
 ) -> Result<Recorded, Fault>
     ensures served { Serves F.remaining F.failures F.reads F.ends W.contents W.failures (C.allows chooser.now)
-        settings.now tree.now workers commands.old commands.new answers.old answers.new result }
+        settings.now tree.now run.now.workers commands.old commands.new answers.old answers.new result }
     ensures navigable { IfOk result (λ recorded. AnswersNavigable F.remaining F.failures F.reads F.ends W.contents
         W.failures (C.allows chooser.now) settings.now tree.now recorded commands.old commands.new answers.old
         answers.new) }
@@ -67,7 +64,7 @@ pub fn session<R: Threads + Wait, C: Chooses + Sync, G: Gate, F: Feed, W: Sink>(
         index,
         choices,
         told,
-    } = build(rt, alloc, tree, chooser, workers, settings, gate)?;
-    converse(alloc, index, commands, answers)?;
+    } = build(run, tree, chooser, settings)?;
+    converse(run.alloc, index, commands, answers)?;
     Ok(Recorded { choices, told })
 }

@@ -8,7 +8,7 @@ use index_pool::{NoGate, Workers};
 use proto_lex::Encoding;
 use proto_parse::{CustomOptions, Dialect};
 use protoscip::{Fault, fault_line, index_tree, told_text};
-use scip_build::{BuildFault, Faulty, Settings};
+use scip_build::{BuildFault, Faulty, Run, Settings};
 use scip_document::FilePackages;
 use scip_symbol::PackageId;
 use sequences::OwnedText;
@@ -155,7 +155,13 @@ fn indexed_once<R: Threads + Wait>(
     out: &mut Std<Failing>,
 ) -> Result<Option<(String, u8)>, AllocError> {
     let (tree, settings) = (&given.tree, &given.settings);
-    match index_tree(rt, alloc, tree, registry, workers, settings, &NoGate, out) {
+    let run = Run {
+        rt,
+        alloc,
+        workers,
+        gate: &NoGate,
+    };
+    match index_tree(&run, tree, registry, settings, out) {
         Ok(recorded) => said_of_index(alloc, tree, recorded.told.as_slice()),
         Err(fault) => said(alloc, tree, &fault),
     }

@@ -7,6 +7,7 @@ use index_hooks::Registry;
 use index_pool::{NoGate, Workers};
 use proto_lex::Encoding;
 use protoscip::index_tree;
+use scip_build::Run;
 use std::alloc::{AllocError, Global};
 use std::process::Abort;
 use std::sync::Wait;
@@ -144,10 +145,13 @@ fn is_written<R: Threads + Wait>(
 ) -> Result<Option<bool>, AllocError> {
     let (tree, settings) = (&given.tree, &given.settings);
     let mut out = paced_writer(alloc, due.room, due.pace)?;
-    let answer = index_tree(
-        rt, alloc, tree, registry, workers, settings, &NoGate, &mut out,
-    )
-    .err();
+    let run = Run {
+        rt,
+        alloc,
+        workers,
+        gate: &NoGate,
+    };
+    let answer = index_tree(&run, tree, registry, settings, &mut out).err();
     Ok(is_due(answer, out, due))
 }
 

@@ -8,6 +8,7 @@ use index_hooks::{DocAlways, DocChoice, Registry};
 use index_pool::{NoGate, Workers};
 use proto_lex::Encoding;
 use protoscip::{Fault, session};
+use scip_build::Run;
 use std::alloc::{AllocError, Global};
 use std::process::Abort;
 use std::sync::Wait;
@@ -34,18 +35,13 @@ fn is_served<R: Threads + Wait>(
     let (tree, settings) = (&given.tree, &given.settings);
     let mut input = Std::new(talk.commands);
     let mut output = paced_writer(alloc, talk.due.room, talk.due.pace)?;
-    let answer = session(
+    let run = Run {
         rt,
         alloc,
-        tree,
-        registry,
         workers,
-        settings,
-        &NoGate,
-        &mut input,
-        &mut output,
-    )
-    .err();
+        gate: &NoGate,
+    };
+    let answer = session(&run, tree, registry, settings, &mut input, &mut output).err();
     Ok(is_due(answer, output, &talk.due))
 }
 

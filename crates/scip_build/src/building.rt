@@ -32,7 +32,7 @@ use crate::run::Run;
 use crate::settings::Settings;
 use crate::telling::tell;
 use index_hooks::Chooses;
-use index_pool::{Gate, Workers};
+use index_pool::Gate;
 use proto_link::{FilePlace, Linker, kept_files_are_clear};
 use scip_document::{Choices, externals};
 use scip_model::{Document, Index, Metadata, ToolInfo};
@@ -262,25 +262,16 @@ fn index_of(parts: Parts<Document>) -> Index
 /// `Spawn`, `Memory`, or the first use of the first source in which one names no type. A refused growth ends the step
 /// that it is in with `Memory`.
 pub fn build<R: Threads + Wait, C: Chooses + Sync, G: Gate>(
-    rt: &R,
-    alloc: Global,
+    run: &Run<'_, R, G>,
     tree: &Tree,
     chooser: &C,
-    workers: Workers,
     settings: &Settings,
-    gate: &G,
 ) -> Result<Built, BuildFault>
     ensures built { IfOk result (IsBuilt (C.allows chooser.now) settings.now tree.now) }
     ensures refused { IfErr result (IsBuildFault (C.allows chooser.now) settings.now.faulty settings.now.dialect
-        tree.now workers) }
+        tree.now run.now.workers) }
 {
-    let run = Run {
-        rt,
-        alloc,
-        workers,
-        gate,
-    };
-    let built = build_in_form(&run, tree, chooser, settings, &AsRecords)?;
+    let built = build_in_form(run, tree, chooser, settings, &AsRecords)?;
     let index = index_of(built.parts);
     Ok(Built {
         index,

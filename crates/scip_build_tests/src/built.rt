@@ -2,10 +2,10 @@
 
 use crate::calls::tree_of;
 use index_hooks::Chooses;
-use index_pool::{Gate, Workers};
+use index_pool::Gate;
 use proto_lex::Encoding;
 use proto_parse::{CustomOptions, Dialect};
-use scip_build::{BuildFault, Built, Faulty, Settings, build};
+use scip_build::{BuildFault, Built, Faulty, Run, Settings, build};
 use scip_document::FilePackages;
 use scip_model::{Document, Occurrence};
 use scip_symbol::PackageId;
@@ -79,32 +79,26 @@ pub(crate) fn site_of(
 /// What is built on so many workers, or why nothing is, as `Debug` prints it; not for want of memory or
 /// of a thread.
 fn told<R: Threads + Wait, C: Chooses + Sync, G: Gate>(
-    rt: &R,
-    alloc: Global,
+    run: &Run<'_, R, G>,
     site: &Site,
     chooser: &C,
-    workers: Workers,
-    gate: &G,
 ) -> Result<String, AllocError> {
     let (tree, settings) = (&site.tree, &site.settings);
-    match build(rt, alloc, tree, chooser, workers, settings, gate) {
-        Ok(built) => listing_of(alloc, &built),
+    match build(run, tree, chooser, settings) {
+        Ok(built) => listing_of(run.alloc, &built),
         Err(BuildFault::Memory) | Err(BuildFault::Spawn) => Err(AllocError),
-        Err(fault) => format!(in alloc; "{fault:?}"),
+        Err(fault) => format!(in run.alloc; "{fault:?}"),
     }
 }
 
 /// Whether this is what is built, or why nothing is.
 pub(crate) fn is_told<R: Threads + Wait, C: Chooses + Sync, G: Gate>(
-    rt: &R,
-    alloc: Global,
+    run: &Run<'_, R, G>,
     site: &Site,
     chooser: &C,
-    workers: Workers,
-    gate: &G,
     due: &str,
 ) -> bool {
-    match told(rt, alloc, site, chooser, workers, gate) {
+    match told(run, site, chooser) {
         Ok(text) => text.as_str() == due,
         Err(AllocError) => false,
     }

@@ -5,7 +5,7 @@ use crate::built::{Site, is_told, site_of};
 use crate::calls::{see, workers};
 use index_hooks::Registry;
 use index_pool::{Gate, Workers};
-use scip_build::Faulty;
+use scip_build::{Faulty, Run};
 use std::alloc::{AllocError, Global};
 use std::process::Abort;
 use std::sync::Wait;
@@ -88,7 +88,13 @@ fn is_met<R: Threads + Wait + Clock + Sync>(
         run_outs: AtomicU64::new(0),
     };
     let chooser = Asking::new(registry);
-    is_told(rt, alloc, site, &chooser, workers, &gate, DUE)
+    let run = Run {
+        rt,
+        alloc,
+        workers,
+        gate: &gate,
+    };
+    is_told(&run, site, &chooser, DUE)
         && chooser.count() == 4
         && gate.first.load(Ordering::SeqCst) == 2
         && gate.second.load(Ordering::SeqCst) == 2

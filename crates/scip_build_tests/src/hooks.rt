@@ -6,7 +6,7 @@ use crate::calls::{see, workers};
 use index_hooks::{AnyAnswer, Filter, FilterCallback, KindIn, Kinds, Registry};
 use index_pool::{NoGate, Workers};
 use proto_decl::{DeclView, DeclarationKind};
-use scip_build::Faulty;
+use scip_build::{Faulty, Run};
 use std::alloc::{AllocError, Global};
 use std::process::Abort;
 use std::sync::Wait;
@@ -61,7 +61,13 @@ fn asked_for<R: Threads + Wait>(
     due: &str,
 ) -> Option<u64> {
     let asking = Asking::new(registry);
-    let is_due = is_told(rt, alloc, site, &asking, workers, &NoGate, due);
+    let run = Run {
+        rt,
+        alloc,
+        workers,
+        gate: &NoGate,
+    };
+    let is_due = is_told(&run, site, &asking, due);
     is_due.then_some(asking.count())
 }
 

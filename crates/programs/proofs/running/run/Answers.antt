@@ -2,7 +2,7 @@ use Rattle.std.specs.String.{string_bytes}
 use Rattle.std.proofs.Common.{◌≡◌, refl, subst, sym}
 use Rattle.std.specs.Prelude.{IfOk, IfSome, Result}
 use Rattle.std.specs.declared.alloc.AllocError.{AllocError}
-use Rattle.scip_snapshot.specs.Showing.{maker, writer as stream}
+use Rattle.scip_snapshot.specs.Showing.{maker, writer}
 use Rattle.command_line.specs.Requests.{index_options, pages_options, shell_options, snapshot_options}
 use Rattle.command_line.specs.declared.request.Request.{Request}
 use Rattle.programs.specs.Indexing.{Indexed}
@@ -10,7 +10,7 @@ use Rattle.programs.specs.Messages.{memory_line}
 use Rattle.programs.specs.Paging.{RunsPages}
 use Rattle.programs.specs.Serving.{Served}
 use Rattle.programs.specs.Snapshotting.{RunsSnapshot}
-use Rattle.programs.specs.Streams.{reader, writer}
+use Rattle.programs.specs.Streams.{reader}
 use Rattle.programs.proofs.MessageLemmas.{told}
 use Rattle.programs.proofs.running.run.Goals as goal
 
@@ -39,9 +39,9 @@ pub returns-in-Snapshot-clause-snapshotted : goal.returns-in-Snapshot-clause-sna
 returns-in-Snapshot-clause-snapshotted g c =
     let Here : Request → Type 0 = λ request. IfSome (snapshot_options request) (λ options.
     RunsSnapshot (g.F.ReadFiles.gives c.args.host.now.files.now) options
-    (stream g.W.Sink.contents g.W.Sink.failures c.args.out.now c.snapshot.new.out)
+    (writer g.W.Sink.contents g.W.Sink.failures c.args.out.now c.snapshot.new.out)
     (maker g.O.MakeFiles.made c.args.file.now c.snapshot.new.made)
-    (stream g.M.Sink.contents g.M.Sink.failures c.args.messages.now c.snapshot.new.messages) c.snapshot.result
+    (writer g.M.Sink.contents g.M.Sink.failures c.args.messages.now c.snapshot.new.messages) c.snapshot.result
     × (c.args.input.now ≡ c.args.input.now)) in
     subst (λ (asked : Result Request AllocError). IfOk asked Here) (sym c.in-Ok.is)
     (subst Here (sym c.in-Snapshot.is) (c.snapshot.ensures, refl))
@@ -51,7 +51,7 @@ returns-in-Pages-clause-paged g c =
     let Here : Request → Type 0 = λ request. IfSome (pages_options request) (λ options.
     RunsPages (g.F.EmptyFolders.frees c.args.host.now.files.now) (g.F.ReadFiles.gives c.args.host.now.files.now) options
     (maker g.O.MakeFiles.made c.args.file.now c.pages.new.made)
-    (stream g.M.Sink.contents g.M.Sink.failures c.args.messages.now c.pages.new.messages) c.pages.result
+    (writer g.M.Sink.contents g.M.Sink.failures c.args.messages.now c.pages.new.messages) c.pages.result
     × (c.args.input.now ≡ c.args.input.now) × (c.args.out.now ≡ c.args.out.now)) in
     subst (λ (asked : Result Request AllocError). IfOk asked Here) (sym c.in-Ok.is)
     (subst Here (sym c.in-Pages.is) (c.pages.ensures, refl, refl))

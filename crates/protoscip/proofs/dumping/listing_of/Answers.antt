@@ -6,8 +6,8 @@ pub returns-in_err-built : goal.returns-in_err-built
 returns-in_err-built g c bytes is =
     let p = err_from_is_err_and c.from_residual-in_err-built.result c.from_residual-in_err-built.ensures.1 in
     rw (p.1, p.2) (refusal_of_build c.args.dialect bytes c.in_ok-settings.settings c.args.tree.now
-    c.in_ok-settings.ensures is c.one_worker-worker.result c.in_err-built.field-0.0
-    c.one_worker-worker.ensures c.in_err-built.ensures.refused)
+    c.in_ok-settings.ensures is c.one_worker-workers.result c.in_err-built.field-0.0
+    c.one_worker-workers.ensures c.in_err-built.ensures.refused)
 
 pub returns : goal.returns
 returns g c bytes is =

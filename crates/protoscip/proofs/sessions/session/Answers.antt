@@ -12,7 +12,7 @@ returns-in_err-index-clause-files g c =
     let p = err_from_is_err_and c.from_residual.result c.from_residual.ensures.1 in
     rw (p.1, p.2) (files_of_build
     (g.C.Chooses.allows c.args.chooser.now) c.args.settings.now.faulty c.args.settings.now.dialect
-    c.args.tree.now c.args.workers
+    c.args.tree.now c.args.run.now.workers
     c.in_err-index.field-0.0 c.in_err-index.ensures.refused)
 
 -- where the conversation stops
@@ -22,8 +22,8 @@ returns-in_err-converse-clause-served g c =
     let p = err_from_is_err_and c.from_residual-in_err-converse.result c.from_residual-in_err-converse.ensures.1 in
     rw (p.1, p.2) (unserved g.F.Feed.remaining g.F.Feed.failures g.F.Feed.reads g.F.Feed.ends g.W.Sink.contents
     g.W.Sink.failures c.args.commands.now c.converse.new.commands c.args.answers.now c.converse.new.answers
-    (g.C.Chooses.allows c.args.chooser.now) c.args.settings.now c.args.tree.now c.args.workers c.in_ok-index.field-0
-    c.in_ok-index.ensures.built c.in_err-converse.field-0.0 c.in_err-converse.ensures)
+    (g.C.Chooses.allows c.args.chooser.now) c.args.settings.now c.args.tree.now c.args.run.now.workers
+    c.in_ok-index.field-0 c.in_ok-index.ensures.built c.in_err-converse.field-0.0 c.in_err-converse.ensures)
 
 pub returns-in_err-converse-clause-files : goal.returns-in_err-converse-clause-files
 returns-in_err-converse-clause-files g c =
@@ -38,14 +38,14 @@ pub returns-clause-served : goal.returns-clause-served
 returns-clause-served g c =
     all_served g.F.Feed.remaining g.F.Feed.failures g.F.Feed.reads g.F.Feed.ends g.W.Sink.contents g.W.Sink.failures
     c.args.commands.now c.converse.new.commands c.args.answers.now c.converse.new.answers
-    (g.C.Chooses.allows c.args.chooser.now) c.args.settings.now c.args.tree.now c.args.workers c.in_ok-index.field-0
-    c.in_ok-index.ensures.built c.in_ok-converse.field-0 c.in_ok-converse.ensures
+    (g.C.Chooses.allows c.args.chooser.now) c.args.settings.now c.args.tree.now c.args.run.now.workers
+    c.in_ok-index.field-0 c.in_ok-index.ensures.built c.in_ok-converse.field-0 c.in_ok-converse.ensures
 
 pub returns-clause-navigable : goal.returns-clause-navigable
 returns-clause-navigable g c =
     answers (g.C.Chooses.allows c.args.chooser.now) c.args.settings.now c.args.tree.now c.headline_of_tree.ensures
     g.F.Feed.remaining g.F.Feed.failures g.F.Feed.reads g.F.Feed.ends g.W.Sink.contents g.W.Sink.failures
-    c.args.workers (recorded_of c.in_ok-index.field-0.choices c.in_ok-index.field-0.told) c.args.commands.now
+    c.args.run.now.workers (recorded_of c.in_ok-index.field-0.choices c.in_ok-index.field-0.told) c.args.commands.now
     c.converse.new.commands c.args.answers.now
     c.converse.new.answers
     (returns-clause-served g c)

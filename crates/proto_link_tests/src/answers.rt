@@ -1,9 +1,9 @@
 //! What linking answers to files, as a text.
 //!
-//! Files that can be linked have a line each: its path, behind a `+` if it is included; for each file
+//! Files that can be linked have a line each: its path, behind a `+` where it is included; for each file
 //! a digit, which is 1 where the one sees the other; and for each use of a source a `;` and what it names.
 //! That is the full name of a type and what each component names: the number of a package's words, or a
-//! file and a declaration of it as `FILE/NUMBER`. If it names no type, it is `?` and the use's place.
+//! file and a declaration of it as `FILE/NUMBER`. Where it names no type, it is `?` and the use's place.
 //!
 //! Other files have a line with the fault.
 
@@ -15,7 +15,6 @@ use proto_decl::{FileFacts, Use};
 use proto_link::{Entity, FilePlace, LinkFault, LinkFile, Linker, Target};
 use std::alloc::{AllocError, Global};
 
-/// Adds a file's number and a span.
 fn add_place(draft: &mut Draft, place: FilePlace) {
     draft.add(" ");
     draft.add_number(place.file);
@@ -49,12 +48,6 @@ pub(crate) fn add_fault(draft: &mut Draft, fault: LinkFault) {
     }
 }
 
-/// Adds the line of a fault.
-pub(crate) fn add_line(draft: &mut Draft, fault: LinkFault) {
-    add_fault(draft, fault);
-    draft.add("\n");
-}
-
 /// Adds what a component names.
 pub(crate) fn add_part(draft: &mut Draft, part: Entity) {
     draft.add(" ");
@@ -68,7 +61,6 @@ pub(crate) fn add_part(draft: &mut Draft, part: Entity) {
     }
 }
 
-/// Adds a full name and what its components name.
 fn add_target(draft: &mut Draft, target: &Target) {
     draft.add(target.name.as_str());
     for part in target.parts.as_slice() {
@@ -76,7 +68,6 @@ fn add_target(draft: &mut Draft, target: &Target) {
     }
 }
 
-/// Adds what a use names.
 fn add_use(
     alloc: Global,
     draft: &mut Draft,
@@ -95,7 +86,6 @@ fn add_use(
     Ok(())
 }
 
-/// Adds what the uses of a file name.
 fn add_uses(
     alloc: Global,
     draft: &mut Draft,
@@ -111,7 +101,6 @@ fn add_uses(
     Ok(())
 }
 
-/// Adds a digit for each file: whether this one sees it.
 fn add_sights(draft: &mut Draft, linker: &Linker, file: usize)
     requires { file < length linker.now }
 {
@@ -124,7 +113,6 @@ fn add_sights(draft: &mut Draft, linker: &Linker, file: usize)
     }
 }
 
-/// Adds the line of a file.
 fn add_file(
     alloc: Global,
     draft: &mut Draft,
@@ -147,12 +135,27 @@ fn add_file(
     Ok(())
 }
 
-/// Adds a line for each file.
 fn add_files(alloc: Global, draft: &mut Draft, linker: &Linker) -> Result<(), AllocError> {
     for file in 0..linker.count() {
         add_file(alloc, draft, linker, file)?;
     }
     Ok(())
+}
+
+/// What a linker answers.
+fn listing_of(alloc: Global, linker: &Linker) -> Result<String, AllocError> {
+    linker.linked();
+    let mut draft = Draft::new(alloc);
+    add_files(alloc, &mut draft, linker)?;
+    draft.finish()
+}
+
+/// The line of a fault.
+pub(crate) fn line_of(alloc: Global, fault: LinkFault) -> Result<String, AllocError> {
+    let mut draft = Draft::new(alloc);
+    add_fault(&mut draft, fault);
+    draft.add("\n");
+    draft.finish()
 }
 
 /// Whether a linker has the path of each of its files, and not one that none has.
@@ -165,35 +168,12 @@ fn has_its_paths(linker: &Linker) -> bool {
     !linker.has_path("none.proto")
 }
 
-/// Adds what a linker answers; nothing if it lacks the path of a file, or has one of none.
-pub(crate) fn add_linker(
-    alloc: Global,
-    draft: &mut Draft,
-    linker: &Linker,
-) -> Result<(), AllocError> {
-    linker.linked();
+/// What a linker answers; nothing where it lacks the path of a file, or has one of none.
+pub(crate) fn listing_with_paths(alloc: Global, linker: &Linker) -> Result<String, AllocError> {
     if has_its_paths(linker) {
-        add_files(alloc, draft, linker)
+        listing_of(alloc, linker)
     } else {
-        Ok(())
-    }
-}
-
-/// Adds what linking answers to files.
-fn add_answer<'a>(
-    alloc: Global,
-    draft: &mut Draft,
-    files: &'a [LinkFile<'a, '_>],
-) -> Result<(), AllocError>
-    requires { HaveOwnPaths files.now }
-{
-    match Linker::new(alloc, files) {
-        Ok(linker) => add_linker(alloc, draft, &linker),
-        Err(LinkFault::Memory) => Err(AllocError),
-        Err(fault) => {
-            add_line(draft, fault);
-            Ok(())
-        }
+        Ok(String::new(alloc))
     }
 }
 
@@ -204,7 +184,9 @@ pub(crate) fn answer_of<'a>(
 ) -> Result<String, AllocError>
     requires { HaveOwnPaths files.now }
 {
-    let mut draft = Draft::new(alloc);
-    add_answer(alloc, &mut draft, files)?;
-    draft.finish()
+    match Linker::new(alloc, files) {
+        Ok(linker) => listing_with_paths(alloc, &linker),
+        Err(LinkFault::Memory) => Err(AllocError),
+        Err(fault) => line_of(alloc, fault),
+    }
 }

@@ -2,7 +2,7 @@
 
 use std::alloc::{AllocError, Global};
 
-/// A text in the making. If memory runs out it takes no more, and is no text at its end.
+/// A text in the making. Where memory runs out it takes no more, and is no text at its end.
 #[derive(Drop)]
 pub(crate) struct Draft {
     alloc: Global,
@@ -11,7 +11,6 @@ pub(crate) struct Draft {
 }
 
 impl Draft {
-    /// An empty text.
     pub(crate) fn new(alloc: Global) -> Draft {
         Draft {
             alloc,
@@ -20,14 +19,12 @@ impl Draft {
         }
     }
 
-    /// Adds a text.
     pub(crate) fn add(&mut self, part: &str) {
         if self.text.push_str(part).is_err() {
             self.is_cut = true;
         }
     }
 
-    /// Adds a character.
     pub(crate) fn add_char(&mut self, character: char) {
         if self.text.push(character).is_err() {
             self.is_cut = true;
@@ -42,7 +39,7 @@ impl Draft {
         }
     }
 
-    /// Adds a word, behind a dot if others are before it.
+    /// Adds a word, behind a dot where others stand before it.
     pub(crate) fn add_word(&mut self, word: &str) {
         if !self.text.is_empty() {
             self.add(".");
@@ -50,7 +47,6 @@ impl Draft {
         self.add(word);
     }
 
-    /// The text, if memory lasted.
     pub(crate) fn finish(self) -> Result<String, AllocError> {
         if self.is_cut {
             Err(AllocError)

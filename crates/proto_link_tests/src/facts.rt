@@ -5,7 +5,6 @@ use proto_lex::{LexFault, Text, Tokens, lex};
 use proto_parse::{SyntaxFault, parse};
 use std::alloc::{AllocError, Global};
 
-/// The facts of tokens.
 fn facts_of_tokens<'t>(
     alloc: Global,
     number: usize,
@@ -18,7 +17,6 @@ fn facts_of_tokens<'t>(
     }
 }
 
-/// The facts of a text.
 fn facts_of_text<'t>(
     alloc: Global,
     number: usize,
@@ -28,7 +26,6 @@ fn facts_of_text<'t>(
     facts_of_tokens(alloc, number, &tokens)
 }
 
-/// The facts of a source; a fault if it isn't accepted.
 fn facts_of_source<'t>(
     alloc: Global,
     number: usize,
@@ -38,7 +35,7 @@ fn facts_of_source<'t>(
     facts_of_text(alloc, number, &text)
 }
 
-/// The facts of a whole source; none if it isn't accepted.
+/// The facts of a whole source; none where it isn't accepted.
 pub(crate) fn facts_of<'t>(
     alloc: Global,
     number: usize,

@@ -5,7 +5,6 @@ use crate::trees::see_tree;
 use std::alloc::{AllocError, Global};
 use std::test::Fail;
 
-/// Words of paths; the first six are those of names.
 const WORDS: [&str; 12] = ["a", "b", "c", "d", "e", "f", "g", "h", "i", "j", "k", "l"];
 
 /// Parts of a file. `#` stands for one of six words, `^` and `~` for two that the whole part has, `@` for a
@@ -25,10 +24,8 @@ const PARTS: [&str; 12] = [
     "import public \"%.proto\";\n",
 ];
 
-/// Package statements.
 const PACKAGES: [&str; 4] = ["", "package #;\n", "package #.#;\n", "package #.#.#;\n"];
 
-/// Types.
 const TYPES: [&str; 6] = ["#", "#", "#.#", "#.#.#", ".#.#", ".#"];
 
 /// A fixed sequence of numbers that looks like chance.
@@ -39,7 +36,7 @@ struct Dice {
 }
 
 impl Dice {
-    /// A number below this one; 0 if there is none.
+    /// A number below this one; 0 where there is none.
     fn below(&mut self, limit: usize) -> usize {
         self.state = self
             .state
@@ -72,7 +69,6 @@ fn add_words(draft: &mut Draft, dice: &mut Dice, text: &str) {
     }
 }
 
-/// Adds a type.
 fn add_type(draft: &mut Draft, dice: &mut Dice) {
     let text = dice.one_of(&TYPES, 6);
     add_words(draft, dice, text);
@@ -85,7 +81,6 @@ fn add_path(draft: &mut Draft, dice: &mut Dice) {
     draft.add(dice.one_of(&WORDS, files));
 }
 
-/// Adds a part.
 fn add_part(draft: &mut Draft, dice: &mut Dice) {
     let (outer, inner) = (dice.word(), dice.word());
     for mark in dice.one_of(&PARTS, 12).chars() {
@@ -100,7 +95,6 @@ fn add_part(draft: &mut Draft, dice: &mut Dice) {
     }
 }
 
-/// Adds a file, which ends with `@` if it is a broken one.
 fn add_file(draft: &mut Draft, dice: &mut Dice, word: &str) {
     draft.add(word);
     draft.add(".proto\nsyntax = \"proto3\";\n");
@@ -133,7 +127,7 @@ fn tree_of(alloc: Global, seed: u32) -> Result<String, AllocError> {
 fn generated_trees(rt: HostRuntime) -> Result<(), Fail> {
     for seed in 0..500 {
         let tree = tree_of(rt.alloc(), seed)?;
-        see_tree(&rt, rt.alloc(), tree.as_str(), None)?;
+        see_tree(&rt, rt.alloc(), seed as usize, tree.as_str(), None)?;
     }
     Ok(())
 }

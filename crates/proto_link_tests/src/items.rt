@@ -13,7 +13,6 @@ pub(crate) struct Item {
     pub(crate) entity: Entity,
 }
 
-/// Adds an item.
 fn add_item(
     alloc: Global,
     items: &mut Vec<Item>,
@@ -32,7 +31,6 @@ fn add_item(
     Ok(())
 }
 
-/// Adds the components of a package statement.
 fn add_package(
     alloc: Global,
     items: &mut Vec<Item>,
@@ -51,7 +49,6 @@ fn add_package(
     Ok(())
 }
 
-/// Adds the declarations of a file.
 fn add_declarations(
     alloc: Global,
     items: &mut Vec<Item>,
@@ -68,7 +65,6 @@ fn add_declarations(
     Ok(())
 }
 
-/// Adds the items of a file, if it has facts.
 fn add_items(
     alloc: Global,
     items: &mut Vec<Item>,
@@ -104,7 +100,6 @@ fn is_before(place: FilePlace, other: FilePlace) -> bool {
     place.file < other.file || (place.file == other.file && place.span.start < other.span.start)
 }
 
-/// Whether the first is before the second and has its name, and not both are packages.
 fn exclude_each_other(first: &Item, second: &Item) -> bool {
     is_before(first.place, second.place)
         && first.full_name.as_str() == second.full_name.as_str()
@@ -125,7 +120,6 @@ fn lesser(
     }
 }
 
-/// The least pair, beside those with this second item.
 fn least_with(
     items: &[Item],
     second: &Item,

@@ -1,16 +1,16 @@
-//! What linking answers to the files of a tree with faults that aren't left out.
+//! Which files of a tree with faults are left out, and what linking answers to the others, beside what scans tell.
 
 ghost use Rattle.std.specs.Prelude.{◌≡◌, IfOk};
 ghost use Rattle.proto_visibility.specs.Files.{HaveOwnPaths};
 ghost use Rattle.proto_visibility.specs.Kept.{AreOmissions, kept_of};
 ghost use Rattle.proto_visibility.specs.Linked.{HaveClearNames};
 
-use crate::answers::{add_line, add_linker};
-use crate::drafts::Draft;
+use crate::answers::listing_with_paths;
+use crate::meanings::listing_of;
+use crate::scans::{absent_of, omissions_of};
 use proto_link::{LinkFault, LinkFile, Linker, kept_files_are_clear, left_out};
 use std::alloc::{AllocError, Global};
 
-/// A file of the same value.
 fn same<'a, 't>(file: &LinkFile<'a, 't>) -> LinkFile<'a, 't>
     ensures { result ≡ file.now }
 {
@@ -44,57 +44,61 @@ fn kept_files<'a, 't>(
     Ok(kept)
 }
 
-/// Adds a line for each import that has to be there and names no file that is kept, and then what linking answers.
-fn add_kept<'a>(
+fn is_listed_as_scanned(
     alloc: Global,
-    draft: &mut Draft,
+    linker: &Linker,
+    files: &[LinkFile],
+) -> Result<bool, AllocError> {
+    let answer = listing_with_paths(alloc, linker)?;
+    let scan = listing_of(alloc, files)?;
+    Ok(answer.as_str() == scan.as_str())
+}
+
+fn are_missing_as_scanned(
+    alloc: Global,
+    linker: &Linker,
+    files: &[LinkFile],
+) -> Result<bool, AllocError> {
+    let missing = linker.missing_imports(alloc)?;
+    let absent = absent_of(alloc, files)?;
+    Ok(missing.as_slice() == absent.as_slice())
+}
+
+fn are_linked_as_scanned<'a>(
+    alloc: Global,
     files: &'a [LinkFile<'a, '_>],
-) -> Result<(), AllocError>
+) -> Result<bool, AllocError>
     requires own { HaveOwnPaths files.now }
     requires clear { HaveClearNames files.now }
 {
     let linker = Linker::of_kept(alloc, files)?;
-    let missing = linker.missing_imports(alloc)?;
-    for place in missing.as_slice() {
-        add_line(draft, LinkFault::MissingImport(*place));
-    }
-    add_linker(alloc, draft, &linker)
+    Ok(
+        is_listed_as_scanned(alloc, &linker, files)?
+            && are_missing_as_scanned(alloc, &linker, files)?,
+    )
 }
 
-/// Adds a line for each file that is left out: why it is.
-fn add_omissions(draft: &mut Draft, omissions: &[Option<LinkFault>]) {
-    for omission in omissions {
-        if let Some(fault) = omission {
-            add_line(draft, *fault);
-        }
-    }
-}
-
-/// Adds what is answered to the files that aren't left out, behind why the others are.
-fn add_both<'a>(
+fn are_omitted_as_scanned<'a>(
     alloc: Global,
-    draft: &mut Draft,
     files: &'a [LinkFile<'a, '_>],
     omissions: &[Option<LinkFault>],
-) -> Result<(), AllocError>
+) -> Result<bool, AllocError>
     requires own { HaveOwnPaths files.now }
     requires omissions { AreOmissions files.now omissions.now }
 {
     kept_files_are_clear();
-    add_omissions(draft, omissions);
     let kept = kept_files(alloc, files, omissions)?;
-    add_kept(alloc, draft, kept.as_slice())
+    let scanned = omissions_of(alloc, files)?;
+    Ok(omissions == scanned.as_slice() && are_linked_as_scanned(alloc, kept.as_slice())?)
 }
 
-/// Why files are left out, which imports of the others name no file, and what linking answers to those others.
-pub(crate) fn kept_answer_of<'a>(
+/// Whether scans tell which files are left out, and what linking answers to those that are kept.
+pub(crate) fn are_kept_as_scanned<'a>(
     alloc: Global,
     files: &'a [LinkFile<'a, '_>],
-) -> Result<String, AllocError>
+) -> Result<bool, AllocError>
     requires { HaveOwnPaths files.now }
 {
     let omissions = left_out(alloc, files)?;
-    let mut draft = Draft::new(alloc);
-    add_both(alloc, &mut draft, files, omissions.as_slice())?;
-    draft.finish()
+    are_omitted_as_scanned(alloc, files, omissions.as_slice())
 }

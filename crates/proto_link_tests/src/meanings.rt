@@ -1,7 +1,7 @@
 //! What scans of all files tell, in the form of `answers`: what a use names is found by looking at each name
 //! that its file knows.
 
-use crate::answers::{add_fault, add_line, add_part};
+use crate::answers::{add_fault, add_part, line_of};
 use crate::drafts::Draft;
 use crate::items::{Item, items_of};
 use crate::scans::{fault_of, seen_by};
@@ -9,7 +9,7 @@ use proto_decl::{Component, DeclarationKind, Use};
 use proto_link::{FilePlace, LinkFault, LinkFile};
 use std::alloc::{AllocError, Global};
 
-/// Whether a name of this kind is one of a type, or, if those are asked for, of another aggregate.
+/// Whether a name of this kind is one of a type, or, where those are asked for, of another aggregate.
 fn is_sought(kind: Option<DeclarationKind>, aggregates: bool) -> bool {
     match kind {
         Some(DeclarationKind::Message | DeclarationKind::Enum) => true,
@@ -18,7 +18,15 @@ fn is_sought(kind: Option<DeclarationKind>, aggregates: bool) -> bool {
     }
 }
 
-/// How many words a full name has.
+fn is_known(known: &[Item], name: &str, aggregates: bool) -> bool {
+    for item in known {
+        if item.full_name.as_str() == name && is_sought(item.kind, aggregates) {
+            return true;
+        }
+    }
+    false
+}
+
 fn words_of(name: &str) -> usize {
     name.split_terminator('.').count()
 }
@@ -40,129 +48,162 @@ fn name_in(
     draft.finish()
 }
 
-/// The items that a file knows.
-#[derive(Clone, Copy)]
-struct Known<'a> {
+/// Whether components are known in a scope, of which so many words count.
+fn is_known_in(
     alloc: Global,
-    items: &'a [Item],
+    known: &[Item],
+    scope: &str,
+    count: usize,
+    components: &[Component],
+    aggregates: bool,
+) -> Result<bool, AllocError> {
+    let name = name_in(alloc, scope, count, components)?;
+    Ok(is_known(known, name.as_str(), aggregates))
 }
 
-impl Known<'_> {
-    /// Whether a name is known.
-    fn has(&self, name: &str, aggregates: bool) -> bool {
-        for item in self.items {
-            if item.full_name.as_str() == name && is_sought(item.kind, aggregates) {
-                return true;
-            }
-        }
-        false
-    }
-
-    /// Whether components are known in a scope, of which so many words count.
-    fn has_in(
-        &self,
-        scope: &str,
-        count: usize,
-        components: &[Component],
-        aggregates: bool,
-    ) -> Result<bool, AllocError> {
-        let name = name_in(self.alloc, scope, count, components)?;
-        Ok(self.has(name.as_str(), aggregates))
-    }
-
-    /// In which scope a use is looked for, by its number of words. All scopes are tried, from the root on, and the last
-    /// one in which its first component is known counts.
-    fn start_of(&self, type_use: &Use) -> Result<Option<usize>, AllocError> {
-        if type_use.has_leading_dot {
-            return Ok(Some(0));
-        }
-        let (scope, components) = (type_use.scope.as_str(), type_use.components.as_slice());
-        let first = components.split_at(components.len().min(1)).0;
-        let mut found = None;
-        for count in 0..=words_of(scope) {
-            if self.has_in(scope, count, first, components.len() > 1)? {
-                found = Some(count);
-            }
-        }
-        Ok(found)
-    }
-
-    /// The full name of the type that a use names.
-    fn name_of(&self, type_use: &Use) -> Result<Option<String>, AllocError> {
-        let (scope, components) = (type_use.scope.as_str(), type_use.components.as_slice());
-        match self.start_of(type_use)? {
-            Some(count) if self.has_in(scope, count, components, false)? => {
-                Ok(Some(name_in(self.alloc, scope, count, components)?))
-            }
-            _ => Ok(None),
+/// With how many words a scope is the innermost one in which components are known: all scopes are
+/// tried, from the root on, and the last one counts.
+fn innermost(
+    alloc: Global,
+    known: &[Item],
+    scope: &str,
+    components: &[Component],
+    aggregates: bool,
+) -> Result<Option<usize>, AllocError> {
+    let mut found = None;
+    for count in 0..=words_of(scope) {
+        if is_known_in(alloc, known, scope, count, components, aggregates)? {
+            found = Some(count);
         }
     }
+    Ok(found)
+}
 
-    /// Adds what so many words of a name name: that is one declaration, or packages, which count as one.
-    fn add_entity(&self, draft: &mut Draft, name: &str, count: usize) -> Result<(), AllocError> {
-        let front = name_in(self.alloc, name, count, &[])?;
-        for item in self.items {
-            if item.full_name.as_str() == front.as_str() {
-                add_part(draft, item.entity);
-                break;
-            }
-        }
-        Ok(())
-    }
-
-    /// Adds a full name, and what it names up to each of its last words, of which so many count.
-    fn add_name(&self, draft: &mut Draft, name: &str, count: usize) -> Result<(), AllocError> {
-        draft.add(name);
-        let before = words_of(name).saturating_sub(count);
-        for number in 0..count {
-            self.add_entity(draft, name, before.saturating_add(number).saturating_add(1))?;
-        }
-        Ok(())
-    }
-
-    /// Adds what a use of a file names.
-    fn add_use(&self, draft: &mut Draft, file: usize, type_use: &Use) -> Result<(), AllocError> {
-        draft.add("; ");
-        match self.name_of(type_use)? {
-            Some(name) => self.add_name(draft, name.as_str(), type_use.components.as_slice().len()),
-            None => {
-                let span = type_use.span;
-                add_fault(draft, LinkFault::Unresolved(FilePlace { file, span }));
-                Ok(())
-            }
-        }
-    }
-
-    /// Adds what the uses of a file name.
-    fn add_uses(&self, draft: &mut Draft, file: usize, uses: &[Use]) -> Result<(), AllocError> {
-        for type_use in uses {
-            self.add_use(draft, file, type_use)?;
-        }
-        Ok(())
+/// In which scope a use is looked for, by its number of words.
+fn start_of(alloc: Global, known: &[Item], type_use: &Use) -> Result<Option<usize>, AllocError> {
+    let components = type_use.components.as_slice();
+    let first = components.split_at(components.len().min(1)).0;
+    if type_use.has_leading_dot {
+        Ok(Some(0))
+    } else {
+        innermost(
+            alloc,
+            known,
+            type_use.scope.as_str(),
+            first,
+            components.len() > 1,
+        )
     }
 }
 
-/// Adds the line of the file with this number, but its path.
+/// The full name of the type that a use names.
+fn name_of(alloc: Global, known: &[Item], type_use: &Use) -> Result<Option<String>, AllocError> {
+    let scope = type_use.scope.as_str();
+    let components = type_use.components.as_slice();
+    match start_of(alloc, known, type_use)? {
+        Some(count) if is_known_in(alloc, known, scope, count, components, false)? => {
+            Ok(Some(name_in(alloc, scope, count, components)?))
+        }
+        _ => Ok(None),
+    }
+}
+
+/// Adds what a full name names: it is that of one declaration, or of packages, which count as one.
+fn add_entity(draft: &mut Draft, known: &[Item], name: &str) {
+    for item in known {
+        if item.full_name.as_str() == name {
+            add_part(draft, item.entity);
+            return;
+        }
+    }
+}
+
+fn add_front(
+    alloc: Global,
+    draft: &mut Draft,
+    known: &[Item],
+    name: &str,
+    count: usize,
+) -> Result<(), AllocError> {
+    let front = name_in(alloc, name, count, &[])?;
+    add_entity(draft, known, front.as_str());
+    Ok(())
+}
+
+/// Adds a full name, and what it names up to each of its last words, of which so many count.
+fn add_name(
+    alloc: Global,
+    draft: &mut Draft,
+    known: &[Item],
+    name: &str,
+    count: usize,
+) -> Result<(), AllocError> {
+    draft.add(name);
+    let before = words_of(name).saturating_sub(count);
+    for number in 0..count {
+        let words = before.saturating_add(number).saturating_add(1);
+        add_front(alloc, draft, known, name, words)?;
+    }
+    Ok(())
+}
+
+fn add_use(
+    alloc: Global,
+    draft: &mut Draft,
+    known: &[Item],
+    file: usize,
+    type_use: &Use,
+) -> Result<(), AllocError> {
+    draft.add("; ");
+    match name_of(alloc, known, type_use)? {
+        Some(name) => {
+            let count = type_use.components.as_slice().len();
+            add_name(alloc, draft, known, name.as_str(), count)
+        }
+        None => {
+            let span = type_use.span;
+            add_fault(draft, LinkFault::Unresolved(FilePlace { file, span }));
+            Ok(())
+        }
+    }
+}
+
+fn add_uses(
+    alloc: Global,
+    draft: &mut Draft,
+    known: &[Item],
+    file: usize,
+    uses: &[Use],
+) -> Result<(), AllocError> {
+    for type_use in uses {
+        add_use(alloc, draft, known, file, type_use)?;
+    }
+    Ok(())
+}
+
+/// Adds a file, which sees the files with these numbers, and no others.
 fn add_seeing(
     alloc: Global,
     draft: &mut Draft,
     files: &[LinkFile],
     number: usize,
-    uses: &[Use],
+    file: &LinkFile,
+    seen: &[usize],
 ) -> Result<(), AllocError> {
-    let seen = seen_by(alloc, files, &[number])?;
+    draft.add(if file.included { "+" } else { "" });
+    draft.add(file.path);
+    draft.add(" ");
     for other in 0..files.len() {
         draft.add(if seen.contains(&other) { "1" } else { "0" });
     }
-    let items = items_of(alloc, files, seen.as_slice())?;
-    let known = Known {
-        alloc,
-        items: items.as_slice(),
+    let uses = match file.facts {
+        Some(facts) if !file.included => facts.uses(),
+        _ => &[],
     };
-    known.add_uses(draft, number, uses)
+    let known = items_of(alloc, files, seen)?;
+    add_uses(alloc, draft, known.as_slice(), number, uses)
 }
 
-/// Adds the line of a file.
 fn add_file(
     alloc: Global,
     draft: &mut Draft,
@@ -170,27 +211,29 @@ fn add_file(
     number: usize,
     file: &LinkFile,
 ) -> Result<(), AllocError> {
-    draft.add(if file.included { "+" } else { "" });
-    draft.add(file.path);
-    draft.add(" ");
-    let uses = match file.facts {
-        Some(facts) if !file.included => facts.uses(),
-        _ => &[],
-    };
-    add_seeing(alloc, draft, files, number, uses)?;
-    draft.add("\n");
+    let seen = seen_by(alloc, files, &[number])?;
+    add_seeing(alloc, draft, files, number, file, seen.as_slice())
+}
+
+fn add_files(alloc: Global, draft: &mut Draft, files: &[LinkFile]) -> Result<(), AllocError> {
+    for (number, file) in files.iter().enumerate() {
+        add_file(alloc, draft, files, number, file)?;
+        draft.add("\n");
+    }
     Ok(())
+}
+
+/// What scans tell of files with clear names.
+pub(crate) fn listing_of(alloc: Global, files: &[LinkFile]) -> Result<String, AllocError> {
+    let mut draft = Draft::new(alloc);
+    add_files(alloc, &mut draft, files)?;
+    draft.finish()
 }
 
 /// What scans tell of files.
 pub(crate) fn scan_of(alloc: Global, files: &[LinkFile]) -> Result<String, AllocError> {
-    let mut draft = Draft::new(alloc);
-    if let Some(fault) = fault_of(alloc, files)? {
-        add_line(&mut draft, fault);
-        return draft.finish();
+    match fault_of(alloc, files)? {
+        Some(fault) => line_of(alloc, fault),
+        None => listing_of(alloc, files),
     }
-    for (number, file) in files.iter().enumerate() {
-        add_file(alloc, &mut draft, files, number, file)?;
-    }
-    draft.finish()
 }

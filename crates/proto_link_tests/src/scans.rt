@@ -5,7 +5,7 @@ use proto_link::{FilePlace, LinkFault, LinkFile};
 use proto_parse::ImportKind;
 use std::alloc::{AllocError, Global};
 
-/// Whether a file has an import of a path, and a public one if that is asked for.
+/// Whether a file has an import of a path, and a public one where that is asked for.
 fn imports(files: &[LinkFile], file: usize, path: &str, publicly: bool) -> bool {
     let Some(file) = files.get(file) else {
         return false;
@@ -21,7 +21,6 @@ fn imports(files: &[LinkFile], file: usize, path: &str, publicly: bool) -> bool 
     false
 }
 
-/// Whether one of these files has such an import.
 fn is_imported(files: &[LinkFile], by: &[usize], path: &str, publicly: bool) -> bool {
     for file in by {
         if imports(files, *file, path, publicly) {
@@ -31,7 +30,7 @@ fn is_imported(files: &[LinkFile], by: &[usize], path: &str, publicly: bool) -> 
     false
 }
 
-/// Adds the files that these import, or, if none are told, those that the files seen publicly import.
+/// Adds the files that these import, or, where none are told, those that the files seen publicly import.
 fn add_imported(
     files: &[LinkFile],
     by: Option<&[usize]>,
@@ -80,7 +79,6 @@ fn counted_of(alloc: Global, files: &[LinkFile]) -> Result<Vec<usize>, AllocErro
     seen_by(alloc, files, sources.as_slice())
 }
 
-/// The first file that counts and has no facts.
 fn first_unread(files: &[LinkFile], counted: &[usize]) -> Option<usize> {
     for (number, file) in files.iter().enumerate() {
         if file.facts.is_none() && counted.contains(&number) {
@@ -90,7 +88,6 @@ fn first_unread(files: &[LinkFile], counted: &[usize]) -> Option<usize> {
     None
 }
 
-/// Whether a file has a path.
 fn has_path(files: &[LinkFile], path: &str) -> bool {
     for file in files {
         if file.path == path {
@@ -121,7 +118,7 @@ fn add_absent(
 }
 
 /// The imports that have to be there and name no file, of all files that count, in order.
-fn absent_of(alloc: Global, files: &[LinkFile]) -> Result<Vec<FilePlace>, AllocError> {
+pub(crate) fn absent_of(alloc: Global, files: &[LinkFile]) -> Result<Vec<FilePlace>, AllocError> {
     let counted = counted_of(alloc, files)?;
     let mut absent = Vec::new(alloc);
     for (number, file) in files.iter().enumerate() {
@@ -132,7 +129,6 @@ fn absent_of(alloc: Global, files: &[LinkFile]) -> Result<Vec<FilePlace>, AllocE
     Ok(absent)
 }
 
-/// Why files of which these count can't be linked, if they can't.
 fn fault_of_counted(
     alloc: Global,
     files: &[LinkFile],
@@ -147,6 +143,46 @@ fn fault_of_counted(
     }
     let absent = absent_of(alloc, files)?;
     Ok(absent.first().map(|place| LinkFault::MissingImport(*place)))
+}
+
+/// Why a file that counts is left out, if it is: it has no facts, or a name clashes with one of the files
+/// that are kept so far, or with another of its own. One that isn't left out is kept, too.
+fn omission_of(
+    alloc: Global,
+    files: &[LinkFile],
+    kept: &mut Vec<usize>,
+    number: usize,
+    file: &LinkFile,
+) -> Result<Option<LinkFault>, AllocError> {
+    if file.facts.is_none() {
+        return Ok(Some(LinkFault::Broken(number)));
+    }
+    kept.push(number)?;
+    let items = items_of(alloc, files, kept.as_slice())?;
+    let Some((first, second)) = first_clash(items.as_slice()) else {
+        return Ok(None);
+    };
+    kept.pop();
+    Ok(Some(LinkFault::Duplicate(first, second)))
+}
+
+/// For each file why it is left out, if it is.
+pub(crate) fn omissions_of(
+    alloc: Global,
+    files: &[LinkFile],
+) -> Result<Vec<Option<LinkFault>>, AllocError> {
+    let counted = counted_of(alloc, files)?;
+    let mut kept = Vec::new(alloc);
+    let mut omissions = Vec::new(alloc);
+    for (number, file) in files.iter().enumerate() {
+        let omission = if counted.contains(&number) {
+            omission_of(alloc, files, &mut kept, number, file)?
+        } else {
+            None
+        };
+        omissions.push(omission)?;
+    }
+    Ok(omissions)
 }
 
 /// Why files can't be linked, if they can't.

@@ -1,144 +1,158 @@
 //! Trees of sources as texts, and the files that are linked.
 //!
-//! Each file of a tree has a line with its path, which has a `+` in front if the file is included, and then its text.
-//! Behind each file is `|`.
+//! Each file of a tree has a line with its path, which has a `+` in front where the file is included,
+//! and then its text; behind each file stands `|`.
 
 use crate::answers::answer_of;
 use crate::facts::facts_of;
-use crate::kept::kept_answer_of;
+use crate::kept::are_kept_as_scanned;
 use crate::meanings::scan_of;
 use proto_decl::FileFacts;
 use proto_link::{LinkFile, have_own_paths};
 use std::alloc::{AllocError, Global};
 use std::process::Abort;
 
-/// Adds the facts of a file's text.
+/// A file of a tree.
+#[derive(Drop)]
+struct Source<'a> {
+    path: &'a str,
+    text: &'a str,
+    included: bool,
+}
+
+fn source_of(file: &str) -> Source<'_> {
+    let (path, text) = file.split_once('\n').unwrap_or((file, ""));
+    Source {
+        path: path.strip_prefix('+').unwrap_or(path),
+        text,
+        included: path.starts_with('+'),
+    }
+}
+
+fn sources_of<'a>(alloc: Global, tree: &'a str) -> Result<Vec<Source<'a>>, AllocError> {
+    let mut sources = Vec::new(alloc);
+    for file in tree.split_terminator('|') {
+        sources.push(source_of(file))?;
+    }
+    Ok(sources)
+}
+
 fn add_facts<'t>(
     alloc: Global,
     all: &mut Vec<Option<FileFacts<'t>>>,
-    file: &'t str,
+    number: usize,
+    text: &'t str,
 ) -> Result<(), AllocError> {
-    let text = file.split_once('\n').unwrap_or((file, "")).1;
-    let facts = facts_of(alloc, all.len(), text)?;
+    let facts = facts_of(alloc, number, text)?;
     all.push(facts)?;
     Ok(())
 }
 
-/// The facts of each file of a tree.
 fn facts_of_all<'t>(
     alloc: Global,
-    tree: &'t str,
+    sources: &[Source<'t>],
 ) -> Result<Vec<Option<FileFacts<'t>>>, AllocError> {
-    let mut all = Vec::new(alloc);
-    for file in tree.split_terminator('|') {
-        add_facts(alloc, &mut all, file)?;
+    let mut all = Vec::with_capacity(alloc, sources.len())?;
+    for (number, source) in sources.iter().enumerate() {
+        add_facts(alloc, &mut all, number, source.text)?;
     }
     Ok(all)
 }
 
-/// The files of a tree, with their facts.
+fn facts_at<'a, 't>(
+    facts: &'a [Option<FileFacts<'t>>],
+    number: usize,
+) -> Option<&'a FileFacts<'t>> {
+    match facts.get(number) {
+        Some(facts) => facts.as_ref(),
+        None => None,
+    }
+}
+
 fn files_of<'a, 't>(
     alloc: Global,
-    tree: &'a str,
+    sources: &'a [Source<'a>],
     facts: &'a [Option<FileFacts<'t>>],
 ) -> Result<Vec<LinkFile<'a, 't>>, AllocError> {
-    let mut files = Vec::with_capacity(alloc, facts.len())?;
-    for (file, facts) in tree.split_terminator('|').zip(facts) {
-        let path = file.split_once('\n').unwrap_or((file, "")).0;
+    let mut files = Vec::with_capacity(alloc, sources.len())?;
+    for (number, source) in sources.iter().enumerate() {
         files.push(LinkFile {
-            path: path.strip_prefix('+').unwrap_or(path),
-            facts: facts.as_ref(),
-            included: path.starts_with('+'),
+            path: source.path,
+            facts: facts_at(facts, number),
+            included: source.included,
         })?;
     }
     Ok(files)
 }
 
-/// What is answered if scans tell something else.
-const OTHERWISE: &str = "scans tell something else\n";
-
-/// An answer that scans tell too.
-fn as_scanned(alloc: Global, files: &[LinkFile], answer: String) -> Result<String, AllocError> {
+fn is_as_scanned(
+    alloc: Global,
+    files: &[LinkFile],
+    answer: &str,
+    due: Option<&str>,
+) -> Result<bool, AllocError> {
     let scan = scan_of(alloc, files)?;
-    if scan.as_str() == answer.as_str() {
-        Ok(answer)
-    } else {
-        String::from_str(alloc, OTHERWISE)
-    }
+    Ok(scan.as_str() == answer && (due.is_none() || due == Some(answer)))
 }
 
-/// What linking answers to files, as scans tell, or, if `kept`, to those that aren't left out.
-fn answer_to<'a>(
+fn are_files_answered<'a>(
     alloc: Global,
     files: &'a [LinkFile<'a, '_>],
-    kept: bool,
-) -> Result<String, AllocError> {
+    due: Option<&str>,
+) -> Result<bool, AllocError> {
     if !have_own_paths(alloc, files)? {
-        String::from_str(alloc, "a path twice\n")
-    } else if kept {
-        kept_answer_of(alloc, files)
-    } else {
-        as_scanned(alloc, files, answer_of(alloc, files)?)
+        return Ok(due == Some("a path twice\n"));
+    }
+    let answer = answer_of(alloc, files)?;
+    Ok(is_as_scanned(alloc, files, answer.as_str(), due)? && are_kept_as_scanned(alloc, files)?)
+}
+
+fn is_answered_with(
+    alloc: Global,
+    sources: &[Source],
+    facts: &[Option<FileFacts>],
+    due: Option<&str>,
+) -> Result<bool, AllocError> {
+    let files = files_of(alloc, sources, facts)?;
+    are_files_answered(alloc, files.as_slice(), due)
+}
+
+fn is_answered_of(
+    alloc: Global,
+    sources: &[Source],
+    due: Option<&str>,
+) -> Result<bool, AllocError> {
+    let facts = facts_of_all(alloc, sources)?;
+    is_answered_with(alloc, sources, facts.as_slice(), due)
+}
+
+fn is_answered_once(alloc: Global, tree: &str, due: Option<&str>) -> Result<bool, AllocError> {
+    let sources = sources_of(alloc, tree)?;
+    is_answered_of(alloc, sources.as_slice(), due)
+}
+
+/// Whether linking answers to a tree what scans tell, and what is due, if that is told. After want of
+/// memory all of it is made again, and the second answer counts.
+fn is_answered(alloc: Global, tree: &str, due: Option<&str>) -> Result<bool, AllocError> {
+    match is_answered_once(alloc, tree, due) {
+        Err(_) => is_answered_once(alloc, tree, due),
+        answer => answer,
     }
 }
 
-/// The same, of a tree with these facts.
-fn answer_with(
-    alloc: Global,
-    tree: &str,
-    facts: &[Option<FileFacts>],
-    kept: bool,
-) -> Result<String, AllocError> {
-    let files = files_of(alloc, tree, facts)?;
-    answer_to(alloc, files.as_slice(), kept)
+/// Ends the test, with this number, where something isn't right.
+fn see(rt: &impl Abort, number: usize, is_right: bool) {
+    assert!(rt; is_right, "wrong at {number}");
 }
 
-/// The same, of a tree.
-fn answer_once(alloc: Global, tree: &str, kept: bool) -> Result<String, AllocError> {
-    let facts = facts_of_all(alloc, tree)?;
-    answer_with(alloc, tree, facts.as_slice(), kept)
-}
-
-/// Ends the test, with what was answered, if it isn't what is due, or if scans tell something else.
-fn see(rt: &impl Abort, answer: &str, due: Option<&str>) {
-    assert!(rt;
-        answer != OTHERWISE && (due.is_none() || due == Some(answer)),
-        "{answer}"
-    );
-}
-
-/// Sees the answer to a tree. After want of memory all of it is made again, and the second answer counts.
-fn see_answer(
-    rt: &impl Abort,
-    alloc: Global,
-    tree: &str,
-    kept: bool,
-    due: Option<&str>,
-) -> Result<(), AllocError> {
-    let answer = match answer_once(alloc, tree, kept) {
-        Err(AllocError) => answer_once(alloc, tree, kept)?,
-        Ok(answer) => answer,
-    };
-    see(rt, answer.as_str(), due);
-    Ok(())
-}
-
-/// Sees that linking answers to a tree what scans tell, and what is due, if that is told.
+/// Ends the test, with this number, where linking doesn't answer to a tree what is due.
 pub(crate) fn see_tree(
     rt: &impl Abort,
     alloc: Global,
+    number: usize,
     tree: &str,
     due: Option<&str>,
 ) -> Result<(), AllocError> {
-    see_answer(rt, alloc, tree, false, due)
-}
-
-/// Sees that linking answers what is due to the files of a tree that aren't left out.
-pub(crate) fn see_kept(
-    rt: &impl Abort,
-    alloc: Global,
-    tree: &str,
-    due: &str,
-) -> Result<(), AllocError> {
-    see_answer(rt, alloc, tree, true, Some(due))
+    see(rt, number, is_answered(alloc, tree, due)?);
+    Ok(())
 }

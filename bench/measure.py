@@ -36,17 +36,18 @@ def gnu_time():
 def measured(command, source, folder):
     """Runs a command in a folder on a source as standard input, its output thrown away.
 
-    Gives seconds of wall time and the peak memory in MiB. A command that fails ends the bench.
+    Gives seconds of wall time and the peak memory in MiB. A command that fails ends the bench, with what it said.
     """
     note = os.path.join(folder, "peak")
     # GNU time starts the command, since a child of python's own counts python's memory as its peak.
     timed = [gnu_time(), "--quiet", "--format=%M", f"--output={note}", *command]
     with open(source, "rb") as given:
         start = time.perf_counter()
-        status = subprocess.run(timed, stdin=given, stdout=subprocess.DEVNULL, cwd=folder).returncode
+        ran = subprocess.run(timed, stdin=given, stdout=subprocess.DEVNULL, stderr=subprocess.PIPE, cwd=folder)
         seconds = time.perf_counter() - start
-    if status != 0:
-        sys.exit(f"{command[0]} ended with status {status}")
+    if ran.returncode != 0:
+        sys.stderr.write(ran.stderr.decode(errors="replace"))
+        sys.exit(f"{command[0]} ended with status {ran.returncode}")
     with open(note, encoding="ascii") as peak:
         return seconds, int(peak.read()) / 1024
 

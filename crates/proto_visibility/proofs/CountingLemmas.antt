@@ -1,5 +1,5 @@
--- Which files count, by the rows of what sources see.
-use Rattle.std.proofs.Common.{◌≡◌, ◌↔◌, ◌⊎◌, inl, inr, ℕ, ◌+◌, ◌<◌, ◌≤◌, Bool, true, false, List, length, get_or, Some}
+-- Which files count, by one search from all sources.
+use Rattle.std.proofs.Common.{◌≡◌, ◌↔◌, ◌⊎◌, inl, inr, ℕ, ◌+◌, ◌<◌, ◌≤◌, Bool, true, false, List, [], length, get_or, Some}
 use Rattle.std.proofs.Common.{None, ap, sym, ◌∙◌, subst, arith, All}
 use Rattle.std.specs.List.{Contains, slice_get}
 use Rattle.std.specs.List.Sorted.{IsStrictlyIncreasing}
@@ -13,9 +13,10 @@ use Rattle.proto_visibility.specs.Sees.LeadsTo.{at_once, through}
 use Rattle.proto_visibility.specs.Sees.SeesBy.{itself, import}
 use Rattle.proto_visibility.specs.Sees.Counts.{seen}
 use Rattle.proto_visibility.specs.Absences.{IsUnread, Broken, NoneBroken}
-use Rattle.proto_visibility.specs.Tables.Visits.{visit_all}
+use Rattle.proto_visibility.specs.declared.import_table.Steps.{Steps}
+use Rattle.proto_visibility.specs.Tables.ImportTables.{HasStep, IsTableOf, IsBegun, IsLedTo, IsBegunBySource}
 use Rattle.proto_visibility.proofs.FileRowLemmas.{not_falling}
-use Rattle.proto_visibility.proofs.SeeingLemmas.{visits_keep, visits_find, visits_of}
+use Rattle.proto_visibility.proofs.SeeingLemmas.{sees_by, sees_begun, begun_of}
 
 -- ---- what is seen is there
 
@@ -44,78 +45,82 @@ counted_at files row items k counts are h =
     counted_within files (get_or items k 0)
     (counts (get_or items k 0) (subst (λ xs. Contains xs (get_or items k 0)) are (Contains-get_or items k 0 h)))
 
-pub row_within : (files : List File) (file size : ℕ) (row items : List ℕ) → items ≡ row → size ≡ length files
-    → file < length files
-    → ((other : ℕ) → Contains row other ↔ Sees files file other) → All (λ number. number < size) items
-row_within files file size row items are same within sees k d h =
-    let there : Contains row (get_or items k d) =
-    subst (λ xs. Contains xs (get_or items k d)) are (Contains-get_or items k d h) in
-    let inside = seen_within ((sees (get_or items k d)).0 there) within in
-    omega arith
+-- ---- one search from all sources
 
--- ---- the sources up to a number
+-- what is found is where the search begins at the first so many files
+abbrev pub HasBegun : List File → List Steps → (count : ℕ) → (found : List ℕ) → Type 0
+HasBegun files table count found = (number : ℕ) → Contains found number ↔ IsBegunBySource files table count number
 
--- one of so many files is a source that sees the file
-abbrev pub CountsUpTo : List File → (count : ℕ) → ℕ → Type 0
-CountsUpTo files count number = (source : ℕ) × (source < count) × IsSource files source × Sees files source number
-
-abbrev pub HasCounted : List File → (count : ℕ) → (found : List ℕ) → Type 0
-HasCounted files count found = (number : ℕ) → Contains found number ↔ CountsUpTo files count number
-
-pub counted_none : (files : List File) (found : List ℕ) → length found ≡ 0 → HasCounted files 0 found
-counted_none files found empty number =
-    (λ there. absurd (omega (arith, there.1)), λ counts. absurd (omega (arith, counts.1)))
+pub begun_none : (files : List File) (table : List Steps) (found : List ℕ) → found ≡ [] → HasBegun files table 0 found
+begun_none files table found empty number =
+    let size = ap length empty in
+    (λ there. absurd (omega (arith, there.1, size)), λ begun. absurd (omega (arith, begun.1)))
 
 one_File : (a b : File) → Some a ≡ Some b → a ≡ b
 one_File a b e = cc
 
-pub counted_skip : (files : List File) (count : ℕ) (file : File) (found : List ℕ) → slice_get files count ≡ Some file
-    → file.is_included ≡ true → HasCounted files count found → HasCounted files (count + 1) found
-counted_skip files count file found stands included so_far number = (
-  λ there. (let counts = (so_far number).0 there in (counts.0, omega (arith, counts.1), counts.2, counts.3)),
-  λ counts. elim (cases_lt counts.0 count) [
-    | inl before ↦ (so_far number).1 (counts.0, before, counts.2, counts.3)
+pub begun_skip : (files : List File) (table : List Steps) (count : ℕ) (file : File) (found : List ℕ)
+    → slice_get files count ≡ Some file → file.is_included ≡ true → HasBegun files table count found
+    → HasBegun files table (count + 1) found
+begun_skip files table count file found stands included so_far number = (
+  λ there. (let its = (so_far number).0 there in (its.0, omega (arith, its.1), its.2, its.3)),
+  λ its. elim (cases_lt its.0 count) [
+    | inl before ↦ (so_far number).1 (its.0, before, its.2, its.3)
     | inr last ↦ (
-        let is : counts.0 ≡ count = omega (arith, counts.1) in
-        let same : counts.2.file ≡ file =
-        one_File counts.2.file file (sym counts.2.numbered ∙ (ap (slice_get files) is ∙ stands)) in
-        absurd (false≢true (sym counts.2.source ∙ (ap (λ (f : File). f.is_included) same ∙ included))))
+        let is : its.0 ≡ count = omega (arith, its.1, last) in
+        let same : its.2.file ≡ file =
+        one_File its.2.file file (sym its.2.numbered ∙ (ap (slice_get files) is ∙ stands)) in
+        absurd (false≢true (sym its.2.source ∙ (ap (λ (f : File). f.is_included) same ∙ included))))
   ],
 )
 
-pub counted_more : (files : List File) (count : ℕ) (file : File) (found row : List ℕ)
+pub begun_more : (files : List File) (table : List Steps) (count : ℕ) (file : File) (found more : List ℕ)
     → slice_get files count ≡ Some file → file.is_included ≡ false
-    → ((other : ℕ) → Contains row other ↔ Sees files count other) → HasCounted files count found
-    → HasCounted files (count + 1) (visit_all found row)
-counted_more files count file found row stands source sees so_far number = (
-  λ there. elim (from_visits there) [
-    | inl before ↦ (let counts = (so_far number).0 before in (counts.0, omega (arith, counts.1), counts.2, counts.3))
-    | inr here ↦ (count, omega arith, record { file = file; numbered = stands; source = source }, (sees number).0 here)
+    → ((other : ℕ) → Contains more other ↔ (Contains found other ⊎ IsBegun table count other))
+    → HasBegun files table count found → HasBegun files table (count + 1) more
+begun_more files table count file found more stands source adds so_far number = (
+  λ there. elim ((adds number).0 there) [
+    | inl old ↦ (let its = (so_far number).0 old in (its.0, omega (arith, its.1), its.2, its.3))
+    | inr here ↦ (count, omega arith, record { file = file; numbered = stands; source = source }, here)
   ],
-  λ counts. elim (cases_lt counts.0 count) [
-    | inl before ↦ visits_keep found row number ((so_far number).1 (counts.0, before, counts.2, counts.3))
+  λ its. elim (cases_lt its.0 count) [
+    | inl before ↦ (adds number).1 (inl ((so_far number).1 (its.0, before, its.2, its.3)))
     | inr last ↦ (
-        let is : counts.0 ≡ count = omega (arith, counts.1) in
-        visits_find found row number ((sees number).1 (subst (λ n. Sees files n number) is counts.3)))
+        let is : its.0 ≡ count = omega (arith, its.1, last) in
+        (adds number).1 (inr (subst (λ n. IsBegun table n number) is its.3)))
   ],
 )
-  where
-    from_visits : Contains (visit_all found row) number → Contains found number ⊎ Contains row number
-    from_visits there =
-        All-contains (λ n. Contains found n ⊎ Contains row n) (visit_all found row) number
-        (visits_of (λ n. Contains found n ⊎ Contains row n) found row (λ k d h. inl (Contains-get_or found k d h))
-        (λ k d h. inr (Contains-get_or row k d h))) there
 
-pub counted_all : (files : List File) (count : ℕ) (found : List ℕ) → length files ≤ count → HasCounted files count found
-    → (number : ℕ) → Contains found number ↔ Counts files number
-counted_all files count found all so_far number = (
-  λ there. (let counts = (so_far number).0 there in seen counts.2 counts.3),
-  λ counts. (so_far number).1 (up_to counts),
+-- beyond the last file there is no source
+pub begun_all : (files : List File) (table : List Steps) (count : ℕ) (found : List ℕ) → length files ≤ count
+    → HasBegun files table count found → HasBegun files table (length files) found
+begun_all files table count found all so_far number = (
+  λ there. (
+      let its = (so_far number).0 there in
+      (its.0, slice_get_within files its.0 its.2.file its.2.numbered, its.2, its.3)
+      ),
+  λ its. (so_far number).1 (its.0, omega (arith, its.1, all), its.2, its.3),
+)
+
+pub counted_all : (files : List File) (table : List Steps) (starts numbers : List ℕ) → IsTableOf files table
+    → HasBegun files table (length files) starts
+    → ((other : ℕ) → Contains numbers other ↔ IsLedTo (HasStep table) starts other)
+    → (number : ℕ) → Contains numbers number ↔ Counts files number
+counted_all files table starts numbers are begun led number = (
+  λ there. (
+      let its = (led number).0 there in
+      let from = (begun its.0).0 its.1 in
+      seen from.2 (sees_by (λ a b publicly. (are.steps a b publicly).0)
+      (sees_begun table from.0 its.0 number from.3 its.2))
+      ),
+  λ counts. (led number).1 (begins counts),
 )
   where
-    up_to : Counts files number → CountsUpTo files count number
-    up_to (seen {source = source} is sees) =
-        (source, omega (arith, slice_get_within files source is.file is.numbered), is, sees)
+    begins : Counts files number → IsLedTo (HasStep table) starts number
+    begins (seen {source = source} is sees) =
+        let its = begun_of table source number (sees_by (λ a b publicly. (are.steps a b publicly).1) sees) in
+        let within = slice_get_within files source is.file is.numbered in
+        (its.0, (begun its.0).1 (source, within, is, its.1), its.2)
 
 -- ---- the least file without facts
 

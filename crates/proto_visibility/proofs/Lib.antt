@@ -1,5 +1,7 @@
 pub mod FileRowLemmas
 pub mod SearchLemmas
+pub mod RunLemmas
+pub mod OrderLemmas
 pub mod SeeingLemmas
 pub mod ImportTableLemmas
 pub mod CountingLemmas

@@ -114,18 +114,6 @@ pub decides_among : (xs : List ℕ) (x : ℕ) (r : Result ℕ ℕ) → IsNonDecr
     → IsBinarySearchResult (λ y. nat_cmp y x) xs r → Decides (is_ok r) (Contains xs x)
 decides_among xs x r order h = decides_found xs x r (searched xs x r h (λ i j. order i j 0))
 
-pub rising_order : (xs : List ℕ) → IsStrictlyIncreasing xs → IsNonDecreasing xs
-rising_order xs rises = IsNonDecreasingBy-from_default (λ n. n) xs 0 (not_falling xs rises)
-
--- shared is shared, whichever list comes first
-pub exchanged : (numbers others : List ℕ) (found : Option ℕ)
-    → MatchOption found ((number : ℕ) → Contains numbers number → Contains others number → ⊥)
-    (λ number. Contains numbers number × Contains others number)
-    → MatchOption found ((number : ℕ) → Contains others number → Contains numbers number → ⊥)
-    (λ number. Contains others number × Contains numbers number)
-exchanged numbers others None none = λ number a b. none number b a
-exchanged numbers others (Some number) both = (both.1, both.0)
-
 -- ---- what a file gives
 
 role_aggregate : (role : Role) (kind : DeclarationKind) → admits role (OfDeclaration kind) ≡ true

@@ -4,13 +4,13 @@ use Rattle.std.proofs.Common.{set, eqb, Some, refl, ap, sym, ◌∙◌, subst, a
 use Rattle.std.specs.List.{IsDistinct, list_any}
 use Rattle.std.proofs.lemmas.Cmp.{nat_eq_equiv}
 use Rattle.std.proofs.lemmas.Bool.{false≢true, cases_eq, eqb-true, eq-eqb, ne_eqb, false_from_ne_true}
-use Rattle.std.proofs.lemmas.List.{length-set, get_or-set_same, get_or-set_other}
+use Rattle.std.proofs.lemmas.List.{length-set, length_push, get_or-set_same, get_or-set_other}
 use Rattle.std.proofs.lemmas.List.Folds.{list_any-append}
 use Rattle.std.proofs.lemmas.List.Elements.{All-nil, All-push, All-pop, All-contains, All-weaker}
 use Rattle.std.proofs.lemmas.Map.Keys.{IsDistinct-push}
 use Rattle.std.proofs.lemmas.Map.Views.{Contains-from_any}
 use Rattle.std.proofs.lemmas.Map.Steps.{length-le_from_distinct_below}
-use Rattle.proto_visibility.specs.Tables.Visits.{AreMarked}
+use Rattle.proto_visibility.specs.Tables.Visits.{AreMarked, IsNewAt}
 
 distinct_none : IsDistinct eqb []
 unfolding IsDistinct
@@ -73,6 +73,22 @@ pub few_found : (marks : List Bool) (found : List ℕ) → AreMarked marks found
 few_found marks found m =
     length-le_from_distinct_below found (length marks) m.distinct
     (λ q e. All-contains (λ n. n < length marks) found q m.below (Contains-from_any eqb-true q found e))
+
+-- a file that isn't marked is new
+pub new_at : (marks : List Bool) (found numbers : List ℕ) (index : ℕ) → AreMarked marks found → index < length numbers
+    → All (λ n. n < length marks) numbers → get_or marks (get_or numbers index 0) false ≡ false
+    → IsNewAt (record { files = length marks; numbers = found }) numbers index
+new_at marks found numbers index m within inside unmarked =
+    let number = get_or numbers index 0 in
+    let h : number < length marks = inside index 0 within in
+    let few = few_found (set marks number true) (found ++ number ∷ []) (marked_more marks found number m h unmarked) in
+    let size = length-set marks number true in
+    let more = length_push found number in
+    record {
+      within = within;
+      new = sym (m.marked number h) ∙ unmarked;
+      fewer = omega (arith, few, size, more);
+    }
 
 -- a mark stands only where the file is among these, which are still to be cleared
 abbrev pub StandsFor : List Bool → List ℕ → Type 0

@@ -1,10 +1,11 @@
 -- A search along the steps of a table finds what a file sees.
 use Rattle.std.proofs.Common.{◌≡◌, ◌↔◌, ◌⊎◌, inl, inr, ℕ, ◌+◌, ◌<◌, ◌≤◌, Bool, true, false, zero, suc, List, [], ◌∷◌}
-use Rattle.std.proofs.Common.{◌++◌, length, get_or, eqb, Some, None, refl, ap, sym, ◌∙◌, subst, arith, All}
+use Rattle.std.proofs.Common.{◌++◌, length, get_or, map, eqb, Option, Some, None, refl, ap, sym, ◌∙◌, subst, arith, All}
+use Rattle.std.specs.Option.{option_map}
 use Rattle.std.specs.List.{Contains, list_any, slice_get}
 use Rattle.std.proofs.lemmas.Bool.{cases_lt, cases_Bool, eqb-true, cond-true, cond-false}
-use Rattle.std.proofs.lemmas.Option.{slice_get-get_or, slice_get_within, get_or_from_slice_get}
-use Rattle.std.proofs.lemmas.List.{length-append, append_assoc, append-nil, length_push, get_or_push}
+use Rattle.std.proofs.lemmas.Option.{slice_get-get_or, slice_get-map, slice_get_within, get_or_from_slice_get}
+use Rattle.std.proofs.lemmas.List.{length-append, length-map, append_assoc, append-nil, length_push, get_or_push}
 use Rattle.std.proofs.lemmas.List.Elements.{All-nil, All-cons, All-push, All-contains, All-head, All-tail}
 use Rattle.std.proofs.lemmas.List.Elements.{Contains-append_left, Contains-append_cases, Contains-push, Contains-get_or}
 use Rattle.std.proofs.lemmas.Map.Views.{Contains-from_any}
@@ -12,7 +13,8 @@ use Rattle.proto_visibility.specs.declared.import_table.Steps.{Steps}
 use Rattle.proto_visibility.specs.Sees.{LeadsTo, SeesBy}
 use Rattle.proto_visibility.specs.Sees.LeadsTo.{at_once, through}
 use Rattle.proto_visibility.specs.Sees.SeesBy.{itself, import}
-use Rattle.proto_visibility.specs.Tables.ImportTables.{targets, HasStep, AreWithin, AreRowsBy}
+use Rattle.proto_visibility.specs.Tables.ImportTables.{targets, HasStep, AreWithin, AreRowsBy, IsBegun, IsLedTo}
+use Rattle.proto_visibility.specs.Tables.Rows.{files_at}
 use Rattle.proto_visibility.specs.Tables.Visits.{visit, visit_all}
 
 -- ---- what visits do
@@ -27,7 +29,7 @@ visit_cases found number = elim (cases_Bool (list_any (eqb number) found)) [
   | inr absent ↦ inl (cond-false (list_any (eqb number) found) found (found ++ number ∷ []) absent)
 ]
 
-visit_finds : (found : List ℕ) (number : ℕ) → Contains (visit found number) number
+pub visit_finds : (found : List ℕ) (number : ℕ) → Contains (visit found number) number
 visit_finds found number = elim (visit_cases found number) [
   | inl new ↦ subst (λ xs. Contains xs number) (sym new) (Contains-push found number)
   | inr old ↦ subst (λ xs. Contains xs number) (sym old.0) old.1
@@ -97,11 +99,10 @@ visits_grow found numbers =
 
 -- ---- the search
 
--- what is found, once the public steps of so many of those found were followed
-pub record Reaches (table : List Steps) (file done : ℕ) (numbers : List ℕ) : Type 0 where
-  pub sound : All (SeesBy (HasStep table) file) numbers
-  pub own : Contains numbers file
-  pub plain : (other : ℕ) → HasStep table file false other → Contains numbers other
+-- what is found from these files, once the public steps of so many of those found were followed
+pub record Reaches (table : List Steps) (starts : List ℕ) (done : ℕ) (numbers : List ℕ) : Type 0 where
+  pub sound : All (IsLedTo (HasStep table) starts) numbers
+  pub kept : (number : ℕ) → Contains starts number → Contains numbers number
   pub closed : (k number other : ℕ) → k < done → slice_get numbers k ≡ Some number → HasStep table number true other
       → Contains numbers other
   pub behind : done ≤ length numbers
@@ -125,41 +126,29 @@ leads_more : {I : ℕ → Bool → ℕ → Type 0} {a b c : ℕ} → LeadsTo I a
 leads_more at_once step = through step at_once
 leads_more (through first rest) step = through first (leads_more rest step)
 
-sees_more : {I : ℕ → Bool → ℕ → Type 0} {a b c : ℕ} → SeesBy I a b → I b true c → SeesBy I a c
-sees_more itself step = import step at_once
-sees_more (import first rest) step = import first (leads_more rest step)
+pub reaches_first : (table : List Steps) (starts : List ℕ) → Reaches table starts 0 starts
+reaches_first table starts = record {
+  sound = λ k d h. (get_or starts k d, Contains-get_or starts k d h, at_once);
+  kept = λ number there. there;
+  closed = λ k number other h. absurd (omega (arith, h));
+  behind = omega arith;
+}
 
-pub reaches_first : (table : List Steps) (file : ℕ) (steps : Steps) → slice_get table file ≡ Some steps
-    → Reaches table file 0 (visit_all (visit [] file) steps.plain.items)
-reaches_first table file steps stands =
-    let own : Contains (file ∷ []) file = Contains-push [] file in
-    record {
-      sound = visits_of (SeesBy (HasStep table) file) (file ∷ []) steps.plain.items
-          (All-cons (SeesBy (HasStep table) file) file [] itself (All-nil (SeesBy (HasStep table) file)))
-          (All-implies (HasStep table file false) (SeesBy (HasStep table) file)
-          (λ other step. import step at_once) steps.plain.items (each_step table file steps stands false));
-      own = visits_keep (file ∷ []) steps.plain.items file own;
-      plain = λ other step. visits_find (file ∷ []) steps.plain.items other
-          (one_step table file steps stands false other step);
-      closed = λ k number other h. absurd (omega arith);
-      behind = omega arith;
-    }
-
-pub reaches_more : (table : List Steps) (file done : ℕ) (numbers : List ℕ) (next : ℕ) (steps : Steps)
-    → Reaches table file done numbers → slice_get numbers done ≡ Some next → slice_get table next ≡ Some steps
-    → Reaches table file (done + 1) (visit_all numbers steps.public.items)
-reaches_more table file done numbers next steps so_far is stands =
+pub reaches_more : (table : List Steps) (starts : List ℕ) (done : ℕ) (numbers : List ℕ) (next : ℕ) (steps : Steps)
+    → Reaches table starts done numbers → slice_get numbers done ≡ Some next → slice_get table next ≡ Some steps
+    → Reaches table starts (done + 1) (visit_all numbers steps.public.items)
+reaches_more table starts done numbers next steps so_far is stands =
     let within : done < length numbers = slice_get_within numbers done next is in
-    let seen : SeesBy (HasStep table) file next =
-    subst (SeesBy (HasStep table) file) (get_or_from_slice_get numbers done next next is)
+    let seen : IsLedTo (HasStep table) starts next =
+    subst (IsLedTo (HasStep table) starts) (get_or_from_slice_get numbers done next next is)
     (so_far.sound done next within) in
     let grown = visits_grow numbers steps.public.items in
     record {
-      sound = visits_of (SeesBy (HasStep table) file) numbers steps.public.items so_far.sound
-          (All-implies (HasStep table next true) (SeesBy (HasStep table) file)
-          (λ other step. sees_more seen step) steps.public.items (each_step table next steps stands true));
-      own = visits_keep numbers steps.public.items file so_far.own;
-      plain = λ other step. visits_keep numbers steps.public.items other (so_far.plain other step);
+      sound = visits_of (IsLedTo (HasStep table) starts) numbers steps.public.items so_far.sound
+          (All-implies (HasStep table next true) (IsLedTo (HasStep table) starts)
+          (λ other step. (seen.0, seen.1, leads_more seen.2 step)) steps.public.items
+          (each_step table next steps stands true));
+      kept = λ number there. visits_keep numbers steps.public.items number (so_far.kept number there);
       closed = λ k number other h here step.
           let there : slice_get numbers k ≡ Some number =
           sym (visits_stay numbers steps.public.items k (omega arith)) ∙ here in
@@ -183,23 +172,87 @@ module _ (table : List Steps) (numbers : List ℕ)
     leads_within at_once there = there
     leads_within (through {file = a} {next = b} step rest) there = leads_within rest (closed a b there step)
 
-pub reaches_all : (table : List Steps) (file done : ℕ) (numbers : List ℕ) → Reaches table file done numbers
-    → length numbers ≤ done
-    → (other : ℕ) → Contains numbers other ↔ SeesBy (HasStep table) file other
-reaches_all table file done numbers reached all other =
-    (λ there. All-contains (SeesBy (HasStep table) file) numbers other reached.sound there, complete other)
+pub reaches_all : (table : List Steps) (starts : List ℕ) (done : ℕ) (numbers : List ℕ)
+    → Reaches table starts done numbers → length numbers ≤ done
+    → (other : ℕ) → Contains numbers other ↔ IsLedTo (HasStep table) starts other
+reaches_all table starts done numbers reached all other = (
+  λ there. All-contains (IsLedTo (HasStep table) starts) numbers other reached.sound there,
+  λ led. leads_within table numbers step_within led.2 (reached.kept led.0 led.1),
+)
   where
     step_within : (number next : ℕ) → Contains numbers number → HasStep table number true next → Contains numbers next
     step_within number next there step =
         reached.closed there.0 number next (omega (arith, there.1))
         (slice_get-get_or numbers there.0 number there.1 ∙ ap Some there.2) step
 
-    complete : (last : ℕ) → SeesBy (HasStep table) file last → Contains numbers last
-    complete last itself = reached.own
-    complete last (import {next = next} {publicly = true} step rest) =
-        leads_within table numbers step_within rest (step_within file next reached.own step)
-    complete last (import {next = next} {publicly = false} step rest) =
-        leads_within table numbers step_within rest (reached.plain next step)
+-- ---- where a search begins
+
+leads_see : {I : ℕ → Bool → ℕ → Type 0} {a b : ℕ} → LeadsTo I a b → SeesBy I a b
+leads_see at_once = itself
+leads_see (through step rest) = import step rest
+
+pub sees_begun : (table : List Steps) (file start other : ℕ) → IsBegun table file start
+    → LeadsTo (HasStep table) start other → SeesBy (HasStep table) file other
+sees_begun table file start other begun leads = elim begun [
+  | inl same ↦ subst (λ n. SeesBy (HasStep table) n other) same (leads_see leads)
+  | inr step ↦ import step leads
+]
+
+pub begun_of : (table : List Steps) (file other : ℕ) → SeesBy (HasStep table) file other
+    → (start : ℕ) × IsBegun table file start × LeadsTo (HasStep table) start other
+begun_of table file other sees = begun other sees
+  where
+    begun : (last : ℕ) → SeesBy (HasStep table) file last
+        → (start : ℕ) × IsBegun table file start × LeadsTo (HasStep table) start last
+    begun last itself = (file, inl refl, at_once)
+    begun last (import {next = next} {publicly = true} step rest) = (file, inl refl, through step rest)
+    begun last (import {next = next} {publicly = false} step rest) = (next, inr step, rest)
+
+-- what is found once more where a search begins at a file
+pub begun_iff : (table : List Steps) (file : ℕ) (steps : Steps) (old new : List ℕ) → slice_get table file ≡ Some steps
+    → new ≡ visit_all (visit old file) steps.plain.items
+    → (other : ℕ) → Contains new other ↔ (Contains old other ⊎ IsBegun table file other)
+begun_iff table file steps old new stands is other = (
+  λ there. All-contains Begun (visit_all (visit old file) steps.plain.items) other found
+      (subst (λ xs. Contains xs other) is there),
+  λ begun. subst (λ xs. Contains xs other) (sym is) (elim begun [
+    | inl before ↦ visits_keep (visit old file) steps.plain.items other (visits_keep old (file ∷ []) other before)
+    | inr here ↦ elim here [
+      | inl same ↦ visits_keep (visit old file) steps.plain.items other
+          (subst (Contains (visit old file)) (sym same) (visit_finds old file))
+      | inr step ↦ visits_find (visit old file) steps.plain.items other
+          (one_step table file steps stands false other step)
+    ]
+  ]),
+)
+  where
+    Begun : ℕ → Type 0
+    Begun number = Contains old number ⊎ IsBegun table file number
+
+    found : All Begun (visit_all (visit old file) steps.plain.items)
+    found = visits_of Begun (visit old file) steps.plain.items
+        (visit_all_of Begun old file (λ k d h. inl (Contains-get_or old k d h)) (inr (inl refl)))
+        (All-implies (HasStep table file false) Begun (λ number step. inr (inr step)) steps.plain.items
+        (each_step table file steps stands false))
+
+-- a search from a file, which begins with nothing found
+pub seen_from : (table : List Steps) (file : ℕ) (none starts numbers : List ℕ) → none ≡ []
+    → ((other : ℕ) → Contains starts other ↔ (Contains none other ⊎ IsBegun table file other))
+    → ((other : ℕ) → Contains numbers other ↔ IsLedTo (HasStep table) starts other)
+    → (other : ℕ) → Contains numbers other ↔ SeesBy (HasStep table) file other
+seen_from table file none starts numbers empty begun led other = (
+  λ there. (
+      let its = (led other).0 there in
+      sees_begun table file its.0 other (begins its.0 ((begun its.0).0 its.1)) its.2
+      ),
+  λ sees. (let its = begun_of table file other sees in (led other).1 (its.0, (begun its.0).1 (inr its.1), its.2)),
+)
+  where
+    begins : (start : ℕ) → Contains none start ⊎ IsBegun table file start → IsBegun table file start
+    begins start from = elim from [
+      | inl there ↦ (let size = ap length empty in absurd (omega (arith, there.1, size)))
+      | inr here ↦ here
+    ]
 
 steps_within : (table : List Steps) (file : ℕ) (steps : Steps) → AreWithin table → slice_get table file ≡ Some steps
     → (publicly : Bool) → All (λ number. number < length table) (targets steps publicly)
@@ -229,22 +282,41 @@ all_followed numbers done none = elim (cases_lt done (length numbers)) [
 abbrev pub IsRowOf : List Steps → ℕ → List ℕ → Type 0
 IsRowOf table file row = (other : ℕ) → Contains row other ↔ SeesBy (HasStep table) file other
 
-pub rows_more : (table : List Steps) (rows : List (List ℕ)) (row : List ℕ) → IsRowOf table (length rows) row
-    → ((file : ℕ) (one : List ℕ) → slice_get rows file ≡ Some one → IsRowOf table file one)
-    → (file : ℕ) (one : List ℕ) → slice_get (rows ++ row ∷ []) file ≡ Some one → IsRowOf table file one
-rows_more table rows row last each file one stands = elim (cases_lt file (length rows)) [
+pub rows_more : (IsRow : ℕ → List ℕ → Type 0) (rows : List (List ℕ)) (row : List ℕ) → IsRow (length rows) row
+    → ((file : ℕ) (one : List ℕ) → slice_get rows file ≡ Some one → IsRow file one)
+    → (file : ℕ) (one : List ℕ) → slice_get (rows ++ row ∷ []) file ≡ Some one → IsRow file one
+rows_more IsRow rows row last each file one stands = elim (cases_lt file (length rows)) [
   | inl before ↦ each file one (sym (slice_get_prefix rows (row ∷ []) file before) ∙ stands)
   | inr behind ↦ (
       let within : file < length (rows ++ row ∷ []) = slice_get_within (rows ++ row ∷ []) file one stands in
       let at : file ≡ length rows = omega (arith, length_push rows row) in
       let here : Some one ≡ Some row = sym stands ∙ (ap (slice_get (rows ++ row ∷ [])) at ∙ slice_get_last rows row) in
       let equal : one ≡ row = cc in
-      subst (λ n. IsRowOf table n one) (sym at) (subst (IsRowOf table (length rows)) (sym equal) last))
+      subst (λ n. IsRow n one) (sym at) (subst (IsRow (length rows)) (sym equal) last))
 ]
   where
     slice_get_last : (xs : List (List ℕ)) (x : List ℕ) → slice_get (xs ++ x ∷ []) (length xs) ≡ Some x
     slice_get_last xs x = slice_get-get_or (xs ++ x ∷ []) (length xs) x (omega (arith, length_push xs x))
         ∙ ap Some (get_or_push xs x x (length xs) refl)
+
+-- by their places in an order
+pub rows_placed : (table : List Steps) (order : List ℕ) (rows : List (List ℕ)) → length rows ≡ length table
+    → ((file : ℕ) (row : List ℕ) → slice_get rows file ≡ Some row → IsRowOf table file (files_at order row))
+    → AreRowsBy (HasStep table) (length table) (map (files_at order) rows)
+rows_placed table order rows size each = record {
+  one_each = length-map rows (files_at order) ∙ size;
+  each = λ file row stands. placed file row (slice_get rows file) refl
+      (sym (slice_get-map (files_at order) rows file) ∙ stands);
+}
+  where
+    one_Row : (a b : List ℕ) → Some a ≡ Some b → a ≡ b
+    one_Row a b e = cc
+
+    placed : (file : ℕ) (row : List ℕ) (one : Option (List ℕ)) → slice_get rows file ≡ one
+        → option_map (files_at order) one ≡ Some row → IsRowOf table file row
+    placed file row None at e = absurd cc
+    placed file row (Some one) at e =
+        subst (IsRowOf table file) (one_Row (files_at order one) row e) (each file one at)
 
 -- ---- other imports that are the same
 
@@ -254,7 +326,7 @@ leads_by : {I J : ℕ → Bool → ℕ → Type 0}
 leads_by change at_once = at_once
 leads_by change (through {file = a} {next = b} step rest) = through (change a b true step) (leads_by change rest)
 
-sees_by : {I J : ℕ → Bool → ℕ → Type 0}
+pub sees_by : {I J : ℕ → Bool → ℕ → Type 0}
     (change : (from to : ℕ) (publicly : Bool) → I from publicly to → J from publicly to) {a b : ℕ} → SeesBy I a b
     → SeesBy J a b
 sees_by change itself = itself

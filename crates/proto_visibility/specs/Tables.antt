@@ -5,3 +5,4 @@ pub mod ImportTables
 pub mod Visits
 pub mod GivenNames
 pub mod Passes
+pub mod Rows

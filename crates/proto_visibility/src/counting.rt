@@ -1,34 +1,49 @@
 //! The files that count: sources, and what they see.
 
-ghost use Rattle.std.specs.Prelude.{ℕ, ◌↔◌, IfOk, MatchOption, Contains, length};
-ghost use Rattle.proto_visibility.specs.Files.{Imports};
+ghost use Rattle.std.specs.Prelude.{ℕ, ◌≡◌, ◌↔◌, [], IfOk, OnOk, MatchOption, Contains, length};
 ghost use Rattle.proto_visibility.specs.Sees.{Counts};
 ghost use Rattle.proto_visibility.specs.Absences.{Broken, NoneBroken};
-ghost use Rattle.proto_visibility.specs.Tables.ImportTables.{AreRowsBy};
+ghost use Rattle.proto_visibility.specs.Tables.ImportTables.{IsTableOf, IsBegunBySource};
 
 use crate::file_row::FileRow;
+use crate::import_table::Steps;
 use crate::link_file::LinkFile;
 use crate::search::Search;
+use crate::seeing::{begin, follow};
 use std::alloc::{AllocError, Global};
 
-// The row of the files that count.
+// The row of the files that count, by the steps of all files: one search from all sources.
 pub(crate) fn counted_files(
     alloc: Global,
     files: &[LinkFile],
-    rows: &[FileRow],
+    table: &[Steps],
 ) -> Result<FileRow, AllocError>
-    requires { AreRowsBy (Imports files.now) (length files.now) rows.now }
+    requires { IsTableOf files.now table.now }
     ensures { IfOk result (λ counted. (number : ℕ) → Contains counted number ↔ Counts files.now number) }
 {
-    let mut search = Search::new(alloc, files.len())?;
+    let mut search = Search::new(alloc, table.len())?;
+    begin_sources(&mut search, files, table)?;
+    follow(&mut search, table)?;
+    let counted = search.to_row(alloc)?;
+    Ok(counted)
+}
+
+// Finds the sources, and what they import, but not publicly.
+fn begin_sources(search: &mut Search, files: &[LinkFile], table: &[Steps]) -> Result<(), AllocError>
+    requires table { IsTableOf files.now table.now }
+    requires files { search.old.files ≡ length table.now }
+    requires none { search.old.numbers ≡ [] }
+    ensures files { OnOk result (search.new.files ≡ search.old.files) }
+    ensures begun { OnOk result ((number : ℕ) → Contains search.new.numbers number ↔ IsBegunBySource files.now table.now
+        (length files.now) number) }
+{
     for (number, file) in files.iter().enumerate() {
         if file.is_included() {
             continue;
         }
-        search.visit_all(rows[number].as_slice())?;
+        begin(search, table, number)?;
     }
-    let counted = search.to_row(alloc)?;
-    Ok(counted)
+    Ok(())
 }
 
 // The least of the files that count and have no facts.

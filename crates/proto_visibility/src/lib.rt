@@ -7,6 +7,7 @@ mod clash;
 mod counting;
 mod entities;
 mod fault;
+mod file_order;
 mod file_row;
 mod import_table;
 mod items;
@@ -19,8 +20,10 @@ mod omissions;
 mod origins;
 mod place;
 mod role;
+mod runs;
 mod search;
 mod seeing;
+mod seen_row;
 
 pub use entities::Entity;
 pub use fault::LinkFault;

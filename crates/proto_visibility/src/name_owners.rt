@@ -6,12 +6,12 @@ ghost use Rattle.proto_visibility.specs.declared.names.DeclaredAt.{DeclaredAt};
 ghost use Rattle.proto_visibility.specs.FileNames.{admits};
 ghost use Rattle.proto_visibility.specs.Tables.GivenNames.{owned_at, IsDeclaring, IsListed};
 
-use crate::file_row::FileRow;
 use crate::names::{DeclaredAt, Names};
 use crate::role::Role;
+use crate::seen_row::SeenRow;
 
 // A file of a row that gives a name in this role, if there is one.
-pub(crate) fn first_giving(names: &Names, row: &FileRow, name: &str, role: Role) -> Option<usize>
+pub(crate) fn first_giving(names: &Names, row: &SeenRow, name: &str, role: Role) -> Option<usize>
     requires { (other : List ℕ) → IsNonDecreasing (owned_at names.now.packages other) }
     ensures { MatchOption result ((number : ℕ) → Contains row.now number → IsListed names.now (admits role) name.now
         number → ⊥) (λ number. Contains row.now number × IsListed names.now (admits role) name.now number) }
@@ -20,14 +20,14 @@ pub(crate) fn first_giving(names: &Names, row: &FileRow, name: &str, role: Role)
         return Some(number);
     }
     if role.admits_packages() {
-        return shared(names.packaging(name), row.as_slice());
+        return shared(names.packaging(name), row);
     }
     None
 }
 
 // The file of the first of these declarations that is admitted in this role and whose file is in
 // the row.
-fn first_declaring(declared: &[DeclaredAt], row: &FileRow, role: Role) -> Option<usize>
+fn first_declaring(declared: &[DeclaredAt], row: &SeenRow, role: Role) -> Option<usize>
     ensures { MatchOption result ((number : ℕ) → Contains row.now number → IsDeclaring declared.now (admits role) number
         → ⊥) (λ number. Contains row.now number × IsDeclaring declared.now (admits role) number) }
 {
@@ -42,28 +42,26 @@ fn first_declaring(declared: &[DeclaredAt], row: &FileRow, role: Role) -> Option
     None
 }
 
-// A number that two lists share, which don't fall. Each of the shorter is looked for in the longer.
-fn shared(numbers: &[usize], others: &[usize]) -> Option<usize>
-    requires numbers { IsNonDecreasing numbers.now }
-    requires others { IsNonDecreasing others.now }
-    ensures { MatchOption result ((number : ℕ) → Contains numbers.now number → Contains others.now number → ⊥)
-        (λ number. Contains numbers.now number × Contains others.now number) }
+// A file that is among these numbers, which don't fall, and in a row. Each of the fewer is looked for in the other.
+fn shared(numbers: &[usize], row: &SeenRow) -> Option<usize>
+    requires { IsNonDecreasing numbers.now }
+    ensures { MatchOption result ((number : ℕ) → Contains numbers.now number → Contains row.now number → ⊥)
+        (λ number. Contains numbers.now number × Contains row.now number) }
 {
-    if numbers.len() < others.len() {
-        first_among(numbers, others)
+    if numbers.len() < row.size() {
+        first_seen(numbers, row)
     } else {
-        first_among(others, numbers)
+        row.first_among(numbers)
     }
 }
 
-// The first of these numbers that is among others, which don't fall.
-fn first_among(numbers: &[usize], others: &[usize]) -> Option<usize>
-    requires { IsNonDecreasing others.now }
-    ensures { MatchOption result ((number : ℕ) → Contains numbers.now number → Contains others.now number → ⊥)
-        (λ number. Contains numbers.now number × Contains others.now number) }
+// The first of these numbers that is in a row.
+fn first_seen(numbers: &[usize], row: &SeenRow) -> Option<usize>
+    ensures { MatchOption result ((number : ℕ) → Contains numbers.now number → Contains row.now number → ⊥)
+        (λ number. Contains numbers.now number × Contains row.now number) }
 {
     for number in numbers {
-        if stands_among(*number, others) {
+        if row.has(*number) {
             return Some(*number);
         }
     }

@@ -20,14 +20,14 @@ use crate::counting::{counted_files, first_unread};
 use crate::entities::{Entity, entity_in};
 use crate::fault::LinkFault;
 use crate::file_row::FileRow;
-use crate::import_table::numbers_of;
+use crate::import_table::{numbers_of, steps_of};
 use crate::link_file::LinkFile;
 use crate::name_owners::first_giving;
 use crate::names::Names;
 use crate::origins::have_origins;
 use crate::place::FilePlace;
 use crate::role::Role;
-use crate::seeing::seen_files;
+use crate::seeing::{SeenFiles, seen_files};
 use proto_decl::FileFacts;
 use sequences::{OwnedText, Sequence};
 use std::alloc::{AllocError, Global};
@@ -42,7 +42,7 @@ use std::marker::Model;
 pub struct Namespace<'a, 't> {
     files: &'a [LinkFile<'a, 't>],
     numbers: HashMap<&'a str, usize>,
-    rows: Vec<FileRow>,
+    seen: SeenFiles,
     names: Names<'a>,
 }
 
@@ -55,7 +55,7 @@ impl<'a, 't> Model for Namespace<'a, 't> {
 
     ghost view = { λ namespace. namespace.files.now };
 
-    ghost invariant = { λ namespace. IsLinked namespace.files.now namespace.numbers namespace.rows.items
+    ghost invariant = { λ namespace. IsLinked namespace.files.now namespace.numbers namespace.seen
         namespace.names };
 }
 
@@ -71,8 +71,8 @@ impl<'a, 't> Namespace<'a, 't> {
         ensures refused { IfErr result (MayRefuse files.now) }
     {
         let numbers = numbers_of(alloc, files)?;
-        let rows = seen_files(alloc, files, &numbers)?;
-        let counted = counted_files(alloc, files, rows.as_slice())?;
+        let table = steps_of(alloc, files, &numbers)?;
+        let counted = counted_files(alloc, files, table.as_slice())?;
         if let Some(number) = first_unread(files, &counted) {
             return Err(LinkFault::Broken(number));
         }
@@ -85,11 +85,12 @@ impl<'a, 't> Namespace<'a, 't> {
             return Err(LinkFault::MissingImport(place));
         }
         have_origins(files);
+        let seen = seen_files(alloc, files, table.as_slice())?;
         let names = Names::of(alloc, files, prefixes.as_slice())?;
         Ok(Namespace {
             files,
             numbers,
-            rows,
+            seen,
             names,
         })
     }
@@ -104,14 +105,15 @@ impl<'a, 't> Namespace<'a, 't> {
         ensures { IfOk result (λ namespace. namespace ≡ files.now) }
     {
         let numbers = numbers_of(alloc, files)?;
-        let rows = seen_files(alloc, files, &numbers)?;
+        let table = steps_of(alloc, files, &numbers)?;
         let prefixes = all_prefixes(alloc, files)?;
         have_origins(files);
+        let seen = seen_files(alloc, files, table.as_slice())?;
         let names = Names::of(alloc, files, prefixes.as_slice())?;
         Ok(Namespace {
             files,
             numbers,
-            rows,
+            seen,
             names,
         })
     }
@@ -128,7 +130,8 @@ impl<'a, 't> Namespace<'a, 't> {
     pub fn missing_imports(&self, alloc: Global) -> Result<Vec<FilePlace>, AllocError>
         ensures { IfOk result (λ places. AreMissing self.now places.items) }
     {
-        let counted = counted_files(alloc, self.files, self.rows.as_slice())?;
+        let table = steps_of(alloc, self.files, &self.numbers)?;
+        let counted = counted_files(alloc, self.files, table.as_slice())?;
         all_absent(alloc, self.files, &self.numbers, &counted)
     }
 
@@ -139,7 +142,7 @@ impl<'a, 't> Namespace<'a, 't> {
         requires other { other < length self.now }
         ensures { IsTrue result ↔ Sees self.now file other }
     {
-        self.rows[file].has(other)
+        self.seen.row(file).has(other)
     }
 
     /// A file that a file sees and that gives a name in a role. Takes no memory.
@@ -148,7 +151,7 @@ impl<'a, 't> Namespace<'a, 't> {
         ensures { MatchOption result (KnowsAs self.now file (admits role) name.now → ⊥)
             (SeesGiving self.now file (admits role) name.now) }
     {
-        first_giving(&self.names, &self.rows[file], name, role)
+        first_giving(&self.names, &self.seen.row(file), name, role)
     }
 
     /// The files that count have facts, no names clash, and the facts of each file are those of some

@@ -29,9 +29,8 @@ use crate::clash::{Item, clash_with};
 use crate::counting::counted_files;
 use crate::fault::LinkFault;
 use crate::file_row::FileRow;
-use crate::import_table::numbers_of;
+use crate::import_table::{numbers_of, steps_of};
 use crate::link_file::LinkFile;
-use crate::seeing::seen_files;
 use std::alloc::{AllocError, Global};
 use std::collections::HashMap;
 
@@ -47,8 +46,8 @@ pub fn left_out(alloc: Global, files: &[LinkFile]) -> Result<Vec<Option<LinkFaul
     ensures { IfOk result (λ omissions. AreOmissions files.now omissions.items) }
 {
     let numbers = numbers_of(alloc, files)?;
-    let rows = seen_files(alloc, files, &numbers)?;
-    let counted = counted_files(alloc, files, rows.as_slice())?;
+    let table = steps_of(alloc, files, &numbers)?;
+    let counted = counted_files(alloc, files, table.as_slice())?;
     let prefixes = all_prefixes(alloc, files)?;
     let items = all_items(alloc, files, prefixes.as_slice(), &counted)?;
     let mut omissions = unread_files(alloc, files, &counted)?;

@@ -6,6 +6,7 @@ ghost use Rattle.std.specs.Prelude.{
   ◌<◌,
   ◌≤◌,
   [],
+  false,
   All,
   OnOk,
   IfOk,
@@ -14,12 +15,16 @@ ghost use Rattle.std.specs.Prelude.{
   ◌↔◌,
   length,
   slice_get,
+  slice_index_or,
   ◌==◌,
 };
-ghost use Rattle.std.specs.List.{IsDistinct};
-ghost use Rattle.proto_visibility.specs.Tables.Visits.{visit, visit_all};
+ghost use Rattle.std.specs.List.{IsDistinct, list_any};
+ghost use Rattle.proto_visibility.specs.Tables.Rows.{files_at};
+ghost use Rattle.proto_visibility.specs.Tables.Visits.{visit, visit_all, IsNewAt};
 
+use crate::file_order::FileOrder;
 use crate::file_row::FileRow;
+use crate::runs::Runs;
 use std::alloc::{AllocError, Global};
 use std::marker::Model;
 
@@ -108,5 +113,39 @@ impl Search {
         ensures { IfOk result (λ row. (number : ℕ) → Contains row number ↔ Contains self.now.numbers number) }
     {
         FileRow::of(alloc, self.numbers.as_slice())
+    }
+
+    // The files that are found, in order of first sight.
+    pub(crate) fn found(&self) -> &[usize]
+        ensures value { result.now ≡ self.now.numbers }
+        ensures distinct { IsDistinct ◌==◌ self.now.numbers }
+        ensures below { All (λ number. number < self.now.files) self.now.numbers }
+    {
+        self.numbers.as_slice()
+    }
+
+    // The index of the first of these files, from one on, that isn't found.
+    pub(crate) fn first_new(&self, numbers: &[usize], from: usize) -> Option<usize>
+        requires { All (λ number. number < self.now.files) numbers.now }
+        ensures { IfSome result (IsNewAt self.now numbers.now) }
+    {
+        for index in from..numbers.len() {
+            if !self.marks[numbers[index]] {
+                return Some(index);
+            }
+        }
+        None
+    }
+
+    // The runs of the places of the files that are found, in an order that has all files.
+    pub(crate) fn to_runs(&self, alloc: Global, order: &FileOrder) -> Result<Runs, AllocError>
+        requires { (number : ℕ) → number < self.now.files → Contains order.now number }
+        ensures { IfOk result (λ runs. (number : ℕ) → Contains (files_at order.now runs) number ↔ Contains
+            self.now.numbers number) }
+    {
+        let mut places = order.places_of(alloc, self.numbers.as_slice())?;
+        places.sort()?;
+        let runs = Runs::of(alloc, places.as_slice())?;
+        Ok(runs)
     }
 }

@@ -1,5 +1,5 @@
 -- What a table of steps says, how it comes from the files, and the rows of the files that are seen by it.
-use Rattle.std.specs.Prelude.{ℕ, ◌≡◌, ◌<◌, ◌↔◌, Bool, true, false, Option, Some, None, List, [], ◌∷◌, length, All}
+use Rattle.std.specs.Prelude.{ℕ, ◌≡◌, ◌<◌, ◌↔◌, ◌⊎◌, Bool, true, false, Option, Some, None, List, [], ◌∷◌, length, All}
 use Rattle.std.specs.Prelude.{Contains, if◌then◌else◌, not, ◌||◌, ◌&&◌}
 use Rattle.std.specs.List.{slice_get, flat_map}
 use Rattle.std.specs.Option.{is_none}
@@ -11,8 +11,8 @@ use Rattle.proto_decl.specs.Facts.{Facts}
 use Rattle.proto_decl.specs.declared.imported.Imported.{Imported}
 use Rattle.proto_visibility.specs.declared.import_table.Steps.{Steps}
 use Rattle.proto_visibility.specs.declared.place.FilePlace.{FilePlace}
-use Rattle.proto_visibility.specs.Files.{File, HasPathAt, Imports, is_public}
-use Rattle.proto_visibility.specs.Sees.{SeesBy}
+use Rattle.proto_visibility.specs.Files.{File, HasPathAt, IsSource, Imports, is_public}
+use Rattle.proto_visibility.specs.Sees.{LeadsTo, SeesBy}
 
 -- the files that a file imports, publicly or not
 abbrev pub targets : Steps → (publicly : Bool) → List ℕ
@@ -36,6 +36,19 @@ pub record IsTableOf (files : List File) (table : List Steps) : Type 0 where
   pub within : AreWithin table
   pub steps : (importing imported : ℕ) (publicly : Bool) → HasStep table importing publicly imported
       ↔ Imports files importing publicly imported
+
+-- what a file sees without public imports of others: itself, and what it imports, but not publicly
+abbrev pub IsBegun : (table : List Steps) → (file : ℕ) → ℕ → Type 0
+IsBegun table file other = (other ≡ file) ⊎ HasStep table file false other
+
+-- public imports lead to it from one of these
+abbrev pub IsLedTo : (Imports : ℕ → Bool → ℕ → Type 0) → (starts : List ℕ) → ℕ → Type 0
+IsLedTo Imports starts last = (start : ℕ) × Contains starts start × LeadsTo Imports start last
+
+-- from one of the first so many files, which is a source, the search begins there
+abbrev pub IsBegunBySource : List File → (table : List Steps) → (count : ℕ) → ℕ → Type 0
+IsBegunBySource files table count number =
+    (source : ℕ) × (source < count) × IsSource files source × IsBegun table source number
 
 -- a row for each file, which has the files that it sees by these imports
 pub record AreRowsBy (Imports : ℕ → Bool → ℕ → Type 0) (files : ℕ) (rows : List (List ℕ)) : Type 0 where

@@ -22,3 +22,9 @@ pub record AreMarked (marks : List Bool) (found : List ℕ) : Type 0 where
       → slice_index_or marks number false ≡ list_any (λ other. number == other) found
   pub distinct : IsDistinct ◌==◌ found
   pub below : All (λ number. number < length marks) found
+
+-- the file at this index isn't found yet, so fewer are than there are
+pub record IsNewAt (found : Found) (numbers : List ℕ) (index : ℕ) : Type 0 where
+  pub within : index < length numbers
+  pub new : list_any (λ other. slice_index_or numbers index 0 == other) found.numbers ≡ false
+  pub fewer : length found.numbers < found.files

@@ -4,12 +4,11 @@ use Rattle.std.specs.List.Sorted.{IsNonDecreasing}
 use Rattle.proto_visibility.specs.declared.names.DeclaredAt.{DeclaredAt}
 use Rattle.proto_visibility.specs.FileNames.{admits}
 use Rattle.proto_visibility.specs.Tables.GivenNames.{IsDeclaring}
-use Rattle.proto_visibility.proofs.ListedLemmas.{rising_order, by_package, by_none}
+use Rattle.proto_visibility.proofs.ListedLemmas.{by_package, by_none}
 use Rattle.proto_visibility.proofs.name_owners.first_giving.Goals as goal
 
-pub shared-requires-clause-others : goal.shared-requires-clause-others
-shared-requires-clause-others c =
-    subst IsNonDecreasing (sym c.as_slice.ensures.value) (rising_order c.args.row.now c.as_slice.ensures.rising)
+pub shared-requires : goal.shared-requires
+shared-requires c = subst IsNonDecreasing (sym c.packaging.ensures) (c.requires c.args.name.now)
 
 pub returns-then-admits_packages : goal.returns-then-admits_packages
 returns-then-admits_packages c =
@@ -19,11 +18,7 @@ returns-then-admits_packages c =
     c.declaring.ensures c.in_default.ensures in
     let both = subst (λ (ns : List ℕ). MatchOption c.shared.result
     ((number : ℕ) → Contains ns number → Contains row number → ⊥)
-    (λ number. Contains ns number × Contains row number)) c.packaging.ensures
-    (subst (λ (others : List ℕ). MatchOption c.shared.result
-    ((number : ℕ) → Contains c.packaging.result.now number → Contains others number → ⊥)
-    (λ number. Contains c.packaging.result.now number × Contains others number)) c.as_slice.ensures.value
-    c.shared.ensures) in
+    (λ number. Contains ns number × Contains row number)) c.packaging.ensures c.shared.ensures in
     by_package c.args.names.now role c.args.name.now row none
     (sym c.admits_packages.ensures ∙ c.if-admits_packages.true) c.shared.result both
 

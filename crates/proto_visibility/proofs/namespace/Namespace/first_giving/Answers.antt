@@ -1,6 +1,5 @@
-use Rattle.std.proofs.Common.{◌≡◌, ◌↔◌, ℕ, ◌<◌, List, length, sym, subst, MatchOption}
+use Rattle.std.proofs.Common.{◌≡◌, ◌↔◌, ℕ, ◌<◌, List, length, sym, ◌∙◌, subst, MatchOption}
 use Rattle.std.specs.List.{Contains}
-use Rattle.std.proofs.lemmas.Option.{slice_get_read}
 use Rattle.proto_visibility.specs.Files.{File}
 use Rattle.proto_visibility.specs.Sees.{Sees}
 use Rattle.proto_visibility.specs.Knows.{KnowsAs}
@@ -9,18 +8,19 @@ use Rattle.proto_visibility.proofs.NameOwnerLemmas.{knows_by}
 use Rattle.proto_visibility.proofs.ListedLemmas.{found_in_files}
 use Rattle.proto_visibility.proofs.namespace.Namespace.first_giving.Goals as goal
 
+pub row-requires : goal.row-requires
+row-requires c =
+    subst (λ n. c.args.file < n) (sym c.self.invariant.rows_are.one_each)
+    (subst (λ (fs : List File). c.args.file < length fs) (sym c.self.view_is) c.requires)
+
 pub returns : goal.returns
 returns c =
     let files = c.self.inside.files.now in
-    let row = c.index.result.now in
+    let row = c.row.result in
     let role = admits c.args.role in
     let same : files ≡ c.args.self.now = c.self.view_is in
-    let within : c.args.file < length files =
-    subst (λ (fs : List File). c.args.file < length fs) (sym same) c.requires in
-    let stands = slice_get_read c.self.inside.rows.items (length files) c.args.file row
-    (sym c.self.invariant.rows_are.one_each) within c.index.ensures in
     let sees : (number : ℕ) → Contains row number ↔ Sees files c.args.file number =
-    c.self.invariant.rows_are.each c.args.file row stands in
+    c.self.invariant.rows_are.each c.args.file row c.row.ensures in
     let found = found_in_files files c.self.inside.names c.self.invariant.names_are c.args.role c.args.name.now row
     c.first_giving.result c.first_giving.ensures in
     subst (λ (fs : List File). MatchOption c.first_giving.result (KnowsAs fs c.args.file role c.args.name.now → ⊥)

@@ -1,10 +1,13 @@
 use Rattle.std.proofs.Common.{◌≡◌, ◌-◌, length}
 use Rattle.proto_visibility.proofs.SeeingLemmas.{Reaches}
-use Rattle.proto_visibility.proofs.seeing.search_from.Given as goal
+use Rattle.proto_visibility.proofs.seeing.follow.Given as goal
 
 abbrev pub invariant-loop-next : goal.invariant-loop-next
-invariant-loop-next l = record
-    { reached : Reaches l.table l.file l.done l.search.numbers; files : l.search.files ≡ length l.table }
+invariant-loop-next l =
+    record {
+      reached : Reaches l.table l.fn.search.numbers l.done l.search.numbers;
+      files : l.search.files ≡ length l.table;
+    }
 
 abbrev pub decreases-loop-next : goal.decreases-loop-next
 decreases-loop-next l = length l.table - l.done

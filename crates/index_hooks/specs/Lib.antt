@@ -10,3 +10,5 @@ pub mod KindNumber
 pub mod MayChoose
 -- the one choice of promises that allow one answer each
 pub mod OneChoice
+-- whose turn it is to be asked
+pub mod Turns

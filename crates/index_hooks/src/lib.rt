@@ -59,6 +59,7 @@ mod names;
 mod promise;
 mod registry;
 mod rule;
+mod turns;
 
 pub use any_answer::AnyAnswer;
 pub use callback::{DocCallback, FilterCallback};
@@ -72,3 +73,4 @@ pub use names::NamePrefix;
 pub use promise::{DocPromise, FilterPromise};
 pub use registry::{Chooses, HookFault, MAX_HOOKS, Promises, Registry};
 pub use rule::DocRule;
+pub use turns::{Ticket, Turns};

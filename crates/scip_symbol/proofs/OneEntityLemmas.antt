@@ -16,7 +16,7 @@ use Rattle.scip_symbol.specs.Entities.{Entity, OfFile, OfPackage, OfDeclaration,
 use Rattle.scip_symbol.specs.Entities.{step_descriptor, descriptors_of, scheme_text, global_in, symbol_in, IsIdentifier}
 use Rattle.scip_symbol.specs.Entities.{IsEntity}
 use Rattle.proto_decl.specs.Ancestors.{scoped, names_of}
-use Rattle.scip_symbol.specs.OneEntity.{Declaration, declaration, IsWithoutClash, IsAmong}
+use Rattle.scip_symbol.specs.OneEntity.{IsWithoutClash, IsAmong}
 use Rattle.proto_decl.specs.declared.kind.DeclarationKind.{DeclarationKind}
 use Rattle.proto_decl.specs.declared.kind.DeclarationKind.TheVariants.{Message, Enum, Service, Field, Oneof, Value}
 use Rattle.proto_decl.specs.declared.kind.DeclarationKind.TheVariants.{Method}
@@ -25,6 +25,7 @@ use Rattle.scip_symbol.specs.declared.symbol.Suffix.TheVariants as suffix
 use Rattle.scip_symbol.specs.declared.symbol.Descriptor.{Descriptor}
 use Rattle.scip_symbol.specs.declared.symbol.SymbolParts.{SymbolParts}
 use Rattle.scip_symbol.specs.declared.symbol.SymbolParts.TheVariants.{Local, Global}
+use Rattle.scip_symbol.proofs.ClashLemmas.{path_in}
 use Rattle.scip_symbol.proofs.ReadLemmas.{both}
 use Rattle.scip_symbol.proofs.SpellingLemmas.{printed}
 use Rattle.scip_symbol.proofs.SymbolLemmas.{one-symbol}
@@ -134,7 +135,7 @@ file-no-package path (x ∷ xs) is h e =
     path-no-identifier path is
     (subst IsIdentifier (sym (ap (λ (d : Descriptor). d.name) (heads e))) (All-head IsIdentifier x xs h))
 
--- ---- ways without a clash
+-- ---- paths without a clash
 
 names-last : (pre : List DeclarationStep) (s t : DeclarationStep) → s.name ≡ t.name
     → names_of (pre ++ s ∷ []) ≡ names_of (pre ++ t ∷ [])
@@ -149,36 +150,35 @@ some-last : (pre : List DeclarationStep) (s : DeclarationStep) → pre ++ s ∷ 
 some-last [] s = λ e. cc
 some-last (p ∷ pre) s = λ e. cc
 
-module _ (declarations : List Declaration) (apart : IsWithoutClash declarations) (components : List (List ℕ)) where
-  ways : (pre way other : List DeclarationStep) → Contains declarations (declaration components (pre ++ way))
-      → Contains declarations (declaration components (pre ++ other))
+module _ (declarations : List Entity) (apart : IsWithoutClash declarations) (components : List (List ℕ)) where
+  ways : (pre way other : List DeclarationStep) → Contains declarations (OfDeclaration components (pre ++ way))
+      → Contains declarations (OfDeclaration components (pre ++ other))
       → map step_descriptor way ≡ map step_descriptor other → way ≡ other
   ways pre [] [] p q e = refl
   ways pre [] (t ∷ other) p q e = absurd cc
   ways pre (s ∷ way) [] p q e = absurd cc
   ways pre (s ∷ way) (t ∷ other) p q e =
       let grow = λ (x : DeclarationStep) (xs : List DeclarationStep). append_assoc pre (x ∷ []) xs in
-      let p' : Contains declarations (declaration components ((pre ++ s ∷ []) ++ way)) =
-      subst (λ (l : List DeclarationStep). Contains declarations (declaration components l)) (sym (grow s way)) p in
-      let q' : Contains declarations (declaration components ((pre ++ t ∷ []) ++ other)) =
-      subst (λ (l : List DeclarationStep). Contains declarations (declaration components l)) (sym (grow t other)) q
+      let p' : Contains declarations (OfDeclaration components ((pre ++ s ∷ []) ++ way)) =
+      subst (λ (l : List DeclarationStep). Contains declarations (OfDeclaration components l)) (sym (grow s way)) p in
+      let q' : Contains declarations (OfDeclaration components ((pre ++ t ∷ []) ++ other)) =
+      subst (λ (l : List DeclarationStep). Contains declarations (OfDeclaration components l)) (sym (grow t other)) q
       in
       let hold_s = apart.holder components (pre ++ s ∷ []) way (some-last pre s) p' in
       let hold_t = apart.holder components (pre ++ t ∷ []) other (some-last pre t) q' in
       let names = ap (λ (l : List (List ℕ)). components ++ l)
       (names-last pre s t (ap (λ (d : Descriptor). d.name) (heads e))) in
       let same : s ≡ t = last-same pre s t
-      (ap (λ (d : Declaration). d.way)
-      (apart.one_name (declaration components (pre ++ s ∷ []))
-      (declaration components (pre ++ t ∷ [])) hold_s hold_t names)) in
-      let q'' : Contains declarations (declaration components ((pre ++ s ∷ []) ++ other)) =
-      subst (λ (x : DeclarationStep). Contains declarations (declaration components ((pre ++ x ∷ []) ++ other)))
+      (ap path_in
+      (apart.one_name components components (pre ++ s ∷ []) (pre ++ t ∷ []) hold_s hold_t names)) in
+      let q'' : Contains declarations (OfDeclaration components ((pre ++ s ∷ []) ++ other)) =
+      subst (λ (x : DeclarationStep). Contains declarations (OfDeclaration components ((pre ++ x ∷ []) ++ other)))
       (sym same) q' in
       joined same (ways (pre ++ s ∷ []) way other p' q'' (tails e))
 
 -- ---- entities
 
-same-entity : (declarations : List Declaration) → IsWithoutClash declarations → (a b : Entity) → IsEntity a → IsEntity b
+same-entity : (declarations : List Entity) → IsWithoutClash declarations → (a b : Entity) → IsEntity a → IsEntity b
     → IsAmong declarations a → IsAmong declarations b → descriptors_of a ≡ descriptors_of b → a ≡ b
 same-entity ds apart (OfFile path) (OfFile other) p q m n e =
     ap (λ (x : List ℕ). OfFile x) (ap (λ (d : Descriptor). d.name) (heads e))
@@ -192,12 +192,12 @@ same-entity ds apart (OfDeclaration xs way) (OfFile path) p q m n e = absurd (no
 same-entity ds apart (OfDeclaration xs way) (OfPackage ys) p q m n e = absurd (no-way ys xs way p.1 (sym e))
 same-entity ds apart (OfDeclaration xs way) (OfDeclaration ys other) p q m n e =
     let both = same-ways xs ys way other p.1 q.1 e in
-    let n' : Contains ds (declaration xs other) =
-    subst (λ (l : List (List ℕ)). Contains ds (declaration l other)) (sym both.0) n in
+    let n' : Contains ds (OfDeclaration xs other) =
+    subst (λ (l : List (List ℕ)). Contains ds (OfDeclaration l other)) (sym both.0) n in
     let same = ways ds apart xs [] way other m n' both.1 in
     ap (λ (l : List (List ℕ)). OfDeclaration l way) both.0 ∙ ap (λ (l : List DeclarationStep). OfDeclaration ys l) same
 
-pub one-entity : (p : Package) (declarations : List Declaration) → IsPackage p → IsWithoutClash declarations
+pub one-entity : (p : Package) (declarations : List Entity) → IsPackage p → IsWithoutClash declarations
     → (a b : Entity) → IsEntity a → IsEntity b
     → IsAmong declarations a → IsAmong declarations b → symbol_text (symbol_in p a) ≡ symbol_text (symbol_in p b)
     → a ≡ b

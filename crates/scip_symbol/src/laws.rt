@@ -25,7 +25,8 @@ pub fn symbols_have_spellings()
 /// In facts without a clash, entities whose symbols have one text are one entity.
 pub fn symbols_name_one_entity()
     ensures { (id : Package) (declarations : List Entity) → IsPackage id → IsWithoutClash declarations
-        → (entity other : Entity) → IsEntity entity → IsEntity other → IsAmong declarations entity → IsAmong declarations other
+        → (entity other : Entity) → IsEntity entity → IsEntity other
+        → IsAmong declarations entity → IsAmong declarations other
         → symbol_text (symbol_in id entity) ≡ symbol_text (symbol_in id other) → entity ≡ other }
 {}
 

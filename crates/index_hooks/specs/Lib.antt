@@ -4,8 +4,6 @@ pub mod Adding
 pub mod HasKind
 -- full names under one another
 pub mod IsUnder
--- kinds of declarations, numbered
-pub mod KindNumber
 -- which choices promises allow
 pub mod MayChoose
 -- the one choice of promises that allow one answer each

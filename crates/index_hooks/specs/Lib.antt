@@ -1,5 +1,7 @@
 -- what comes of adding a filter or a rule
 pub mod Adding
+-- how faults are printed
+pub mod FaultTexts
 -- which kinds a set has
 pub mod HasKind
 -- full names under one another

@@ -6,26 +6,15 @@ ghost use Rattle.index_hooks.specs.MayChoose.{MayKeep, MayDocument};
 ghost use Rattle.index_hooks.specs.Turns.{IsTurnOf, taken, place_of};
 
 use crate::choice::{Choice, DocChoice};
+use crate::fault::HookFault;
 use crate::hook::{BoxedFilter, BoxedRule, DocHook, FilterHook};
 use crate::turns::{Ticket, Turns};
 use proto_decl::DeclView;
 use sequences::Sequence;
 use std::alloc::Global;
-use thiserror::Error;
 
 /// The most filters, and the most documentation rules, of a registry.
 pub const MAX_HOOKS: usize = 16;
-
-/// Why a registry doesn't take a filter or a rule.
-#[derive(Clone, Copy, Debug, PartialEq, Eq, Error)]
-pub enum HookFault {
-    /// It has `MAX_HOOKS` of the kind already.
-    #[error("Full")]
-    Full,
-    /// Memory ran out.
-    #[error("Memory")]
-    Memory,
-}
 
 /// Filters and documentation rules, at most `MAX_HOOKS` of each.
 #[derive(Drop)]

@@ -1,7 +1,7 @@
 -- What comes of adding a hook to those that a registry has.
 use Rattle.std.specs.Prelude.{◌≡◌, ◌<◌, ◌↔◌, ℕ, List, [], ◌∷◌, ◌++◌, length, Result, Ok, Err}
-use Rattle.index_hooks.specs.declared.registry.HookFault.{HookFault}
-use Rattle.index_hooks.specs.declared.registry.HookFault.TheVariants.{Full}
+use Rattle.index_hooks.specs.declared.fault.HookFault.{HookFault}
+use Rattle.index_hooks.specs.declared.fault.HookFault.TheVariants.{Full}
 
 -- of filters, and of documentation rules
 abbrev pub most_hooks : ℕ

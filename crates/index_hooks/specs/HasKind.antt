@@ -1,9 +1,19 @@
 -- Which kinds a set has.
-use Rattle.std.specs.Prelude.{false, IsTrue, slice_index_or}
+use Rattle.std.specs.Prelude.{Bool, IsTrue}
 use Rattle.proto_decl.specs.declared.kind.DeclarationKind.{DeclarationKind}
+use Rattle.proto_decl.specs.declared.kind.DeclarationKind.TheVariants.{Message, Enum, Service, Field, Oneof, Value}
+use Rattle.proto_decl.specs.declared.kind.DeclarationKind.TheVariants.{Method}
 use Rattle.index_hooks.specs.declared.kinds.Kinds.{Kinds}
-use Rattle.index_hooks.specs.KindNumber.{number_of}
 
--- the truth value at the kind's number
+-- whether it has a kind
+abbrev pub has : Kinds → DeclarationKind → Bool
+has kinds Message = kinds.messages
+has kinds Enum = kinds.enums
+has kinds Service = kinds.services
+has kinds Field = kinds.fields
+has kinds Oneof = kinds.oneofs
+has kinds Value = kinds.values
+has kinds Method = kinds.methods
+
 abbrev pub HasKind : Kinds → DeclarationKind → Type 0
-HasKind kinds kind = IsTrue (slice_index_or kinds.held (number_of kind) false)
+HasKind kinds kind = IsTrue (has kinds kind)

@@ -1,12 +1,14 @@
 -- what comes of adding a filter or a rule
 pub mod Adding
+-- how faults are printed
+pub mod FaultTexts
 -- which kinds a set has
 pub mod HasKind
 -- full names under one another
 pub mod IsUnder
--- kinds of declarations, numbered
-pub mod KindNumber
 -- which choices promises allow
 pub mod MayChoose
 -- the one choice of promises that allow one answer each
 pub mod OneChoice
+-- whose turn it is to be asked
+pub mod Turns

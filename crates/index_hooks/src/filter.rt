@@ -6,6 +6,7 @@ ghost use Rattle.proto_decl.specs.Seen.{Seen};
 use crate::callback::FilterCallback;
 use crate::hook::FilterHook;
 use crate::promise::FilterPromise;
+use crate::turns::Ticket;
 use proto_decl::DeclView;
 use std::marker::Model;
 
@@ -41,7 +42,7 @@ impl<P: FilterPromise, C: FilterCallback> Filter<P, C> {
 impl<P: FilterPromise, C: FilterCallback> FilterHook for Filter<P, C> {
     ghost may = { λ f seen keep. P.may f seen keep };
 
-    fn ask(&self, view: &DeclView<'_>) -> bool {
+    fn ask(&self, _ticket: Ticket, view: &DeclView<'_>) -> bool {
         self.callback.call(view)
     }
 }

@@ -1,23 +1,27 @@
 //! Declarations chosen by their kind.
 
-ghost use Rattle.std.specs.Prelude.{◌≡◌, ◌<◌};
-ghost use Rattle.index_hooks.specs.KindNumber.{number_of};
+ghost use Rattle.std.specs.Prelude.{◌↔◌, IsTrue, Contains};
 
 use crate::promise::FilterPromise;
 use proto_decl::{DeclView, DeclarationKind};
 
-/// A set of kinds of declarations: a truth value for each, in the order in which they are declared.
+/// A set of kinds of declarations: for each kind, whether the set has it.
 #[derive(Clone, Copy, Debug, PartialEq, Eq)]
 pub struct Kinds {
-    held: [bool; 7],
+    messages: bool,
+    enums: bool,
+    services: bool,
+    fields: bool,
+    oneofs: bool,
+    values: bool,
+    methods: bool,
 }
 
-/// The place of a kind among the truth values of a set.
-fn number_of(kind: DeclarationKind) -> usize
-    ensures number { result ≡ number_of kind }
-    ensures within { result < 7 }
+/// Whether a kind is among these.
+fn is_among(kinds: &[DeclarationKind], kind: DeclarationKind) -> bool
+    ensures { IsTrue result ↔ Contains kinds.now kind }
 {
-    kind as usize
+    kinds.contains(&kind)
 }
 
 impl Kinds {
@@ -29,18 +33,30 @@ impl Kinds {
     pub fn of(kinds: &[DeclarationKind]) -> Kinds
         ensures { (kind : DeclarationKind) → HasKind result kind ↔ Contains kinds.now kind }
     {
-        let mut held = [false; 7];
-        for kind in kinds {
-            held[number_of(*kind)] = true;
+        Kinds {
+            messages: is_among(kinds, DeclarationKind::Message),
+            enums: is_among(kinds, DeclarationKind::Enum),
+            services: is_among(kinds, DeclarationKind::Service),
+            fields: is_among(kinds, DeclarationKind::Field),
+            oneofs: is_among(kinds, DeclarationKind::Oneof),
+            values: is_among(kinds, DeclarationKind::Value),
+            methods: is_among(kinds, DeclarationKind::Method),
         }
-        Kinds { held }
     }
 
     /// Whether the set has this kind.
     pub fn contains(&self, kind: DeclarationKind) -> bool
         ensures { IsTrue result ↔ HasKind self.now kind }
     {
-        self.held[number_of(kind)]
+        match kind {
+            DeclarationKind::Message => self.messages,
+            DeclarationKind::Enum => self.enums,
+            DeclarationKind::Service => self.services,
+            DeclarationKind::Field => self.fields,
+            DeclarationKind::Oneof => self.oneofs,
+            DeclarationKind::Value => self.values,
+            DeclarationKind::Method => self.methods,
+        }
     }
 }
 

@@ -1,29 +1,20 @@
 //! The registry.
 
-ghost use Rattle.std.specs.Prelude.{◌≤◌, length};
+ghost use Rattle.std.specs.Prelude.{◌≡◌, ◌≤◌, length};
 ghost use Rattle.index_hooks.specs.Adding.{most_hooks, Adds};
 ghost use Rattle.index_hooks.specs.MayChoose.{MayKeep, MayDocument};
+ghost use Rattle.index_hooks.specs.Turns.{IsTurnOf, taken, place_of};
 
 use crate::choice::{Choice, DocChoice};
+use crate::fault::HookFault;
 use crate::hook::{BoxedFilter, BoxedRule, DocHook, FilterHook};
+use crate::turns::{Ticket, Turns};
 use proto_decl::DeclView;
 use sequences::Sequence;
 use std::alloc::Global;
-use thiserror::Error;
 
 /// The most filters, and the most documentation rules, of a registry.
 pub const MAX_HOOKS: usize = 16;
-
-/// Why a registry doesn't take a filter or a rule.
-#[derive(Clone, Copy, Debug, PartialEq, Eq, Error)]
-pub enum HookFault {
-    /// It has `MAX_HOOKS` of the kind already.
-    #[error("Full")]
-    Full,
-    /// Memory ran out.
-    #[error("Memory")]
-    Memory,
-}
 
 /// Filters and documentation rules, at most `MAX_HOOKS` of each.
 #[derive(Drop)]
@@ -113,38 +104,56 @@ impl Registry {
     }
 }
 
-/// Asks one filter.
-fn ask_filter(filter: &BoxedFilter, view: &DeclView<'_>) -> bool
+/// Asks the filter whose turn it is.
+fn ask_filter(
+    filters: &[BoxedFilter],
+    filter: &BoxedFilter,
+    ticket: Ticket,
+    view: &DeclView<'_>,
+) -> bool
+    requires { IsTurnOf 0 filters.now filter.now (place_of ticket) }
     ensures { (FilterHook-box filter.now).may filter.now.value view.now result }
 {
-    filter.ask(view)
+    filter.ask(ticket, view)
 }
 
-/// Asks one rule.
-fn ask_rule(rule: &BoxedRule, view: &DeclView<'_>) -> DocChoice
+/// Asks the rule whose turn it is, where the turns of the rules begin at `first`.
+fn ask_rule(
+    first: usize,
+    rules: &[BoxedRule],
+    rule: &BoxedRule,
+    ticket: Ticket,
+    view: &DeclView<'_>,
+) -> DocChoice
+    requires { IsTurnOf first rules.now rule.now (place_of ticket) }
     ensures { (DocHook-box rule.now).may rule.now.value view.now result }
 {
-    rule.ask(view)
+    rule.ask(ticket, view)
 }
 
 /// Whether all filters answer `true`. The first `false` ends the asking.
-fn keeps(filters: &[BoxedFilter], view: &DeclView<'_>) -> bool
-    ensures { MayKeep (λ f keep. (FilterHook-box f).may f.value view.now keep) filters.now result }
+fn keeps(filters: &[BoxedFilter], turns: &mut Turns, view: &DeclView<'_>) -> bool
+    requires few { length filters.now ≤ most_hooks }
+    requires first { taken turns.old ≡ 0 }
+    ensures keeps { MayKeep (λ f keep. (FilterHook-box f).may f.value view.now keep) filters.now result }
+    ensures taken { taken turns.new ≤ length filters.now }
 {
     for filter in filters {
-        if !ask_filter(filter, view) {
+        if !ask_filter(filters, filter, turns.next(), view) {
             return false;
         }
     }
     true
 }
 
-/// The first answer that isn't `Pass`, and `Leading` if all rules pass.
-fn documents(rules: &[BoxedRule], view: &DeclView<'_>) -> DocChoice
+/// The first answer that isn't `Pass`, and `Leading` if all rules pass. Their turns begin at `first`.
+fn documents(first: usize, rules: &[BoxedRule], turns: &mut Turns, view: &DeclView<'_>) -> DocChoice
+    requires few { (first ≤ most_hooks) × (length rules.now ≤ most_hooks) }
+    requires first { taken turns.old ≡ first }
     ensures { MayDocument (λ r answer. (DocHook-box r).may r.value view.now answer) rules.now result }
 {
     for rule in rules {
-        match ask_rule(rule, view) {
+        match ask_rule(first, rules, rule, turns.next(), view) {
             DocChoice::Pass => {}
             answer => return answer,
         }
@@ -162,10 +171,12 @@ impl Chooses for Registry {
     /// Asks the filters in the order in which they were added, up to the first that answers `false`,
     /// and then the rules, up to the first that doesn't pass, also for what isn't kept.
     fn choose(&self, view: &DeclView<'_>) -> Choice {
-        Choice {
-            keep: keeps(self.filters.as_slice(), view),
-            doc: documents(self.rules.as_slice(), view),
-        }
+        let filters = self.filters.as_slice();
+        let mut turns = Turns::new();
+        let keep = keeps(filters, &mut turns, view);
+        turns.leave_out(filters.len());
+        let doc = documents(filters.len(), self.rules.as_slice(), &mut turns, view);
+        Choice { keep, doc }
     }
 }
 

@@ -8,6 +8,7 @@ use crate::callback::DocCallback;
 use crate::choice::DocChoice;
 use crate::hook::DocHook;
 use crate::promise::DocPromise;
+use crate::turns::Ticket;
 use proto_decl::DeclView;
 use std::marker::Model;
 
@@ -44,7 +45,7 @@ impl<P: DocPromise, C: DocCallback> DocRule<P, C> {
 impl<P: DocPromise, C: DocCallback> DocHook for DocRule<P, C> {
     ghost may = { λ r seen answer. P.may r seen answer };
 
-    fn ask(&self, view: &DeclView<'_>) -> DocChoice {
+    fn ask(&self, _ticket: Ticket, view: &DeclView<'_>) -> DocChoice {
         self.callback.call(view)
     }
 }

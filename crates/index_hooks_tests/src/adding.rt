@@ -1,6 +1,6 @@
 //! Filters and rules that are added: the room of a registry, and what comes back.
 
-use crate::shared::{chooses, counting_filter, message, no_calls, see, see_added};
+use crate::shared::{chooses, counting_filter, message, no_calls, see, see_added, ticket};
 use index_hooks::{
     BoxedFilter, DocAlways, DocChoice, FilterHook, HookFault, MAX_HOOKS, Registry, one_choice,
 };
@@ -16,7 +16,7 @@ fn a_new_registry_keeps_all_with_the_leading_text(rt: HostRuntime) {
 /// Whether a filter came back that keeps nothing, since the registry is full.
 fn is_dropping_filter(answer: Result<(), (BoxedFilter, HookFault)>) -> bool {
     match answer {
-        Err((filter, HookFault::Full)) => !filter.ask(&message()),
+        Err((filter, HookFault::Full)) => !filter.ask(ticket(), &message()),
         _ => false,
     }
 }

@@ -1,6 +1,6 @@
 //! The ready promises and callbacks, once each, and the texts of faults.
 
-use crate::shared::{message, see};
+use crate::shared::{message, see, ticket};
 use index_hooks::{
     AnyAnswer, DocAlways, DocChoice, DocHook, DocOneOf, DocPromise, FilterHook, FilterPromise,
     HookFault, KindIn, Kinds, NamePrefix,
@@ -23,7 +23,7 @@ fn any_and_kinds(view: &DeclView<'_>) -> bool {
 fn under_a(alloc: Global, view: &DeclView<'_>) -> Result<bool, AllocError> {
     let promise = NamePrefix(String::from_str(alloc, "a")?);
     let filter = NamePrefix::filter(alloc, "a")?;
-    Ok(promise.allows(view, true) && filter.ask(view))
+    Ok(promise.allows(view, true) && filter.ask(ticket(), view))
 }
 
 /// Whether a rule answers `Both`, and a promise of that answer allows it, and no other.
@@ -35,7 +35,7 @@ fn both_alone(alloc: Global, view: &DeclView<'_>) -> Result<bool, AllocError> {
             && !listed.allows(view, DocChoice::Pass)
             && always.allows(view, DocChoice::Both)
             && !always.allows(view, DocChoice::Pass)
-            && always.rule().ask(view) == DocChoice::Both,
+            && always.rule().ask(ticket(), view) == DocChoice::Both,
     )
 }
 

@@ -2,7 +2,7 @@
 
 use index_hooks::{
     AnyAnswer, Choice, Chooses, DocCallback, DocChoice, DocRule, Filter, FilterCallback, HookFault,
-    Registry,
+    Registry, Ticket, Turns,
 };
 use proto_decl::{DeclView, DeclarationKind};
 use std::alloc::{AllocError, Global};
@@ -23,6 +23,12 @@ pub(crate) fn see_added<T: Drop>(rt: &impl Abort, answer: Result<(), (T, HookFau
 /// The view of a message.
 pub(crate) fn message() -> DeclView<'static> {
     DeclView::new(DeclarationKind::Message, "M", "a.M", "before", "behind")
+}
+
+/// The ticket for a filter or a rule that is asked by itself.
+pub(crate) fn ticket() -> Ticket {
+    let mut turns = Turns::new();
+    turns.next()
 }
 
 /// How often each callback is called: each has a hexadecimal digit of its own.

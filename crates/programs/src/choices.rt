@@ -8,6 +8,7 @@ ghost use Rattle.programs.specs.Choices.{IsKeptBy, choice_of_word, documented_by
 use command_line::DocWord;
 use index_hooks::{
     Choice, Chooses, DocAlways, DocChoice, DocHook, DocRule, Filter, FilterHook, NamePrefix,
+    Ticket, Turns,
 };
 use proto_decl::DeclView;
 use std::alloc::{AllocError, Global};
@@ -74,21 +75,21 @@ impl OptionChoices {
     }
 
     /// Whether a declaration is kept.
-    fn keeps(&self, view: &DeclView<'_>) -> bool
+    fn keeps(&self, ticket: Ticket, view: &DeclView<'_>) -> bool
         ensures { IsKeptBy (option_map (λ f. string_bytes f.0) self.now.filter) view.now result }
     {
         match &self.filter {
-            Some(filter) => filter.ask(view),
+            Some(filter) => filter.ask(ticket, view),
             None => true,
         }
     }
 
     /// Which texts document a declaration.
-    fn documents(&self, view: &DeclView<'_>) -> DocChoice
+    fn documents(&self, ticket: Ticket, view: &DeclView<'_>) -> DocChoice
         ensures { result ≡ documented_by (option_map (λ r. r.0) self.now.rule) }
     {
         match &self.rule {
-            Some(rule) => match rule.ask(view) {
+            Some(rule) => match rule.ask(ticket, view) {
                 DocChoice::Pass => DocChoice::Leading,
                 answer => answer,
             },
@@ -106,9 +107,10 @@ impl Chooses for OptionChoices {
         (option_map (λ r. r.0) choices.rule) seen choice };
 
     fn choose(&self, view: &DeclView<'_>) -> Choice {
+        let mut turns = Turns::new();
         Choice {
-            keep: self.keeps(view),
-            doc: self.documents(view),
+            keep: self.keeps(turns.next(), view),
+            doc: self.documents(turns.next(), view),
         }
     }
 }

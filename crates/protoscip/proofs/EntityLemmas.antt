@@ -32,7 +32,7 @@ use Rattle.proto_link.specs.Targets.IsNamed.{packaged as named_package, declared
 use Rattle.scip_symbol.specs.Package.{Package, IsPackage}
 use Rattle.scip_document.specs.Packages.{Packages, ArePackages, package_of_path, package_of_file, package_of_part}
 use Rattle.scip_symbol.specs.Entities.{Entity, OfFile, OfPackage, OfDeclaration, IsEntity}
-use Rattle.scip_symbol.specs.OneEntity.{Declaration as Way, declarations_of, AreWithoutClash, IsAmong}
+use Rattle.scip_symbol.specs.OneEntity.{declarations_of, AreWithoutClash, IsAmong}
 use Rattle.scip_symbol.proofs.ClashLemmas.{put}
 use Rattle.scip_document.specs.Chosen.{Chosen}
 use Rattle.scip_document.specs.Conditions.{HaveGoodPaths}
@@ -189,7 +189,7 @@ module _ (files : List File) (origins : HaveOrigins files) (good : HaveGoodPaths
 
   -- no declaration, so that any declarations will do
   IsElse : Entity → Type 0
-  IsElse entity = (declarations : List Way) → IsAmong declarations entity
+  IsElse entity = (declarations : List Entity) → IsAmong declarations entity
 
   kind_of : (entity : Entity) → IsEntityOf files entity → IsDeclared entity ⊎ IsElse entity
   unfolding IsElse

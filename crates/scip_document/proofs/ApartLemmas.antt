@@ -16,7 +16,7 @@ use Rattle.proto_visibility.proofs.FactLemmas.{one_list_of_facts}
 use Rattle.proto_visibility.proofs.FirstLemmas.{contained}
 use Rattle.scip_symbol.specs.Package.{Package, IsPackage}
 use Rattle.scip_symbol.specs.Entities.{Entity, OfFile, OfPackage, OfDeclaration, IsEntity}
-use Rattle.scip_symbol.specs.OneEntity.{declaration_in, declarations_of, AreWithoutClash, IsAmong}
+use Rattle.scip_symbol.specs.OneEntity.{declarations_of, AreWithoutClash, IsAmong}
 use Rattle.scip_symbol.proofs.ClashLemmas.{put}
 pub use Rattle.scip_document.specs.Laws.{SymbolsNameOne}
 pub use Rattle.scip_document.specs.Tables.KnownFacts.{AreIdentifiers, WithoutClash}
@@ -48,7 +48,7 @@ module _ (files : List File) (origins : HaveOrigins files) (clear : NoClash file
   same-declaration : (number other : ℕ) (facts others : Facts) (i j : ℕ) (d e : Declaration)
       → HasFacts files number facts → HasFacts files other others → number ≡ other → i ≡ j
       → slice_get facts.declarations i ≡ Some d → slice_get others.declarations j ≡ Some e
-      → declaration_in facts d ≡ declaration_in others e
+      → declaration_at facts d ≡ declaration_at others e
   same-declaration number other facts others i j d e a b numbers places at there =
       let one : facts ≡ others =
       one_list_of_facts files other facts others (subst (λ n. HasFacts files n facts) numbers a) b in
@@ -56,7 +56,7 @@ module _ (files : List File) (origins : HaveOrigins files) (clear : NoClash file
       subst (λ (f : Facts). slice_get f.declarations j ≡ Some d) one
       (subst (λ n. slice_get facts.declarations n ≡ Some d) places at) in
       let declared : d ≡ e = same_Some d e (sym stands ∙ there) in
-      ap (λ (f : Facts). declaration_in f d) one ∙ ap (declaration_in others) declared
+      ap (λ (f : Facts). declaration_at f d) one ∙ ap (declaration_at others) declared
 
   -- two files that count
   module _ (m n : ℕ) (f g : Facts) (a : AreCounted files m f) (b : AreCounted files n g) where

@@ -15,7 +15,7 @@ use Rattle.scip_model.specs.declared.records.SymbolInformation.{SymbolInformatio
 use Rattle.scip_symbol.specs.Package.{Package, IsPackage}
 use Rattle.scip_symbol.specs.Entities.{Entity, OfFile, IsEntity, symbol_in}
 use Rattle.scip_symbol.specs.SymbolText.{symbol_text}
-use Rattle.scip_symbol.specs.OneEntity.{Declaration as Way, IsWithoutClash, IsAmong}
+use Rattle.scip_symbol.specs.OneEntity.{IsWithoutClash, IsAmong}
 use Rattle.scip_document.specs.Packages.{Packages, package_of_path, package_of_file, package_of_part}
 use Rattle.scip_document.specs.Chosen.{Chosen}
 use Rattle.scip_document.specs.Named.{HasDeclaration, NamesIn, text_of, declaration_at}
@@ -56,7 +56,7 @@ NoTies =
 -- in declarations without a clash, entities whose symbols have one text are one entity, in whatever packages
 abbrev pub SymbolsNameOne : Type 0
 SymbolsNameOne =
-    (id its : Package) (declarations : List Way) → IsPackage id → IsPackage its → IsWithoutClash declarations
+    (id its : Package) (declarations : List Entity) → IsPackage id → IsPackage its → IsWithoutClash declarations
     → (entity other : Entity) → IsEntity entity → IsEntity other → IsAmong declarations entity
     → IsAmong declarations other
     → symbol_text (symbol_in id entity) ≡ symbol_text (symbol_in its other) → entity ≡ other

@@ -16,8 +16,9 @@ pub mod Uses
 pub mod Gaps
 -- documents, external entries, and the index of a tree
 pub mod Indexes
--- documents put together
+-- documents put together, and how faults of that are printed
 pub mod Pieces
+pub mod FaultTexts
 -- what is law of them
 pub mod Laws
 -- what the code lists and marks

@@ -7,8 +7,9 @@ use Rattle.proto_decl.specs.Ancestors.{component_names}
 use Rattle.proto_decl.specs.declared.declaration.Declaration.{Declaration}
 use Rattle.proto_decl.specs.declared.type_use.Component.{Component}
 use Rattle.proto_decl.specs.declared.type_use.Use.{Use}
-use Rattle.scip_symbol.specs.Entities.{OfPackage, OfDeclaration, symbol_in}
+use Rattle.scip_symbol.specs.Entities.{OfPackage, symbol_in}
 use Rattle.scip_symbol.specs.Entities as symbols
+pub use Rattle.scip_symbol.specs.OneEntity.{declaration_at}
 use Rattle.scip_symbol.specs.Package.{Package}
 use Rattle.scip_symbol.specs.SymbolText.{symbol_text}
 use Rattle.proto_visibility.specs.Files.{File, HasFacts}
@@ -30,10 +31,6 @@ text_of id entity = symbol_text (symbol_in id entity)
 -- the package of the first components of a file's package name
 abbrev pub package_at : Facts → (count : ℕ) → symbols.Entity
 package_at facts count = OfPackage (component_names (take count facts.package_name))
-
--- a declaration: its file's package, and the path to it
-abbrev pub declaration_at : Facts → Declaration → symbols.Entity
-declaration_at facts declaration = OfDeclaration (component_names facts.package_name) declaration.path
 
 -- the entity is that of a declaration, by the file's number and its own
 pub record IsDeclaredAs (files : List File) (file index : ℕ) (entity : symbols.Entity) : Type 0 where

@@ -3,25 +3,41 @@
 use scip_model::{Document, SymbolInformation};
 use sequences::Sequence;
 use std::alloc::AllocError;
-use thiserror::Error;
+use std::error::Error;
+use std::fmt;
 
 /// Why documents, the pieces of an index, aren't put together. Of the first two the one of the earlier piece is
 /// answered, and `Missing` if no piece has either.
-#[derive(Clone, Copy, Debug, Drop, PartialEq, Eq, Error)]
+#[derive(Clone, Copy, Debug, Drop, PartialEq, Eq)]
 pub enum MergeFault {
     /// The piece with this number has a path that isn't one of those given.
-    #[error("Stranger({0})")]
     Stranger(usize),
     /// The piece with this number has the path of an earlier one.
-    #[error("Twice({0})")]
     Twice(usize),
     /// No piece has the path with this number, the least such.
-    #[error("Missing({0})")]
     Missing(usize),
     /// Memory ran out.
-    #[error("Memory")]
     Memory,
 }
+
+/// The variant's name, and its number in parentheses if it has one.
+impl fmt::Display for MergeFault {
+    ghost use Rattle.std.specs.Prelude.{Some};
+    ghost use Rattle.scip_document.specs.FaultTexts.{fault_text};
+
+    ghost output = { λ fault. Some (fault_text fault) };
+
+    fn fmt<W: fmt::Write>(&self, f: &mut fmt::Formatter<W>) -> fmt::Result {
+        match self {
+            MergeFault::Stranger(piece) => write!(f, "Stranger({piece})"),
+            MergeFault::Twice(piece) => write!(f, "Twice({piece})"),
+            MergeFault::Missing(path) => write!(f, "Missing({path})"),
+            MergeFault::Memory => f.write_str("Memory"),
+        }
+    }
+}
+
+impl Error for MergeFault {}
 
 impl From<AllocError> for MergeFault {
     ghost use Rattle.std.specs.Prelude.{◌≡◌};

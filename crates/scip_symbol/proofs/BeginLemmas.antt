@@ -1,6 +1,6 @@
 -- Where the reader of descriptors stops, what it has read begins a spelling.
 use Rattle.std.proofs.Common.{◌≡◌, ◌≢◌, ℕ, zero, suc, ◌<◌, false, Ok, Err, List, [], ◌∷◌, ◌++◌}
-use Rattle.std.proofs.Common.{codes, length, refl, ap, sym, ◌∙◌, subst, arith, append_assoc}
+use Rattle.std.proofs.Common.{codes, length, refl, ap, sym, ◌∙◌, subst, arith, append_assoc, append-nil}
 use Rattle.std.specs.Prelude.{IsUtf8}
 use Rattle.std.proofs.lemmas.Str.{IsUtf8-append}
 use Rattle.scip_symbol.specs.Names.{doubled}
@@ -21,10 +21,6 @@ use Rattle.scip_symbol.proofs.UndoubledLemmas.{undoubled-found, undoubled-open}
 use Rattle.scip_symbol.proofs.NameLemmas.{run-found, name-found}
 use Rattle.scip_symbol.proofs.DescriptorLemmas.{method-sign, descriptor-found, descriptor-falls, descriptors-step}
 use Rattle.scip_symbol.proofs.DescriptorLemmas.{led-err}
-
-pub append_nil : {A : Type 0} (xs : List A) → xs ++ [] ≡ xs
-append_nil [] = refl
-append_nil (x ∷ xs) = ap (λ l. x ∷ l) (append_nil xs)
 
 -- some text behind it makes it a spelling
 pub record Begins {A : Type 0} (Spells : List ℕ → A → Type 0) (front : List ℕ) : Type 0 where
@@ -48,7 +44,7 @@ at-once Spells text left count b = record { front = []; rest = text; split = ref
 pub at-end : {A : Type 0} (Spells : List ℕ → A → Type 0) (text : List ℕ) (left : ℕ) → left ≡ 0 → Begins Spells text
     → StopsIn Spells text left
 at-end Spells text left count b =
-    record { front = text; rest = []; split = sym (append_nil text); count = count; begins = b }
+    record { front = text; rest = []; split = sym (append-nil text); count = count; begins = b }
 
 -- ---- names
 

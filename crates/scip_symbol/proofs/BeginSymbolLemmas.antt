@@ -1,6 +1,6 @@
 -- Where the reader of symbols stops, what it has read begins a spelling.
 use Rattle.std.proofs.Common.{◌≡◌, ◌≢◌, ℕ, suc, ◌<◌, ◌⊎◌, inl, inr, None, Ok, Err, List, [], ◌∷◌, ◌++◌}
-use Rattle.std.proofs.Common.{codes, length, refl, ap, sym, ◌∙◌, subst, arith, append_assoc}
+use Rattle.std.proofs.Common.{codes, length, refl, ap, sym, ◌∙◌, subst, arith, append_assoc, append-nil}
 use Rattle.std.proofs.lemmas.Str.{IsUtf8-append}
 use Rattle.scip_symbol.specs.Names.{doubled}
 use Rattle.scip_symbol.specs.SpellsSymbol.{SpellsScheme, scheme, SpellsPart, empty, simple}
@@ -20,7 +20,7 @@ use Rattle.scip_symbol.proofs.DoubledLemmas.{doubled-append}
 use Rattle.scip_symbol.proofs.UndoubledLemmas.{undoubled-open}
 use Rattle.scip_symbol.proofs.NameLemmas.{simple-found}
 use Rattle.scip_symbol.proofs.SymbolLemmas.{not-space, local-there, spells-some, spaced-found, part-found}
-use Rattle.scip_symbol.proofs.BeginLemmas.{Begins, StopsIn, append_nil, at-once, at-end, simple-stops, some-behind}
+use Rattle.scip_symbol.proofs.BeginLemmas.{Begins, StopsIn, at-once, at-end, simple-stops, some-behind}
 use Rattle.scip_symbol.proofs.BeginLemmas.{descriptors-begin}
 
 heads : {x y : ℕ} {xs ys : List ℕ} → x ∷ xs ≡ y ∷ ys → x ≡ y
@@ -98,7 +98,7 @@ scheme-open text (b ∷ word) none e h = record {
   behind = [];
   is_text = ascii [] refl;
   value = b ∷ word;
-  spelled = subst (λ l. SpellsScheme l (b ∷ word)) (sym e ∙ sym (append_nil text)) (scheme (record {
+  spelled = subst (λ l. SpellsScheme l (b ∷ word)) (sym e ∙ sym (append-nil text)) (scheme (record {
     some = λ e. cc;
     no_space_first = h;
     not_local = λ rest is. local-there text (doubled 32 rest) none (e ∙ ap (doubled 32) is);
@@ -141,7 +141,7 @@ behind-scheme sc s of_s m manager of_m n name of_n v version of_v ds descriptors
 )
 
 no-more : (p : List ℕ) → Begins SpellsSymbol (p ++ []) → Begins SpellsSymbol p
-no-more p b = subst (Begins SpellsSymbol) (append_nil p) b
+no-more p b = subst (Begins SpellsSymbol) (append-nil p) b
 
 in-descriptors : (p front : List ℕ) → BeforeDescriptors p → Begins SpellsDescriptors front
     → Begins SpellsSymbol (p ++ front)
@@ -280,7 +280,7 @@ local-name-begins text (name, b ∷ rest) left e is q = record {
     behind = [];
     is_text = ascii [] refl;
     value = Local name;
-    spelled = subst (λ l. SpellsSymbol l (Local name)) (sym (append_nil (codes "local " ++ name))) is;
+    spelled = subst (λ l. SpellsSymbol l (Local name)) (sym (append-nil (codes "local " ++ name))) is;
   };
 }
 

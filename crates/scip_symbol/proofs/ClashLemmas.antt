@@ -7,9 +7,9 @@ use Rattle.proto_decl.specs.Names.{dotted}
 use Rattle.proto_decl.specs.Ancestors.{names_of, component_names, AreHeld}
 use Rattle.proto_decl.specs.Facts.{Facts}
 use Rattle.proto_decl.specs.declared.declaration.DeclarationStep.{DeclarationStep}
-use Rattle.proto_decl.specs.declared.declaration.Declaration.{Declaration as Declared}
-use Rattle.scip_symbol.specs.OneEntity.{Declaration, declaration, full_name, IsWithoutClash, declaration_in}
-use Rattle.scip_symbol.specs.OneEntity.{declarations_of, AreWithoutClash}
+use Rattle.proto_decl.specs.declared.declaration.Declaration.{Declaration}
+use Rattle.scip_symbol.specs.Entities.{Entity, OfFile, OfPackage, OfDeclaration}
+use Rattle.scip_symbol.specs.OneEntity.{declaration_at, declarations_of, AreWithoutClash, IsWithoutClash}
 
 none : {A : Type 0} (x : A) → Contains [] x → ⊥
 none x h = All-contains (λ _. ⊥) [] x (All-nil (λ _. ⊥)) h
@@ -51,17 +51,31 @@ module _ {A B : Type 0} (f : A → B) where
       (λ k. Contains-append_right (f z ∷ []) (map f xs) (f x) (into-map xs x k))
       (Contains-append_cases (z ∷ []) xs x h)
 
-record Found (files : List Facts) (y : Declaration) : Type 0 where
+-- of a declaration: the components of its package, the path to it, and the components of its full name
+abbrev components_in : Entity → List (List ℕ)
+components_in (OfFile path) = []
+components_in (OfPackage components) = components
+components_in (OfDeclaration components path) = components
+
+abbrev pub path_in : Entity → List DeclarationStep
+path_in (OfFile path) = []
+path_in (OfPackage components) = []
+path_in (OfDeclaration components path) = path
+
+abbrev names_in : Entity → List (List ℕ)
+names_in entity = components_in entity ++ names_of (path_in entity)
+
+record Found (files : List Facts) (y : Entity) : Type 0 where
   facts : Facts
   among : Contains files facts
-  found : Declared
+  found : Declaration
   listed : Contains facts.declarations found
-  same : declaration_in facts found ≡ y
+  same : declaration_at facts found ≡ y
 
-find : (files : List Facts) (y : Declaration) → Contains (declarations_of files) y → Found files y
+find : (files : List Facts) (y : Entity) → Contains (declarations_of files) y → Found files y
 find [] y h = absurd (none y h)
 find (facts ∷ files) y h = either
-    (λ k. let of = from-map (declaration_in facts) facts.declarations y k in
+    (λ k. let of = from-map (declaration_at facts) facts.declarations y k in
     record {
       facts = facts;
       among = Contains-append_left (facts ∷ []) files facts (Contains-push [] facts);
@@ -77,48 +91,50 @@ find (facts ∷ files) y h = either
       listed = of.listed;
       same = of.same;
     })
-    (Contains-append_cases (map (declaration_in facts) facts.declarations) (declarations_of files) y h)
+    (Contains-append_cases (map (declaration_at facts) facts.declarations) (declarations_of files) y h)
 
-pub put : (files : List Facts) (facts : Facts) (d : Declared) → Contains files facts → Contains facts.declarations d
-    → Contains (declarations_of files) (declaration_in facts d)
+pub put : (files : List Facts) (facts : Facts) (d : Declaration) → Contains files facts → Contains facts.declarations d
+    → Contains (declarations_of files) (declaration_at facts d)
 put [] facts d h k = absurd (none facts h)
 put (first ∷ files) facts d h k = either
-    (λ e. Contains-append_left (map (declaration_in first) first.declarations) (declarations_of files)
-    (declaration_in facts d)
-    (subst (λ (x : Facts). Contains (map (declaration_in x) x.declarations) (declaration_in facts d))
-    (sym (itself first facts e)) (into-map (declaration_in facts) facts.declarations d k)))
-    (λ n. Contains-append_right (map (declaration_in first) first.declarations) (declarations_of files)
-    (declaration_in facts d) (put files facts d n k))
+    (λ e. Contains-append_left (map (declaration_at first) first.declarations) (declarations_of files)
+    (declaration_at facts d)
+    (subst (λ (x : Facts). Contains (map (declaration_at x) x.declarations) (declaration_at facts d))
+    (sym (itself first facts e)) (into-map (declaration_at facts) facts.declarations d k)))
+    (λ n. Contains-append_right (map (declaration_at first) first.declarations) (declarations_of files)
+    (declaration_at facts d) (put files facts d n k))
     (Contains-append_cases (first ∷ []) files facts h)
 
 module _ (files : List Facts) (apart : AreWithoutClash files) where
   held : (facts : Facts) → Contains files facts → AreHeld facts.package_name facts.declarations
   held facts h = All-contains (λ (x : Facts). AreHeld x.package_name x.declarations) files facts apart.held h
 
-  named : (facts : Facts) (d : Declared) → Contains files facts → Contains facts.declarations d
-      → d.full_name ≡ dotted (full_name (declaration_in facts d))
+  named : (facts : Facts) (d : Declaration) → Contains files facts → Contains facts.declarations d
+      → d.full_name ≡ dotted (names_in (declaration_at facts d))
   named facts d h k =
-      All-contains (λ (x : Declared). x.full_name ≡ dotted (component_names facts.package_name ++ names_of x.path))
+      All-contains (λ (x : Declaration). x.full_name ≡ dotted (component_names facts.package_name ++ names_of x.path))
       facts.declarations d (AreHeld.full_names (held facts h)) k
 
   holder : (components : List (List ℕ)) (outer inner : List DeclarationStep) → outer ≢ []
-      → Contains (declarations_of files) (declaration components (outer ++ inner))
-      → Contains (declarations_of files) (declaration components outer)
+      → Contains (declarations_of files) (OfDeclaration components (outer ++ inner))
+      → Contains (declarations_of files) (OfDeclaration components outer)
   holder components outer inner some h =
-      let of = find files (declaration components (outer ++ inner)) h in
+      let of = find files (OfDeclaration components (outer ++ inner)) h in
       let other = AreHeld.holder (held of.facts of.among) of.found outer inner of.listed
-      (ap (λ (x : Declaration). x.way) of.same) some in
-      subst (λ (x : Declaration). Contains (declarations_of files) x)
-      (ap (λ (l : List DeclarationStep). declaration (component_names of.facts.package_name) l) other.2
-      ∙ ap (λ (x : Declaration). declaration x.components outer) of.same)
+      (ap path_in of.same) some in
+      subst (λ (x : Entity). Contains (declarations_of files) x)
+      (ap (λ (l : List DeclarationStep). OfDeclaration (component_names of.facts.package_name) l) other.2
+      ∙ ap (λ (x : Entity). OfDeclaration (components_in x) outer) of.same)
       (put files of.facts other.0 of.among other.1)
 
-  one_name : (d other : Declaration) → Contains (declarations_of files) d → Contains (declarations_of files) other
-      → full_name d ≡ full_name other → d ≡ other
-  one_name d other h k e =
-      let of = find files d h in
-      let by = find files other k in
-      let names = ap full_name of.same ∙ (e ∙ sym (ap full_name by.same)) in
+  one_name : (components others : List (List ℕ)) (path its : List DeclarationStep)
+      → Contains (declarations_of files) (OfDeclaration components path)
+      → Contains (declarations_of files) (OfDeclaration others its)
+      → components ++ names_of path ≡ others ++ names_of its → OfDeclaration components path ≡ OfDeclaration others its
+  one_name components others path its h k e =
+      let of = find files (OfDeclaration components path) h in
+      let by = find files (OfDeclaration others its) k in
+      let names = ap names_in of.same ∙ (e ∙ sym (ap names_in by.same)) in
       let whole = named of.facts of.found of.among of.listed
       ∙ (ap dotted names ∙ sym (named by.facts by.found by.among by.listed)) in
       sym of.same ∙ (apart.one_name of.facts by.facts of.found by.found of.among by.among of.listed by.listed whole

@@ -1,6 +1,6 @@
 -- Descriptors: what is read is spelled, and what is spelled is read.
 use Rattle.std.proofs.Common.{◌≡◌, ℕ, zero, suc, ◌+◌, ◌<◌, true, false, eqb, Some, Ok, Err, List, [], ◌∷◌, ◌++◌, codes}
-use Rattle.std.proofs.Common.{length, refl, ap, sym, ◌∙◌, subst, arith, append_assoc, length-append}
+use Rattle.std.proofs.Common.{length, refl, ap, sym, ◌∙◌, subst, arith, append_assoc, length-append, append-nil}
 use Rattle.std.specs.List.{list_all}
 use Rattle.scip_symbol.specs.Names.{is_identifier_character}
 use Rattle.scip_symbol.specs.SpellsSymbol.{SpellsName, descriptor, SpellsDescriptor, namespace, type_, term, meta}
@@ -17,10 +17,6 @@ use Rattle.scip_symbol.specs.declared.symbol.Descriptor.{Descriptor}
 use Rattle.scip_symbol.proofs.ReadLemmas.{bind_ok, bind_of_ok, bind_of_err, chosen, same_ok}
 use Rattle.scip_symbol.proofs.AfterLemmas.{after-some, expect-found, expect-exact}
 use Rattle.scip_symbol.proofs.NameLemmas.{EndsName, run-found, run-exact, name-found, name-exact, name-starts}
-
-append_nil : {A : Type 0} (xs : List A) → xs ++ [] ≡ xs
-append_nil [] = refl
-append_nil (x ∷ xs) = ap (λ l. x ∷ l) (append_nil xs)
 
 -- ---- a method's disambiguator
 
@@ -274,7 +270,7 @@ within-found (suc n) text ds e =
     elim a.0.1 as (λ rest. text ≡ r.word ++ rest → last_or_led a.0.0 rest (descriptors_within n rest) ≡ Ok ds
     → SpellsDescriptors text ds) [
       | [] ↦ λ split e.
-          subst (λ l. SpellsDescriptors l ds) (sym (split ∙ append_nil r.word))
+          subst (λ l. SpellsDescriptors l ds) (sym (split ∙ append-nil r.word))
           (subst (λ l. SpellsDescriptors r.word l) (same_ok _ refl e) (last r.spells))
       | b ∷ rest ↦ λ split e. led-ok a.0.0 (descriptors_within n (b ∷ rest)) ds e (λ others q same.
           subst (λ l. SpellsDescriptors l ds) (sym split)
@@ -299,7 +295,7 @@ led-others d (b ∷ rest) others h = refl
 pub descriptors-exact : (text : List ℕ) (ds : List Descriptor) → SpellsDescriptors text ds → descriptors_at text ≡ Ok ds
 descriptors-exact text ds (last {word = w} {d = d} p) =
     descriptors-step w ∙ bind_of_ok (λ x. last_or_led x.0 x.1 (descriptors_at x.1))
-    (ap descriptor_at (sym (append_nil w)) ∙ descriptor-exact w d p [])
+    (ap descriptor_at (sym (append-nil w)) ∙ descriptor-exact w d p [])
 descriptors-exact text ds (more {word = w} {words = ws} {d = d} {others = others} p q) =
     descriptors-step (w ++ ws)
     ∙ bind_of_ok (λ x. last_or_led x.0 x.1 (descriptors_at x.1)) (descriptor-exact w d p ws)

@@ -48,8 +48,8 @@ namespaces-are (x ∷ xs) h =
 IsNamed : DeclarationStep → Type 0
 IsNamed step = IsIdentifier step.name
 
-steps-are : (way : List DeclarationStep) → All (λ step. IsIdentifier step.name) way
-    → All IsDescriptor (map step_descriptor way)
+steps-are : (path : List DeclarationStep) → All (λ step. IsIdentifier step.name) path
+    → All IsDescriptor (map step_descriptor path)
 steps-are [] h = All-nil IsDescriptor
 steps-are (x ∷ xs) h =
     All-cons IsDescriptor (step_descriptor x) (map step_descriptor xs)
@@ -74,10 +74,10 @@ entity-is (OfFile path) is = (
       (All-nil IsDescriptor),
 )
 entity-is (OfPackage components) is = (map-some namespace_of components is.0, namespaces-are components is.1)
-entity-is (OfDeclaration components way) is = (
-  append-some (map namespace_of components) (map step_descriptor way) (map-some step_descriptor way is.1),
-  All-append IsDescriptor (map namespace_of components) (map step_descriptor way) (namespaces-are components is.0)
-      (steps-are way is.2),
+entity-is (OfDeclaration components path) is = (
+  append-some (map namespace_of components) (map step_descriptor path) (map-some step_descriptor path is.1),
+  All-append IsDescriptor (map namespace_of components) (map step_descriptor path) (namespaces-are components is.0)
+      (steps-are path is.2),
 )
 
 pub entity-has : (e : Entity) (ds : List Descriptor) → IsEntity e → ds ≡ descriptors_of e

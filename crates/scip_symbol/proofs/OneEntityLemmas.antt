@@ -16,7 +16,7 @@ use Rattle.scip_symbol.specs.Entities.{Entity, OfFile, OfPackage, OfDeclaration,
 use Rattle.scip_symbol.specs.Entities.{step_descriptor, descriptors_of, scheme_text, global_in, symbol_in, IsIdentifier}
 use Rattle.scip_symbol.specs.Entities.{IsEntity}
 use Rattle.proto_decl.specs.Ancestors.{scoped, names_of}
-use Rattle.scip_symbol.specs.OneEntity.{Declaration, declaration, IsWithoutClash, IsAmong}
+use Rattle.scip_symbol.specs.OneEntity.{IsWithoutClash, IsAmong}
 use Rattle.proto_decl.specs.declared.kind.DeclarationKind.{DeclarationKind}
 use Rattle.proto_decl.specs.declared.kind.DeclarationKind.TheVariants.{Message, Enum, Service, Field, Oneof, Value}
 use Rattle.proto_decl.specs.declared.kind.DeclarationKind.TheVariants.{Method}
@@ -25,6 +25,7 @@ use Rattle.scip_symbol.specs.declared.symbol.Suffix.TheVariants as suffix
 use Rattle.scip_symbol.specs.declared.symbol.Descriptor.{Descriptor}
 use Rattle.scip_symbol.specs.declared.symbol.SymbolParts.{SymbolParts}
 use Rattle.scip_symbol.specs.declared.symbol.SymbolParts.TheVariants.{Local, Global}
+use Rattle.scip_symbol.proofs.ClashLemmas.{path_in}
 use Rattle.scip_symbol.proofs.ReadLemmas.{both}
 use Rattle.scip_symbol.proofs.SpellingLemmas.{printed}
 use Rattle.scip_symbol.proofs.SymbolLemmas.{one-symbol}
@@ -85,25 +86,25 @@ kind-no-namespace Method e = cc
 no-step : (name : List ℕ) (step : DeclarationStep) → namespace_of name ≡ step_descriptor step → ⊥
 no-step name step e = kind-no-namespace step.kind (ap (λ (d : Descriptor). d.suffix) e)
 
--- namespaces alone are no way to a declaration
-no-way : (xs ys : List (List ℕ)) (way : List DeclarationStep) → way ≢ []
-    → map namespace_of xs ≡ map namespace_of ys ++ map step_descriptor way → ⊥
-no-way xs ys [] some e = some refl
-no-way [] [] (s ∷ way) some e = cc
-no-way [] (y ∷ ys) (s ∷ way) some e = cc
-no-way (x ∷ xs) [] (s ∷ way) some e = no-step x s (heads e)
-no-way (x ∷ xs) (y ∷ ys) (s ∷ way) some e = no-way xs ys (s ∷ way) some (tails e)
+-- namespaces alone are no path to a declaration
+no-steps : (xs ys : List (List ℕ)) (steps : List DeclarationStep) → steps ≢ []
+    → map namespace_of xs ≡ map namespace_of ys ++ map step_descriptor steps → ⊥
+no-steps xs ys [] some e = some refl
+no-steps [] [] (s ∷ steps) some e = cc
+no-steps [] (y ∷ ys) (s ∷ steps) some e = cc
+no-steps (x ∷ xs) [] (s ∷ steps) some e = no-step x s (heads e)
+no-steps (x ∷ xs) (y ∷ ys) (s ∷ steps) some e = no-steps xs ys (s ∷ steps) some (tails e)
 
-same-ways : (xs ys : List (List ℕ)) (way other : List DeclarationStep) → way ≢ [] → other ≢ []
-    → map namespace_of xs ++ map step_descriptor way ≡ map namespace_of ys ++ map step_descriptor other
-    → (xs ≡ ys) × (map step_descriptor way ≡ map step_descriptor other)
-same-ways [] [] way other p q e = (refl, e)
-same-ways [] (y ∷ ys) [] other p q e = absurd (p refl)
-same-ways [] (y ∷ ys) (s ∷ way) other p q e = absurd (no-step y s (sym (heads e)))
-same-ways (x ∷ xs) [] way [] p q e = absurd (q refl)
-same-ways (x ∷ xs) [] way (s ∷ other) p q e = absurd (no-step x s (heads e))
-same-ways (x ∷ xs) (y ∷ ys) way other p q e =
-    let rest = same-ways xs ys way other p q (tails e) in
+same-paths : (xs ys : List (List ℕ)) (steps other : List DeclarationStep) → steps ≢ [] → other ≢ []
+    → map namespace_of xs ++ map step_descriptor steps ≡ map namespace_of ys ++ map step_descriptor other
+    → (xs ≡ ys) × (map step_descriptor steps ≡ map step_descriptor other)
+same-paths [] [] steps other p q e = (refl, e)
+same-paths [] (y ∷ ys) [] other p q e = absurd (p refl)
+same-paths [] (y ∷ ys) (s ∷ steps) other p q e = absurd (no-step y s (sym (heads e)))
+same-paths (x ∷ xs) [] steps [] p q e = absurd (q refl)
+same-paths (x ∷ xs) [] steps (s ∷ other) p q e = absurd (no-step x s (heads e))
+same-paths (x ∷ xs) (y ∷ ys) steps other p q e =
+    let rest = same-paths xs ys steps other p q (tails e) in
     (joined (ap (λ (d : Descriptor). d.name) (heads e)) rest.0, rest.1)
 
 -- ---- a file's path is no identifier
@@ -134,7 +135,7 @@ file-no-package path (x ∷ xs) is h e =
     path-no-identifier path is
     (subst IsIdentifier (sym (ap (λ (d : Descriptor). d.name) (heads e))) (All-head IsIdentifier x xs h))
 
--- ---- ways without a clash
+-- ---- paths without a clash
 
 names-last : (pre : List DeclarationStep) (s t : DeclarationStep) → s.name ≡ t.name
     → names_of (pre ++ s ∷ []) ≡ names_of (pre ++ t ∷ [])
@@ -149,55 +150,56 @@ some-last : (pre : List DeclarationStep) (s : DeclarationStep) → pre ++ s ∷ 
 some-last [] s = λ e. cc
 some-last (p ∷ pre) s = λ e. cc
 
-module _ (declarations : List Declaration) (apart : IsWithoutClash declarations) (components : List (List ℕ)) where
-  ways : (pre way other : List DeclarationStep) → Contains declarations (declaration components (pre ++ way))
-      → Contains declarations (declaration components (pre ++ other))
-      → map step_descriptor way ≡ map step_descriptor other → way ≡ other
-  ways pre [] [] p q e = refl
-  ways pre [] (t ∷ other) p q e = absurd cc
-  ways pre (s ∷ way) [] p q e = absurd cc
-  ways pre (s ∷ way) (t ∷ other) p q e =
+module _ (declarations : List Entity) (apart : IsWithoutClash declarations) (components : List (List ℕ)) where
+  paths : (pre steps other : List DeclarationStep) → Contains declarations (OfDeclaration components (pre ++ steps))
+      → Contains declarations (OfDeclaration components (pre ++ other))
+      → map step_descriptor steps ≡ map step_descriptor other → steps ≡ other
+  paths pre [] [] p q e = refl
+  paths pre [] (t ∷ other) p q e = absurd cc
+  paths pre (s ∷ steps) [] p q e = absurd cc
+  paths pre (s ∷ steps) (t ∷ other) p q e =
       let grow = λ (x : DeclarationStep) (xs : List DeclarationStep). append_assoc pre (x ∷ []) xs in
-      let p' : Contains declarations (declaration components ((pre ++ s ∷ []) ++ way)) =
-      subst (λ (l : List DeclarationStep). Contains declarations (declaration components l)) (sym (grow s way)) p in
-      let q' : Contains declarations (declaration components ((pre ++ t ∷ []) ++ other)) =
-      subst (λ (l : List DeclarationStep). Contains declarations (declaration components l)) (sym (grow t other)) q
+      let p' : Contains declarations (OfDeclaration components ((pre ++ s ∷ []) ++ steps)) =
+      subst (λ (l : List DeclarationStep). Contains declarations (OfDeclaration components l)) (sym (grow s steps)) p in
+      let q' : Contains declarations (OfDeclaration components ((pre ++ t ∷ []) ++ other)) =
+      subst (λ (l : List DeclarationStep). Contains declarations (OfDeclaration components l)) (sym (grow t other)) q
       in
-      let hold_s = apart.holder components (pre ++ s ∷ []) way (some-last pre s) p' in
+      let hold_s = apart.holder components (pre ++ s ∷ []) steps (some-last pre s) p' in
       let hold_t = apart.holder components (pre ++ t ∷ []) other (some-last pre t) q' in
       let names = ap (λ (l : List (List ℕ)). components ++ l)
       (names-last pre s t (ap (λ (d : Descriptor). d.name) (heads e))) in
       let same : s ≡ t = last-same pre s t
-      (ap (λ (d : Declaration). d.way)
-      (apart.one_name (declaration components (pre ++ s ∷ []))
-      (declaration components (pre ++ t ∷ [])) hold_s hold_t names)) in
-      let q'' : Contains declarations (declaration components ((pre ++ s ∷ []) ++ other)) =
-      subst (λ (x : DeclarationStep). Contains declarations (declaration components ((pre ++ x ∷ []) ++ other)))
+      (ap path_in
+      (apart.one_name components components (pre ++ s ∷ []) (pre ++ t ∷ []) hold_s hold_t names)) in
+      let q'' : Contains declarations (OfDeclaration components ((pre ++ s ∷ []) ++ other)) =
+      subst (λ (x : DeclarationStep). Contains declarations (OfDeclaration components ((pre ++ x ∷ []) ++ other)))
       (sym same) q' in
-      joined same (ways (pre ++ s ∷ []) way other p' q'' (tails e))
+      joined same (paths (pre ++ s ∷ []) steps other p' q'' (tails e))
 
 -- ---- entities
 
-same-entity : (declarations : List Declaration) → IsWithoutClash declarations → (a b : Entity) → IsEntity a → IsEntity b
+same-entity : (declarations : List Entity) → IsWithoutClash declarations → (a b : Entity) → IsEntity a → IsEntity b
     → IsAmong declarations a → IsAmong declarations b → descriptors_of a ≡ descriptors_of b → a ≡ b
 same-entity ds apart (OfFile path) (OfFile other) p q m n e =
     ap (λ (x : List ℕ). OfFile x) (ap (λ (d : Descriptor). d.name) (heads e))
 same-entity ds apart (OfFile path) (OfPackage xs) p q m n e = absurd (file-no-package path xs p q.1 e)
-same-entity ds apart (OfFile path) (OfDeclaration xs way) p q m n e = absurd (no-way (path ∷ []) xs way q.1 e)
+same-entity ds apart (OfFile path) (OfDeclaration xs steps) p q m n e = absurd (no-steps (path ∷ []) xs steps q.1 e)
 same-entity ds apart (OfPackage xs) (OfFile path) p q m n e = absurd (file-no-package path xs q p.1 (sym e))
 same-entity ds apart (OfPackage xs) (OfPackage ys) p q m n e =
     ap (λ (x : List (List ℕ)). OfPackage x) (same-namespaces xs ys e)
-same-entity ds apart (OfPackage xs) (OfDeclaration ys way) p q m n e = absurd (no-way xs ys way q.1 e)
-same-entity ds apart (OfDeclaration xs way) (OfFile path) p q m n e = absurd (no-way (path ∷ []) xs way p.1 (sym e))
-same-entity ds apart (OfDeclaration xs way) (OfPackage ys) p q m n e = absurd (no-way ys xs way p.1 (sym e))
-same-entity ds apart (OfDeclaration xs way) (OfDeclaration ys other) p q m n e =
-    let both = same-ways xs ys way other p.1 q.1 e in
-    let n' : Contains ds (declaration xs other) =
-    subst (λ (l : List (List ℕ)). Contains ds (declaration l other)) (sym both.0) n in
-    let same = ways ds apart xs [] way other m n' both.1 in
-    ap (λ (l : List (List ℕ)). OfDeclaration l way) both.0 ∙ ap (λ (l : List DeclarationStep). OfDeclaration ys l) same
+same-entity ds apart (OfPackage xs) (OfDeclaration ys steps) p q m n e = absurd (no-steps xs ys steps q.1 e)
+same-entity ds apart (OfDeclaration xs steps) (OfFile path) p q m n e =
+    absurd (no-steps (path ∷ []) xs steps p.1 (sym e))
+same-entity ds apart (OfDeclaration xs steps) (OfPackage ys) p q m n e = absurd (no-steps ys xs steps p.1 (sym e))
+same-entity ds apart (OfDeclaration xs steps) (OfDeclaration ys other) p q m n e =
+    let both = same-paths xs ys steps other p.1 q.1 e in
+    let n' : Contains ds (OfDeclaration xs other) =
+    subst (λ (l : List (List ℕ)). Contains ds (OfDeclaration l other)) (sym both.0) n in
+    let same = paths ds apart xs [] steps other m n' both.1 in
+    ap (λ (l : List (List ℕ)). OfDeclaration l steps) both.0
+    ∙ ap (λ (l : List DeclarationStep). OfDeclaration ys l) same
 
-pub one-entity : (p : Package) (declarations : List Declaration) → IsPackage p → IsWithoutClash declarations
+pub one-entity : (p : Package) (declarations : List Entity) → IsPackage p → IsWithoutClash declarations
     → (a b : Entity) → IsEntity a → IsEntity b
     → IsAmong declarations a → IsAmong declarations b → symbol_text (symbol_in p a) ≡ symbol_text (symbol_in p b)
     → a ≡ b

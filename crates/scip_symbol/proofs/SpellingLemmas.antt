@@ -1,6 +1,6 @@
 -- Just the parts of a symbol have a spelling, and the printed text is one.
-use Rattle.std.proofs.Common.{◌≡◌, ◌≢◌, ℕ, suc, true, false, cond, List, [], ◌∷◌, ◌++◌, codes, refl, ap, sym, subst}
-use Rattle.std.proofs.Common.{arith}
+use Rattle.std.proofs.Common.{◌≡◌, ◌≢◌, ℕ, suc, true, false, cond, List, [], ◌∷◌, ◌++◌, codes, refl, sym, subst}
+use Rattle.std.proofs.Common.{arith, append-nil}
 use Rattle.std.specs.Prelude.{All}
 use Rattle.std.proofs.lemmas.List.Elements.{All-cons, All-nil}
 use Rattle.scip_symbol.specs.Names.{is_simple_identifier, doubled, backtick}
@@ -17,10 +17,6 @@ use Rattle.scip_symbol.specs.declared.symbol.Descriptor.{Descriptor}
 use Rattle.scip_symbol.specs.declared.symbol.SymbolParts.{SymbolParts}
 use Rattle.scip_symbol.specs.declared.symbol.SymbolParts.TheVariants.{Local, Global}
 use Rattle.scip_symbol.proofs.DescriptorLemmas.{method-sign}
-
-append_nil : {A : Type 0} (xs : List A) → xs ++ [] ≡ xs
-append_nil [] = refl
-append_nil (x ∷ xs) = ap (λ l. x ∷ l) (append_nil xs)
 
 -- ---- what has a spelling
 
@@ -104,7 +100,7 @@ descriptors-spelled : (ds : List Descriptor) → ds ≢ [] → All IsDescriptor 
     → SpellsDescriptors (descriptors_text ds) ds
 descriptors-spelled [] some h = absurd (some refl)
 descriptors-spelled (d ∷ []) some h =
-    subst (λ l. SpellsDescriptors l (d ∷ [])) (sym (append_nil (descriptor_text d)))
+    subst (λ l. SpellsDescriptors l (d ∷ [])) (sym (append-nil (descriptor_text d)))
     (last (descriptor-spelled d (first-of IsDescriptor d [] h)))
 descriptors-spelled (d ∷ (other ∷ others)) some h =
     more (descriptor-spelled d (first-of IsDescriptor d (other ∷ others) h))

@@ -1,6 +1,6 @@
 -- Symbols: what is read is spelled, and what is spelled is read.
 use Rattle.std.proofs.Common.{◌≡◌, ◌≢◌, ℕ, true, false, not, cond, eqb, None, Ok, Err, List, [], ◌∷◌, ◌++◌, codes}
-use Rattle.std.proofs.Common.{length, refl, ap, sym, ◌∙◌, subst, append_assoc}
+use Rattle.std.proofs.Common.{length, refl, ap, sym, ◌∙◌, subst, append_assoc, append-nil}
 use Rattle.std.specs.Str.{bytes_eq}
 use Rattle.std.proofs.lemmas.Slice.Eq.{bytes_eq-Decides}
 use Rattle.std.specs.List.{list_all}
@@ -23,10 +23,6 @@ use Rattle.scip_symbol.proofs.DoubledLemmas.{other, mark}
 use Rattle.scip_symbol.proofs.UndoubledLemmas.{undoubled-found, undoubled-exact}
 use Rattle.scip_symbol.proofs.NameLemmas.{simple-found, simple-exact}
 use Rattle.scip_symbol.proofs.DescriptorLemmas.{descriptors-found, descriptors-exact}
-
-append_nil : {A : Type 0} (xs : List A) → xs ++ [] ≡ xs
-append_nil [] = refl
-append_nil (x ∷ xs) = ap (λ l. x ∷ l) (append_nil xs)
 
 -- ---- the front of a doubled text
 
@@ -204,7 +200,7 @@ descriptor-no-space word rest (parameter n) = refl
 
 descriptors-no-space : (text : List ℕ) {ds : _} → SpellsDescriptors text ds → starts (λ b. eqb b 32) text ≡ false
 descriptors-no-space text (last {word = w} p) =
-    ap (starts (λ b. eqb b 32)) (sym (append_nil w)) ∙ descriptor-no-space w [] p
+    ap (starts (λ b. eqb b 32)) (sym (append-nil w)) ∙ descriptor-no-space w [] p
 descriptors-no-space text (more {word = w} {words = ws} p q) = descriptor-no-space w ws p
 
 -- ---- symbols that others may name
@@ -267,7 +263,7 @@ local-found text rest s e q =
     elim b.0.1 as (λ behind. a.0 ≡ b.0.0 ++ behind → local_of (b.0.0, behind) ≡ Ok s → SpellsSymbol text s) [
       | [] ↦ λ split is.
           subst (λ l. SpellsSymbol l s)
-          (sym (e ∙ ap (λ l. codes "local" ++ l) (gap ∙ ap (λ l. 32 ∷ l) (split ∙ append_nil b.0.0))))
+          (sym (e ∙ ap (λ l. codes "local" ++ l) (gap ∙ ap (λ l. 32 ∷ l) (split ∙ append-nil b.0.0))))
           (subst (λ z. SpellsSymbol (codes "local " ++ b.0.0) z) (same_ok _ refl is) (local name.1))
       | x ∷ behind ↦ λ split is. absurd cc
     ] name.0 b.2
@@ -308,7 +304,7 @@ no-local p rest is = after-none (codes "local") (doubled 32 p ++ (32 ∷ rest))
 pub symbol-exact : (text : List ℕ) (s : SymbolParts) → SpellsSymbol text s → symbol_at text ≡ Ok s
 unfolding symbol_at local_at expect_at
 symbol-exact text s (local {name = name} h) =
-    bind_of_ok local_of (ap simple_at (sym (append_nil name)) ∙ simple-exact name [] h refl)
+    bind_of_ok local_of (ap simple_at (sym (append-nil name)) ∙ simple-exact name [] h refl)
 symbol-exact text s (global {scheme = sc} {manager = m} {name = n} {version = v} {descriptors = ds} {s = symbol} ps pm
     pn pv pd) =
     let is = scheme-is sc symbol.scheme ps in

@@ -1,6 +1,6 @@
 -- Texts up to a mark that isn't doubled.
 use Rattle.std.proofs.Common.{◌≡◌, ◌≢◌, ℕ, suc, ◌<◌, Bool, true, false, eqb, Ok, Err, List, [], ◌∷◌, ◌++◌, length}
-use Rattle.std.proofs.Common.{get_or, refl, ap, sym, ◌∙◌, subst, arith, append_assoc}
+use Rattle.std.proofs.Common.{get_or, refl, ap, sym, ◌∙◌, subst, arith, append_assoc, append-nil}
 use Rattle.std.proofs.lemmas.Bool.{eqb-true}
 use Rattle.scip_symbol.specs.Names.{doubled}
 use Rattle.scip_symbol.specs.Reading.{Front, onto, undoubled_at}
@@ -38,10 +38,6 @@ onto-err b (Err l) left e p = p (cc)
 onto-last : (word : List ℕ) (b : ℕ) (r : Front (List ℕ)) → ontos (word ++ b ∷ []) r ≡ ontos word (onto b r)
 onto-last word b (Ok x) = ap (λ w. Ok (w, x.1)) (append_assoc word (b ∷ []) x.0)
 onto-last word b (Err left) = refl
-
-append_nil : (xs : List ℕ) → xs ++ [] ≡ xs
-append_nil [] = refl
-append_nil (x ∷ xs) = ap (λ l. x ∷ l) (append_nil xs)
 
 module _ (m : ℕ) where
   -- ---- the loop
@@ -93,7 +89,7 @@ module _ (m : ℕ) where
         → ((more : List ℕ) → behind ≢ m ∷ more) → before ≡ word ++ front → whole ≡ Ok (before, behind)
     loop-end front behind before split none ends p =
         sym (at-mark front behind split none) ∙ ap (ontos (word ++ front)) (single-mark behind ends)
-        ∙ ap (λ w. Ok (w, behind)) (append_nil (word ++ front) ∙ sym p)
+        ∙ ap (λ w. Ok (w, behind)) (append-nil (word ++ front) ∙ sym p)
 
     pub loop-none : ((i : ℕ) → i < length rest → get_or rest i 0 ≢ m) → whole ≡ Err 0
     loop-none none = sym kept ∙ ap (ontos word) (no-mark rest none)

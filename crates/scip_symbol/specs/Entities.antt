@@ -20,7 +20,7 @@ use Rattle.scip_symbol.specs.declared.symbol.SymbolParts.TheVariants.{Global}
 pub data Entity : Type 0 where
   OfFile : (path : List ℕ) → Entity
   OfPackage : (components : List (List ℕ)) → Entity
-  OfDeclaration : (components : List (List ℕ)) → (way : List DeclarationStep) → Entity
+  OfDeclaration : (components : List (List ℕ)) → (path : List DeclarationStep) → Entity
 
 -- messages, enums and services are types; fields and values are terms
 abbrev pub suffix_of : DeclarationKind → Suffix
@@ -41,7 +41,7 @@ step_descriptor step = descriptor step.name (suffix_of step.kind)
 abbrev pub descriptors_of : Entity → List Descriptor
 descriptors_of (OfFile path) = namespace_of path ∷ []
 descriptors_of (OfPackage components) = map namespace_of components
-descriptors_of (OfDeclaration components way) = map namespace_of components ++ map step_descriptor way
+descriptors_of (OfDeclaration components path) = map namespace_of components ++ map step_descriptor path
 
 abbrev pub scheme_text : List ℕ
 scheme_text = codes "scip-protobuf"
@@ -69,5 +69,5 @@ IsIdentifier = Spells Identifier
 abbrev pub IsEntity : Entity → Type 0
 IsEntity (OfFile path) = IsGoodPath path
 IsEntity (OfPackage components) = (components ≢ []) × All IsIdentifier components
-IsEntity (OfDeclaration components way) =
-    All IsIdentifier components × (way ≢ []) × All (λ step. IsIdentifier step.name) way
+IsEntity (OfDeclaration components path) =
+    All IsIdentifier components × (path ≢ []) × All (λ step. IsIdentifier step.name) path

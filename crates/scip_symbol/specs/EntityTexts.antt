@@ -21,4 +21,4 @@ namespaces_text components = descriptors_text (map namespace_of components)
 
 -- what each step's kind has
 abbrev pub steps_text : List DeclarationStep → List ℕ
-steps_text way = descriptors_text (map step_descriptor way)
+steps_text steps = descriptors_text (map step_descriptor steps)

@@ -94,25 +94,25 @@ fn push_namespaces(
 fn push_steps(
     alloc: Global,
     descriptors: &mut Vec<Descriptor>,
-    way: &[DeclarationStep],
+    steps: &[DeclarationStep],
 ) -> Result<(), AllocError>
-    ensures { OnOk result (descriptors.new.items ≡ descriptors.old.items ++ map step_descriptor way.now) }
+    ensures { OnOk result (descriptors.new.items ≡ descriptors.old.items ++ map step_descriptor steps.now) }
 {
-    for step in way {
+    for step in steps {
         push_step(alloc, descriptors, step)?;
     }
     Ok(())
 }
 
 /// Appends the descriptors of all steps of a path.
-fn push_way(
+fn push_path(
     alloc: Global,
     descriptors: &mut Vec<Descriptor>,
-    way: &DeclarationPath,
+    path: &DeclarationPath,
 ) -> Result<(), AllocError>
-    ensures { OnOk result (descriptors.new.items ≡ descriptors.old.items ++ map step_descriptor way.now) }
+    ensures { OnOk result (descriptors.new.items ≡ descriptors.old.items ++ map step_descriptor path.now) }
 {
-    let (outer, last) = way.parts();
+    let (outer, last) = path.parts();
     push_steps(alloc, descriptors, outer)?;
     push_step(alloc, descriptors, last)
 }
@@ -170,14 +170,14 @@ pub fn symbol_of(
     alloc: Global,
     id: &PackageId,
     components: &[Component],
-    way: &DeclarationPath,
+    path: &DeclarationPath,
 ) -> Result<Symbol, AllocError>
-    requires { IsEntity (OfDeclaration (component_names components.now) way.now) }
+    requires { IsEntity (OfDeclaration (component_names components.now) path.now) }
     ensures { IfOk result (λ symbol. symbol ≡ symbol_in id.now (OfDeclaration (component_names components.now)
-        way.now)) }
+        path.now)) }
 {
     let mut descriptors = Vec::new(alloc);
     push_namespaces(alloc, &mut descriptors, components)?;
-    push_way(alloc, &mut descriptors, way)?;
+    push_path(alloc, &mut descriptors, path)?;
     symbol_with(alloc, id, descriptors)
 }

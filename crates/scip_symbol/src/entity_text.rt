@@ -84,20 +84,20 @@ fn push_names(out: &mut String, names: &[&str]) -> Result<(), AllocError>
 }
 
 /// Appends the texts of the descriptors of steps.
-fn push_steps(out: &mut String, way: &[DeclarationStep]) -> Result<(), AllocError>
-    ensures { OnOk result (string_bytes out.new ≡ string_bytes out.old ++ steps_text way.now) }
+fn push_steps(out: &mut String, steps: &[DeclarationStep]) -> Result<(), AllocError>
+    ensures { OnOk result (string_bytes out.new ≡ string_bytes out.old ++ steps_text steps.now) }
 {
-    for step in way {
+    for step in steps {
         push_step(out, step)?;
     }
     Ok(())
 }
 
 /// Appends the descriptors of all steps of a path.
-fn push_way(out: &mut String, way: &DeclarationPath) -> Result<(), AllocError>
-    ensures { OnOk result (string_bytes out.new ≡ string_bytes out.old ++ steps_text way.now) }
+fn push_path(out: &mut String, path: &DeclarationPath) -> Result<(), AllocError>
+    ensures { OnOk result (string_bytes out.new ≡ string_bytes out.old ++ steps_text path.now) }
 {
-    let (outer, last) = way.parts();
+    let (outer, last) = path.parts();
     push_steps(out, outer)?;
     push_step(out, last)
 }
@@ -148,28 +148,28 @@ pub fn print_declaration(
     alloc: Global,
     id: &PackageId,
     components: &[Component],
-    way: &DeclarationPath,
+    path: &DeclarationPath,
 ) -> Result<String, AllocError>
     ensures { IfOk result (λ text. string_bytes text ≡ symbol_text (symbol_in id.now
-        (OfDeclaration (component_names components.now) way.now))) }
+        (OfDeclaration (component_names components.now) path.now))) }
 {
     let mut text = String::with_capacity(alloc, ROOM)?;
     push_front(&mut text, id)?;
     push_namespaces(&mut text, components)?;
-    push_way(&mut text, way)?;
+    push_path(&mut text, path)?;
     Ok(text)
 }
 
 /// The text of the symbol of a declaration: the text of its package's symbol, which `print_package` gives for
-/// all components of the package's name, and behind it the way from the package to the declaration.
-pub fn print_below(alloc: Global, front: &str, way: &DeclarationPath) -> Result<String, AllocError>
+/// all components of the package's name, and behind it the path from the package to the declaration.
+pub fn print_below(alloc: Global, front: &str, path: &DeclarationPath) -> Result<String, AllocError>
     ensures { IfOk result (λ text. (id : Package) (components : List (List ℕ))
         → front.now ≡ symbol_text (symbol_in id (OfPackage components))
-        → string_bytes text ≡ symbol_text (symbol_in id (OfDeclaration components way.now))) }
+        → string_bytes text ≡ symbol_text (symbol_in id (OfDeclaration components path.now))) }
 {
     let room = front.len().saturating_add(ROOM);
     let mut whole = String::with_capacity(alloc, room)?;
     whole.push_str(front)?;
-    push_way(&mut whole, way)?;
+    push_path(&mut whole, path)?;
     Ok(whole)
 }

@@ -7,7 +7,7 @@ ghost use Rattle.scip_symbol.specs.SymbolText.{symbol_text};
 ghost use Rattle.scip_symbol.specs.declared.symbol.SymbolParts.{SymbolParts};
 ghost use Rattle.scip_symbol.specs.Package.{Package, IsPackage};
 ghost use Rattle.scip_symbol.specs.Entities.{Entity, IsEntity, symbol_in};
-ghost use Rattle.scip_symbol.specs.OneEntity.{Declaration, IsWithoutClash, IsAmong, declarations_of, AreWithoutClash};
+ghost use Rattle.scip_symbol.specs.OneEntity.{IsWithoutClash, IsAmong, declarations_of, AreWithoutClash};
 ghost use Rattle.proto_decl.specs.Facts.{Facts};
 
 /// A text spells at most one symbol.
@@ -24,8 +24,9 @@ pub fn symbols_have_spellings()
 
 /// In facts without a clash, entities whose symbols have one text are one entity.
 pub fn symbols_name_one_entity()
-    ensures { (id : Package) (declarations : List Declaration) → IsPackage id → IsWithoutClash declarations
-        → (entity other : Entity) → IsEntity entity → IsEntity other → IsAmong declarations entity → IsAmong declarations other
+    ensures { (id : Package) (declarations : List Entity) → IsPackage id → IsWithoutClash declarations
+        → (entity other : Entity) → IsEntity entity → IsEntity other
+        → IsAmong declarations entity → IsAmong declarations other
         → symbol_text (symbol_in id entity) ≡ symbol_text (symbol_in id other) → entity ≡ other }
 {}
 

@@ -4,8 +4,9 @@ pub mod Files
 pub mod Reading
 -- what a tree is, and the tree of files handed in
 pub mod Trees
--- why files make no tree
+-- why files make no tree, and how that is printed
 pub mod Refusals
+pub mod FaultTexts
 -- the laws
 pub mod Laws
 -- what the code computes

@@ -22,8 +22,18 @@ pub enum TreeFault {
 
 /// The variant's name, and its number in parentheses if it has one.
 impl fmt::Display for TreeFault {
+    ghost use Rattle.std.specs.Prelude.{Some};
+    ghost use Rattle.source_tree.specs.FaultTexts.{fault_text};
+
+    ghost output = { λ fault. Some (fault_text fault) };
+
     fn fmt<W: fmt::Write>(&self, f: &mut fmt::Formatter<W>) -> fmt::Result {
-        fmt::Debug::fmt(self, f)
+        match self {
+            TreeFault::TooMany => f.write_str("TooMany"),
+            TreeFault::BadPath(number) => write!(f, "BadPath({number})"),
+            TreeFault::SamePath(number) => write!(f, "SamePath({number})"),
+            TreeFault::Memory => f.write_str("Memory"),
+        }
     }
 }
 

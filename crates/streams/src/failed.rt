@@ -8,6 +8,10 @@ use std::fmt::{Display, Formatter, Write};
 pub struct Failed;
 
 impl Display for Failed {
+    ghost use Rattle.std.specs.Prelude.{Some, codes};
+
+    ghost output = { λ _. Some (codes "a write or a read failed") };
+
     fn fmt<W: Write>(&self, f: &mut Formatter<W>) -> fmt::Result {
         f.write_str("a write or a read failed")
     }

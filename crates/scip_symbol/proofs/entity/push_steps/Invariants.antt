@@ -3,5 +3,5 @@ use Rattle.scip_symbol.specs.Entities.{step_descriptor}
 use Rattle.scip_symbol.proofs.entity.push_steps.Given as goal
 
 abbrev pub invariant-loop-step : goal.invariant-loop-step
-invariant-loop-step l = l.descriptors.items ++ map step_descriptor (drop l.step-index l.way)
-    ≡ l.fn.descriptors.items ++ map step_descriptor l.way
+invariant-loop-step l = l.descriptors.items ++ map step_descriptor (drop l.step-index l.steps)
+    ≡ l.fn.descriptors.items ++ map step_descriptor l.steps

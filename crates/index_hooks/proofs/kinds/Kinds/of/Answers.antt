@@ -1,26 +1,13 @@
--- A kind more is held.
-use Rattle.std.proofs.Common.{length-set, take, add-one, ◌∙◌, subst, arith, List}
-use Rattle.std.proofs.Math.Seq.{take-suc}
-use Rattle.std.proofs.lemmas.List.{take_all}
-use Rattle.proto_decl.specs.declared.kind.DeclarationKind.{DeclarationKind}
-use Rattle.proto_decl.specs.declared.kind.DeclarationKind.TheVariants.{Message}
-use Rattle.index_hooks.proofs.KindLemmas.{AreHeld, one_more_kind}
+-- A set has a kind if it is among the kinds.
+use Rattle.proto_decl.specs.declared.kind.DeclarationKind.TheVariants.{Message, Enum, Service, Field, Oneof, Value}
+use Rattle.proto_decl.specs.declared.kind.DeclarationKind.TheVariants.{Method}
 use Rattle.index_hooks.proofs.kinds.Kinds.of.Goals as goal
 
-pub loop-kind-preserved : goal.loop-kind-preserved
-loop-kind-preserved c =
-    let seven = c.loop-kind.invariant.0 in (
-      length-set c.loop-kind.held c.number_of.result _ ∙ seven,
-      rw (
-        c.number_of.ensures.number,
-        add-one c.loop-kind.kind-index,
-        take-suc c.args.kinds.now c.loop-kind.kind-index Message c.loop-kind-test.true,
-      )
-          (one_more_kind c.loop-kind.held (take c.loop-kind.kind-index c.args.kinds.now) _
-          (omega (arith, seven, c.number_of.ensures.number, c.number_of.ensures.within)) c.loop-kind.invariant.1),
-    )
-
 pub returns : goal.returns
-returns c =
-    let P : List DeclarationKind → Type 0 = λ kinds. AreHeld c.loop-kind.held kinds in
-    subst P (take_all c.loop-kind.kind-index c.args.kinds.now c.loop-kind-test.false) c.loop-kind.invariant.1
+returns c Message = c.is_among.ensures
+returns c Enum = c.is_among-2.ensures
+returns c Service = c.is_among-3.ensures
+returns c Field = c.is_among-4.ensures
+returns c Oneof = c.is_among-5.ensures
+returns c Value = c.is_among-6.ensures
+returns c Method = c.is_among-7.ensures

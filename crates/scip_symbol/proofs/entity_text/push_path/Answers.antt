@@ -7,7 +7,7 @@ use Rattle.proto_decl.specs.declared.declaration.DeclarationStep.{DeclarationSte
 use Rattle.scip_symbol.specs.SymbolText.{descriptor_text}
 use Rattle.scip_symbol.specs.Entities.{step_descriptor}
 use Rattle.scip_symbol.specs.EntityTexts.{steps_text}
-use Rattle.scip_symbol.proofs.entity_text.push_way.Goals as goal
+use Rattle.scip_symbol.proofs.entity_text.push_path.Goals as goal
 
 -- the text of steps and of one more
 one_more : (outer : List DeclarationStep) (last : DeclarationStep)

@@ -2,7 +2,7 @@ use Rattle.std.proofs.Common.{◌∙◌, ◌++◌, ◌∷◌, [], map, ap, sym}
 use Rattle.std.proofs.lemmas.List.{append_assoc, map_push}
 use Rattle.std.proofs.lemmas.Result.{on_ok_weaker}
 use Rattle.scip_symbol.specs.Entities.{step_descriptor}
-use Rattle.scip_symbol.proofs.entity.push_way.Goals as goal
+use Rattle.scip_symbol.proofs.entity.push_path.Goals as goal
 
 pub returns : goal.returns
 returns c =

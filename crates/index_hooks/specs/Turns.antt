@@ -1,0 +1,24 @@
+-- Whose turn it is in a choice: the filters in their order, and then the rules in theirs.
+use Rattle.std.specs.Prelude.{◌≡◌, ℕ, ◌+◌, List, ◌∷◌, ◌++◌, length}
+use Rattle.index_hooks.specs.Adding.{most_hooks}
+use Rattle.index_hooks.specs.declared.turns.Ticket.{Ticket}
+use Rattle.index_hooks.specs.declared.turns.Turns.{Turns}
+
+-- those of the most filters and the most rules that a registry has
+abbrev pub most_turns : ℕ
+most_turns = most_hooks + most_hooks
+
+-- how many turns were given out or left out
+abbrev pub taken : Turns → ℕ
+taken turns = turns.taken
+
+-- which turn a ticket is for: how many come before it
+abbrev pub place_of : Ticket → ℕ
+place_of ticket = ticket.place
+
+-- it is the turn of this hook, one of those whose turns begin at a place
+pub record IsTurnOf {H : Type 0} (first : ℕ) (hooks : List H) (hook : H) (place : ℕ) : Type 0 where
+  pub before : List H
+  pub after : List H
+  pub hooks_are : hooks ≡ before ++ hook ∷ after
+  pub place_is : place ≡ first + length before

@@ -1,0 +1,49 @@
+//! The turns of a choice.
+
+ghost use Rattle.std.specs.Prelude.{◌≡◌, ◌+◌, ◌<◌, ◌≤◌};
+ghost use Rattle.index_hooks.specs.Turns.{most_turns, taken};
+
+/// The right to ask one filter or one rule, once. Only `Turns` make tickets. A ticket can't be copied, and `ask`
+/// takes it by value.
+#[derive(Debug, Drop)]
+pub struct Ticket {
+    place: usize,
+}
+
+/// The turns of one choice: those of the filters in their order, and then those of the rules in theirs. Each is given
+/// out once.
+#[derive(Debug, Drop)]
+pub struct Turns {
+    taken: usize,
+}
+
+impl Turns {
+    ghost use Rattle.std.specs.Prelude.{◌≡◌, ◌+◌, ◌<◌, ◌≤◌};
+    ghost use Rattle.index_hooks.specs.Turns.{most_turns, taken, place_of};
+
+    /// The turns of a choice for which nobody has been asked yet.
+    pub fn new() -> Turns
+        ensures { taken result ≡ 0 }
+    {
+        Turns { taken: 0 }
+    }
+
+    /// The ticket of the next turn.
+    pub fn next(&mut self) -> Ticket
+        requires { taken self.old < most_turns }
+        ensures place { place_of result ≡ taken self.old }
+        ensures taken { taken self.new ≡ taken self.old + 1 }
+    {
+        let place = self.taken;
+        self.taken += 1;
+        Ticket { place }
+    }
+
+    /// Leaves out the turns before this place.
+    pub(crate) fn leave_out(&mut self, place: usize)
+        requires { taken self.old ≤ place }
+        ensures { taken self.new ≡ place }
+    {
+        self.taken = place;
+    }
+}

@@ -25,6 +25,8 @@ pub mod SmallLemmas
 pub mod SplitLemmas
 pub mod FilledLemmas
 pub mod PartLemmas
+pub mod BoolLemmas
+pub mod ComponentLemmas
 pub mod ScopeLemmas
 pub mod MarkLemmas
 pub mod ScopedLemmas

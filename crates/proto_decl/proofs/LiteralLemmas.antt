@@ -1,5 +1,5 @@
 -- String literals may be cut behind their first quote and before their last one.
-use Rattle.std.proofs.Common.{◌≡◌, ◌∙◌, sym, ap, refl, subst, ℕ, ◌-◌, ◌<◌, ◌≤◌, Bool, true, false, cond, Some, List, []}
+use Rattle.std.proofs.Common.{◌≡◌, ◌∙◌, sym, ap, refl, ℕ, ◌-◌, ◌<◌, ◌≤◌, Bool, true, false, Some, List, []}
 use Rattle.std.proofs.Common.{◌∷◌, ◌++◌, length, get_or, arith, length-append, IsUtf8, IsCharBoundary}
 use Rattle.std.proofs.lemmas.Bool.Decides.{nat_tests}
 use Rattle.std.proofs.lemmas.List.{get_or-append_right}
@@ -12,6 +12,7 @@ use Rattle.proto_lex.specs.Literals.EndsLiteral.{close, character, escape}
 use Rattle.proto_lex.specs.declared.token.TokenKind.{TokenKind}
 use Rattle.proto_lex.specs.declared.token.TokenKind.TheVariants.{StringLiteral}
 use Rattle.proto_lex.proofs.PieceFound.{sign_cases}
+use Rattle.proto_decl.proofs.BoolLemmas.{never}
 
 -- what follows a quote in its literal ends in the quote
 record EndsInQuote (quote : ℕ) (others : List ℕ) : Type 0 where
@@ -45,9 +46,6 @@ quoted : (quote : ℕ) (others : List ℕ) → is_quote quote ≡ true → EndsI
 quoted quote others e ends =
     let all = behind quote (quote ∷ []) others ends in
     record { some = omega (arith, ends.some); first = ascii quote e; last = omega (arith, all.quoted, ascii quote e) }
-
-never : {A : Type 0} → false ≡ true → A
-never e = absurd (subst (λ b. cond b ⊥ (Unit {0})) e tt)
 
 -- no sign is a literal
 is_literal : TokenKind → Bool

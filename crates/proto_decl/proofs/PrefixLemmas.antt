@@ -1,11 +1,10 @@
 -- The prefixes of a full name are packages or declarations of its file.
-use Rattle.std.proofs.Common.{◌≡◌, ◌∙◌, sym, ap, refl, subst, ℕ, zero, suc, ◌<◌, ◌≤◌, ◌==◌, ◌⊎◌, inl, inr, Bool, true}
-use Rattle.std.proofs.Common.{false, not, ◌&&◌, cond, List, [], ◌∷◌, ◌++◌, length, map, take, arith, length-append}
-use Rattle.std.specs.List.{All, Contains, list_all, onto_first}
-use Rattle.std.proofs.lemmas.List.{take-append-le, take_all, take-map, length-map}
+use Rattle.std.proofs.Common.{◌≡◌, ◌∙◌, sym, ap, refl, subst, ℕ, zero, suc, ◌<◌, ◌≤◌, ◌⊎◌, inl, inr, List, [], ◌∷◌}
+use Rattle.std.proofs.Common.{length, map, take, arith, length-append}
+use Rattle.std.specs.List.{All, Contains}
+use Rattle.std.proofs.lemmas.List.{take-map, length-map}
 use Rattle.std.proofs.lemmas.List.Elements.{All-nil, All-cons, All-head, All-tail, All-contains}
-use Rattle.std.proofs.lemmas.List.Splits.{slice_split_none, slice_split_at, length-slice_split}
-use Rattle.std.proofs.lemmas.List.Splits.{join_with_byte-slice_split}
+use Rattle.std.proofs.lemmas.List.Splits.{slice_split_at}
 use Rattle.proto_decl.specs.Names.{qualified, IsSimple, dotted, components_of, prefix_of}
 use Rattle.proto_decl.specs.Facts.{Facts}
 use Rattle.proto_decl.specs.Laws.{IsScope, StandsInScope, IsEntity}
@@ -13,66 +12,19 @@ use Rattle.proto_decl.specs.Laws.IsScope.{of_package, of_declaration}
 use Rattle.proto_decl.specs.Laws.IsEntity.{packaged, declared}
 use Rattle.proto_decl.specs.declared.type_use.Component.{Component}
 use Rattle.proto_decl.specs.declared.declaration.Declaration.{Declaration}
+use Rattle.proto_decl.proofs.ComponentLemmas.{is_dot, is_plain, of_plain, of_behind, whole_prefix, prefix_of_scope}
 
-abbrev is_dot : ℕ → Bool
-is_dot byte = byte == 46
-
-never : {A : Type 0} → false ≡ true → A
-never e = absurd (subst (λ b. cond b ⊥ (Unit {0})) e tt)
-
-first_no : (b others : Bool) → (not b && others) ≡ true → (b ≡ false) × (others ≡ true)
-first_no true others e = never e
-first_no false others e = (refl, e)
-
-no_dots : (name : List ℕ) → list_all (λ byte. not (byte == 46)) name ≡ true → All (λ byte. is_dot byte ≡ false) name
-no_dots [] e = All-nil (λ (byte : ℕ). is_dot byte ≡ false)
-no_dots (byte ∷ name) e =
-    let p = first_no (is_dot byte) (list_all (λ b. not (b == 46)) name) e in
-    All-cons (λ (b : ℕ). is_dot b ≡ false) byte name p.0 (no_dots name p.1)
-
--- components of a simple name, of one behind a scope, and of several that are joined
-
-of_simple : (name : List ℕ) → IsSimple name → components_of name ≡ name ∷ []
-of_simple name simple = slice_split_none is_dot name (no_dots name simple.no_dot)
-
-onto_more : (byte : ℕ) (parts : List (List ℕ)) (last : List ℕ) → 0 < length parts
-    → onto_first byte (parts ++ last ∷ []) ≡ onto_first byte parts ++ last ∷ []
-onto_more byte [] last some = absurd (omega (arith, some))
-onto_more byte (part ∷ parts) last some = refl
-
-one_more : (t : Bool) (byte : ℕ) (parts : List (List ℕ)) (last : List ℕ) → 0 < length parts
-    → cond t ([] ∷ (parts ++ last ∷ [])) (onto_first byte (parts ++ last ∷ []))
-    ≡ cond t ([] ∷ parts) (onto_first byte parts) ++ last ∷ []
-one_more true byte parts last some = refl
-one_more false byte parts last some = onto_more byte parts last some
-
-components_some : (name : List ℕ) → 0 < length (components_of name)
-components_some name = omega (arith, length-slice_split is_dot name)
-
-of_qualified : (scope name : List ℕ) → IsSimple name
-    → components_of (scope ++ 46 ∷ name) ≡ components_of scope ++ name ∷ []
-of_qualified [] name simple = ap (λ (parts : List (List ℕ)). [] ∷ parts) (of_simple name simple)
-of_qualified (byte ∷ scope) name simple =
-    rw (of_qualified scope name simple) (one_more (is_dot byte) byte (components_of scope) name (components_some scope))
+-- components of several simple names that are joined
 
 of_dotted : (names : List (List ℕ)) → 0 < length names → All IsSimple names → components_of (dotted names) ≡ names
 of_dotted [] some simple = absurd (omega (arith, some))
-of_dotted (name ∷ []) some simple = of_simple name (All-head IsSimple name [] simple)
+of_dotted (name ∷ []) some simple =
+    of_plain name (is_plain name (All-head IsSimple name [] simple).no_dot)
 of_dotted (name ∷ (next ∷ others)) some simple =
     slice_split_at is_dot name 46 (dotted (next ∷ others))
-    (no_dots name (All-head IsSimple name (next ∷ others) simple).no_dot) refl
+    (is_plain name (All-head IsSimple name (next ∷ others) simple).no_dot) refl
     ∙ ap (λ (parts : List (List ℕ)). name ∷ parts)
     (of_dotted (next ∷ others) (omega arith) (All-tail IsSimple name (next ∷ others) simple))
-
-whole_prefix : (name : List ℕ) (count : ℕ) → count ≡ length (components_of name) → prefix_of name count ≡ name
-whole_prefix name count all =
-    ap dotted (take_all count (components_of name) (omega (arith, all))) ∙ join_with_byte-slice_split 46 name
-
-prefix_of_scope : (scope name : List ℕ) (count : ℕ) → IsSimple name → count ≤ length (components_of scope)
-    → prefix_of (scope ++ 46 ∷ name) count ≡ prefix_of scope count
-prefix_of_scope scope name count simple le =
-    ap (λ parts. dotted (take count parts)) (of_qualified scope name simple)
-    ∙ ap dotted (take-append-le count (components_of scope) (name ∷ []) le)
 
 less_or_same : (a b : ℕ) → a ≤ b → (a < b) ⊎ (a ≡ b)
 less_or_same a b le = grind arith
@@ -115,13 +67,14 @@ module _ (facts : Facts) (declarations : All (StandsInScope facts) facts.declara
       → IsScope facts scope → length full < suc most → (count : ℕ) → 0 < count
       → count < length (components_of full) → IsEntity facts (prefix_of full count)
   by_scope most shorter [] name full e simple stands less count one few =
-      absurd (omega (arith, one, few, ap length (ap components_of e ∙ of_simple name simple)))
+      absurd (omega (arith, one, few, ap length (ap components_of e ∙ of_plain name (is_plain name simple.no_dot))))
   by_scope most shorter (byte ∷ scope) name full e simple stands less count one few =
-      let count_all = ap length (ap components_of e ∙ of_qualified (byte ∷ scope) name simple) in
+      let count_all = ap length (ap components_of e ∙ of_behind (byte ∷ scope) name (is_plain name simple.no_dot)) in
       let le : count ≤ length (components_of (byte ∷ scope)) =
       omega (arith, few, count_all, length-append (components_of (byte ∷ scope)) (name ∷ [])) in
       let prefix : prefix_of full count ≡ prefix_of (byte ∷ scope) count =
-      ap (λ whole. prefix_of whole count) e ∙ prefix_of_scope (byte ∷ scope) name count simple le in
+      ap (λ whole. prefix_of whole count) e
+      ∙ prefix_of_scope (byte ∷ scope) name count (is_plain name simple.no_dot) le in
       subst (λ (whole : List ℕ). IsEntity facts whole) (sym prefix)
       (shorter (byte ∷ scope) stands (omega (arith, less, ap length e, length-append (byte ∷ scope) (46 ∷ name)))
       (omega arith) count one le)

@@ -1,5 +1,5 @@
 -- Each declaration has a simple name in a scope of its file.
-use Rattle.std.proofs.Common.{◌≡◌, ◌∙◌, sym, ap, refl, subst, ℕ, ◌==◌, Bool, true, false, not, ◌&&◌, cond, Option, Some}
+use Rattle.std.proofs.Common.{◌≡◌, ◌∙◌, sym, ap, refl, subst, ℕ, ◌==◌, Bool, true, false, not, Option, Some}
 use Rattle.std.proofs.Common.{None, List, [], ◌∷◌, ◌++◌, map, arith, option_to_list}
 use Rattle.std.specs.List.{All, AllZip, Contains, flat_map, list_all}
 use Rattle.std.proofs.lemmas.Bool.Decides.{nat_tests}
@@ -46,15 +46,9 @@ use Rattle.proto_decl.specs.declared.declaration.Outline.{Outline}
 use Rattle.proto_decl.specs.declared.surrounding.Surrounding.{Surrounding}
 use Rattle.proto_decl.specs.declared.declaration.Declaration.{Declaration}
 use Rattle.proto_decl.specs.declared.type_use.Component.{Component}
-
-never : {A : Type 0} → false ≡ true → A
-never e = absurd (subst (λ b. cond b ⊥ (Unit {0})) e tt)
+use Rattle.proto_decl.proofs.BoolLemmas.{never, both}
 
 -- identifiers are simple
-
-both : (a b : Bool) → (a && b) ≡ true → (a ≡ true) × (b ≡ true)
-both true b e = (refl, e)
-both false b e = never e
 
 letter_no_dot : (b : ℕ) → is_letter b ≡ true → not (b == 46) ≡ true
 letter_no_dot b e = grind (arith, nat_tests)

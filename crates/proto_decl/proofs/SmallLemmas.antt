@@ -1,5 +1,5 @@
 -- A name in small letters is as simple as the name, and an identifier where the name is one.
-use Rattle.std.proofs.Common.{◌≡◌, sym, refl, subst, ℕ, ◌==◌, Bool, true, false, not, ◌&&◌, cond, List, []}
+use Rattle.std.proofs.Common.{◌≡◌, sym, refl, ℕ, ◌==◌, Bool, true, false, not, List, []}
 use Rattle.std.proofs.Common.{◌∷◌, arith}
 use Rattle.std.specs.Char.{to_ascii_lowercase}
 use Rattle.std.specs.List.{list_all}
@@ -12,13 +12,7 @@ use Rattle.proto_lex.specs.declared.token.TokenKind.{TokenKind}
 use Rattle.proto_lex.specs.declared.token.TokenKind.TheVariants.{Identifier}
 use Rattle.proto_lex.proofs.PieceFound.{sign_cases}
 use Rattle.proto_decl.specs.Names.{IsSimple, small_letters}
-
-never : {A : Type 0} → false ≡ true → A
-never e = absurd (subst (λ b. cond b ⊥ (Unit {0})) e tt)
-
-both : (a b : Bool) → (a && b) ≡ true → (a ≡ true) × (b ≡ true)
-both true b e = (refl, e)
-both false b e = never e
+use Rattle.proto_decl.proofs.BoolLemmas.{never, both}
 
 -- what holds of each byte and passes to its small letter holds of all small letters
 all_small : (test : ℕ → Bool) → ((b : ℕ) → test b ≡ true → test (to_ascii_lowercase b) ≡ true) → (name : List ℕ)

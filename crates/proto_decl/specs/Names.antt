@@ -1,8 +1,8 @@
 -- Names and scopes (proto3 specification, "Identifiers"; proto3 language guide, "Packages and Name Resolution").
-use Rattle.std.specs.Prelude.{ℕ, ◌≡◌, ◌<◌, ◌==◌, not, true, if◌then◌else◌, List, [], ◌∷◌, ◌++◌, length, take, map}
-use Rattle.std.specs.Prelude.{reverse}
+use Rattle.std.specs.Prelude.{ℕ, zero, suc, ◌≡◌, ◌<◌, ◌==◌, Bool, not, true, false, List, [], ◌∷◌, ◌++◌, length, take}
+use Rattle.std.specs.Prelude.{map}
 use Rattle.std.specs.Char.{to_ascii_lowercase}
-use Rattle.std.specs.List.{join_with_byte, list_all, slice_split}
+use Rattle.std.specs.List.{filter, join_with_byte, list_all, slice_split}
 use Rattle.proto_lex.specs.declared.span.Span.{Span}
 use Rattle.proto_lex.specs.Ascii as ascii
 use Rattle.proto_lex.specs.Lexed.{part_of}
@@ -44,17 +44,18 @@ component_at text span = record { name = part_of text span; span = span }
 abbrev pub components_at : (text : List ℕ) → List Span → List Component
 components_at text spans = map (component_at text) spans
 
--- The prefixes of a name that end before a dot, the shortest first.
-abbrev pub prefixes_before_dots : List ℕ → List (List ℕ)
-prefixes_before_dots [] = []
-prefixes_before_dots (byte ∷ others) =
-    let longer = map (λ prefix. byte ∷ prefix) (prefixes_before_dots others) in
-    if byte == ascii.dot then [] ∷ longer else longer
+-- a count, and each lower one down to 1
+abbrev pub down_from : (count : ℕ) → List ℕ
+down_from zero = []
+down_from (suc count) = suc count ∷ down_from count
+
+-- every name but the root's
+abbrev pub has_bytes : (name : List ℕ) → Bool
+has_bytes [] = false
+has_bytes (_ ∷ _) = true
 
 -- The scope with this full name and those around it, innermost first: the enclosing messages or the service, the
--- package, each parent package, and the root. Those between it and the root are the prefixes of its name, but the empty
--- one.
+-- package, each parent package, and the root. The names of all but the root are what the first components make: all of
+-- them, then one fewer each time. The root's is empty, and comes last.
 abbrev pub scopes_of : List ℕ → List (List ℕ)
-scopes_of [] = [] ∷ []
-scopes_of (byte ∷ scope) = (byte ∷ scope)
-    ∷ (reverse (map (λ prefix. byte ∷ prefix) (prefixes_before_dots scope)) ++ [] ∷ [])
+scopes_of scope = filter has_bytes (map (prefix_of scope) (down_from (length (components_of scope)))) ++ [] ∷ []

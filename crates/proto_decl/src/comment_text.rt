@@ -2,6 +2,7 @@
 
 ghost use Rattle.std.specs.Prelude.{◌≡◌};
 ghost use Rattle.std.specs.Io.BufRead.{strip_last};
+ghost use Rattle.proto_lex.specs.Ascii as ascii;
 ghost use Rattle.proto_lex.specs.CommentTexts as spec;
 ghost use Rattle.proto_decl.specs.Comments.{StandsIn, text_of};
 
@@ -10,7 +11,7 @@ use proto_lex::{Comment, CommentKind, Tokens};
 
 /// A text without one `\r` at its end.
 fn without_return(text: &str) -> &str
-    ensures { result.now ≡ strip_last 13 text.now }
+    ensures { result.now ≡ strip_last ascii.carriage_return text.now }
 {
     if text.ends_with('\r') {
         &text[..text.len() - 1]

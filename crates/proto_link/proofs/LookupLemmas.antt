@@ -2,6 +2,7 @@
 use Rattle.std.proofs.Common.{◌≡◌, ◌↔◌, ℕ, ◌+◌, ◌<◌, Bool, List, [], ◌∷◌, ◌++◌, length, Option, Some, None, MatchOption}
 use Rattle.std.proofs.Common.{refl, sym, subst, arith}
 use Rattle.proto_decl.specs.Names.{qualified, scopes_of}
+use Rattle.proto_decl.proofs.ScopeLemmas.{scopes_begin}
 use Rattle.std.proofs.lemmas.List.{append_assoc}
 use denote.Ref.{Bor}
 use Rattle.proto_visibility.specs.Files.{File}
@@ -23,8 +24,8 @@ module _ (files : List File) (file : ℕ) (admits : NameKind → Bool) (word : L
 
   pub at_once : (scope : List ℕ) → KnowsAs files file admits (qualified scope word)
       → Innermost files file admits word (scopes_of scope) scope
-  at_once [] known = here known
-  at_once (byte ∷ scope) known = here known
+  at_once scope known =
+      subst (λ scopes. Innermost files file admits word scopes scope) (sym (scopes_begin scope).1) (here known)
 
   behind : (scope start : List ℕ) (outer : List (List ℕ)) → (KnowsAs files file admits (qualified scope word) → ⊥)
       → Innermost files file admits word (scope ∷ outer) start → Innermost files file admits word outer start

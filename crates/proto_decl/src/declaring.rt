@@ -1,13 +1,12 @@
 //! From tokens and their tree to a file's facts.
 
-ghost use Rattle.std.specs.Prelude.{All, IfOk, []};
-ghost use Rattle.std.specs.List.{AllZip, flat_map};
+ghost use Rattle.std.specs.Prelude.{All, IfOk};
+ghost use Rattle.std.specs.List.{AllZip};
 ghost use Rattle.proto_lex.specs.Lexed.{IsPart, IsLexed};
 ghost use Rattle.proto_parse.specs.Derives.{Derives};
 ghost use Rattle.proto_parse.specs.tree.Dialect.{Dialect};
 ghost use Rattle.proto_decl.specs.Spans.{OfItem, OfPackage};
 ghost use Rattle.proto_decl.specs.Imports.{IsLiteral};
-ghost use Rattle.proto_decl.specs.Outlines.{in_item};
 ghost use Rattle.proto_decl.specs.Declares.{IsDeclaration};
 ghost use Rattle.proto_decl.specs.Layout.{AreBegun};
 ghost use Rattle.proto_decl.specs.Facts.{AreFactsOf};
@@ -17,14 +16,12 @@ use crate::declaration::{Declaration, Outline};
 use crate::facts::FileFacts;
 use crate::imports::imports_of;
 use crate::layout::{Begun, begun_before};
-use crate::outlines::outlines_of;
 use crate::package::{package_scope, package_spans};
-use crate::path::SharedSteps;
-use crate::surrounding::Surrounding;
-use crate::type_uses::{components_at, uses_of};
+use crate::type_uses::components_at;
+use crate::walk::found_in;
 use proto_lex::Tokens;
-use proto_parse::{File, FileItem, spans_of_tokens};
-use sequences::{OwnedText, Sequence};
+use proto_parse::{File, spans_of_tokens};
+use sequences::Sequence;
 use std::alloc::{AllocError, Global};
 
 /// What is known of tokens and comments.
@@ -89,25 +86,6 @@ fn all_documented<'t>(
     Ok(Sequence::from_vec(declarations))
 }
 
-/// The declarations of a file's items, in the scope of the file's package.
-fn declarations_of<'t>(
-    alloc: Global,
-    lexed: &Tokens<'_, 't>,
-    scope: OwnedText,
-    items: &[FileItem],
-) -> Result<Sequence<Declaration<'t>>, AllocError>
-    requires { All (OfItem (IsPart lexed.now.text)) items.now }
-    ensures { IfOk result (AllZip (IsDeclaration lexed.now)
-        (flat_map (in_item lexed.now.text (record { scope = scope; path = [] })) items.now)) }
-{
-    let surrounding = Surrounding {
-        scope,
-        path: SharedSteps::new(alloc, Sequence::new(alloc))?,
-    };
-    let outlines = outlines_of(alloc, lexed.text().as_str(), &surrounding, items)?;
-    all_documented(alloc, lexed, outlines)
-}
-
 /// The facts of the file with this number, whose tree these tokens derive by some dialect.
 ///
 /// The tree must be that of these tokens: its spans are read off their text, of which the names of the
@@ -127,8 +105,9 @@ pub fn declare<'t>(
     let items = file.items.as_slice();
     let package_name = package_spans(file);
     let scope = package_scope(alloc, text, package_name)?;
-    let uses = uses_of(alloc, text, scope.as_str(), items)?;
-    let declarations = declarations_of(alloc, lexed, scope, items)?;
+    let found = found_in(alloc, text, scope, items)?;
+    let declarations = all_documented(alloc, lexed, found.outlines)?;
+    let uses = Sequence::from_vec(found.uses);
     let imports = imports_of(alloc, text, file.imports.as_slice())?;
     let package_name = components_at(alloc, text, package_name)?;
     Ok(FileFacts::new(number, package_name, imports, declarations, uses))

@@ -22,6 +22,7 @@ mod surrounding;
 mod type_use;
 mod type_uses;
 mod view;
+mod walk;
 
 pub use ancestors::{declarations_stand_in_declarations, names_are_identifiers};
 pub use declaration::{Declaration, DeclarationStep};

@@ -1,30 +1,17 @@
 //! What a file declares, before the comments are looked for.
 
 ghost use Rattle.std.specs.Prelude.{◌≡◌, ◌++◌, map, All, IfOk, OnOk};
-ghost use Rattle.std.specs.List.{flat_map};
 ghost use Rattle.proto_lex.specs.Lexed.{IsPart};
 ghost use Rattle.proto_parse.specs.tree.Head.TheVariants as Head;
-ghost use Rattle.proto_parse.specs.Items.{body_of};
-ghost use Rattle.proto_decl.specs.Spans.{
-  OfHeading,
-  OfGroup,
-  OfHead,
-  OfMethod,
-  OfLeaf,
-  OfEnum,
-  OfBody,
-  OfBlock,
-  OfService,
-};
-ghost use Rattle.proto_decl.specs.Spans.{OfItem};
+ghost use Rattle.proto_decl.specs.Spans.{OfHeading, OfGroup, OfHead, OfMethod, OfLeaf, OfEnum};
 ghost use Rattle.proto_decl.specs.Outlines as spec;
 
 use crate::declaration::{DeclarationStep, Outline};
 use crate::kind::DeclarationKind;
 use crate::names::{qualified, small_letters, spelling_at};
-use crate::surrounding::{Surrounding, beside, inside, path_to, scope_heading};
+use crate::surrounding::{Surrounding, beside, path_to};
 use lent_texts::KeptText;
-use proto_parse::{Block, Enum, FileItem, Group, Head, Heading, Item, Leaf, Method, Service};
+use proto_parse::{Enum, Group, Head, Heading, Leaf, Method};
 use std::alloc::{AllocError, Global};
 
 /// The outline of a declaration with this simple name, which stands at this heading.
@@ -46,7 +33,7 @@ fn outline_named<'t>(
 }
 
 /// The outline of a declaration with this heading.
-fn outline_at<'t>(
+pub(crate) fn outline_at<'t>(
     alloc: Global,
     text: &'t str,
     surrounding: &Surrounding<'t>,
@@ -61,7 +48,7 @@ fn outline_at<'t>(
 }
 
 /// Appends the outlines of an enum and its values.
-fn outline_enum<'t>(
+pub(crate) fn outline_enum<'t>(
     alloc: Global,
     text: &'t str,
     surrounding: &Surrounding<'t>,
@@ -97,7 +84,7 @@ fn outline_values<'t>(
 }
 
 /// Appends the outlines of methods.
-fn outline_methods<'t>(
+pub(crate) fn outline_methods<'t>(
     alloc: Global,
     text: &'t str,
     surrounding: &Surrounding<'t>,
@@ -120,26 +107,8 @@ fn outline_methods<'t>(
     Ok(())
 }
 
-/// Appends the outlines of a service and its methods.
-fn outline_service<'t>(
-    alloc: Global,
-    text: &'t str,
-    surrounding: &Surrounding<'t>,
-    declared: &Service,
-    outlines: &mut Vec<Outline<'t>>,
-) -> Result<(), AllocError>
-    requires { OfService (IsPart text.now) declared.now }
-    ensures { OnOk result (outlines.new.items
-        ≡ outlines.old.items ++ spec.in_service text.now surrounding.now declared.now) }
-{
-    let heading = declared.heading;
-    outlines.push(outline_at(alloc, text, surrounding, DeclarationKind::Service, heading)?)?;
-    let methods = inside(alloc, text, surrounding, DeclarationKind::Service, heading)?;
-    outline_methods(alloc, text, &methods, declared.methods.as_slice(), outlines)
-}
-
 /// Appends the outlines of what stands in a block, other than a block.
-fn outline_leaf<'t>(
+pub(crate) fn outline_leaf<'t>(
     alloc: Global,
     text: &'t str,
     surrounding: &Surrounding<'t>,
@@ -189,7 +158,7 @@ fn outline_group<'t>(
 }
 
 /// Appends the outlines of what a block declares, without what stands in it.
-fn outline_head<'t>(
+pub(crate) fn outline_head<'t>(
     alloc: Global,
     text: &'t str,
     surrounding: &Surrounding<'t>,
@@ -207,88 +176,4 @@ fn outline_head<'t>(
     };
     outlines.push(outline_at(alloc, text, surrounding, kind, heading)?)?;
     Ok(())
-}
-
-/// Appends the outlines of a block and of what stands in it.
-#[cycle(walk)]
-fn outline_block<'t>(
-    alloc: Global,
-    text: &'t str,
-    surrounding: &Surrounding<'t>,
-    block: &Block,
-    outlines: &mut Vec<Outline<'t>>,
-) -> Result<(), AllocError>
-    requires { OfBlock (IsPart text.now) block.now }
-    ensures { OnOk result (outlines.new.items
-        ≡ outlines.old.items ++ spec.in_block text.now surrounding.now block.now) }
-{
-    outline_head(alloc, text, surrounding, &block.head, outlines)?;
-    match scope_heading(&block.head) {
-        Some(heading) => {
-            let inner = inside(alloc, text, surrounding, DeclarationKind::Message, heading)?;
-            outline_items(alloc, text, &inner, &block.items, outlines)
-        }
-        None => outline_items(alloc, text, surrounding, &block.items, outlines),
-    }
-}
-
-/// Appends the outlines of what stands in a block.
-#[cycle(walk)]
-fn outline_items<'t>(
-    alloc: Global,
-    text: &'t str,
-    surrounding: &Surrounding<'t>,
-    items: &[Item],
-    outlines: &mut Vec<Outline<'t>>,
-) -> Result<(), AllocError>
-    requires { OfBody (IsPart text.now) (body_of items.now) }
-    ensures { OnOk result (outlines.new.items
-        ≡ outlines.old.items ++ spec.in_body text.now surrounding.now (body_of items.now)) }
-{
-    for item in items {
-        match item {
-            Item::Block(block) => {
-                outline_block(alloc, text, surrounding, block, outlines)?;
-            }
-            Item::Leaf(leaf) => {
-                outline_leaf(alloc, text, surrounding, leaf, outlines)?;
-            }
-        }
-    }
-    Ok(())
-}
-
-/// Appends the outlines of what stands in a file.
-fn outline_item<'t>(
-    alloc: Global,
-    text: &'t str,
-    surrounding: &Surrounding<'t>,
-    item: &FileItem,
-    outlines: &mut Vec<Outline<'t>>,
-) -> Result<(), AllocError>
-    requires { OfItem (IsPart text.now) item.now }
-    ensures { OnOk result (outlines.new.items ≡ outlines.old.items ++ spec.in_item text.now surrounding.now item.now) }
-{
-    match item {
-        FileItem::Block(block) => outline_block(alloc, text, surrounding, block, outlines),
-        FileItem::Enum(declared) => outline_enum(alloc, text, surrounding, declared, outlines),
-        FileItem::Service(service) => outline_service(alloc, text, surrounding, service, outlines),
-    }
-}
-
-/// The outlines of a file's items, which stand at a surrounding.
-pub(crate) fn outlines_of<'t>(
-    alloc: Global,
-    text: &'t str,
-    surrounding: &Surrounding<'t>,
-    items: &[FileItem],
-) -> Result<Vec<Outline<'t>>, AllocError>
-    requires { All (OfItem (IsPart text.now)) items.now }
-    ensures { IfOk result (λ outlines. outlines.items ≡ flat_map (spec.in_item text.now surrounding.now) items.now) }
-{
-    let mut outlines = Vec::new(alloc);
-    for item in items {
-        outline_item(alloc, text, surrounding, item, &mut outlines)?;
-    }
-    Ok(outlines)
 }

@@ -8,16 +8,16 @@ use crate::declaration::DeclarationStep;
 use crate::kind::DeclarationKind;
 use crate::names::{qualified, spelling_at};
 use crate::path::{DeclarationPath, SharedSteps};
-use lent_texts::KeptText;
+use lent_texts::{KeptText, SharedText};
 use proto_parse::{Head, Heading};
-use sequences::{OwnedText, Sequence};
+use sequences::Sequence;
 use std::alloc::{AllocError, Global};
 
 /// What stands around a declaration.
 #[derive(Debug, Drop)]
 pub(crate) struct Surrounding<'t> {
     /// The full name of the scope; the root's is empty.
-    pub(crate) scope: OwnedText,
+    pub(crate) scope: SharedText,
     /// The path to what the declaration stands in.
     pub(crate) path: SharedSteps<'t>,
 }
@@ -108,12 +108,13 @@ pub(crate) fn inside<'t>(
     requires { IsPart text.now heading.name }
     ensures { IfOk result (λ inner. inner ≡ inside text.now surrounding.now kind heading) }
 {
+    let scope = qualified(
+        alloc,
+        surrounding.scope.as_str(),
+        spelling_at(text, heading.name),
+    )?;
     Ok(Surrounding {
-        scope: qualified(
-            alloc,
-            surrounding.scope.as_str(),
-            spelling_at(text, heading.name),
-        )?,
+        scope: SharedText::new(alloc, scope)?,
         path: steps_through(alloc, text, &surrounding.path, kind, heading)?,
     })
 }
@@ -130,7 +131,7 @@ pub(crate) fn beside<'t>(
     ensures { IfOk result (λ inner. inner ≡ beside text.now surrounding.now kind heading) }
 {
     Ok(Surrounding {
-        scope: OwnedText::copy_of(alloc, surrounding.scope.as_str())?,
+        scope: surrounding.scope.share()?,
         path: steps_through(alloc, text, &surrounding.path, kind, heading)?,
     })
 }

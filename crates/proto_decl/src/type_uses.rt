@@ -1,35 +1,19 @@
 //! Which types a file uses.
 
-ghost use Rattle.std.specs.Prelude.{◌≡◌, ◌++◌, ◌∷◌, [], All, IfOk, OnOk};
+ghost use Rattle.std.specs.Prelude.{◌≡◌, ◌++◌, All, IfOk, OnOk};
 ghost use Rattle.std.specs.List.{flat_map};
 ghost use Rattle.proto_lex.specs.Lexed.{IsPart};
-ghost use Rattle.proto_parse.specs.Items.{body_of};
-ghost use Rattle.proto_decl.specs.Names.{qualified, components_at};
-ghost use Rattle.proto_decl.specs.Outlines.{name_of};
-ghost use Rattle.proto_decl.specs.Spans.{
-  OfHeading,
-  OfTypeName,
-  OfType,
-  OfHead,
-  OfMethod,
-  OfLeaf,
-  OfBody,
-  OfBlock,
-  OfService,
-};
-ghost use Rattle.proto_decl.specs.Spans.{OfItem};
+ghost use Rattle.proto_decl.specs.Names.{components_at};
+ghost use Rattle.proto_decl.specs.Spans.{OfTypeName, OfType, OfHead, OfMethod, OfLeaf};
 ghost use Rattle.proto_decl.specs.Uses as spec;
 
 use crate::imports::{end_of, start_of};
-use crate::names::{qualified, spelling_at};
-use crate::surrounding::scope_heading;
+use crate::names::spelling_at;
 use crate::type_use::{Component, Use};
 use lent_texts::{LentText, SharedText};
 use proto_lex::Span;
-use proto_parse::{
-    Block, FieldType, FileItem, Head, Heading, Item, Leaf, Method, Service, TypeName,
-};
-use sequences::{OwnedText, Sequence};
+use proto_parse::{FieldType, Head, Leaf, Method, TypeName};
+use sequences::Sequence;
 use std::alloc::{AllocError, Global};
 
 /// The components that stand at these spans.
@@ -104,7 +88,7 @@ fn use_type<'t>(
 }
 
 /// Appends the uses of methods, of each what it takes, then what it gives.
-fn use_methods<'t>(
+pub(crate) fn use_methods<'t>(
     alloc: Global,
     text: &'t str,
     scope: &SharedText,
@@ -123,7 +107,7 @@ fn use_methods<'t>(
 }
 
 /// Appends the uses of what stands in a block, other than a block.
-fn use_leaf<'t>(
+pub(crate) fn use_leaf<'t>(
     alloc: Global,
     text: &'t str,
     scope: &SharedText,
@@ -141,7 +125,7 @@ fn use_leaf<'t>(
 }
 
 /// Appends the use of the type that an extend extends.
-fn use_head<'t>(
+pub(crate) fn use_head<'t>(
     alloc: Global,
     text: &'t str,
     scope: &SharedText,
@@ -158,130 +142,4 @@ fn use_head<'t>(
         }
         Head::Message(_) | Head::Group(_) | Head::Oneof(_) => Ok(()),
     }
-}
-
-/// The full name of what has this heading, in the scope with this full name.
-fn scope_in(
-    alloc: Global,
-    text: &str,
-    scope: &SharedText,
-    heading: Heading,
-) -> Result<SharedText, AllocError>
-    requires { OfHeading (IsPart text.now) heading }
-    ensures { IfOk result (λ inner. inner ≡ qualified scope.now (name_of text.now heading)) }
-{
-    let full_name = qualified(alloc, scope.as_str(), spelling_at(text, heading.name))?;
-    SharedText::new(alloc, full_name)
-}
-
-/// Appends the uses in a block that stands in the scope with this full name.
-#[cycle(walk)]
-fn use_block<'t>(
-    alloc: Global,
-    text: &'t str,
-    scope: &SharedText,
-    block: &Block,
-    uses: &mut Vec<Use<'t>>,
-) -> Result<(), AllocError>
-    requires { OfBlock (IsPart text.now) block.now }
-    ensures { OnOk result (uses.new.items ≡ uses.old.items ++ spec.uses_in_block text.now scope.now block.now) }
-{
-    use_head(alloc, text, scope, &block.head, uses)?;
-    match scope_heading(&block.head) {
-        Some(heading) => {
-            let inner = scope_in(alloc, text, scope, heading)?;
-            use_items(alloc, text, &inner, &block.items, uses)
-        }
-        None => use_items(alloc, text, scope, &block.items, uses),
-    }
-}
-
-/// Appends the uses of what stands in a block.
-#[cycle(walk)]
-fn use_items<'t>(
-    alloc: Global,
-    text: &'t str,
-    scope: &SharedText,
-    items: &[Item],
-    uses: &mut Vec<Use<'t>>,
-) -> Result<(), AllocError>
-    requires { OfBody (IsPart text.now) (body_of items.now) }
-    ensures { OnOk result (uses.new.items ≡ uses.old.items ++ spec.uses_in_body text.now scope.now
-        (body_of items.now)) }
-{
-    for item in items {
-        match item {
-            Item::Block(block) => {
-                use_block(alloc, text, scope, block, uses)?;
-            }
-            Item::Leaf(leaf) => {
-                use_leaf(alloc, text, scope, leaf, uses)?;
-            }
-        }
-    }
-    Ok(())
-}
-
-/// Appends the uses of a service's methods.
-fn use_service<'t>(
-    alloc: Global,
-    text: &'t str,
-    scope: &SharedText,
-    service: &Service,
-    uses: &mut Vec<Use<'t>>,
-) -> Result<(), AllocError>
-    requires { OfService (IsPart text.now) service.now }
-    ensures { OnOk result (uses.new.items ≡ uses.old.items ++ spec.uses_in_service text.now scope.now service.now) }
-{
-    let inner = scope_in(alloc, text, scope, service.heading)?;
-    use_methods(alloc, text, &inner, service.methods.as_slice(), uses)
-}
-
-/// Appends the uses of what stands in a file.
-fn use_item<'t>(
-    alloc: Global,
-    text: &'t str,
-    scope: &SharedText,
-    item: &FileItem,
-    uses: &mut Vec<Use<'t>>,
-) -> Result<(), AllocError>
-    requires { OfItem (IsPart text.now) item.now }
-    ensures { OnOk result (uses.new.items ≡ uses.old.items ++ spec.uses_in_item text.now scope.now item.now) }
-{
-    match item {
-        FileItem::Block(block) => use_block(alloc, text, scope, block, uses),
-        FileItem::Enum(_) => Ok(()),
-        FileItem::Service(service) => use_service(alloc, text, scope, service, uses),
-    }
-}
-
-/// The uses of what stands in a file, in the scope with this full name.
-fn uses_of_items<'t>(
-    alloc: Global,
-    text: &'t str,
-    scope: &SharedText,
-    items: &[FileItem],
-) -> Result<Sequence<Use<'t>>, AllocError>
-    requires { All (OfItem (IsPart text.now)) items.now }
-    ensures { IfOk result (λ uses. uses ≡ flat_map (spec.uses_in_item text.now scope.now) items.now) }
-{
-    let mut uses = Vec::new(alloc);
-    for item in items {
-        use_item(alloc, text, scope, item, &mut uses)?;
-    }
-    Ok(Sequence::from_vec(uses))
-}
-
-/// The uses of a file's items, in the scope of the file's package.
-pub(crate) fn uses_of<'t>(
-    alloc: Global,
-    text: &'t str,
-    scope: &str,
-    items: &[FileItem],
-) -> Result<Sequence<Use<'t>>, AllocError>
-    requires { All (OfItem (IsPart text.now)) items.now }
-    ensures { IfOk result (λ uses. uses ≡ flat_map (spec.uses_in_item text.now scope.now) items.now) }
-{
-    let shared = SharedText::new(alloc, OwnedText::copy_of(alloc, scope)?)?;
-    uses_of_items(alloc, text, &shared, items)
 }

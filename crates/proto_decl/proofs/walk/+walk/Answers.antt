@@ -2,10 +2,10 @@ use Rattle.std.proofs.Common.{◌≡◌, ◌+◌, ◌∷◌, ◌∙◌, ap, drop
 use Rattle.proto_parse.specs.tree.Item.TheVariants.{Block}
 use Rattle.proto_lex.specs.Lexed.{IsPart}
 use Rattle.proto_decl.proofs.OutlineLemmas.{left_at, nested-smaller, spans-block}
-use Rattle.proto_decl.proofs.outlines.+walk.Goals as goal
+use Rattle.proto_decl.proofs.walk.+walk.Goals as goal
 
-pub outline_items-outline_block-requires : goal.outline_items-outline_block-requires
-outline_items-outline_block-requires t c =
+pub walk_items-walk_block-requires : goal.walk_items-walk_block-requires
+walk_items-walk_block-requires t c =
     let items = c.args.items.now in
     let rest = drop (c.loop-item.item-index + 1) items in
     let left : drop c.loop-item.item-index items ≡ Block c.in-Block.block ∷ rest =

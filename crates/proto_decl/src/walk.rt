@@ -1,0 +1,207 @@
+//! The walk over a tree, which finds what a file declares and which types it uses.
+
+ghost use Rattle.std.specs.Prelude.{◌≡◌, ◌++◌, [], All, IfOk, OnOk};
+ghost use Rattle.std.specs.List.{flat_map};
+ghost use Rattle.proto_lex.specs.Lexed.{IsPart};
+ghost use Rattle.proto_parse.specs.Items.{body_of};
+ghost use Rattle.proto_decl.specs.Spans.{OfHead, OfLeaf, OfBody, OfBlock, OfService, OfItem};
+ghost use Rattle.proto_decl.specs.Outlines.{in_leaf, in_head, in_block, in_body, in_service, in_item};
+ghost use Rattle.proto_decl.specs.Uses.{uses_in_leaf, uses_in_head, uses_in_block, uses_in_body, uses_in_service};
+ghost use Rattle.proto_decl.specs.Uses.{uses_in_item};
+
+use crate::declaration::Outline;
+use crate::kind::DeclarationKind;
+use crate::outlines::{outline_at, outline_enum, outline_head, outline_leaf, outline_methods};
+use crate::path::SharedSteps;
+use crate::surrounding::{Surrounding, inside, scope_heading};
+use crate::type_use::Use;
+use crate::type_uses::{use_head, use_leaf, use_methods};
+use lent_texts::SharedText;
+use proto_parse::{Block, FileItem, Head, Item, Leaf, Service};
+use sequences::{OwnedText, Sequence};
+use std::alloc::{AllocError, Global};
+
+/// What a walk has found, in order of place.
+#[derive(Debug, Drop)]
+pub(crate) struct Found<'t> {
+    pub(crate) outlines: Vec<Outline<'t>>,
+    pub(crate) uses: Vec<Use<'t>>,
+}
+
+/// Adds what stands in a block, other than a block.
+fn walk_leaf<'t>(
+    alloc: Global,
+    text: &'t str,
+    surrounding: &Surrounding<'t>,
+    leaf: &Leaf,
+    found: &mut Found<'t>,
+) -> Result<(), AllocError>
+    requires { OfLeaf (IsPart text.now) leaf.now }
+    ensures outlines { OnOk result (found.new.outlines.items
+        ≡ found.old.outlines.items ++ in_leaf text.now surrounding.now leaf.now) }
+    ensures uses { OnOk result (found.new.uses.items
+        ≡ found.old.uses.items ++ uses_in_leaf text.now surrounding.now.scope leaf.now) }
+{
+    outline_leaf(alloc, text, surrounding, leaf, &mut found.outlines)?;
+    use_leaf(alloc, text, &surrounding.scope, leaf, &mut found.uses)
+}
+
+/// Adds what a block declares and uses, without what stands in it.
+fn walk_head<'t>(
+    alloc: Global,
+    text: &'t str,
+    surrounding: &Surrounding<'t>,
+    head: &Head,
+    found: &mut Found<'t>,
+) -> Result<(), AllocError>
+    requires { OfHead (IsPart text.now) head.now }
+    ensures outlines { OnOk result (found.new.outlines.items
+        ≡ found.old.outlines.items ++ in_head text.now surrounding.now head.now) }
+    ensures uses { OnOk result (found.new.uses.items
+        ≡ found.old.uses.items ++ uses_in_head text.now surrounding.now.scope head.now) }
+{
+    outline_head(alloc, text, surrounding, head, &mut found.outlines)?;
+    use_head(alloc, text, &surrounding.scope, head, &mut found.uses)
+}
+
+/// Adds a block and what stands in it.
+#[cycle(walk)]
+fn walk_block<'t>(
+    alloc: Global,
+    text: &'t str,
+    surrounding: &Surrounding<'t>,
+    block: &Block,
+    found: &mut Found<'t>,
+) -> Result<(), AllocError>
+    requires { OfBlock (IsPart text.now) block.now }
+    ensures outlines { OnOk result (found.new.outlines.items
+        ≡ found.old.outlines.items ++ in_block text.now surrounding.now block.now) }
+    ensures uses { OnOk result (found.new.uses.items
+        ≡ found.old.uses.items ++ uses_in_block text.now surrounding.now.scope block.now) }
+{
+    walk_head(alloc, text, surrounding, &block.head, found)?;
+    match scope_heading(&block.head) {
+        Some(heading) => {
+            let inner = inside(alloc, text, surrounding, DeclarationKind::Message, heading)?;
+            walk_items(alloc, text, &inner, &block.items, found)
+        }
+        None => walk_items(alloc, text, surrounding, &block.items, found),
+    }
+}
+
+/// Adds what stands in a block.
+#[cycle(walk)]
+fn walk_items<'t>(
+    alloc: Global,
+    text: &'t str,
+    surrounding: &Surrounding<'t>,
+    items: &[Item],
+    found: &mut Found<'t>,
+) -> Result<(), AllocError>
+    requires { OfBody (IsPart text.now) (body_of items.now) }
+    ensures outlines { OnOk result (found.new.outlines.items
+        ≡ found.old.outlines.items ++ in_body text.now surrounding.now (body_of items.now)) }
+    ensures uses { OnOk result (found.new.uses.items
+        ≡ found.old.uses.items ++ uses_in_body text.now surrounding.now.scope (body_of items.now)) }
+{
+    for item in items {
+        match item {
+            Item::Block(block) => {
+                walk_block(alloc, text, surrounding, block, found)?;
+            }
+            Item::Leaf(leaf) => {
+                walk_leaf(alloc, text, surrounding, leaf, found)?;
+            }
+        }
+    }
+    Ok(())
+}
+
+/// Adds a service and its methods.
+fn walk_service<'t>(
+    alloc: Global,
+    text: &'t str,
+    surrounding: &Surrounding<'t>,
+    service: &Service,
+    found: &mut Found<'t>,
+) -> Result<(), AllocError>
+    requires { OfService (IsPart text.now) service.now }
+    ensures outlines { OnOk result (found.new.outlines.items
+        ≡ found.old.outlines.items ++ in_service text.now surrounding.now service.now) }
+    ensures uses { OnOk result (found.new.uses.items
+        ≡ found.old.uses.items ++ uses_in_service text.now surrounding.now.scope service.now) }
+{
+    let kind = DeclarationKind::Service;
+    let outline = outline_at(alloc, text, surrounding, kind, service.heading)?;
+    found.outlines.push(outline)?;
+    let inner = inside(alloc, text, surrounding, kind, service.heading)?;
+    let methods = service.methods.as_slice();
+    outline_methods(alloc, text, &inner, methods, &mut found.outlines)?;
+    use_methods(alloc, text, &inner.scope, methods, &mut found.uses)
+}
+
+/// Adds what stands in a file.
+fn walk_item<'t>(
+    alloc: Global,
+    text: &'t str,
+    surrounding: &Surrounding<'t>,
+    item: &FileItem,
+    found: &mut Found<'t>,
+) -> Result<(), AllocError>
+    requires { OfItem (IsPart text.now) item.now }
+    ensures outlines { OnOk result (found.new.outlines.items
+        ≡ found.old.outlines.items ++ in_item text.now surrounding.now item.now) }
+    ensures uses { OnOk result (found.new.uses.items
+        ≡ found.old.uses.items ++ uses_in_item text.now surrounding.now.scope item.now) }
+{
+    match item {
+        FileItem::Block(block) => walk_block(alloc, text, surrounding, block, found),
+        FileItem::Enum(declared) => {
+            outline_enum(alloc, text, surrounding, declared, &mut found.outlines)
+        }
+        FileItem::Service(service) => walk_service(alloc, text, surrounding, service, found),
+    }
+}
+
+/// What a file's items declare and use, at a surrounding.
+fn found_at<'t>(
+    alloc: Global,
+    text: &'t str,
+    surrounding: &Surrounding<'t>,
+    items: &[FileItem],
+) -> Result<Found<'t>, AllocError>
+    requires { All (OfItem (IsPart text.now)) items.now }
+    ensures outlines { IfOk result (λ found. found.outlines.items
+        ≡ flat_map (in_item text.now surrounding.now) items.now) }
+    ensures uses { IfOk result (λ found. found.uses.items
+        ≡ flat_map (uses_in_item text.now surrounding.now.scope) items.now) }
+{
+    let mut found = Found {
+        outlines: Vec::new(alloc),
+        uses: Vec::new(alloc),
+    };
+    for item in items {
+        walk_item(alloc, text, surrounding, item, &mut found)?;
+    }
+    Ok(found)
+}
+
+/// What a file's items declare and use, in the scope of the file's package.
+pub(crate) fn found_in<'t>(
+    alloc: Global,
+    text: &'t str,
+    scope: OwnedText,
+    items: &[FileItem],
+) -> Result<Found<'t>, AllocError>
+    requires { All (OfItem (IsPart text.now)) items.now }
+    ensures outlines { IfOk result (λ found. found.outlines.items
+        ≡ flat_map (in_item text.now (record { scope = scope; path = [] })) items.now) }
+    ensures uses { IfOk result (λ found. found.uses.items
+        ≡ flat_map (uses_in_item text.now scope) items.now) }
+{
+    let surrounding = Surrounding {
+        scope: SharedText::new(alloc, scope)?,
+        path: SharedSteps::new(alloc, Sequence::new(alloc))?,
+    };
+    found_at(alloc, text, &surrounding, items)
+}

@@ -1,9 +1,9 @@
--- What could stand at a place of a source, by what is before the place.
+-- What could be at a place of a source, by what is before the place.
 use Rattle.std.specs.Prelude.{◌≡◌, ◌≤◌, ◌<◌, ◌⊎◌, ℕ, Bool, true, false, nat_eq, List, [], ◌∷◌, ◌++◌, length}
-use Rattle.std.specs.Prelude.{Option, Some, None, if◌then◌else◌}
+use Rattle.std.specs.Prelude.{Option, Some, None}
 use Rattle.proto_parse.specs.tree.Dialect.{Dialect}
 use Rattle.syntax_hints.specs.Answers.{IsAnswer}
-use Rattle.syntax_hints.specs.Candidates.{signs, number, numbers, literal, literals, name, words}
+use Rattle.syntax_hints.specs.Candidates.{signs, number, whole_numbers, literal, versions, name, words}
 use Rattle.syntax_hints.specs.Wording.{hints_text}
 use Rattle.syntax_hints.specs.declared.hints.TheConstants.{MAX_FRONT}
 
@@ -13,7 +13,8 @@ use Rattle.syntax_hints.specs.declared.hints.TheConstants.{MAX_FRONT}
 abbrev pub with_candidate : (front spelling : List ℕ) → List ℕ
 with_candidate front spelling = front ++ 10 ∷ spelling
 
--- An answer lets it stand: there is a tree, or what is wanted comes after it, at the end.
+-- An answer lets it stand: there is a tree; or the fault is at the end of the text, so that what is missing comes
+-- behind the candidate.
 abbrev pub lets_stand : (text : List ℕ) → (answer : Option ℕ) → Bool
 lets_stand text None = true
 lets_stand text (Some at) = nat_eq at (length text)
@@ -26,32 +27,30 @@ CouldStand dialect front spelling could =
 
 -- ---- all of them; `Could` says whether one could stand
 
--- it is put behind those that are found, if it could stand
-abbrev pub with_it : (could : Bool) → (spelling : List ℕ) → List (List ℕ) → List (List ℕ)
-with_it could spelling found = if could then found ++ spelling ∷ [] else found
+-- Of some, in their order, those stay that could stand, and the others go.
+pub data Standing (Could : List ℕ → Bool → Type 0) : (spellings kept : List (List ℕ)) → Type 0 where
+  none : Standing Could [] []
+  stays : {spelling : List ℕ} {others kept : List (List ℕ)} → Could spelling true → Standing Could others kept
+      → Standing Could (spelling ∷ others) (spelling ∷ kept)
+  goes : {spelling : List ℕ} {others kept : List (List ℕ)} → Could spelling false → Standing Could others kept
+      → Standing Could (spelling ∷ others) kept
 
--- so are those of a list, in its order
-pub data Adds (Could : List ℕ → Bool → Type 0) : (spellings before after : List (List ℕ)) → Type 0 where
-  none : {found : List (List ℕ)} → Adds Could [] found found
-  next : {spelling : List ℕ} {others before after : List (List ℕ)} (could : Bool) → Could spelling could
-      → Adds Could others (with_it could spelling before) after → Adds Could (spelling ∷ others) before after
+-- A general one is kept in place of the special ones, if it could stand.
+abbrev pub OfKind : (Could : List ℕ → Bool → Type 0) → (general : List ℕ) → (special kept : List (List ℕ)) → Type 0
+OfKind Could general special kept =
+    (Could general true × (kept ≡ general ∷ [])) ⊎ (Could general false × Standing Could special kept)
 
--- The general one stands for the special ones where it could.
-abbrev pub AddsOfKind : (Could : List ℕ → Bool → Type 0) → (general : List ℕ) → (special before after : List (List ℕ))
-    → Type 0
-AddsOfKind Could general special before after =
-    (Could general true × (after ≡ before ++ general ∷ []))
-    ⊎ (Could general false × Adds Could special before after)
-
--- these are told: signs; a number, or a whole one; a literal, or a version's; a name, or the words
+-- these are kept: signs; any number, or a whole one; any literal, or the versions; any name, or the words
 pub record AreHints (Could : List ℕ → Bool → Type 0) (hints : List (List ℕ)) : Type 0 where
-  pub first : List (List ℕ)
-  pub signs_are : Adds Could signs [] first
-  pub second : List (List ℕ)
-  pub numbers_are : AddsOfKind Could number numbers first second
-  pub third : List (List ℕ)
-  pub literals_are : AddsOfKind Could literal literals second third
-  pub names_are : AddsOfKind Could name words third hints
+  pub of_signs : List (List ℕ)
+  pub signs_are : Standing Could signs of_signs
+  pub of_numbers : List (List ℕ)
+  pub numbers_are : OfKind Could number whole_numbers of_numbers
+  pub of_literals : List (List ℕ)
+  pub literals_are : OfKind Could literal versions of_literals
+  pub of_names : List (List ℕ)
+  pub names_are : OfKind Could name words of_names
+  pub all_are : hints ≡ of_signs ++ of_numbers ++ of_literals ++ of_names
 
 -- ---- their text
 

@@ -5,3 +5,5 @@ pub mod Candidates
 pub mod Hints
 -- how it is told
 pub mod Wording
+-- what private code appends
+pub mod Appended

@@ -1,15 +1,15 @@
-//! The words and signs of sources, by how they are spelled.
+//! The words and signs that are tried, by how they are spelled.
 
 ghost use Rattle.std.specs.Prelude.{◌≡◌, map};
-ghost use Rattle.syntax_hints.specs.Candidates.{literal, literals, name, number, numbers, signs, words};
+ghost use Rattle.syntax_hints.specs.Candidates.{literal, name, number, signs, versions, whole_numbers, words};
 
 const SIGNS: [&str; 14] = [
     ";", "}", "{", "=", "]", "[", ")", "(", ">", "<", ",", ".", "-", "+",
 ];
 
-const NUMBERS: [&str; 1] = ["1"];
+const WHOLE_NUMBERS: [&str; 1] = ["1"];
 
-const LITERALS: [&str; 2] = ["\"proto3\"", "\"proto2\""];
+const VERSIONS: [&str; 2] = ["\"proto3\"", "\"proto2\""];
 
 const WORDS: [&str; 36] = [
     "A",
@@ -66,10 +66,10 @@ pub(crate) fn number() -> &'static str
 }
 
 /// A whole number.
-pub(crate) fn numbers() -> &'static [&'static str]
-    ensures { map (λ s. s.now) result.now ≡ numbers }
+pub(crate) fn whole_numbers() -> &'static [&'static str]
+    ensures { map (λ s. s.now) result.now ≡ whole_numbers }
 {
-    &NUMBERS
+    &WHOLE_NUMBERS
 }
 
 /// A string literal that names no version.
@@ -80,10 +80,10 @@ pub(crate) fn literal() -> &'static str
 }
 
 /// The versions of a syntax statement.
-pub(crate) fn literals() -> &'static [&'static str]
-    ensures { map (λ s. s.now) result.now ≡ literals }
+pub(crate) fn versions() -> &'static [&'static str]
+    ensures { map (λ s. s.now) result.now ≡ versions }
 {
-    &LITERALS
+    &VERSIONS
 }
 
 /// A name that is no word of the grammar.
@@ -93,7 +93,7 @@ pub(crate) fn name() -> &'static str
     "a"
 }
 
-/// A name that begins with a capital letter, and the words of the grammar.
+/// A name that begins with a capital letter, and those words of the grammar that can be where a name can't.
 #[tactic(auto, unfolding(crate::specs::Candidates::words))]
 pub(crate) fn words() -> &'static [&'static str]
     ensures { map (λ s. s.now) result.now ≡ words }

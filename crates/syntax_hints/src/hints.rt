@@ -2,19 +2,19 @@
 
 ghost use Rattle.std.specs.Prelude.{◌≡◌, Bool, IfOk, OnOk, map};
 ghost use Rattle.std.specs.String.{string_bytes};
+ghost use Rattle.syntax_hints.specs.Appended.{Adds, with_it};
 ghost use Rattle.syntax_hints.specs.Hints.{
-  Adds,
-  AddsOfKind,
   AreHints,
   CouldStand,
   IsHinted,
   lets_stand,
-  with_it,
+  OfKind,
+  Standing,
   with_candidate,
 };
 
 use crate::answers::answer;
-use crate::candidates::{literal, literals, name, number, numbers, signs, words};
+use crate::candidates::{literal, name, number, signs, versions, whole_numbers, words};
 use crate::wording::push_hints;
 use proto_parse::Dialect;
 use std::alloc::{AllocError, Global};
@@ -66,8 +66,8 @@ fn add(
     candidates: &[&'static str],
     found: &mut Vec<&'static str>,
 ) -> Result<(), AllocError>
-    ensures { OnOk result (Adds (CouldStand place.now.dialect place.now.front.now)
-        (map (λ s. s.now) candidates.now) (map (λ s. s.now) found.old.items) (map (λ s. s.now) found.new.items)) }
+    ensures { OnOk result (Adds (Standing (CouldStand place.now.dialect place.now.front.now)
+        (map (λ s. s.now) candidates.now)) (map (λ s. s.now) found.old.items) (map (λ s. s.now) found.new.items)) }
 {
     let mut rest = candidates;
     while let [candidate, others @ ..] = rest {
@@ -99,8 +99,8 @@ fn add_of_kind(
     special: &[&'static str],
     found: &mut Vec<&'static str>,
 ) -> Result<(), AllocError>
-    ensures { OnOk result (AddsOfKind (CouldStand place.now.dialect place.now.front.now) general.now
-        (map (λ s. s.now) special.now) (map (λ s. s.now) found.old.items) (map (λ s. s.now) found.new.items)) }
+    ensures { OnOk result (Adds (OfKind (CouldStand place.now.dialect place.now.front.now) general.now
+        (map (λ s. s.now) special.now)) (map (λ s. s.now) found.old.items) (map (λ s. s.now) found.new.items)) }
 {
     if could_stand(place, general)? {
         found.push(general)?;
@@ -116,8 +116,8 @@ fn hints(place: &Place<'_>) -> Result<Vec<&'static str>, AllocError>
 {
     let mut found: Vec<&'static str> = Vec::new(place.alloc);
     add(place, signs(), &mut found)?;
-    add_of_kind(place, number(), numbers(), &mut found)?;
-    add_of_kind(place, literal(), literals(), &mut found)?;
+    add_of_kind(place, number(), whole_numbers(), &mut found)?;
+    add_of_kind(place, literal(), versions(), &mut found)?;
     add_of_kind(place, name(), words(), &mut found)?;
     Ok(found)
 }

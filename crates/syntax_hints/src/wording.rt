@@ -3,7 +3,8 @@
 ghost use Rattle.std.specs.Prelude.{◌≡◌, ◌++◌, OnOk, map};
 ghost use Rattle.std.specs.Option.{option_map};
 ghost use Rattle.std.specs.String.{string_bytes};
-ghost use Rattle.syntax_hints.specs.Wording.{between, hints_text, listed, phrase, shown};
+ghost use Rattle.syntax_hints.specs.Appended.{between, listed, listed_text};
+ghost use Rattle.syntax_hints.specs.Wording.{phrase, shown};
 
 use std::alloc::AllocError;
 
@@ -68,7 +69,7 @@ fn push_listed(out: &mut String, hints: &[&str], room: usize) -> Result<(), Allo
 
 /// Appends what a sentence goes on with.
 pub(crate) fn push_hints(out: &mut String, hints: &[&str]) -> Result<(), AllocError>
-    ensures { OnOk result (string_bytes out.new ≡ string_bytes out.old ++ hints_text (map (λ s. s.now) hints.now)) }
+    ensures { OnOk result (string_bytes out.new ≡ string_bytes out.old ++ listed_text (map (λ s. s.now) hints.now)) }
 {
     if hints.is_empty() {
         return Ok(());

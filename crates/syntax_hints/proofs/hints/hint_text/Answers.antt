@@ -1,13 +1,15 @@
 use Rattle.std.proofs.Common.{◌∙◌, ◌++◌, ℕ, List, ap, arith}
 use Rattle.std.specs.Borrow.{Bor}
 use Rattle.syntax_hints.specs.Hints.{tried}
-use Rattle.syntax_hints.specs.Wording.{hints_text}
+use Rattle.syntax_hints.specs.Appended.{listed_text}
 use Rattle.syntax_hints.proofs.HintLemmas.{texts}
+use Rattle.syntax_hints.proofs.WordingLemmas.{text_is}
 use Rattle.syntax_hints.proofs.hints.hint_text.Goals as goal
 
 pub returns : goal.returns
 returns c =
     let found = c.in_ok-found.found.items in
     tried (texts found) (omega (arith, c.if-front-gt-MAX_FRONT.false)) c.in_ok-found.ensures
-    (c.in_ok-push_hints.ensures ∙ ap (λ (t : List ℕ). t ++ hints_text (texts c.as_slice.result.now)) c.new-text.ensures.bytes
-    ∙ ap (λ (l : List (Bor (List ℕ))). hints_text (texts l)) c.as_slice.ensures.value)
+    (c.in_ok-push_hints.ensures
+    ∙ ap (λ (t : List ℕ). t ++ listed_text (texts c.as_slice.result.now)) c.new-text.ensures.bytes
+    ∙ ap (λ (l : List (Bor (List ℕ))). listed_text (texts l)) c.as_slice.ensures.value ∙ text_is (texts found))

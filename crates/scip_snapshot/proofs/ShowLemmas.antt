@@ -1,13 +1,14 @@
 -- Documents that are shown one after another.
 use Rattle.std.proofs.Common.{◌≡◌, ◌+◌, ◌<◌, ◌≤◌, ℕ, suc, List, [], ◌∷◌, ◌++◌, length, take, get_or, refl, sym, ap, subst, ◌∙◌}
 use Rattle.std.proofs.Common.{arith, append-nil, append_assoc, Bool, true, false}
-use Rattle.std.specs.Prelude.{Option, None, Some, Result, Ok, Err}
+use Rattle.std.specs.Prelude.{Option, None, Some, Result, Ok, Err, OnOk, IfErr, codes}
 use Rattle.std.specs.List.{flat_map}
 use Rattle.std.proofs.lemmas.Grind.{flat_map-append}
-use Rattle.std.proofs.lemmas.List.{take_all, take_more, length-take-le}
+use Rattle.std.proofs.lemmas.List.{take_all, take_more, take-append-le, length-append, length-take-le}
 use Rattle.streams.specs.WholeWrites.{IsWritten, IsCutOff}
 use Rattle.streams.proofs.WholeWriteLemmas.{IsWritten-nil, IsWritten-trans, IsCutOff-after}
 use Rattle.streams.specs.Streams.{one_more}
+use Rattle.streams.specs.declared.sink.CutOff.{CutOff}
 use Rattle.source_files.specs.Made.{Adds, Made, MadeFile, Makes, MakesAll, StopsBehind}
 use Rattle.scip_model.specs.declared.records.Index.{Index}
 use Rattle.scip_model.specs.declared.records.Document.{Document}
@@ -15,7 +16,8 @@ use Rattle.scip_snapshot.specs.declared.show_fault.ShowFault.{ShowFault}
 use Rattle.scip_snapshot.specs.declared.show_fault.ShowFault.TheVariants.{Write, Memory}
 use Rattle.scip_snapshot.specs.Snapshots.{Shown, Outcome, IsOutcome, AreShown, none, next, told_by, printed_by, filed_by}
 use Rattle.scip_snapshot.specs.Snapshots.{printed, filed, told}
-use Rattle.scip_snapshot.specs.Showing.{AreSaid, silent, said, AreTold, AreFiled, AreFiledButOne, maker}
+use Rattle.scip_snapshot.specs.Showing.{IsSaid, entire, cut_short, AreSaid, silent, said, AreTold, ArePrinted}
+use Rattle.scip_snapshot.specs.Showing.{AreCutOff, AreFiled, AreFiledButOne, maker}
 use Rattle.scip_snapshot.specs.Showing.{Goes, IsShownBy, SaysLine, ShowsOne, AreShownBy, Shows, writer}
 use Rattle.scip_snapshot.specs.LeftOuts.{line_of}
 use Rattle.scip_snapshot.specs.declared.left_out.LeftOut.{LeftOut}
@@ -42,6 +44,30 @@ module _ (gives : List ℕ → Option (List ℕ) → Type 0) (root : List ℕ) (
       (subst (λ n. IsOutcome gives root index n document.relative_path outcome)
       (one_before number (length documents)) is))
 
+-- ---- what is said
+
+module _ {M : Type 0} (contents : M → Option (List ℕ)) (failures : M → ℕ) (line : List ℕ) where
+  -- a line, behind which its end is written, or isn't
+  pub ended_so : (before now after : M) (done : Result (Unit {0}) CutOff) → IsWritten contents failures before now line
+      → OnOk done (IsWritten contents failures now after (codes "\n"))
+      → IfErr done (λ (e : CutOff). IsCutOff contents failures now after (codes "\n") e.written)
+      → IsSaid contents failures line before after
+  ended_so before now after (Ok done) all ok err =
+      entire (IsWritten-trans contents failures before now after line (codes "\n") all ok)
+  ended_so before now after (Err e) all ok err =
+      cut_short (IsCutOff-after contents failures before now after line (codes "\n") e.written all err)
+
+  -- or a part of it
+  pub cut_so : (before after : M) (count : ℕ) → IsCutOff contents failures before after line count
+      → IsSaid contents failures line before after
+  cut_so before after count cut =
+      let within : count ≤ length line = omega (arith, cut.short) in
+      cut_short {count = count} (record {
+        short = omega (arith, length-append line (codes "\n"), cut.short);
+        written = rw (take-append-le count line (codes "\n") within) cut.written;
+        failed = cut.failed;
+      })
+
 -- lines behind others
 pub said_more : {M : Type 0} (contents : M → Option (List ℕ)) (failures : M → ℕ) {lines : List (List ℕ)} {before now : M}
     (more : List (List ℕ)) (after : M)
@@ -52,6 +78,19 @@ said_more contents failures more after (said first others) behind =
     said first (said_more contents failures more after others behind)
 
 -- ---- where they go
+
+-- the last of one document
+last_of_one : (others : List Shown) (item last : Shown) → item ∷ [] ≡ others ++ last ∷ []
+    → (others ≡ []) × (item ≡ last)
+last_of_one [] item last same = (refl, cc)
+last_of_one (other ∷ others) item last same =
+    let short : 1 ≡ suc (length (others ++ last ∷ [])) = ap length same in
+    let long : length (others ++ last ∷ []) ≡ suc (length others) = length_one others last in
+    absurd (omega (arith, short, long))
+  where
+    length_one : (others : List Shown) (last : Shown) → length (others ++ last ∷ []) ≡ suc (length others)
+    length_one [] last = refl
+    length_one (other ∷ others) last = ap suc (length_one others last)
 
 module _ {W : Type 0} (contents : W → Option (List ℕ)) (failures : W → ℕ) (first now after : W) (shown : List Shown)
     (item : Shown) where
@@ -66,14 +105,22 @@ module _ {W : Type 0} (contents : W → Option (List ℕ)) (failures : W → ℕ
       (IsWritten-trans contents failures first now after (printed shown) (printed (item ∷ [])) before one)
 
   -- or cut off
-  pub cut_off_more : IsWritten contents failures first now (printed shown)
-      → (count : ℕ) × IsCutOff contents failures now after (printed (item ∷ [])) count
-      → (count : ℕ) × IsCutOff contents failures first after (printed (shown ++ item ∷ [])) count
-  cut_off_more before one = (
-    length (printed shown) + one.0,
-    subst (λ text. IsCutOff contents failures first after text (length (printed shown) + one.0)) (sym printed_behind)
-        (IsCutOff-after contents failures first now after (printed shown) (printed (item ∷ [])) one.0 before one.1),
-  )
+  pub cut_off_more : ArePrinted (writer contents failures first now) shown
+      → AreCutOff (writer contents failures now after) (item ∷ [])
+      → AreCutOff (writer contents failures first after) (shown ++ item ∷ [])
+  cut_off_more before one =
+      let alone = last_of_one one.others item (record { path = one.path; outcome = Ok one.text }) one.shown_are in
+      let count : ℕ = length (printed shown) + one.count in record {
+        others = shown;
+        path = one.path;
+        text = one.text;
+        shown_are = ap (λ (s : Shown). shown ++ s ∷ []) alone.1;
+        count = count;
+        past_others = omega arith;
+        cut_off = subst (λ (text : List ℕ). IsCutOff contents failures first after text count) (sym printed_behind)
+            (IsCutOff-after contents failures first now after (printed shown) (printed (item ∷ [])) one.count before
+            one.cut_off);
+      }
 
 adds_both : (first now after : Option (List MadeFile)) (files more : List MadeFile) → Adds first now files
     → Adds now after more → Adds first after (files ++ more)
@@ -124,19 +171,6 @@ module _ {O : Type 0} (made : O → Made) (folder : List ℕ) (first now after :
       → AreFiled (maker made first after) folder shown
   filed_still before one = subst (MakesAll (made first) (made after)) (append-nil (filed folder shown))
       (makes_both (made first) (made now) (made after) (filed folder shown) [] before one)
-
--- the last of one document
-last_of_one : (others : List Shown) (item last : Shown) → item ∷ [] ≡ others ++ last ∷ []
-    → (others ≡ []) × (item ≡ last)
-last_of_one [] item last same = (refl, cc)
-last_of_one (other ∷ others) item last same =
-    let short : 1 ≡ suc (length (others ++ last ∷ [])) = ap length same in
-    let long : length (others ++ last ∷ []) ≡ suc (length others) = length_one others last in
-    absurd (omega (arith, short, long))
-  where
-    length_one : (others : List Shown) (last : Shown) → length (others ++ last ∷ []) ≡ suc (length others)
-    length_one [] last = refl
-    length_one (other ∷ others) last = ap suc (length_one others last)
 
 pub filed_but_one : {O : Type 0} (made : O → Made) (folder : List ℕ) (first now after : O)
     (shown : List Shown) (item : Shown)

@@ -1,7 +1,6 @@
 -- What is done with the snapshots of the documents of an index.
 -- `gives` is what reading a file may give, and `messages` the stream of messages.
-use Rattle.std.specs.Prelude.{◌≡◌, ◌<◌, ◌-◌, ◌^◌, ℕ, List, [], ◌∷◌, ◌++◌, take, Option, Result, Ok, Err, codes}
-use Rattle.std.specs.Io.KnownBytes.{Appends}
+use Rattle.std.specs.Prelude.{◌≡◌, ◌≤◌, ℕ, List, [], ◌∷◌, ◌++◌, length, take, Option, Result, Ok, Err, codes}
 use Rattle.streams.specs.WholeWrites.{IsWritten, IsCutOff}
 use Rattle.source_files.specs.Made.{Made, MakesAll, StopsBehind}
 use Rattle.scip_model.specs.declared.records.Index.{Index}
@@ -21,12 +20,14 @@ abbrev pub writer : {W : Type 0} → (W → Option (List ℕ)) → (failures : W
 writer contents failures before after =
     record { contents = contents; failures = failures; before = before; after = after }
 
--- a line is said, with its end: all of it if no write failed, which counts of failures tell below their limit
-abbrev pub IsSaid : {M : Type 0} → (contents : M → Option (List ℕ)) → (failures : M → ℕ) → List ℕ → M → M → Type 0
-IsSaid contents failures line before after = failures before < 2 ^ 64 - 1 → failures after ≡ failures before
-    → Appends (contents before) (contents after) (line ++ codes "\n")
+-- a line is said, with its end; or it is cut off by a write that fails, and the rest of it is lost
+pub data IsSaid {M : Type 0} (contents : M → Option (List ℕ)) (failures : M → ℕ) (line : List ℕ) (before after : M)
+    : Type 0 where
+  entire : IsWritten contents failures before after (line ++ codes "\n") → IsSaid contents failures line before after
+  cut_short : {count : ℕ} → IsCutOff contents failures before after (line ++ codes "\n") count
+      → IsSaid contents failures line before after
 
--- lines are said, one after another; what the stream doesn't take is lost
+-- lines are said, one after another; nothing else is
 pub data AreSaid {M : Type 0} (contents : M → Option (List ℕ)) (failures : M → ℕ) : List (List ℕ) → M → M → Type 0 where
   silent : {now : M} → AreSaid contents failures [] now now
   said : {line : List ℕ} {others : List (List ℕ)} {before now after : M}
@@ -49,13 +50,19 @@ SaysLine line messages (Err Write) = ⊥
 
 -- ---- where snapshots go
 
--- they are printed; or cut off, by a write that fails
+-- they are printed
 abbrev pub ArePrinted : {W : Type 0} → Writer W → List Shown → Type 0
 ArePrinted out shown = IsWritten out.contents out.failures out.before out.after (printed shown)
 
-abbrev pub AreCutOff : {W : Type 0} → Writer W → List Shown → Type 0
-AreCutOff out shown =
-    (count : ℕ) × IsCutOff out.contents out.failures out.before out.after (printed shown) count
+-- or a write of the last, which isn't left out, fails, and those before it are printed
+pub record AreCutOff {W : Type 0} (out : Writer W) (shown : List Shown) : Type 0 where
+  pub others : List Shown
+  pub path : List ℕ
+  pub text : List ℕ
+  pub shown_are : shown ≡ others ++ record { path = path; outcome = Ok text } ∷ []
+  pub count : ℕ
+  pub past_others : length (printed others) ≤ count
+  pub cut_off : IsCutOff out.contents out.failures out.before out.after (printed shown) count
 
 -- what makes files, before and after a call, and what its trait says about it: the files that it has made, and how
 -- many it was refused

@@ -63,12 +63,15 @@ impl LeftOut {
     }
 }
 
-/// Writes a line and its end. What the stream doesn't take is lost.
+/// Writes a line and its end. Behind a write that fails the rest of both is lost.
 pub fn say<M: Sink>(messages: &mut M, line: &str)
     ensures { IsSaid M.contents M.failures line.now messages.old messages.new }
 {
-    if write_all(messages, line.as_bytes()).is_ok() {
-        let _ = write_all(messages, b"\n");
+    match write_all(messages, line.as_bytes()) {
+        Ok(()) => {
+            let _ = write_all(messages, b"\n");
+        }
+        Err(_) => {}
     }
 }
 

@@ -1,4 +1,4 @@
-use Rattle.std.proofs.Common.{◌∙◌, sym, subst, append-nil}
+use Rattle.std.proofs.Common.{◌∙◌, sym, refl, subst, [], append-nil, arith}
 use Rattle.streams.specs.WholeWrites.{IsWritten, IsCutOff}
 use Rattle.scip_snapshot.proofs.printing.print_text.Goals as goal
 
@@ -9,8 +9,14 @@ returns-in-Ok g c =
 
 pub returns : goal.returns
 returns g c =
-    let count = c.in-Err.field-0.written in (
-      count,
-      subst (λ text. IsCutOff g.W.Sink.contents g.W.Sink.failures c.args.out.now c.write_all.new.sink text count)
-          (c.as_slice.ensures.value ∙ c.in_ok-all.ensures ∙ sym (append-nil _)) c.in-Err.ensures.err,
-    )
+    let count = c.in-Err.field-0.written in record {
+      others = [];
+      path = c.args.path.now;
+      text = c.args.text.now;
+      shown_are = refl;
+      count = count;
+      past_others = omega arith;
+      cut_off = subst
+          (λ text. IsCutOff g.W.Sink.contents g.W.Sink.failures c.args.out.now c.write_all.new.sink text count)
+          (c.as_slice.ensures.value ∙ c.in_ok-all.ensures ∙ sym (append-nil _)) c.in-Err.ensures.err;
+    }

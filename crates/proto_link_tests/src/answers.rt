@@ -10,18 +10,18 @@
 ghost use Rattle.std.specs.Prelude.{◌<◌, length};
 ghost use Rattle.proto_visibility.specs.Files.{HaveOwnPaths};
 
-use crate::drafts::Draft;
 use proto_decl::{FileFacts, Use};
 use proto_link::{Entity, FilePlace, LinkFault, LinkFile, Linker, Target};
 use std::alloc::{AllocError, Global};
+use test_kit::{Draft, Made};
 
 fn add_place(draft: &mut Draft, place: FilePlace) {
     draft.add(" ");
-    draft.add_number(place.file);
+    draft.add_size(place.file);
     draft.add(" ");
-    draft.add_number(place.span.start);
+    draft.add_size(place.span.start);
     draft.add("..");
-    draft.add_number(place.span.end);
+    draft.add_size(place.span.end);
 }
 
 /// Adds a fault; a use that names no type is one.
@@ -29,7 +29,7 @@ pub(crate) fn add_fault(draft: &mut Draft, fault: LinkFault) {
     match fault {
         LinkFault::Broken(file) => {
             draft.add("broken ");
-            draft.add_number(file);
+            draft.add_size(file);
         }
         LinkFault::Duplicate(first, second) => {
             draft.add("duplicate");
@@ -52,11 +52,11 @@ pub(crate) fn add_fault(draft: &mut Draft, fault: LinkFault) {
 pub(crate) fn add_part(draft: &mut Draft, part: Entity) {
     draft.add(" ");
     match part {
-        Entity::Package(words) => draft.add_number(words),
+        Entity::Package(words) => draft.add_size(words),
         Entity::Declared(file, declaration) => {
-            draft.add_number(file);
+            draft.add_size(file);
             draft.add("/");
-            draft.add_number(declaration);
+            draft.add_size(declaration);
         }
     }
 }
@@ -68,57 +68,35 @@ fn add_target(draft: &mut Draft, target: &Target) {
     }
 }
 
-fn add_use(
-    alloc: Global,
-    draft: &mut Draft,
-    linker: &Linker,
-    file: usize,
-    type_use: &Use,
-) -> Result<(), AllocError>
+fn add_use(draft: &mut Draft, linker: &Linker, file: usize, type_use: &Use)
     requires { file < length linker.now }
 {
     draft.add("; ");
-    match linker.resolve(alloc, file, type_use) {
-        Err(LinkFault::Memory) => return Err(AllocError),
+    match linker.resolve(draft.alloc(), file, type_use) {
+        Err(LinkFault::Memory) => draft.cut(),
         Err(fault) => add_fault(draft, fault),
         Ok(target) => add_target(draft, &target),
     }
-    Ok(())
 }
 
-fn add_uses(
-    alloc: Global,
-    draft: &mut Draft,
-    linker: &Linker,
-    file: usize,
-    facts: &FileFacts,
-) -> Result<(), AllocError>
+fn add_uses(draft: &mut Draft, linker: &Linker, file: usize, facts: &FileFacts)
     requires { file < length linker.now }
 {
     for type_use in facts.uses() {
-        add_use(alloc, draft, linker, file, type_use)?;
+        add_use(draft, linker, file, type_use);
     }
-    Ok(())
 }
 
 fn add_sights(draft: &mut Draft, linker: &Linker, file: usize)
     requires { file < length linker.now }
 {
     for other in 0..linker.count() {
-        draft.add(if linker.visible(file, other) {
-            "1"
-        } else {
-            "0"
-        });
+        let is_seen = linker.visible(file, other);
+        draft.add(if is_seen { "1" } else { "0" });
     }
 }
 
-fn add_file(
-    alloc: Global,
-    draft: &mut Draft,
-    linker: &Linker,
-    file: usize,
-) -> Result<(), AllocError>
+fn add_file(draft: &mut Draft, linker: &Linker, file: usize)
     requires { file < length linker.now }
 {
     let is_included = linker.is_included(file);
@@ -128,30 +106,24 @@ fn add_file(
     add_sights(draft, linker, file);
     if let Some(facts) = linker.facts_of(file) {
         if !is_included {
-            add_uses(alloc, draft, linker, file, facts)?;
+            add_uses(draft, linker, file, facts);
         }
     }
     draft.add("\n");
-    Ok(())
-}
-
-fn add_files(alloc: Global, draft: &mut Draft, linker: &Linker) -> Result<(), AllocError> {
-    for file in 0..linker.count() {
-        add_file(alloc, draft, linker, file)?;
-    }
-    Ok(())
 }
 
 /// What a linker answers.
-fn listing_of(alloc: Global, linker: &Linker) -> Result<String, AllocError> {
+fn listing_of(alloc: Global, linker: &Linker) -> Made<String> {
     linker.linked();
     let mut draft = Draft::new(alloc);
-    add_files(alloc, &mut draft, linker)?;
+    for file in 0..linker.count() {
+        add_file(&mut draft, linker, file);
+    }
     draft.finish()
 }
 
 /// The line of a fault.
-pub(crate) fn line_of(alloc: Global, fault: LinkFault) -> Result<String, AllocError> {
+pub(crate) fn line_of(alloc: Global, fault: LinkFault) -> Made<String> {
     let mut draft = Draft::new(alloc);
     add_fault(&mut draft, fault);
     draft.add("\n");
@@ -169,7 +141,7 @@ fn has_its_paths(linker: &Linker) -> bool {
 }
 
 /// What a linker answers; nothing where it lacks the path of a file, or has one of none.
-pub(crate) fn listing_with_paths(alloc: Global, linker: &Linker) -> Result<String, AllocError> {
+pub(crate) fn listing_with_paths(alloc: Global, linker: &Linker) -> Made<String> {
     if has_its_paths(linker) {
         listing_of(alloc, linker)
     } else {
@@ -178,10 +150,7 @@ pub(crate) fn listing_with_paths(alloc: Global, linker: &Linker) -> Result<Strin
 }
 
 /// What linking answers to files, no two of which have one path.
-pub(crate) fn answer_of<'a>(
-    alloc: Global,
-    files: &'a [LinkFile<'a, '_>],
-) -> Result<String, AllocError>
+pub(crate) fn answer_of<'a>(alloc: Global, files: &'a [LinkFile<'a, '_>]) -> Made<String>
     requires { HaveOwnPaths files.now }
 {
     match Linker::new(alloc, files) {

@@ -4,6 +4,7 @@ use proto_decl::{FileFacts, declare};
 use proto_lex::{LexFault, Text, Tokens, lex};
 use proto_parse::{SyntaxFault, parse};
 use std::alloc::{AllocError, Global};
+use test_kit::Made;
 
 fn facts_of_tokens<'t>(
     alloc: Global,
@@ -40,7 +41,7 @@ pub(crate) fn facts_of<'t>(
     alloc: Global,
     number: usize,
     source: &'t str,
-) -> Result<Option<FileFacts<'t>>, AllocError> {
+) -> Made<Option<FileFacts<'t>>> {
     match facts_of_source(alloc, number, source) {
         Ok(facts) => Ok(Some(facts)),
         Err(LexFault::Memory) => Err(AllocError),

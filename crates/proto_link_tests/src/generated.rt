@@ -1,9 +1,9 @@
 //! Trees of up to 12 files that look like chance, compared with scans.
 
-use crate::drafts::Draft;
 use crate::trees::see_tree;
-use std::alloc::{AllocError, Global};
+use std::alloc::Global;
 use std::test::Fail;
+use test_kit::{Draft, Made};
 
 const WORDS: [&str; 12] = ["a", "b", "c", "d", "e", "f", "g", "h", "i", "j", "k", "l"];
 
@@ -107,7 +107,7 @@ fn add_file(draft: &mut Draft, dice: &mut Dice, word: &str) {
 }
 
 /// A tree; of each second one the files from a number on are included.
-fn tree_of(alloc: Global, seed: u32) -> Result<String, AllocError> {
+fn tree_of(alloc: Global, seed: u32) -> Made<String> {
     let mut dice = Dice {
         state: seed,
         files: 12,

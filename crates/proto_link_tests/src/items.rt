@@ -2,7 +2,8 @@
 
 use proto_decl::{Component, Declaration, DeclarationKind};
 use proto_link::{Entity, FilePlace, LinkFile};
-use std::alloc::{AllocError, Global};
+use std::alloc::Global;
+use test_kit::Made;
 
 /// A declaration, or a component of a package statement, which has no kind.
 #[derive(Drop)]
@@ -20,7 +21,7 @@ fn add_item(
     full_name: &str,
     kind: Option<DeclarationKind>,
     entity: Entity,
-) -> Result<(), AllocError> {
+) -> Made<()> {
     let full_name = String::from_str(alloc, full_name)?;
     items.push(Item {
         place,
@@ -36,7 +37,7 @@ fn add_package(
     items: &mut Vec<Item>,
     file: usize,
     components: &[Component],
-) -> Result<(), AllocError> {
+) -> Made<()> {
     let mut name = String::new(alloc);
     for (index, component) in components.iter().enumerate() {
         name.push_str(component.name.as_str())?;
@@ -54,7 +55,7 @@ fn add_declarations(
     items: &mut Vec<Item>,
     file: usize,
     declarations: &[Declaration],
-) -> Result<(), AllocError> {
+) -> Made<()> {
     for (index, declaration) in declarations.iter().enumerate() {
         let name = declaration.full_name.as_str();
         let span = declaration.name;
@@ -65,12 +66,7 @@ fn add_declarations(
     Ok(())
 }
 
-fn add_items(
-    alloc: Global,
-    items: &mut Vec<Item>,
-    number: usize,
-    file: &LinkFile,
-) -> Result<(), AllocError> {
+fn add_items(alloc: Global, items: &mut Vec<Item>, number: usize, file: &LinkFile) -> Made<()> {
     match file.facts {
         Some(facts) => {
             add_package(alloc, items, number, facts.package_name())?;
@@ -81,11 +77,7 @@ fn add_items(
 }
 
 /// The items of the files with these numbers.
-pub(crate) fn items_of(
-    alloc: Global,
-    files: &[LinkFile],
-    numbers: &[usize],
-) -> Result<Vec<Item>, AllocError> {
+pub(crate) fn items_of(alloc: Global, files: &[LinkFile], numbers: &[usize]) -> Made<Vec<Item>> {
     let mut items = Vec::new(alloc);
     for (number, file) in files.iter().enumerate() {
         if numbers.contains(&number) {

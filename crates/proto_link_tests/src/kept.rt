@@ -9,7 +9,8 @@ use crate::answers::listing_with_paths;
 use crate::meanings::listing_of;
 use crate::scans::{absent_of, omissions_of};
 use proto_link::{LinkFault, LinkFile, Linker, kept_files_are_clear, left_out};
-use std::alloc::{AllocError, Global};
+use std::alloc::Global;
+use test_kit::Made;
 
 fn same<'a, 't>(file: &LinkFile<'a, 't>) -> LinkFile<'a, 't>
     ensures { result ≡ file.now }
@@ -26,7 +27,7 @@ fn kept_files<'a, 't>(
     alloc: Global,
     files: &[LinkFile<'a, 't>],
     omissions: &[Option<LinkFault>],
-) -> Result<Vec<LinkFile<'a, 't>>, AllocError>
+) -> Made<Vec<LinkFile<'a, 't>>>
     ensures { IfOk result (λ kept. kept.items ≡ kept_of omissions.now files.now) }
 {
     let mut kept = Vec::new(alloc);
@@ -44,30 +45,19 @@ fn kept_files<'a, 't>(
     Ok(kept)
 }
 
-fn is_listed_as_scanned(
-    alloc: Global,
-    linker: &Linker,
-    files: &[LinkFile],
-) -> Result<bool, AllocError> {
+fn is_listed_as_scanned(alloc: Global, linker: &Linker, files: &[LinkFile]) -> Made<bool> {
     let answer = listing_with_paths(alloc, linker)?;
     let scan = listing_of(alloc, files)?;
     Ok(answer.as_str() == scan.as_str())
 }
 
-fn are_missing_as_scanned(
-    alloc: Global,
-    linker: &Linker,
-    files: &[LinkFile],
-) -> Result<bool, AllocError> {
+fn are_missing_as_scanned(alloc: Global, linker: &Linker, files: &[LinkFile]) -> Made<bool> {
     let missing = linker.missing_imports(alloc)?;
     let absent = absent_of(alloc, files)?;
     Ok(missing.as_slice() == absent.as_slice())
 }
 
-fn are_linked_as_scanned<'a>(
-    alloc: Global,
-    files: &'a [LinkFile<'a, '_>],
-) -> Result<bool, AllocError>
+fn are_linked_as_scanned<'a>(alloc: Global, files: &'a [LinkFile<'a, '_>]) -> Made<bool>
     requires own { HaveOwnPaths files.now }
     requires clear { HaveClearNames files.now }
 {
@@ -82,7 +72,7 @@ fn are_omitted_as_scanned<'a>(
     alloc: Global,
     files: &'a [LinkFile<'a, '_>],
     omissions: &[Option<LinkFault>],
-) -> Result<bool, AllocError>
+) -> Made<bool>
     requires own { HaveOwnPaths files.now }
     requires omissions { AreOmissions files.now omissions.now }
 {
@@ -93,10 +83,7 @@ fn are_omitted_as_scanned<'a>(
 }
 
 /// Whether scans tell which files are left out, and what linking answers to those that are kept.
-pub(crate) fn are_kept_as_scanned<'a>(
-    alloc: Global,
-    files: &'a [LinkFile<'a, '_>],
-) -> Result<bool, AllocError>
+pub(crate) fn are_kept_as_scanned<'a>(alloc: Global, files: &'a [LinkFile<'a, '_>]) -> Made<bool>
     requires { HaveOwnPaths files.now }
 {
     let omissions = left_out(alloc, files)?;

@@ -4,8 +4,6 @@
 #[cfg(test)]
 mod answers;
 #[cfg(test)]
-mod drafts;
-#[cfg(test)]
 mod facts;
 #[cfg(test)]
 mod generated;

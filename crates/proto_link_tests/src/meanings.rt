@@ -2,12 +2,12 @@
 //! that its file knows.
 
 use crate::answers::{add_fault, add_part, line_of};
-use crate::drafts::Draft;
 use crate::items::{Item, items_of};
 use crate::scans::{fault_of, seen_by};
 use proto_decl::{Component, DeclarationKind, Use};
 use proto_link::{FilePlace, LinkFault, LinkFile};
-use std::alloc::{AllocError, Global};
+use std::alloc::Global;
+use test_kit::{Draft, Made};
 
 /// Whether a name of this kind is one of a type, or, where those are asked for, of another aggregate.
 fn is_sought(kind: Option<DeclarationKind>, aggregates: bool) -> bool {
@@ -32,12 +32,7 @@ fn words_of(name: &str) -> usize {
 }
 
 /// So many of the words of a scope, and components behind them.
-fn name_in(
-    alloc: Global,
-    scope: &str,
-    count: usize,
-    components: &[Component],
-) -> Result<String, AllocError> {
+fn name_in(alloc: Global, scope: &str, count: usize, components: &[Component]) -> Made<String> {
     let mut draft = Draft::new(alloc);
     for word in scope.split_terminator('.').take(count) {
         draft.add_word(word);
@@ -56,7 +51,7 @@ fn is_known_in(
     count: usize,
     components: &[Component],
     aggregates: bool,
-) -> Result<bool, AllocError> {
+) -> Made<bool> {
     let name = name_in(alloc, scope, count, components)?;
     Ok(is_known(known, name.as_str(), aggregates))
 }
@@ -69,7 +64,7 @@ fn innermost(
     scope: &str,
     components: &[Component],
     aggregates: bool,
-) -> Result<Option<usize>, AllocError> {
+) -> Made<Option<usize>> {
     let mut found = None;
     for count in 0..=words_of(scope) {
         if is_known_in(alloc, known, scope, count, components, aggregates)? {
@@ -80,24 +75,18 @@ fn innermost(
 }
 
 /// In which scope a use is looked for, by its number of words.
-fn start_of(alloc: Global, known: &[Item], type_use: &Use) -> Result<Option<usize>, AllocError> {
+fn start_of(alloc: Global, known: &[Item], type_use: &Use) -> Made<Option<usize>> {
     let components = type_use.components.as_slice();
     let first = components.split_at(components.len().min(1)).0;
     if type_use.has_leading_dot {
-        Ok(Some(0))
-    } else {
-        innermost(
-            alloc,
-            known,
-            type_use.scope.as_str(),
-            first,
-            components.len() > 1,
-        )
+        return Ok(Some(0));
     }
+    let scope = type_use.scope.as_str();
+    innermost(alloc, known, scope, first, components.len() > 1)
 }
 
 /// The full name of the type that a use names.
-fn name_of(alloc: Global, known: &[Item], type_use: &Use) -> Result<Option<String>, AllocError> {
+fn name_of(alloc: Global, known: &[Item], type_use: &Use) -> Made<Option<String>> {
     let scope = type_use.scope.as_str();
     let components = type_use.components.as_slice();
     match start_of(alloc, known, type_use)? {
@@ -118,47 +107,30 @@ fn add_entity(draft: &mut Draft, known: &[Item], name: &str) {
     }
 }
 
-fn add_front(
-    alloc: Global,
-    draft: &mut Draft,
-    known: &[Item],
-    name: &str,
-    count: usize,
-) -> Result<(), AllocError> {
-    let front = name_in(alloc, name, count, &[])?;
+/// Adds what the first words of a full name name, of which so many count.
+fn add_front(draft: &mut Draft, known: &[Item], name: &str, count: usize) -> Made<()> {
+    let front = name_in(draft.alloc(), name, count, &[])?;
     add_entity(draft, known, front.as_str());
     Ok(())
 }
 
 /// Adds a full name, and what it names up to each of its last words, of which so many count.
-fn add_name(
-    alloc: Global,
-    draft: &mut Draft,
-    known: &[Item],
-    name: &str,
-    count: usize,
-) -> Result<(), AllocError> {
+fn add_name(draft: &mut Draft, known: &[Item], name: &str, count: usize) -> Made<()> {
     draft.add(name);
     let before = words_of(name).saturating_sub(count);
     for number in 0..count {
         let words = before.saturating_add(number).saturating_add(1);
-        add_front(alloc, draft, known, name, words)?;
+        add_front(draft, known, name, words)?;
     }
     Ok(())
 }
 
-fn add_use(
-    alloc: Global,
-    draft: &mut Draft,
-    known: &[Item],
-    file: usize,
-    type_use: &Use,
-) -> Result<(), AllocError> {
+fn add_use(draft: &mut Draft, known: &[Item], file: usize, type_use: &Use) -> Made<()> {
     draft.add("; ");
-    match name_of(alloc, known, type_use)? {
+    match name_of(draft.alloc(), known, type_use)? {
         Some(name) => {
             let count = type_use.components.as_slice().len();
-            add_name(alloc, draft, known, name.as_str(), count)
+            add_name(draft, known, name.as_str(), count)
         }
         None => {
             let span = type_use.span;
@@ -168,28 +140,18 @@ fn add_use(
     }
 }
 
-fn add_uses(
-    alloc: Global,
-    draft: &mut Draft,
-    known: &[Item],
-    file: usize,
-    uses: &[Use],
-) -> Result<(), AllocError> {
+fn add_uses(draft: &mut Draft, known: &[Item], file: usize, uses: &[Use]) -> Made<()> {
     for type_use in uses {
-        add_use(alloc, draft, known, file, type_use)?;
+        add_use(draft, known, file, type_use)?;
     }
     Ok(())
 }
 
 /// Adds a file, which sees the files with these numbers, and no others.
-fn add_seeing(
-    alloc: Global,
-    draft: &mut Draft,
-    files: &[LinkFile],
-    number: usize,
-    file: &LinkFile,
-    seen: &[usize],
-) -> Result<(), AllocError> {
+fn add_seeing(draft: &mut Draft, files: &[LinkFile], number: usize, seen: &[usize]) -> Made<()> {
+    let Some(file) = files.get(number) else {
+        return Ok(());
+    };
     draft.add(if file.included { "+" } else { "" });
     draft.add(file.path);
     draft.add(" ");
@@ -200,38 +162,32 @@ fn add_seeing(
         Some(facts) if !file.included => facts.uses(),
         _ => &[],
     };
-    let known = items_of(alloc, files, seen)?;
-    add_uses(alloc, draft, known.as_slice(), number, uses)
+    let known = items_of(draft.alloc(), files, seen)?;
+    add_uses(draft, known.as_slice(), number, uses)
 }
 
-fn add_file(
-    alloc: Global,
-    draft: &mut Draft,
-    files: &[LinkFile],
-    number: usize,
-    file: &LinkFile,
-) -> Result<(), AllocError> {
-    let seen = seen_by(alloc, files, &[number])?;
-    add_seeing(alloc, draft, files, number, file, seen.as_slice())
+fn add_file(draft: &mut Draft, files: &[LinkFile], number: usize) -> Made<()> {
+    let seen = seen_by(draft.alloc(), files, &[number])?;
+    add_seeing(draft, files, number, seen.as_slice())
 }
 
-fn add_files(alloc: Global, draft: &mut Draft, files: &[LinkFile]) -> Result<(), AllocError> {
-    for (number, file) in files.iter().enumerate() {
-        add_file(alloc, draft, files, number, file)?;
+fn add_files(draft: &mut Draft, files: &[LinkFile]) -> Made<()> {
+    for number in 0..files.len() {
+        add_file(draft, files, number)?;
         draft.add("\n");
     }
     Ok(())
 }
 
 /// What scans tell of files with clear names.
-pub(crate) fn listing_of(alloc: Global, files: &[LinkFile]) -> Result<String, AllocError> {
+pub(crate) fn listing_of(alloc: Global, files: &[LinkFile]) -> Made<String> {
     let mut draft = Draft::new(alloc);
-    add_files(alloc, &mut draft, files)?;
+    add_files(&mut draft, files)?;
     draft.finish()
 }
 
 /// What scans tell of files.
-pub(crate) fn scan_of(alloc: Global, files: &[LinkFile]) -> Result<String, AllocError> {
+pub(crate) fn scan_of(alloc: Global, files: &[LinkFile]) -> Made<String> {
     match fault_of(alloc, files)? {
         Some(fault) => line_of(alloc, fault),
         None => listing_of(alloc, files),

@@ -1,9 +1,9 @@
 //! Worked trees.
 
-use crate::drafts::Draft;
 use crate::trees::see_tree;
-use std::alloc::{AllocError, Global};
+use std::alloc::Global;
 use std::test::Fail;
+use test_kit::{Draft, Made};
 
 /// A tree, and what linking answers to it.
 struct Row {
@@ -119,12 +119,12 @@ fn worked_trees(rt: HostRuntime) -> Result<(), Fail> {
 /// Adds the path of the file with this number.
 fn add_path(draft: &mut Draft, number: usize) {
     draft.add(if number < 10 { "f0" } else { "f" });
-    draft.add_number(number);
+    draft.add_size(number);
     draft.add(".proto");
 }
 
 /// A hundred files, each of which publicly imports the next, but one, which imports it plainly.
-fn chain_of(alloc: Global, plain: usize) -> Result<String, AllocError> {
+fn chain_of(alloc: Global, plain: usize) -> Made<String> {
     let mut draft = Draft::new(alloc);
     for number in 0..99 {
         add_path(&mut draft, number);
@@ -139,7 +139,7 @@ fn chain_of(alloc: Global, plain: usize) -> Result<String, AllocError> {
 
 /// What linking answers to them: a file before the plain import sees the files from itself up to it, and
 /// any other one those from itself on.
-fn sights_of(alloc: Global, plain: usize) -> Result<String, AllocError> {
+fn sights_of(alloc: Global, plain: usize) -> Made<String> {
     let mut draft = Draft::new(alloc);
     for number in 0..100 {
         add_path(&mut draft, number);

@@ -3,7 +3,8 @@
 use crate::items::{first_clash, items_of};
 use proto_link::{FilePlace, LinkFault, LinkFile};
 use proto_parse::ImportKind;
-use std::alloc::{AllocError, Global};
+use std::alloc::Global;
+use test_kit::Made;
 
 /// Whether a file has an import of a path, and a public one where that is asked for.
 fn imports(files: &[LinkFile], file: usize, path: &str, publicly: bool) -> bool {
@@ -31,11 +32,7 @@ fn is_imported(files: &[LinkFile], by: &[usize], path: &str, publicly: bool) -> 
 }
 
 /// Adds the files that these import, or, where none are told, those that the files seen publicly import.
-fn add_imported(
-    files: &[LinkFile],
-    by: Option<&[usize]>,
-    seen: &mut Vec<usize>,
-) -> Result<(), AllocError> {
+fn add_imported(files: &[LinkFile], by: Option<&[usize]>, seen: &mut Vec<usize>) -> Made<()> {
     for (other, imported) in files.iter().enumerate() {
         let is = match by {
             Some(numbers) => is_imported(files, numbers, imported.path, false),
@@ -50,11 +47,7 @@ fn add_imported(
 
 /// What some of these files see: themselves, what they import, and, until there is no more, what those
 /// publicly import.
-pub(crate) fn seen_by(
-    alloc: Global,
-    files: &[LinkFile],
-    numbers: &[usize],
-) -> Result<Vec<usize>, AllocError> {
+pub(crate) fn seen_by(alloc: Global, files: &[LinkFile], numbers: &[usize]) -> Made<Vec<usize>> {
     let mut seen = Vec::new(alloc);
     add_imported(files, Some(numbers), &mut seen)?;
     for _ in files {
@@ -69,7 +62,7 @@ pub(crate) fn seen_by(
 }
 
 /// The files that some source sees.
-fn counted_of(alloc: Global, files: &[LinkFile]) -> Result<Vec<usize>, AllocError> {
+fn counted_of(alloc: Global, files: &[LinkFile]) -> Made<Vec<usize>> {
     let mut sources = Vec::new(alloc);
     for (number, file) in files.iter().enumerate() {
         if !file.included {
@@ -103,7 +96,7 @@ fn add_absent(
     number: usize,
     file: &LinkFile,
     absent: &mut Vec<FilePlace>,
-) -> Result<(), AllocError> {
+) -> Made<()> {
     let Some(facts) = file.facts else {
         return Ok(());
     };
@@ -118,7 +111,7 @@ fn add_absent(
 }
 
 /// The imports that have to be there and name no file, of all files that count, in order.
-pub(crate) fn absent_of(alloc: Global, files: &[LinkFile]) -> Result<Vec<FilePlace>, AllocError> {
+pub(crate) fn absent_of(alloc: Global, files: &[LinkFile]) -> Made<Vec<FilePlace>> {
     let counted = counted_of(alloc, files)?;
     let mut absent = Vec::new(alloc);
     for (number, file) in files.iter().enumerate() {
@@ -133,7 +126,7 @@ fn fault_of_counted(
     alloc: Global,
     files: &[LinkFile],
     counted: &[usize],
-) -> Result<Option<LinkFault>, AllocError> {
+) -> Made<Option<LinkFault>> {
     if let Some(file) = first_unread(files, counted) {
         return Ok(Some(LinkFault::Broken(file)));
     }
@@ -153,7 +146,7 @@ fn omission_of(
     kept: &mut Vec<usize>,
     number: usize,
     file: &LinkFile,
-) -> Result<Option<LinkFault>, AllocError> {
+) -> Made<Option<LinkFault>> {
     if file.facts.is_none() {
         return Ok(Some(LinkFault::Broken(number)));
     }
@@ -167,10 +160,7 @@ fn omission_of(
 }
 
 /// For each file why it is left out, if it is.
-pub(crate) fn omissions_of(
-    alloc: Global,
-    files: &[LinkFile],
-) -> Result<Vec<Option<LinkFault>>, AllocError> {
+pub(crate) fn omissions_of(alloc: Global, files: &[LinkFile]) -> Made<Vec<Option<LinkFault>>> {
     let counted = counted_of(alloc, files)?;
     let mut kept = Vec::new(alloc);
     let mut omissions = Vec::new(alloc);
@@ -186,7 +176,7 @@ pub(crate) fn omissions_of(
 }
 
 /// Why files can't be linked, if they can't.
-pub(crate) fn fault_of(alloc: Global, files: &[LinkFile]) -> Result<Option<LinkFault>, AllocError> {
+pub(crate) fn fault_of(alloc: Global, files: &[LinkFile]) -> Made<Option<LinkFault>> {
     let counted = counted_of(alloc, files)?;
     fault_of_counted(alloc, files, counted.as_slice())
 }

@@ -1,7 +1,4 @@
-//! Trees of sources as texts, and the files that are linked.
-//!
-//! Each file of a tree has a line with its path, which has a `+` in front where the file is included,
-//! and then its text; behind each file stands `|`.
+//! Trees of sources as texts, in the form of `test_kit`, and the files that are linked.
 
 use crate::answers::answer_of;
 use crate::facts::facts_of;
@@ -9,30 +6,14 @@ use crate::kept::are_kept_as_scanned;
 use crate::meanings::scan_of;
 use proto_decl::FileFacts;
 use proto_link::{LinkFile, have_own_paths};
-use std::alloc::{AllocError, Global};
+use std::alloc::Global;
 use std::process::Abort;
+use test_kit::{FileText, Made, file_text};
 
-/// A file of a tree.
-#[derive(Drop)]
-struct Source<'a> {
-    path: &'a str,
-    text: &'a str,
-    included: bool,
-}
-
-fn source_of(file: &str) -> Source<'_> {
-    let (path, text) = file.split_once('\n').unwrap_or((file, ""));
-    Source {
-        path: path.strip_prefix('+').unwrap_or(path),
-        text,
-        included: path.starts_with('+'),
-    }
-}
-
-fn sources_of<'a>(alloc: Global, tree: &'a str) -> Result<Vec<Source<'a>>, AllocError> {
+fn sources_of<'a>(alloc: Global, tree: &'a str) -> Made<Vec<FileText<'a>>> {
     let mut sources = Vec::new(alloc);
     for file in tree.split_terminator('|') {
-        sources.push(source_of(file))?;
+        sources.push(file_text(file))?;
     }
     Ok(sources)
 }
@@ -42,16 +23,13 @@ fn add_facts<'t>(
     all: &mut Vec<Option<FileFacts<'t>>>,
     number: usize,
     text: &'t str,
-) -> Result<(), AllocError> {
+) -> Made<()> {
     let facts = facts_of(alloc, number, text)?;
     all.push(facts)?;
     Ok(())
 }
 
-fn facts_of_all<'t>(
-    alloc: Global,
-    sources: &[Source<'t>],
-) -> Result<Vec<Option<FileFacts<'t>>>, AllocError> {
+fn facts_of_all<'t>(alloc: Global, sources: &[FileText<'t>]) -> Made<Vec<Option<FileFacts<'t>>>> {
     let mut all = Vec::with_capacity(alloc, sources.len())?;
     for (number, source) in sources.iter().enumerate() {
         add_facts(alloc, &mut all, number, source.text)?;
@@ -71,26 +49,21 @@ fn facts_at<'a, 't>(
 
 fn files_of<'a, 't>(
     alloc: Global,
-    sources: &'a [Source<'a>],
+    sources: &'a [FileText<'a>],
     facts: &'a [Option<FileFacts<'t>>],
-) -> Result<Vec<LinkFile<'a, 't>>, AllocError> {
+) -> Made<Vec<LinkFile<'a, 't>>> {
     let mut files = Vec::with_capacity(alloc, sources.len())?;
     for (number, source) in sources.iter().enumerate() {
         files.push(LinkFile {
             path: source.path,
             facts: facts_at(facts, number),
-            included: source.included,
+            included: source.is_included,
         })?;
     }
     Ok(files)
 }
 
-fn is_as_scanned(
-    alloc: Global,
-    files: &[LinkFile],
-    answer: &str,
-    due: Option<&str>,
-) -> Result<bool, AllocError> {
+fn is_as_scanned(alloc: Global, files: &[LinkFile], answer: &str, due: Option<&str>) -> Made<bool> {
     let scan = scan_of(alloc, files)?;
     Ok(scan.as_str() == answer && (due.is_none() || due == Some(answer)))
 }
@@ -99,7 +72,7 @@ fn are_files_answered<'a>(
     alloc: Global,
     files: &'a [LinkFile<'a, '_>],
     due: Option<&str>,
-) -> Result<bool, AllocError> {
+) -> Made<bool> {
     if !have_own_paths(alloc, files)? {
         return Ok(due == Some("a path twice\n"));
     }
@@ -109,31 +82,27 @@ fn are_files_answered<'a>(
 
 fn is_answered_with(
     alloc: Global,
-    sources: &[Source],
+    sources: &[FileText],
     facts: &[Option<FileFacts>],
     due: Option<&str>,
-) -> Result<bool, AllocError> {
+) -> Made<bool> {
     let files = files_of(alloc, sources, facts)?;
     are_files_answered(alloc, files.as_slice(), due)
 }
 
-fn is_answered_of(
-    alloc: Global,
-    sources: &[Source],
-    due: Option<&str>,
-) -> Result<bool, AllocError> {
+fn is_answered_of(alloc: Global, sources: &[FileText], due: Option<&str>) -> Made<bool> {
     let facts = facts_of_all(alloc, sources)?;
     is_answered_with(alloc, sources, facts.as_slice(), due)
 }
 
-fn is_answered_once(alloc: Global, tree: &str, due: Option<&str>) -> Result<bool, AllocError> {
+fn is_answered_once(alloc: Global, tree: &str, due: Option<&str>) -> Made<bool> {
     let sources = sources_of(alloc, tree)?;
     is_answered_of(alloc, sources.as_slice(), due)
 }
 
 /// Whether linking answers to a tree what scans tell, and what is due, if that is told. After want of
 /// memory all of it is made again, and the second answer counts.
-fn is_answered(alloc: Global, tree: &str, due: Option<&str>) -> Result<bool, AllocError> {
+fn is_answered(alloc: Global, tree: &str, due: Option<&str>) -> Made<bool> {
     match is_answered_once(alloc, tree, due) {
         Err(_) => is_answered_once(alloc, tree, due),
         answer => answer,
@@ -152,7 +121,7 @@ pub(crate) fn see_tree(
     number: usize,
     tree: &str,
     due: Option<&str>,
-) -> Result<(), AllocError> {
+) -> Made<()> {
     see(rt, number, is_answered(alloc, tree, due)?);
     Ok(())
 }

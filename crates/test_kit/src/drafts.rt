@@ -2,16 +2,20 @@
 
 use std::alloc::{AllocError, Global};
 
+/// What is made, if memory is there for it.
+pub type Made<T> = Result<T, AllocError>;
+
 /// A text in the making. Where memory runs out it takes no more, and is no text at its end.
 #[derive(Drop)]
-pub(crate) struct Draft {
+pub struct Draft {
     alloc: Global,
     text: String,
     is_cut: bool,
 }
 
 impl Draft {
-    pub(crate) fn new(alloc: Global) -> Draft {
+    /// One without a letter.
+    pub fn new(alloc: Global) -> Draft {
         Draft {
             alloc,
             text: String::new(alloc),
@@ -19,35 +23,56 @@ impl Draft {
         }
     }
 
-    pub(crate) fn add(&mut self, part: &str) {
+    /// Where its memory is taken.
+    pub fn alloc(&self) -> Global {
+        self.alloc
+    }
+
+    /// Memory ran out for what was to be added.
+    pub fn cut(&mut self) {
+        self.is_cut = true;
+    }
+
+    /// Adds a text.
+    pub fn add(&mut self, part: &str) {
         if self.text.push_str(part).is_err() {
             self.is_cut = true;
         }
     }
 
-    pub(crate) fn add_char(&mut self, character: char) {
+    /// Adds a character.
+    pub fn add_char(&mut self, character: char) {
         if self.text.push(character).is_err() {
             self.is_cut = true;
         }
     }
 
     /// Adds a number in decimal.
-    pub(crate) fn add_number(&mut self, number: usize) {
+    pub fn add_number(&mut self, number: i64) {
         match format!(in self.alloc; "{number}") {
             Ok(digits) => self.add(digits.as_str()),
             Err(_) => self.is_cut = true,
         }
     }
 
+    /// Adds a size or a place in decimal.
+    pub fn add_size(&mut self, size: usize) {
+        match format!(in self.alloc; "{size}") {
+            Ok(digits) => self.add(digits.as_str()),
+            Err(_) => self.is_cut = true,
+        }
+    }
+
     /// Adds a word, behind a dot where others stand before it.
-    pub(crate) fn add_word(&mut self, word: &str) {
+    pub fn add_word(&mut self, word: &str) {
         if !self.text.is_empty() {
             self.add(".");
         }
         self.add(word);
     }
 
-    pub(crate) fn finish(self) -> Result<String, AllocError> {
+    /// The text, if memory was there for all of it.
+    pub fn finish(self) -> Made<String> {
         if self.is_cut {
             Err(AllocError)
         } else {

@@ -6,7 +6,7 @@ use Rattle.std.specs.Prelude.{if◌then◌else◌}
 use Rattle.scip_model.specs.declared.records.Index.{Index}
 use Rattle.scip_snapshot.specs.Showing.{Writer, writer, Maker}
 use Rattle.scip_snapshot.specs.declared.show_fault.ShowFault.{ShowFault}
-use Rattle.scip_site.specs.Making.{Makes}
+use Rattle.scip_site.specs.Making.{MakesSite}
 use Rattle.protoscip.specs.Lines.{path_line}
 use Rattle.protoscip.specs.declared.statuses.TheConstants.{STREAM_STATUS}
 use Rattle.command_line.specs.declared.options.PagesOptions.{PagesOptions}
@@ -28,7 +28,7 @@ pub record MakesAndEnds {O M : Type 0} (gives : List ℕ → Option (List ℕ) �
     (index : Index) (files : Maker O) (messages : Writer M) (status : ℕ) : Type 0 where
   pub now : M
   pub done : Result (Unit {0}) ShowFault
-  pub makes : Makes gives (string_bytes options.root) (string_bytes options.out) index files
+  pub makes : MakesSite gives (string_bytes options.root) (string_bytes options.out) index files
       (writer messages.contents messages.failures messages.before now) done
   pub ends : EndsShown messages.contents messages.failures options.explain done now messages.after status
 

@@ -24,8 +24,8 @@ PiecesHaveTheText =
     (links : List Link) (line : List ℕ) (marks : List (Option ℕ))
     → length marks ≡ length line → text_of (pieces_of links line (runs_of marks)) ≡ line
 
--- Each byte of a line is in a piece with the link of the occurrence that marks the byte (`marks_of`, of the narrowest
--- range), and of none if nothing marks it.
+-- Each byte of a line is in a piece with the link of the occurrence that marks the byte (`marks_of`, of those the one
+-- that marks the fewest bytes of the line), and of none if nothing marks it.
 abbrev pub links_in : Piece → List (Option Link)
 links_in piece = map (λ (byte : ℕ). piece.link) piece.text
 

@@ -18,6 +18,6 @@ HasItsOwnPlace =
 abbrev pub IsName : List ℕ → Type 0
 IsName name = (name ≢ codes "") × (name ≢ codes ".") × (name ≢ codes "..")
 
--- and a path between whose slashes are names has no fault.
+-- and a path whose components are names has no fault.
 abbrev pub NamesHaveNoFault : Type 0
 NamesHaveNoFault = (path : List ℕ) → AllByRecursion IsName (components path) → path_fault path ≡ None

@@ -32,7 +32,7 @@ span_on unit number line occurrence range =
     option_and_then (λ from. option_and_then (λ to. span_between occurrence from to) (end_on unit number line range))
     (start_on unit number line range)
 
--- a span is as wide as it has bytes, and covers those
+-- a span is as wide as it has bytes, which are those of one line, and covers these
 abbrev pub width : Span → ℕ
 width span = span.end - span.start
 

@@ -54,7 +54,8 @@ below_byte sign byte = cond (byte == 9) (9 ∷ []) (cond (is_first_byte byte) (s
 abbrev pub below : ℕ → List ℕ → List ℕ
 below sign bytes = flat_map (below_byte sign) bytes
 
--- The end of a line's bytes that a range covers, if it begins on that line. The `\r` of a line end `\r\n` isn't shown.
+-- The end of a line's bytes that a range covers, if it begins on that line. No caret is below the `\r` of a line end
+-- `\r\n`.
 abbrev pub end_in : ColumnUnit → List ℕ → RangeNumbers → ℕ
 end_in unit line range =
     cond (range.start_line == range.end_line) (unwrap_or (offset_of unit line range.end_column) 0)

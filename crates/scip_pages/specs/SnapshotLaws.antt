@@ -1,4 +1,4 @@
--- Laws of snapshots: taking the lines away that aren't the source's gives the source.
+-- Laws of snapshots: taking away what isn't the source's gives the source.
 use Rattle.std.specs.Prelude.{ℕ, ◌≡◌, ◌-◌, Bool, not, List, [], ◌∷◌, length, take, drop, map, filter, nat_eq, codes, Ok}
 use Rattle.std.specs.List.{join_with_byte, starts_with}
 use Rattle.scip_model.specs.declared.records.Index.{Index}
@@ -8,7 +8,8 @@ use Rattle.scip_pages.specs.Snapshot.{flat_byte, lines_of, snapshot_of}
 abbrev pub ended_lines : List ℕ → List (List ℕ)
 ended_lines text = take (length (lines_of text) - 1) (lines_of text)
 
--- the source in a snapshot: the lines that don't begin with the sign of a comment, each without its first two bytes
+-- the source in a snapshot: the lines that don't begin with the sign of a comment, each without its first two bytes, and
+-- the last without its end
 abbrev pub is_source_line : List ℕ → Bool
 is_source_line line = not (starts_with nat_eq line (codes "//"))
 

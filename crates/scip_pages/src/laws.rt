@@ -56,8 +56,8 @@ pub fn code_shows_the_source()
     ensures links { PiecesHaveTheLinks }
 {}
 
-/// A path of a page leads to a place below the folder of the pages, and no other such path does. Each path of names is
-/// one.
+/// A path without a fault leads to a place below the folder of the pages, and no other such path leads to that place. A
+/// path whose components are names has no fault.
 pub fn paths_stay_below()
     ensures below { StaysBelow }
     ensures own { HasItsOwnPlace }
@@ -70,8 +70,9 @@ pub fn the_narrowest_marks()
     ensures narrowest { NoneIsNarrower }
 {}
 
-/// A snapshot has its source: taking away the lines that begin with the sign of a comment, and the
-/// two blanks before each other line, gives the source, byte for byte. A symbol or a path ends no line.
+/// A snapshot has its source: taking away the lines that begin with the sign of a comment, the two blanks before each
+/// other line, and the last line end gives the source, byte for byte. What is printed of a symbol or a path
+/// (`flat_byte`) is one line.
 pub fn snapshots_have_their_source()
     ensures source { HasTheSource }
     ensures line { FlatIsOneLine }

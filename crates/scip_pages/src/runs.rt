@@ -209,8 +209,8 @@ fn marked(alloc: Global, spans: &[Span], len: usize) -> Result<Vec<Run>, AllocEr
     runs_of(alloc, &marks)
 }
 
-/// The runs of a line of `len` bytes on which spans lie, which may overlap: of those on a byte the
-/// narrowest marks it, and of several such the first.
+/// The runs of a line of `len` bytes on which spans lie, which may overlap: of those on a byte the one of the fewest
+/// bytes marks it, and of several such the first.
 pub fn line_runs(alloc: Global, spans: &[Span], len: usize) -> Result<Vec<Run>, AllocError>
     ensures { IfOk result (λ runs. runs.items ≡ spec.runs_of (spec.marks_of spans.now len)) }
 {

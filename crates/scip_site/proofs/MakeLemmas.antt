@@ -15,7 +15,7 @@ use Rattle.scip_snapshot.proofs.ShowLemmas.{makes_both, makes_none, stops_behind
 use Rattle.source_page.specs.Site.{Sources}
 use Rattle.scip_site.specs.Tree.{first_page}
 use Rattle.scip_site.specs.Reading.{ReadsInto, AllAreKept, none}
-use Rattle.scip_site.specs.Making.{AllOf, AllThenNone, PartOf, MakesFiles, Makes, file, in_folder, pages, shared, script_text}
+use Rattle.scip_site.specs.Making.{AllOf, AllThenNone, PartOf, MakesFiles, MakesSite, file, in_folder, pages, shared, script_text}
 use Rattle.scip_site.specs.Making.{paths_in, site_files}
 use Rattle.source_page.proofs.CodeLemmas.{range_more}
 
@@ -27,7 +27,7 @@ part_behind : (holds more_holds : List MadeFile → Type 0) (files more others :
 part_behind holds more_holds files more others grows behind = record {
   part = files ++ behind.part;
   is_part = ap (λ l. files ++ l) behind.is_part ∙ sym (append_assoc files behind.part others);
-  all = grows behind.part behind.all;
+  holds = grows behind.part behind.holds;
 }
 
 part_before : (holds : List MadeFile → Type 0) (files more others : List MadeFile)
@@ -35,7 +35,7 @@ part_before : (holds : List MadeFile → Type 0) (files more others : List MadeF
 part_before holds files more others before = record {
   part = before.part;
   is_part = ap (λ l. l ++ more) before.is_part ∙ append_assoc before.part others more;
-  all = before.all;
+  holds = before.holds;
 }
 
 module _ {O : Type 0} (made : O → Made) where
@@ -43,7 +43,7 @@ module _ {O : Type 0} (made : O → Made) where
   pub none_made : (files : List MadeFile) (now : O) → MakesFiles (maker made now now) files (Err Memory)
   none_made files now = record {
     others = files;
-    made = record { part = []; is_part = refl; all = makes_none (made now) };
+    made = record { part = []; is_part = refl; holds = makes_none (made now) };
   }
 
   module _ (first now after : O) (files more : List MadeFile) where
@@ -241,12 +241,12 @@ module _ {O M : Type 0} (made : O → Made) (heard : M → Option (List ℕ)) (u
   -- memory runs out while sources are read
   pub nothing_made : (here after : M) (fault : ShowFault)
       → ReadsInto gives root index.documents (writer heard unheard here after) (Err fault)
-      → Makes gives root folder index (maker made start start) (writer heard unheard here after) (Err fault)
+      → MakesSite gives root folder index (maker made start start) (writer heard unheard here after) (Err fault)
   nothing_made here after Write reads = absurd reads
   nothing_made here after Memory reads = inr record { read = reads; none_made = makes_none (made start) }
 
   pub nothing_read : (here : M)
-      → Makes gives root folder index (maker made start start) (writer heard unheard here here) (Err Memory)
+      → MakesSite gives root folder index (maker made start start) (writer heard unheard here here) (Err Memory)
   nothing_read here = inr record {
     read = record { reads = []; are = none; told_are = silent };
     none_made = makes_none (made start);
@@ -257,7 +257,7 @@ module _ {O M : Type 0} (made : O → Made) (heard : M → Option (List ℕ)) (u
       → AllAreKept gives root index.documents sources (writer heard unheard here heard_all)
       → IsByPath index.documents order → (done : Result (Unit {0}) ShowFault)
       → MakesFiles (maker made start after) (all_in folder index sources order) done
-      → Makes gives root folder index (maker made start after) (writer heard unheard here heard_all) done
+      → MakesSite gives root folder index (maker made start after) (writer heard unheard here heard_all) done
   made_so after here heard_all sources order read ordered (Ok done) makes =
       record { sources = sources; read = read; order = order; ordered = ordered; made = makes }
   made_so after here heard_all sources order read ordered (Err Write) makes =

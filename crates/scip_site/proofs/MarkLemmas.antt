@@ -1,22 +1,24 @@
 -- The marks of folders in the paths of pages, by which no page is where another has a folder.
 use Rattle.std.proofs.Common.{◌≡◌, ◌≢◌, ◌∙◌, sym, refl, ap, subst, ℕ, ◌+◌, ◌≤◌, Bool, true, false, cond, List, [], ◌∷◌, ◌++◌}
-use Rattle.std.proofs.Common.{drop, length, nat_eq, append_assoc, arith}
+use Rattle.std.proofs.Common.{drop, length, append_assoc, arith}
 use Rattle.std.specs.Prelude.{codes}
-use Rattle.std.specs.List.{AllByRecursion, onto_first, starts_with}
+use Rattle.std.specs.List.{AllByRecursion, onto_first}
 use Rattle.std.proofs.lemmas.Bool.Decides.{Decides-eqb}
 use Rattle.std.proofs.lemmas.List.{append_cancel_left, append_cancel_right, length-append}
 use Rattle.std.proofs.lemmas.Slice.Eq.{starts_is}
 use Rattle.scip_pages.specs.Paths.{components}
-use Rattle.source_page.specs.Site.{folder_marks, mark_at, page_path}
+use Rattle.source_page.specs.Site.{page_path}
+use Rattle.source_page.proofs.FolderLemmas.{is_marked, mark_at, scanned, scanned_is}
 
 -- ---- a path in parts
 
-pub regrouped : (path : List ℕ) → page_path path ≡ codes "src" ++ (folder_marks path ++ 47 ∷ (path ++ codes ".html"))
+pub regrouped : (path : List ℕ) → page_path path ≡ codes "src" ++ (scanned path ++ 47 ∷ (path ++ codes ".html"))
 regrouped path =
-    let top : List ℕ = codes "src" ++ folder_marks path in
-    append_assoc (top ++ codes "/") path (codes ".html")
+    let top : List ℕ = codes "src" ++ scanned path in
+    ap (λ (marks : List ℕ). codes "src" ++ marks ++ codes "/" ++ path ++ codes ".html") (sym (scanned_is path))
+    ∙ append_assoc (top ++ codes "/") path (codes ".html")
     ∙ append_assoc top (codes "/") (path ++ codes ".html")
-    ∙ append_assoc (codes "src") (folder_marks path) (47 ∷ (path ++ codes ".html"))
+    ∙ append_assoc (codes "src") (scanned path) (47 ∷ (path ++ codes ".html"))
 
 abbrev IsMark : ℕ → Type 0
 IsMark b = b ≡ 126
@@ -25,13 +27,10 @@ all_append : (xs ys : List ℕ) → AllByRecursion IsMark xs → AllByRecursion 
 all_append [] ys a b = b
 all_append (x ∷ xs) ys a b = (a.0, all_append xs ys a.1 b)
 
-abbrev is_marked : List ℕ → Bool
-is_marked rest = starts_with nat_eq rest (codes ".html/")
-
-all_marks : (path : List ℕ) → AllByRecursion IsMark (folder_marks path)
+all_marks : (path : List ℕ) → AllByRecursion IsMark (scanned path)
 all_marks [] = tt
 all_marks (b ∷ path) =
-    all_append (mark_at (b ∷ path)) (folder_marks path) (by (is_marked (b ∷ path))) (all_marks path)
+    all_append (mark_at (b ∷ path)) (scanned path) (by (is_marked (b ∷ path))) (all_marks path)
   where
     by : (c : Bool) → AllByRecursion IsMark (cond c (codes "~") [])
     by true = (refl, tt)
@@ -56,19 +55,19 @@ first_component (b ∷ m) rest all =
     (ap (onto_first 126) (first_component m rest all.1))
 
 pub page_components : (path : List ℕ)
-    → components (page_path path) ≡ (codes "src" ++ folder_marks path) ∷ components (path ++ codes ".html")
+    → components (page_path path) ≡ (codes "src" ++ scanned path) ∷ components (path ++ codes ".html")
 page_components path =
     ap components (regrouped path)
     ∙ ap (λ (names : List (List ℕ)). onto_first 115 (onto_first 114 (onto_first 99 names)))
-    (first_component (folder_marks path) (path ++ codes ".html") (all_marks path))
+    (first_component (scanned path) (path ++ codes ".html") (all_marks path))
 
 pub same_page : (path other : List ℕ) → page_path path ≡ page_path other → path ≡ other
 same_page path other same =
-    let marked : folder_marks path ++ 47 ∷ (path ++ codes ".html") ≡ folder_marks other ++ 47 ∷ (other ++ codes ".html") =
-    append_cancel_left (codes "src") (folder_marks path ++ 47 ∷ (path ++ codes ".html"))
-    (folder_marks other ++ 47 ∷ (other ++ codes ".html")) (sym (regrouped path) ∙ same ∙ regrouped other) in
+    let marked : scanned path ++ 47 ∷ (path ++ codes ".html") ≡ scanned other ++ 47 ∷ (other ++ codes ".html") =
+    append_cancel_left (codes "src") (scanned path ++ 47 ∷ (path ++ codes ".html"))
+    (scanned other ++ 47 ∷ (other ++ codes ".html")) (sym (regrouped path) ∙ same ∙ regrouped other) in
     append_cancel_right path other (codes ".html")
-    (split_marks (folder_marks path) (folder_marks other) (path ++ codes ".html") (other ++ codes ".html")
+    (split_marks (scanned path) (scanned other) (path ++ codes ".html") (other ++ codes ".html")
     (all_marks path) (all_marks other) marked).1
 
 -- ---- how many marks there are
@@ -83,10 +82,10 @@ ends_no_folder (a ∷ (b ∷ (c ∷ (d ∷ [])))) = refl
 ends_no_folder (a ∷ (b ∷ (c ∷ (d ∷ (e ∷ []))))) = refl
 ends_no_folder (a ∷ (b ∷ (c ∷ (d ∷ (e ∷ (f ∷ rest)))))) = refl
 
-marks_of_page : (path : List ℕ) → folder_marks (path ++ codes ".html") ≡ folder_marks path
+marks_of_page : (path : List ℕ) → scanned (path ++ codes ".html") ≡ scanned path
 marks_of_page [] = refl
 marks_of_page (b ∷ path) =
-    ap (λ (c : Bool). cond c (codes "~") [] ++ folder_marks (path ++ codes ".html")) (ends_no_folder (b ∷ path))
+    ap (λ (c : Bool). cond c (codes "~") [] ++ scanned (path ++ codes ".html")) (ends_no_folder (b ∷ path))
     ∙ ap (λ (l : List ℕ). mark_at (b ∷ path) ++ l) (marks_of_page path)
 
 still_marked : (rest more : List ℕ) → is_marked rest ≡ true → is_marked (rest ++ more) ≡ true
@@ -108,26 +107,26 @@ mark_stays rest more = by (is_marked rest) refl (is_marked (rest ++ more)) (stil
 
 -- of a longer path as many of each part, or more
 marks_of_both : (path more : List ℕ)
-    → length (folder_marks path) + length (folder_marks more) ≤ length (folder_marks (path ++ more))
+    → length (scanned path) + length (scanned more) ≤ length (scanned (path ++ more))
 marks_of_both [] more = omega arith
 marks_of_both (b ∷ path) more =
     let here = mark_stays (b ∷ path) more in
     let behind = marks_of_both path more in
-    let one : length (folder_marks (b ∷ path)) ≡ length (mark_at (b ∷ path)) + length (folder_marks path) =
-    length-append (mark_at (b ∷ path)) (folder_marks path) in
-    let both : length (folder_marks ((b ∷ path) ++ more))
-    ≡ length (mark_at ((b ∷ path) ++ more)) + length (folder_marks (path ++ more)) =
-    length-append (mark_at ((b ∷ path) ++ more)) (folder_marks (path ++ more)) in
+    let one : length (scanned (b ∷ path)) ≡ length (mark_at (b ∷ path)) + length (scanned path) =
+    length-append (mark_at (b ∷ path)) (scanned path) in
+    let both : length (scanned ((b ∷ path) ++ more))
+    ≡ length (mark_at ((b ∷ path) ++ more)) + length (scanned (path ++ more)) =
+    length-append (mark_at ((b ∷ path) ++ more)) (scanned (path ++ more)) in
     omega (arith, here, behind, one, both)
 
 first_mark : (behind : List ℕ)
-    → folder_marks (codes ".html/" ++ behind) ≡ 126 ∷ folder_marks (codes "html/" ++ behind)
+    → scanned (codes ".html/" ++ behind) ≡ 126 ∷ scanned (codes "html/" ++ behind)
 first_mark behind = refl
 
 size_of_folder : (behind : List ℕ)
-    → length (folder_marks (codes ".html/" ++ behind)) ≡ length (folder_marks (codes "html/" ++ behind)) + 1
+    → length (scanned (codes ".html/" ++ behind)) ≡ length (scanned (codes "html/" ++ behind)) + 1
 size_of_folder behind =
-    let more : length (126 ∷ folder_marks (codes "html/" ++ behind)) ≡ length (folder_marks (codes "html/" ++ behind)) + 1 =
+    let more : length (126 ∷ scanned (codes "html/" ++ behind)) ≡ length (scanned (codes "html/" ++ behind)) + 1 =
     omega arith in ap length (first_mark behind) ∙ more
 
 -- ---- no page is where another has a folder
@@ -136,18 +135,18 @@ pub no_folder_of_pages : (path other behind : List ℕ) → page_path other ≢ 
 no_folder_of_pages path other behind same =
     let folder : List ℕ = codes ".html/" ++ behind in
     let page : List ℕ = 47 ∷ (path ++ codes ".html") in
-    let below : page_path path ++ (47 ∷ behind) ≡ codes "src" ++ (folder_marks path ++ 47 ∷ (path ++ folder)) =
+    let below : page_path path ++ (47 ∷ behind) ≡ codes "src" ++ (scanned path ++ 47 ∷ (path ++ folder)) =
     ap (λ (l : List ℕ). l ++ (47 ∷ behind)) (regrouped path)
-    ∙ append_assoc (codes "src") (folder_marks path ++ page) (47 ∷ behind)
+    ∙ append_assoc (codes "src") (scanned path ++ page) (47 ∷ behind)
     ∙ ap (λ (l : List ℕ). codes "src" ++ l)
-    (append_assoc (folder_marks path) page (47 ∷ behind)
-    ∙ ap (λ (l : List ℕ). folder_marks path ++ 47 ∷ l) (append_assoc path (codes ".html") (47 ∷ behind))) in
-    let marked : folder_marks other ++ 47 ∷ (other ++ codes ".html") ≡ folder_marks path ++ 47 ∷ (path ++ folder) =
-    append_cancel_left (codes "src") (folder_marks other ++ 47 ∷ (other ++ codes ".html"))
-    (folder_marks path ++ 47 ∷ (path ++ folder)) (sym (regrouped other) ∙ same ∙ below) in
-    let parts = split_marks (folder_marks other) (folder_marks path) (other ++ codes ".html") (path ++ folder)
+    (append_assoc (scanned path) page (47 ∷ behind)
+    ∙ ap (λ (l : List ℕ). scanned path ++ 47 ∷ l) (append_assoc path (codes ".html") (47 ∷ behind))) in
+    let marked : scanned other ++ 47 ∷ (other ++ codes ".html") ≡ scanned path ++ 47 ∷ (path ++ folder) =
+    append_cancel_left (codes "src") (scanned other ++ 47 ∷ (other ++ codes ".html"))
+    (scanned path ++ 47 ∷ (path ++ folder)) (sym (regrouped other) ∙ same ∙ below) in
+    let parts = split_marks (scanned other) (scanned path) (other ++ codes ".html") (path ++ folder)
     (all_marks other) (all_marks path) marked in
-    let as_many : length (folder_marks (path ++ folder)) ≡ length (folder_marks path) =
-    ap (λ (l : List ℕ). length (folder_marks l)) (sym parts.1) ∙ ap length (marks_of_page other ∙ parts.0) in
-    let one_more : 1 ≤ length (folder_marks folder) = omega (arith, size_of_folder behind) in
+    let as_many : length (scanned (path ++ folder)) ≡ length (scanned path) =
+    ap (λ (l : List ℕ). length (scanned l)) (sym parts.1) ∙ ap length (marks_of_page other ∙ parts.0) in
+    let one_more : 1 ≤ length (scanned folder) = omega (arith, size_of_folder behind) in
     omega (arith, as_many, one_more, marks_of_both path folder)

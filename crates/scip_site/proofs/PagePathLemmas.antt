@@ -1,6 +1,6 @@
 -- Paths of pages.
 use Rattle.std.proofs.Common.{◌≡◌, ◌∙◌, sym, refl, ap, ℕ, ◌+◌, ◌<◌, ◌==◌, Bool, true, false, ◌||◌, cond, List, [], ◌∷◌, ◌++◌}
-use Rattle.std.proofs.Common.{nat_eq, length, arith}
+use Rattle.std.proofs.Common.{nat_eq, length, drop, arith}
 use Rattle.std.specs.Prelude.{codes, Option, None, Some}
 use Rattle.std.specs.List.{list_any, onto_first, starts_with}
 use Rattle.std.specs.Str.{bytes_eq}
@@ -9,7 +9,9 @@ use Rattle.std.proofs.lemmas.Slice.Eq.{bytes_eq-Decides}
 use Rattle.scip_pages.specs.declared.paths.PathFault.{PathFault}
 use Rattle.scip_pages.specs.declared.paths.PathFault.TheVariants.{Absolute, Empty, Dot, Parent}
 use Rattle.scip_pages.specs.Paths.{components, has_name, path_fault}
-use Rattle.scip_site.specs.Laws.{HasAGoodPath, HasItsOwnPath}
+use Rattle.scip_pages.specs.Urls.{decoded, encoded}
+use Rattle.scip_pages.proofs.UrlLemmas.{is_decoded}
+use Rattle.scip_site.specs.Laws.{HasAGoodPath, HasItsOwnPath, FoldersHaveTheirOwnIds}
 use Rattle.scip_site.proofs.MarkLemmas.{page_components, same_page}
 
 -- The last component of a path is the longer one of a longer path.
@@ -114,3 +116,8 @@ has_a_good_path path none =
 
 pub has_its_own_path : HasItsOwnPath
 has_its_own_path path other same = same_page path other same
+
+pub have_their_own_ids : FoldersHaveTheirOwnIds
+have_their_own_ids folder other small small_other same =
+    let url : encoded folder ≡ encoded other = ap (drop 2) same in
+    sym (is_decoded folder small) ∙ ap decoded url ∙ is_decoded other small_other

@@ -1,6 +1,6 @@
 -- Laws of the places of pages.
-use Rattle.std.specs.Prelude.{ℕ, ◌≡◌, List, [], map, None, Some}
-use Rattle.std.specs.List.{slice_get}
+use Rattle.std.specs.Prelude.{ℕ, ◌≡◌, ◌<◌, List, [], map, None, Some}
+use Rattle.std.specs.List.{AllByRecursion, slice_get}
 use Rattle.scip_pages.specs.Paths.{path_fault}
 use Rattle.scip_pages.specs.Urls.{folder_of}
 use Rattle.source_page.specs.Crumbs.{folder_id, folders_on}
@@ -20,12 +20,18 @@ abbrev pub HasItsOwnPath : Type 0
 HasItsOwnPath = (path other : List ℕ) → page_path path ≡ page_path other → path ≡ other
 
 -- The first page has the id of each folder of a document that it lists, which ends the URL of the folder on the way to
--- the document's page (`folder_url`).
+-- the document's page (`folder_url`),
 abbrev pub FoldersHavePlaces : Type 0
 FoldersHavePlaces =
     (paths : List (List ℕ)) (number at : ℕ) (path folder : List ℕ)
     → slice_get paths number ≡ Some path → slice_get (folders_on [] (folder_of path)) at ≡ Some folder
     → HasId (folder_id folder) (first_page paths)
+
+-- which is no other folder's.
+abbrev pub FoldersHaveTheirOwnIds : Type 0
+FoldersHaveTheirOwnIds =
+    (folder other : List ℕ) → AllByRecursion (λ b. b < 256) folder → AllByRecursion (λ b. b < 256) other
+    → folder_id folder ≡ folder_id other → folder ≡ other
 
 -- Round the link to the page of each document in the tree the folders on its way are open, and no others; behind the
 -- tree none is.

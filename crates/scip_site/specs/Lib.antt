@@ -7,3 +7,4 @@ pub mod Making
 pub mod FolderLaws
 pub mod Laws
 pub mod UrlLaws
+pub mod SharedLaws

@@ -115,14 +115,15 @@ AllThenNone maker files = StopsBehind (maker.made maker.before) (maker.made make
 pub record PartOf (Holds : List MadeFile → Type 0) (files others : List MadeFile) : Type 0 where
   pub part : List MadeFile
   pub is_part : files ≡ part ++ others
-  pub all : Holds part
+  pub holds : Holds part
 
--- A first part is made, and the next file is refused; or a first part is made.
+-- a first part is made, and the next file is refused
 pub record AllBut {O : Type 0} (maker : Maker O) (files : List MadeFile) : Type 0 where
   pub refused : MadeFile
   pub others : List MadeFile
   pub made : PartOf (AllThenNone maker) files (refused ∷ others)
 
+-- a first part is made
 pub record SomeOf {O : Type 0} (maker : Maker O) (files : List MadeFile) : Type 0 where
   pub others : List MadeFile
   pub made : PartOf (AllOf maker) files others
@@ -148,9 +149,10 @@ pub record IsReadInPart {O M : Type 0} (gives : List ℕ → Option (List ℕ) �
   pub read : AreReadBy gives root index.documents messages
   pub none_made : AllOf maker []
 
-abbrev pub Makes : {O M : Type 0} → (gives : List ℕ → Option (List ℕ) → Type 0) → (root folder : List ℕ) → Index
+-- The pages of an index are made; if memory runs out, perhaps before the first.
+abbrev pub MakesSite : {O M : Type 0} → (gives : List ℕ → Option (List ℕ) → Type 0) → (root folder : List ℕ) → Index
     → Maker O → Writer M → Result (Unit {0}) ShowFault → Type 0
-Makes gives root folder index maker messages (Ok done) = IsMade gives root folder index maker messages (Ok done)
-Makes gives root folder index maker messages (Err Write) = IsMade gives root folder index maker messages (Err Write)
-Makes gives root folder index maker messages (Err Memory) =
+MakesSite gives root folder index maker messages (Ok done) = IsMade gives root folder index maker messages (Ok done)
+MakesSite gives root folder index maker messages (Err Write) = IsMade gives root folder index maker messages (Err Write)
+MakesSite gives root folder index maker messages (Err Memory) =
     IsMade gives root folder index maker messages (Err Memory) ⊎ IsReadInPart gives root index maker messages

@@ -18,5 +18,7 @@ pub use folder_laws::{
     documents_with_pages_are_good, folders_have_their_pages, quotes_show_the_text,
     urls_lead_to_files,
 };
-pub use laws::{folders_have_places, pages_have_their_own_places, trees_show_folders};
+pub use laws::{
+    folders_have_places, pages_have_their_own_places, shared_files_are_alone, trees_show_folders,
+};
 pub use making::make_pages;

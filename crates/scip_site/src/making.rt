@@ -300,7 +300,7 @@ pub fn make_pages<F: ReadFiles, O: MakeFiles, M: Sink>(
     made: &mut O,
     messages: &mut M,
 ) -> Result<(), ShowFault>
-    ensures { spec.Makes (F.gives files.now) folders.now.root.now folders.now.to.now queries.now
+    ensures { spec.MakesSite (F.gives files.now) folders.now.root.now folders.now.to.now queries.now
         (maker O.made made.old made.new) (writer M.contents M.failures messages.old messages.new) result }
 {
     let documents = queries.documents();

@@ -1,4 +1,5 @@
 pub mod TextLemmas
+pub mod FolderLemmas
 pub mod CodeLemmas
 mod FactLemmas
 pub mod ElementLemmas
@@ -10,3 +11,4 @@ pub mod PartLemmas
 pub mod IdLemmas
 pub mod PageUrlLemmas
 mod UrlLemmas
+mod OwnIdLemmas

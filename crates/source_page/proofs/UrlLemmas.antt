@@ -1,37 +1,43 @@
 -- URLs of pages, by the paths of their documents.
 use Rattle.std.proofs.Common.{◌≡◌, ◌∙◌, refl, ap, ℕ, Bool, true, false, cond, List, [], ◌∷◌, ◌++◌, append-nil, sym, nat_eq}
 use Rattle.std.specs.Prelude.{codes}
-use Rattle.std.specs.List.{flat_map, starts_with}
+use Rattle.std.specs.List.{ends_with, flat_map}
 use Rattle.std.proofs.lemmas.Grind.{flat_map-append}
-use Rattle.scip_pages.specs.Urls.{up, ups, encoded, encoded_byte}
-use Rattle.source_page.specs.Site.{folder_marks, mark_at, page_path}
+use Rattle.scip_pages.specs.Urls.{up, ups, encoded, encoded_byte, folder_of}
+use Rattle.source_page.specs.Site.{folder_marks, mark_of, page_path}
 
 -- ---- the marks of folders, of which a URL has each as it is, and none leads up
 
-abbrev is_marked : List ℕ → Bool
-is_marked rest = starts_with nat_eq rest (codes ".html/")
+abbrev is_like_a_page : List ℕ → Bool
+is_like_a_page name = ends_with nat_eq name (codes ".html")
 
-encoded_marks : (path : List ℕ) → encoded (folder_marks path) ≡ folder_marks path
-encoded_marks [] = refl
-encoded_marks (b ∷ path) =
-    flat_map-append encoded_byte (mark_at (b ∷ path)) (folder_marks path)
-    ∙ ap (λ (l : List ℕ). l ++ encoded (folder_marks path)) (by (is_marked (b ∷ path)))
-    ∙ ap (λ (l : List ℕ). mark_at (b ∷ path) ++ l) (encoded_marks path)
+encoded_all : (names : List (List ℕ)) → encoded (flat_map mark_of names) ≡ flat_map mark_of names
+encoded_all [] = refl
+encoded_all (name ∷ names) =
+    flat_map-append encoded_byte (mark_of name) (flat_map mark_of names)
+    ∙ ap (λ (l : List ℕ). l ++ encoded (flat_map mark_of names)) (by (is_like_a_page name))
+    ∙ ap (λ (l : List ℕ). mark_of name ++ l) (encoded_all names)
   where
     by : (c : Bool) → encoded (cond c (codes "~") []) ≡ cond c (codes "~") []
     by true = refl
     by false = refl
 
-ups_marks : (path : List ℕ) → ups (folder_marks path) ≡ []
-ups_marks [] = refl
-ups_marks (b ∷ path) =
-    flat_map-append up (mark_at (b ∷ path)) (folder_marks path)
-    ∙ ap (λ (l : List ℕ). l ++ ups (folder_marks path)) (by (is_marked (b ∷ path)))
-    ∙ ups_marks path
+encoded_marks : (path : List ℕ) → encoded (folder_marks path) ≡ folder_marks path
+encoded_marks path = encoded_all (folder_of path)
+
+ups_all : (names : List (List ℕ)) → ups (flat_map mark_of names) ≡ []
+ups_all [] = refl
+ups_all (name ∷ names) =
+    flat_map-append up (mark_of name) (flat_map mark_of names)
+    ∙ ap (λ (l : List ℕ). l ++ ups (flat_map mark_of names)) (by (is_like_a_page name))
+    ∙ ups_all names
   where
     by : (c : Bool) → ups (cond c (codes "~") []) ≡ []
     by true = refl
     by false = refl
+
+ups_marks : (path : List ℕ) → ups (folder_marks path) ≡ []
+ups_marks path = ups_all (folder_of path)
 
 -- the folder that a page is below
 abbrev start : List ℕ → List ℕ

@@ -1,5 +1,5 @@
 -- Laws of pages.
-use Rattle.std.specs.Prelude.{ℕ, ◌≡◌, true, false, List, ◌++◌, codes, None, Some}
+use Rattle.std.specs.Prelude.{ℕ, ◌≡◌, ◌≢◌, ◌<◌, ◌^◌, true, false, List, ◌++◌, codes, None, Some}
 use Rattle.std.specs.List.{AllByRecursion, Contains, slice_get}
 use Rattle.std.specs.Fmt.{decimal}
 use Rattle.scip_model.specs.declared.records.Index.{Index}
@@ -15,7 +15,7 @@ use Rattle.scip_pages.specs.Escapes.{pictured}
 use Rattle.scip_pages.specs.Plain.{plain}
 use Rattle.scip_pages.specs.Snapshot.{lines_of}
 use Rattle.source_page.specs.Site.{Sources, has_page, line_listed}
-use Rattle.source_page.specs.Targets.{definition_of, is_shown_definition, link_at, place_url, target_of}
+use Rattle.source_page.specs.Targets.{definition_of, is_shown_definition, link_at, place_url, target_of, uses_id}
 use Rattle.source_page.specs.CodeText.{code_text}
 use Rattle.source_page.specs.Ids.{unit_in, AllFit, IsShown, IsUrl, Leads}
 use Rattle.source_page.specs.Page.{page_of}
@@ -71,7 +71,15 @@ DefinitionsLead =
     → (place : Place) → IsShown index sources place
     → Leads index sources place.document (codes "#L" ++ decimal (line_listed index.documents place))
 
--- No other URL stands in the text of a page.
+-- Each line of a page, and the uses of each definition, have an id of their own,
+abbrev pub HaveTheirOwnIds : Type 0
+HaveTheirOwnIds =
+    (a b : ℕ) → a < 2 ^ 64 → b < 2 ^ 64
+    → (codes "L" ++ decimal a ≡ codes "L" ++ decimal b → a ≡ b)
+    × (uses_id a ≡ uses_id b → a ≡ b)
+    × (codes "L" ++ decimal a ≢ uses_id b)
+
+-- and no other URL stands in the text of a page.
 abbrev pub EachUrlLeads : Type 0
 EachUrlLeads =
     (index : Index) (sources : Sources) → AllFit index sources

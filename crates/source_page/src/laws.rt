@@ -7,6 +7,7 @@ ghost use Rattle.source_page.specs.Laws.{
   LinksLead,
   UsesLead,
   DefinitionsLead,
+  HaveTheirOwnIds,
   EachUrlLeads,
 };
 
@@ -23,11 +24,13 @@ pub fn uses_lead_to_definitions()
 {}
 
 /// The URL of each occurrence, of each use that is listed, and of each definition that is, leads to a place that is on
-/// a page, if all ranges of documents that have a page are ranges of their sources.
+/// a page, if all ranges of documents that have a page are ranges of their sources. No two lines, and no two
+/// definitions, have one id.
 pub fn links_lead_to_places()
     ensures links { LinksLead }
     ensures uses { UsesLead }
     ensures definitions { DefinitionsLead }
+    ensures own { HaveTheirOwnIds }
 {}
 
 /// Each URL that stands in the text of a page is one of these, that of the style sheet or of the first page, or that of

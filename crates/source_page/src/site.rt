@@ -1,6 +1,7 @@
 //! What pages are made of, and where they are.
 
-ghost use Rattle.std.specs.Prelude.{◌≡◌, ◌++◌, IfOk, OnOk};
+ghost use Rattle.std.specs.Prelude.{◌≡◌, ◌++◌, [], IfOk, OnOk, codes, cond, nat_eq};
+ghost use Rattle.std.specs.List.{starts_with};
 ghost use Rattle.std.specs.String.{string_bytes};
 ghost use Rattle.source_page.specs.Site as spec;
 
@@ -34,7 +35,8 @@ pub(crate) fn same_place(a: Place, b: Place) -> bool
 
 /// Appends a `~` if the rest of a path begins with the end of a folder's name that ends as that of a page does.
 fn push_mark(marks: &mut String, rest: &[u8]) -> Result<(), AllocError>
-    ensures { OnOk result (string_bytes marks.new ≡ string_bytes marks.old ++ spec.mark_at rest.now) }
+    ensures { OnOk result (string_bytes marks.new ≡ string_bytes marks.old ++ cond (starts_with nat_eq rest.now
+        (codes ".html/")) (codes "~") []) }
 {
     if rest.starts_with(b".html/") {
         marks.push_str("~")

@@ -1,5 +1,6 @@
 use Rattle.scip_site.proofs.FolderLemmas.{folders_have}
+use Rattle.scip_site.proofs.PagePathLemmas.{have_their_own_ids}
 use Rattle.scip_site.proofs.laws.folders_have_places.Goals as goal
 
 pub returns : goal.returns
-returns c = folders_have
+returns c = record { places = folders_have; own = have_their_own_ids }

@@ -13,7 +13,7 @@ returns g c =
       made = record {
         part = [];
         is_part = refl;
-        all = makes_false AllocError (made c.args.made.now) (made c.make_file.new.self) _ _ _ c.if-branch.false
+        holds = makes_false AllocError (made c.args.made.now) (made c.make_file.new.self) _ _ _ c.if-branch.false
             c.in_ok-make_file.ensures;
       };
     }
@@ -29,5 +29,5 @@ returns-in_err-make_file g c =
     c.from_residual-in_err-make_file.ensures.1 in
     rw (p.1, p.2) record {
       others = _;
-      made = record { part = []; is_part = refl; all = c.in_err-make_file.ensures };
+      made = record { part = []; is_part = refl; holds = c.in_err-make_file.ensures };
     }

@@ -1,13 +1,13 @@
 -- Which files count, by one search from all sources.
 use Rattle.std.proofs.Common.{◌≡◌, ◌↔◌, ◌⊎◌, inl, inr, ℕ, ◌+◌, ◌<◌, ◌≤◌, Bool, true, false, List, [], length, get_or, Some}
-use Rattle.std.proofs.Common.{None, ap, sym, ◌∙◌, subst, arith, All}
+use Rattle.std.proofs.Common.{None, ap, sym, ◌∙◌, subst, arith}
 use Rattle.std.specs.List.{Contains, slice_get}
 use Rattle.std.specs.List.Sorted.{IsStrictlyIncreasing}
 use Rattle.std.proofs.lemmas.Bool.{cases_lt, false≢true}
 use Rattle.std.proofs.lemmas.Option.{slice_get_within}
 use Rattle.std.proofs.lemmas.List.{get_or_default}
-use Rattle.std.proofs.lemmas.List.Elements.{All-contains, Contains-get_or}
-use Rattle.proto_visibility.specs.Files.{File, IsSource, Imports}
+use Rattle.std.proofs.lemmas.List.Elements.{Contains-get_or}
+use Rattle.proto_visibility.specs.Files.{File, Imports}
 use Rattle.proto_visibility.specs.Sees.{LeadsTo, Sees, Counts}
 use Rattle.proto_visibility.specs.Sees.LeadsTo.{at_once, through}
 use Rattle.proto_visibility.specs.Sees.SeesBy.{itself, import}

@@ -2,13 +2,13 @@
 use Rattle.std.proofs.Common.{◌≡◌, ◌↔◌, inl, inr, ℕ, ◌+◌, ◌<◌, ◌≤◌, Bool, true, false, List, length, get_or, Option}
 use Rattle.std.proofs.Common.{Some, None, MatchOption, Result, refl, ap, sym, ◌∙◌, subst, arith, Decides}
 use Rattle.std.specs.List.{Contains, slice_get}
-use Rattle.std.specs.List.Sorted.{IsNonDecreasing, IsStrictlyIncreasing, IsBinarySearchResult}
+use Rattle.std.specs.List.Sorted.{IsNonDecreasing, IsBinarySearchResult}
 use Rattle.std.specs.Ordering.{nat_cmp}
 use Rattle.std.specs.Result.{is_ok}
 use Rattle.std.proofs.lemmas.Bool.{cases_lt, false≢true}
 use Rattle.std.proofs.lemmas.Option.{slice_get_within, slice_get-get_or, get_or_from_slice_get}
 use Rattle.std.proofs.lemmas.List.{get_or_default}
-use Rattle.std.proofs.lemmas.List.Sorted.{searched, IsNonDecreasingBy-from_default}
+use Rattle.std.proofs.lemmas.List.Sorted.{searched}
 use Rattle.proto_decl.specs.Facts.{Facts}
 use Rattle.proto_decl.specs.declared.kind.DeclarationKind.{DeclarationKind}
 use Rattle.proto_decl.specs.declared.kind.DeclarationKind.TheVariants.{Message, Enum, Service, Field, Oneof, Value}
@@ -23,7 +23,7 @@ use Rattle.proto_visibility.specs.Knows.NameKind.{OfPackage, OfDeclaration}
 use Rattle.proto_visibility.specs.FileNames.{admits, Gives, IsGiving}
 use Rattle.proto_visibility.specs.FileNames.Gives.{declared as gives_declared, packaged as gives_packaged}
 use Rattle.proto_visibility.specs.Tables.GivenNames.{listed_at, owned_at, IsDeclaring, IsListed, HasPrefix, AreNames}
-use Rattle.proto_visibility.proofs.FileRowLemmas.{not_falling, decides_found}
+use Rattle.proto_visibility.proofs.FileRowLemmas.{decides_found}
 
 -- ---- declarations in a row
 

@@ -1,5 +1,5 @@
 -- Rows of files: runs of places in an order that has all files.
-use Rattle.std.specs.Prelude.{ℕ, ◌≡◌, ◌↔◌, ◌≤◌, ◌⊎◌, ◌+◌, ◌-◌, Some, List, [], ◌∷◌, ◌++◌, All, Contains, map}
+use Rattle.std.specs.Prelude.{ℕ, ◌≡◌, ◌↔◌, ◌≤◌, ◌⊎◌, ◌+◌, ◌-◌, Some, List, [], ◌∷◌, ◌++◌, All, Contains}
 use Rattle.std.specs.List.{slice_get, filter_map, range_with_len}
 use Rattle.std.specs.List.Sorted.{IsNonDecreasingBy}
 use Rattle.proto_visibility.specs.declared.runs.Run.{Run}

@@ -1,7 +1,7 @@
-use Rattle.std.proofs.Common.{◌≡◌, ◌<◌, Some, length, refl, ap, sym, ◌∙◌, subst, arith}
+use Rattle.std.proofs.Common.{◌≡◌, ◌<◌, Some, length, refl, sym, ◌∙◌, arith}
 use Rattle.std.specs.List.{slice_get}
 use Rattle.std.proofs.lemmas.Option.{slice_get_read}
-use Rattle.proto_visibility.proofs.CountingLemmas.{HasBegun, begun_none, begun_skip, begun_more, begun_all}
+use Rattle.proto_visibility.proofs.CountingLemmas.{begun_none, begun_skip, begun_more, begun_all}
 use Rattle.proto_visibility.proofs.counting.begin_sources.Goals as goal
 
 pub loop-number-init : goal.loop-number-init

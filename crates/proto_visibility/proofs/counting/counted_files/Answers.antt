@@ -1,5 +1,3 @@
-use Rattle.std.proofs.Common.{ap, arith}
-use Rattle.proto_visibility.specs.Tables.Visits.{Found}
 use Rattle.proto_visibility.proofs.CountingLemmas.{counted_all}
 use Rattle.proto_visibility.proofs.counting.counted_files.Goals as goal
 

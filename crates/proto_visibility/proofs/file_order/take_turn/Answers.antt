@@ -1,4 +1,4 @@
-use Rattle.std.proofs.Common.{◌≡◌, ◌<◌, true, All, Some, rules, ap, sym, ◌∙◌, subst}
+use Rattle.std.proofs.Common.{◌≡◌, true, Some}
 use Rattle.std.specs.List.{slice_get}
 use Rattle.proto_visibility.proofs.SeeingLemmas.{numbers_within}
 use Rattle.proto_visibility.proofs.file_order.take_turn.Goals as goal

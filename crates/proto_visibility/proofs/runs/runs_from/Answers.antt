@@ -1,5 +1,4 @@
-use Rattle.std.proofs.Common.{◌≡◌, ◌∷◌, List, length, refl, sym, ◌∙◌, subst, arith}
-use Rattle.proto_visibility.specs.declared.runs.Run.{Run}
+use Rattle.std.proofs.Common.{◌∷◌, refl, sym, subst, arith}
 use Rattle.proto_visibility.specs.Tables.Rows.{AreInOrder}
 use Rattle.proto_visibility.proofs.RunLemmas.{taken_first, next_behind, behind_first, taken_more, taken_all}
 use Rattle.proto_visibility.proofs.RunLemmas.{pushed_order}

@@ -1,4 +1,4 @@
-use Rattle.std.proofs.Common.{length, map, subst}
+use Rattle.std.proofs.Common.{length, map}
 use Rattle.proto_visibility.specs.Tables.Rows.{files_at}
 use Rattle.proto_visibility.proofs.SeeingLemmas.{rows_by}
 use Rattle.proto_visibility.proofs.seeing.seen_files.Goals as goal

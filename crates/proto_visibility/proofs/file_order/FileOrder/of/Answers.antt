@@ -1,5 +1,5 @@
-use Rattle.std.proofs.Common.{◌≡◌, ◌<◌, All, ℕ, List, eqb, length, ap, sym, ◌∙◌, subst}
-use Rattle.std.specs.List.{Contains, IsDistinct}
+use Rattle.std.proofs.Common.{◌<◌, All, ℕ, List, length, ap, sym, ◌∙◌, subst}
+use Rattle.std.specs.List.{Contains}
 use Rattle.proto_visibility.specs.Tables.Visits.{Found}
 use Rattle.proto_visibility.proofs.file_order.FileOrder.of.Goals as goal
 

@@ -1,4 +1,4 @@
-use Rattle.std.proofs.Common.{◌≡◌, ◌↔◌, ℕ, ◌<◌, List, length, sym, ◌∙◌, subst, MatchOption}
+use Rattle.std.proofs.Common.{◌≡◌, ◌↔◌, ℕ, ◌<◌, List, length, sym, subst, MatchOption}
 use Rattle.std.specs.List.{Contains}
 use Rattle.proto_visibility.specs.Files.{File}
 use Rattle.proto_visibility.specs.Sees.{Sees}

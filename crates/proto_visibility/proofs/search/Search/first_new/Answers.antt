@@ -1,4 +1,4 @@
-use Rattle.std.proofs.Common.{◌≡◌, ◌<◌, true, false, not, Bool, All, length, get_or, sym, ◌∙◌, subst, arith}
+use Rattle.std.proofs.Common.{◌<◌, false, All, get_or, sym, ◌∙◌, subst, arith}
 use Rattle.std.proofs.lemmas.List.{get_or_read}
 use Rattle.proto_visibility.specs.Tables.Visits.{Found, IsNewAt}
 use Rattle.proto_visibility.proofs.SearchLemmas.{new_at}

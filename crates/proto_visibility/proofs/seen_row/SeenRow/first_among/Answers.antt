@@ -1,7 +1,5 @@
-use Rattle.std.proofs.Common.{◌≡◌, ◌<◌, ℕ, List, length, Some, get_or, refl, ap, sym, ◌∙◌, subst, arith}
-use Rattle.std.specs.List.{slice_get}
+use Rattle.std.proofs.Common.{arith}
 use Rattle.std.proofs.lemmas.Option.{slice_get-get_or}
-use Rattle.proto_visibility.specs.declared.runs.Run.{Run}
 use Rattle.proto_visibility.proofs.OrderLemmas.{none_of_runs_more, none_of_runs, seen_by_run}
 use Rattle.proto_visibility.proofs.seen_row.SeenRow.first_among.Goals as goal
 

@@ -1,4 +1,4 @@
-use Rattle.std.proofs.Common.{◌↔◌, IsTrue, List, ℕ, subst, sym, ◌∙◌}
+use Rattle.std.proofs.Common.{◌↔◌, IsTrue, List, ℕ, subst, sym}
 use Rattle.std.specs.List.{Contains}
 use Rattle.std.proofs.lemmas.Bool.{false≢true}
 use Rattle.proto_visibility.proofs.OrderLemmas.{has_by_place, has_no_place}

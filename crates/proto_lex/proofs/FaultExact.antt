@@ -22,6 +22,7 @@ use Rattle.proto_lex.specs.declared.lexer.piece.PieceKind.{PieceKind}
 use Rattle.proto_lex.specs.declared.lexer.piece.PieceKind.TheVariants as piece
 use Rattle.proto_lex.specs.declared.token.Token.{Token}
 use Rattle.proto_lex.specs.declared.token.Comment.{Comment}
+use Rattle.proto_lex.proofs.ByteLemmas.{quote_not_backslash}
 use Rattle.proto_lex.proofs.ReadLemmas.{bind_of_err, ok_not_err, same_err}
 use Rattle.proto_lex.proofs.NumberLemmas.{integer_found, float_found}
 use Rattle.proto_lex.proofs.LiteralLemmas.{literal_first}
@@ -29,7 +30,7 @@ use Rattle.proto_lex.proofs.LiteralFound.{escape_found}
 use Rattle.proto_lex.proofs.LiteralExact.{literal_plain, escape_exact}
 use Rattle.proto_lex.proofs.CommentLemmas.{block_found}
 use Rattle.proto_lex.proofs.PieceFound.{Stands}
-use Rattle.proto_lex.proofs.PieceExact.{number_place, quote_place, piece_exact, stands_some}
+use Rattle.proto_lex.proofs.PieceExact.{number_place, quote_place, piece_exact, begun_some, stands_some}
 use Rattle.proto_lex.proofs.LexesLemmas.{mark_cases, lexes_found, lexes_exact}
 use Rattle.proto_lex.proofs.PiecesLemmas.{pieces_step, pieces_fault}
 use Rattle.proto_lex.proofs.FaultFound.{first_fault_found}
@@ -93,9 +94,6 @@ open_faults quote opening len q (b ∷ others) s =
 nul_is_no_quote : (quote : ℕ) → is_quote quote ≡ true → 0 ≢ quote
 nul_is_no_quote quote q = grind (arith, nat_tests)
 
-backslash_is_no_quote : (quote : ℕ) → is_quote quote ≡ true → 92 ≢ quote
-backslash_is_no_quote quote q = grind (arith, nat_tests)
-
 string_fault_exact : (quote opening len : ℕ) → is_quote quote ≡ true → {place : ℕ} {bytes : List ℕ} {f : LexFault}
     → IsStringFault quote opening place bytes f → place ≡ opening + len → literal_at quote opening 0 len bytes ≡ Err f
 string_fault_exact quote opening len q (cut {left = left} h s) e =
@@ -106,7 +104,7 @@ string_fault_exact quote opening len q (nul h) e =
     ∙ bind_of_err _ (nul_faults opening (opening + r.count) _)))
 string_fault_exact quote opening len q (no_escape {left = left} h none) e =
     let r = stays_exact quote opening len q h e in
-    rw r.place (r.read ∙ (literal_first quote opening r.count 92 left (backslash_is_no_quote quote q)
+    rw r.place (r.read ∙ (literal_first quote opening r.count 92 left (quote_not_backslash quote q)
     ∙ bind_of_err _ (escape_faults opening (opening + r.count) left (no_escape_len left none))))
 
 -- what stands at a place
@@ -158,11 +156,7 @@ fault_exact (no_string {place} {quote} {others} q s) =
 
 fault_some : {place : ℕ} {bytes : List ℕ} {f : LexFault} → IsFaultAt place bytes f → 0 < length bytes
 fault_some (unknown nb nl nd nq e) = omega arith
-fault_some (no_number {bytes = bytes} t i f) = some bytes t
-  where
-    some : (bytes : List ℕ) → begins_number bytes ≡ true → 0 < length bytes
-    some [] t = absurd cc
-    some (b ∷ others) t = omega arith
+fault_some (no_number {bytes = bytes} t i f) = begun_some bytes t
 fault_some (no_close none) = omega arith
 fault_some (no_string q s) = omega arith
 

@@ -138,7 +138,7 @@ piece_exact at (piece.Comment k) word rest s = comment_exact at s
 piece_exact at (piece.Token k) word rest s = token_exact at rest s.spelled s.whole
 
 -- no piece is empty
-begun_some : (word : List ℕ) → begins_number word ≡ true → 0 < length word
+pub begun_some : (word : List ℕ) → begins_number word ≡ true → 0 < length word
 begun_some [] t = absurd cc
 begun_some (b ∷ others) t = omega arith
 

@@ -3,12 +3,13 @@ use Rattle.std.proofs.Common.{length, take, drop, refl, sym, ap, subst, arith, e
 use Rattle.std.proofs.lemmas.Bool.Decides.{nat_tests}
 use Rattle.std.proofs.lemmas.List.{take-append-drop}
 use Rattle.std.proofs.lemmas.List.Folds.{length-prefix_len}
-use Rattle.std.specs.List.{prefix_len}
+use Rattle.std.specs.List.{AllByRecursion, prefix_len}
 use Rattle.std.proofs.lemmas.Option.{same_Some, none-some}
 use Rattle.proto_lex.specs.Bytes.{is_blank, is_letter, is_word, is_quote, starts}
 use Rattle.proto_lex.specs.Numbers.{run_of, begins_number}
 use Rattle.proto_lex.specs.Comments.{IsComment, line, block}
-use Rattle.proto_lex.specs.Lexes.{sign_kind, identifier, integer, float, literal, sign, IsWhole, IsToken}
+use Rattle.proto_lex.specs.Lexes.{signs, kind_in, sign_kind, identifier, integer, float, literal, sign}
+use Rattle.proto_lex.specs.Lexes.{IsWhole, IsToken}
 use Rattle.proto_lex.specs.Reading.{◌>>=◌, is_in_line, is_integer, is_float, number_kind, token, numbered, number_at}
 use Rattle.proto_lex.specs.Reading.{literal_at, block_at, blocked, past_first, slash_at, signed, piece_at}
 use Rattle.proto_lex.specs.declared.lexer.piece.Piece.{Piece}
@@ -40,6 +41,15 @@ pub record Begins (p : Piece) (bytes : List ℕ) : Type 0 where
   pub stands : Stands p.kind word rest
 
 -- the signs, one by one
+cases_in : (P : ℕ → TokenKind → Type 0) (table : List (ℕ × TokenKind)) (b : ℕ) (k : TokenKind)
+    → kind_in table b ≡ Some k → AllByRecursion (λ (s : ℕ × TokenKind). P s.0 s.1) table → P b k
+cases_in P [] b k e all = absurd (none-some _ e)
+cases_in P (s ∷ table) b k e all =
+    chosen (nat_eq b s.0) e
+    (λ t x. subst (λ (i : TokenKind). P b i) (same_Some _ _ x)
+    (subst (λ (a : ℕ). P a s.1) (sym (eqb-true b s.0 t)) all.0))
+    (λ _ x. cases_in P table b k x all.1)
+
 pub sign_cases : (P : ℕ → TokenKind → Type 0) (b : ℕ) (k : TokenKind) → sign_kind b ≡ Some k
     → P 59 kind.Semicolon → P 61 kind.Equals → P 123 kind.OpenBrace → P 125 kind.CloseBrace → P 91 kind.OpenBracket
     → P 93 kind.CloseBracket
@@ -47,26 +57,8 @@ pub sign_cases : (P : ℕ → TokenKind → Type 0) (b : ℕ) (k : TokenKind) �
     → P 46 kind.Dot
     → P 58 kind.Colon → P 43 kind.Plus → P 45 kind.Minus → P 47 kind.Slash → P b k
 sign_cases P b k e p1 p2 p3 p4 p5 p6 p7 p8 p9 p10 p11 p12 p13 p14 p15 p16 =
-    chosen (nat_eq b 59) e (λ t x. is b k 59 kind.Semicolon t x p1) (λ _ e2.
-    chosen (nat_eq b 61) e2 (λ t x. is b k 61 kind.Equals t x p2) (λ _ e3.
-    chosen (nat_eq b 123) e3 (λ t x. is b k 123 kind.OpenBrace t x p3) (λ _ e4.
-    chosen (nat_eq b 125) e4 (λ t x. is b k 125 kind.CloseBrace t x p4) (λ _ e5.
-    chosen (nat_eq b 91) e5 (λ t x. is b k 91 kind.OpenBracket t x p5) (λ _ e6.
-    chosen (nat_eq b 93) e6 (λ t x. is b k 93 kind.CloseBracket t x p6) (λ _ e7.
-    chosen (nat_eq b 40) e7 (λ t x. is b k 40 kind.OpenParenthesis t x p7) (λ _ e8.
-    chosen (nat_eq b 41) e8 (λ t x. is b k 41 kind.CloseParenthesis t x p8) (λ _ e9.
-    chosen (nat_eq b 60) e9 (λ t x. is b k 60 kind.Less t x p9) (λ _ e10.
-    chosen (nat_eq b 62) e10 (λ t x. is b k 62 kind.Greater t x p10) (λ _ e11.
-    chosen (nat_eq b 44) e11 (λ t x. is b k 44 kind.Comma t x p11) (λ _ e12.
-    chosen (nat_eq b 46) e12 (λ t x. is b k 46 kind.Dot t x p12) (λ _ e13.
-    chosen (nat_eq b 58) e13 (λ t x. is b k 58 kind.Colon t x p13) (λ _ e14.
-    chosen (nat_eq b 43) e14 (λ t x. is b k 43 kind.Plus t x p14) (λ _ e15.
-    chosen (nat_eq b 45) e15 (λ t x. is b k 45 kind.Minus t x p15) (λ _ e16.
-    chosen (nat_eq b 47) e16 (λ t x. is b k 47 kind.Slash t x p16) (λ _ x. absurd (none-some _ x)))))))))))))))))
-  where
-    is : (b : ℕ) (k : TokenKind) (c : ℕ) (j : TokenKind) → nat_eq b c ≡ true → Some j ≡ Some k → P c j → P b k
-    is b k c j t x p = subst (λ (i : TokenKind). P b i) (same_Some _ _ x)
-        (subst (λ (a : ℕ). P a j) (sym (eqb-true b c t)) p)
+    cases_in P signs b k e
+    (p1, (p2, (p3, (p4, (p5, (p6, (p7, (p8, (p9, (p10, (p11, (p12, (p13, (p14, (p15, (p16, tt))))))))))))))))
 
 -- numbers
 

@@ -24,7 +24,7 @@ NoneBetween tokens from upto = All (λ t. (t.span.end ≤ from) ⊎ (upto ≤ t.
 
 abbrev pub without_first_space : List ℕ → List ℕ
 without_first_space [] = []
-without_first_space (byte ∷ others) = if byte == 32 then others else byte ∷ others
+without_first_space (byte ∷ others) = if byte == ascii.space then others else byte ∷ others
 
 -- the text of a comment with this spelling: of a line comment what follows the slashes, without one \r at its end and
 -- then without one space at its start; of a block comment all that is between its marks

@@ -15,25 +15,35 @@ use Rattle.proto_lex.specs.Ascii as ascii
 
 -- The tokens and comments of a text (proto3 specification, Lexical elements).
 
+-- the signs: each is one character
+abbrev pub signs : List (ℕ × TokenKind)
+signs =
+    (ascii.semicolon, kind.Semicolon)
+    ∷ (ascii.equals, kind.Equals)
+    ∷ (ascii.open_brace, kind.OpenBrace)
+    ∷ (ascii.close_brace, kind.CloseBrace)
+    ∷ (ascii.open_bracket, kind.OpenBracket)
+    ∷ (ascii.close_bracket, kind.CloseBracket)
+    ∷ (ascii.open_parenthesis, kind.OpenParenthesis)
+    ∷ (ascii.close_parenthesis, kind.CloseParenthesis)
+    ∷ (ascii.less, kind.Less)
+    ∷ (ascii.greater, kind.Greater)
+    ∷ (ascii.comma, kind.Comma)
+    ∷ (ascii.dot, kind.Dot)
+    ∷ (ascii.colon, kind.Colon)
+    ∷ (ascii.plus, kind.Plus)
+    ∷ (ascii.minus, kind.Minus)
+    ∷ (ascii.slash, kind.Slash)
+    ∷ []
+
+-- the kind that a table has for a character
+abbrev pub kind_in : List (ℕ × TokenKind) → ℕ → Option TokenKind
+kind_in [] b = None
+kind_in (sign ∷ others) b = cond (nat_eq b sign.0) (Some sign.1) (kind_in others b)
+
 -- the sign that is this one character
 abbrev pub sign_kind : ℕ → Option TokenKind
-sign_kind b =
-    cond (nat_eq b ascii.semicolon) (Some kind.Semicolon) (
-    cond (nat_eq b ascii.equals) (Some kind.Equals) (
-    cond (nat_eq b ascii.open_brace) (Some kind.OpenBrace) (
-    cond (nat_eq b ascii.close_brace) (Some kind.CloseBrace) (
-    cond (nat_eq b ascii.open_bracket) (Some kind.OpenBracket) (
-    cond (nat_eq b ascii.close_bracket) (Some kind.CloseBracket) (
-    cond (nat_eq b ascii.open_parenthesis) (Some kind.OpenParenthesis) (
-    cond (nat_eq b ascii.close_parenthesis) (Some kind.CloseParenthesis) (
-    cond (nat_eq b ascii.less) (Some kind.Less) (
-    cond (nat_eq b ascii.greater) (Some kind.Greater) (
-    cond (nat_eq b ascii.comma) (Some kind.Comma) (
-    cond (nat_eq b ascii.dot) (Some kind.Dot) (
-    cond (nat_eq b ascii.colon) (Some kind.Colon) (
-    cond (nat_eq b ascii.plus) (Some kind.Plus) (
-    cond (nat_eq b ascii.minus) (Some kind.Minus) (
-    cond (nat_eq b ascii.slash) (Some kind.Slash) None)))))))))))))))
+sign_kind b = kind_in signs b
 
 -- the bytes spell a token of this kind
 pub data Spells : TokenKind → List ℕ → Type 0 where

@@ -67,8 +67,21 @@ impl LexFault {
 
 /// The variant's name, and its number in parentheses if it has one.
 impl fmt::Display for LexFault {
+    ghost use Rattle.std.specs.Prelude.{Some};
+    ghost use Rattle.proto_lex.specs.FaultNames.{lex_text};
+
+    ghost output = { λ fault. Some (lex_text fault) };
+
     fn fmt<W: fmt::Write>(&self, f: &mut fmt::Formatter<W>) -> fmt::Result {
-        fmt::Debug::fmt(self, f)
+        match self {
+            LexFault::TooLong | LexFault::Memory => f.write_str(self.name()),
+            LexFault::NotUtf8(offset)
+            | LexFault::BadByte(offset)
+            | LexFault::OpenString(offset)
+            | LexFault::OpenComment(offset)
+            | LexFault::BadEscape(offset)
+            | LexFault::BadNumber(offset) => write!(f, "{}({offset})", self.name()),
+        }
     }
 }
 

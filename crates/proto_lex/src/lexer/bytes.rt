@@ -12,7 +12,7 @@ use memchr::memchr;
 pub(crate) fn is_blank(b: u8) -> bool
     ensures { result ≡ is_blank b }
 {
-    matches!(b, b' ' | 9..=13)
+    matches!(b, b' ' | b'\t'..=b'\r')
 }
 
 /// Whether the byte is an ASCII letter or `_`.

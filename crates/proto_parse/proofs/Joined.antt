@@ -1,17 +1,17 @@
 -- The literals of a syntax statement, joined.
-use Rattle.std.proofs.Common.{◌≡◌, ℕ, Bool, true, false, not, Option, Some, None, List, [], ◌∷◌, ◌++◌, length, drop, refl, sym}
+use Rattle.std.proofs.Common.{◌≡◌, ℕ, Bool, true, false, not, Option, Some, None, List, [], ◌∷◌, ◌++◌, length, drop}
+use Rattle.std.proofs.Common.{refl, sym}
 use Rattle.std.proofs.Common.{◌∙◌, ap, bytes_eq, nat_eq}
 use Rattle.std.specs.List.{starts_with}
 use Rattle.std.proofs.lemmas.Slice.Eq.{starts_is, bytes_eq-Decides}
 use Rattle.std.proofs.Math.Seq.{drop-append_seam}
 use Rattle.std.proofs.lemmas.Bool.Decides.{Decides-eqb}
 use Rattle.proto_lex.specs.declared.token.TokenKind.TheVariants.{StringLiteral}
-use Rattle.proto_grammar.specs.declared.tree.Dialect.{Dialect}
 use Rattle.proto_grammar.specs.Lexeme.{Lexeme}
 use Rattle.proto_grammar.specs.Terminal.{first, others, first_is, of_kind}
 use Rattle.proto_parse.specs.Grammar.Files.{SpellsJoined}
 use Rattle.proto_parse.specs.Grammar.Files.SpellsJoined.{none, some}
-use Rattle.proto_parse.specs.Reading.Syntax.{stripped_of, is_left, content_of, joined_of, behind_literals, version_at}
+use Rattle.proto_parse.specs.Reading.Syntax.{stripped_of, is_left, content_of, joined_of, behind_literals}
 
 pub not_true : (b : Bool) → not b ≡ true → b ≡ false
 not_true true e = cc
@@ -90,9 +90,3 @@ left_further left now content tokens rest b is here behind stripped so_far =
     ∙ ap (λ c. is_left left (c ++ joined_of (others tokens))) here
     ∙ ap (is_left left) (sym (joined_further tokens is).0)
     ∙ so_far
-
--- no version where no literal is
-pub no_literal : (dialect : Dialect) (tokens : List Lexeme) → first_is (of_kind StringLiteral) tokens ≡ false
-    → version_at dialect tokens ≡ None
-unfolding version_at
-no_literal dialect tokens is = rw (joined_done tokens is).0 refl

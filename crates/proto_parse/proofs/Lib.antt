@@ -14,3 +14,5 @@ pub mod Walk
 pub mod Filled
 -- What is proto3 is among all sources
 pub mod Widened
+-- Where faults are
+pub mod Standing

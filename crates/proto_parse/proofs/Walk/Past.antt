@@ -115,7 +115,7 @@ use Rattle.proto_parse.specs.Grammar.Files.IsImportKind.{weak, public, neither}
 use Rattle.proto_parse.specs.Grammar.Files.IsPathLiteral.{path_literal}
 use Rattle.proto_parse.specs.Grammar.Files.IsImport.{import}
 use Rattle.proto_parse.specs.Grammar.Files.IsPackage.{package_statement}
-use Rattle.proto_grammar.proofs.OptionSteps.{both_true}
+use Rattle.proto_grammar.proofs.Steps.{both_true}
 
 -- kinds by their numbers
 abbrev pub kinds : List TokenKind
@@ -323,7 +323,8 @@ pub passed_item_past : (marks : List Mark) (s t : Unit {0}) (a b : List Lexeme) 
 passed_item_past marks s t a b (passes (passes-empty e)) behind = past e behind
 passed_item_past marks s t a b (passes (passes-field p f)) behind = field_past f behind
 
-pub passed_extend_past : {custom : CustomOptions} {a b : List Lexeme} {marks : List Mark} → IsPassedExtend custom a b → Among marks b
+pub passed_extend_past : {custom : CustomOptions} {a b : List Lexeme} {marks : List Mark} → IsPassedExtend custom a b
+    → Among marks b
     → Among marks a
 passed_extend_past {marks = marks} (passed_extend k n o u c) behind =
     past k (type_name_past n (past o (until_past marks (passed_item_past marks) _ _ _ _ u (past c behind))))
@@ -420,7 +421,8 @@ extend_statement_past syntax Inner over a b x
     (braced_past (IsExtendItem syntax Inner) (extend_item_past syntax Inner over) d b items i marks behind)))
 extend_statement_past syntax Inner over a b x (passed e) marks behind = passed_extend_past e behind
 
-message_past : (Inner : List Lexeme → List Item → List Lexeme → Type 0) → PassedOver Inner → PassedOver (IsMessage Inner)
+message_past : (Inner : List Lexeme → List Item → List Lexeme → Type 0) → PassedOver Inner
+    → PassedOver (IsMessage Inner)
 message_past Inner over a b x (message h i) marks behind = heading_past h (over _ _ _ i marks behind)
 
 message_item_past : (syntax : Syntax) (Inner : List Lexeme → List Item → List Lexeme → Type 0) → PassedOver Inner

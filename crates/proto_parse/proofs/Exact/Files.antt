@@ -1,5 +1,5 @@
 -- What is in the grammar is read: files.
-use Rattle.std.proofs.Common.{◌≡◌, ℕ, Option, Some, List, refl, sym, ◌∙◌, ap, subst, codes}
+use Rattle.std.proofs.Common.{◌≡◌, ℕ, true, Option, Some, List, refl, sym, ◌∙◌, ap, subst, codes}
 use Rattle.std.specs.Prelude.{Result, Ok, Err, MatchResult}
 use Rattle.proto_lex.specs.declared.span.Span.{Span}
 use Rattle.proto_lex.specs.declared.token.TokenKind.TheVariants.{StringLiteral}
@@ -27,6 +27,7 @@ use Rattle.proto_grammar.specs.Grammar.Repetition.{Adds}
 use Rattle.proto_parse.specs.Grammar.Messages.{IsInside}
 use Rattle.proto_parse.specs.Grammar.Files.{SpellsJoined, IsSyntax, IsImportKind, IsPathLiteral, IsImport, IsPackage}
 use Rattle.proto_parse.specs.Grammar.Files.{IsStatement, IsFile}
+use Rattle.proto_parse.specs.Grammar.Files.SpellsJoined.{none, some}
 use Rattle.proto_parse.specs.Grammar.Files.IsSyntax.{proto3, proto2, no_statement}
 use Rattle.proto_parse.specs.Grammar.Files.IsImportKind.{weak, public, neither}
 use Rattle.proto_parse.specs.Grammar.Files.IsPathLiteral.{path_literal}

@@ -159,7 +159,7 @@ syntax_found dialect tokens x e =
     without (Proto3 custom) no_syntax read =
         absurd (let no : Err (NotProto3 (offset_at tokens)) ≡ read_as x = read in cc)
     without All no_syntax read =
-        let g = guard_ok (not (first_is (is_word (codes "edition")) tokens.left)) _ x read in
+        let g = guard_ok (not (first_is (is_word (codes "edition")) tokens.left)) _ _ x read in
         subst (λ (y : Syntax × Place). IsSyntax All tokens.left y.0 y.1.left) (same_ok _ x g.1)
         (no_statement no_syntax (not_true (first_is (is_word (codes "edition")) tokens.left) g.0))
 
